@@ -67,10 +67,7 @@ open_on d q given (a ∷ rest) b all open_still begun =
 was_open : (d : Deployment) (q : Instance) (given rest : List Answer) (b : ℕ) → given ++ rest ≡ q.answers → b < length given → (txs_after d q q.answers).begun ≡ Some b → (txs_after d q given).begun ≡ Some b
 was_open d q given [] b all less begun = subst (λ ts. (txs_after d q ts).begun ≡ Some b) (sym all ∙ append-nil given) begun
 was_open d q given (a ∷ rest) b all less begun =
-    by_effect (effect_after d q given) (sym (ap (λ (s : Txs). s.begun) (txs_pushed d q given a)) ∙ was_open d q (given ++ a ∷ []) rest b (append_assoc given (a ∷ []) rest ∙ all) (let l = length-append given (a ∷ []) in omega (arith, l, less)) begun)
-  where
-    by_effect : (e : Effect) → (txs_by (length given) e (txs_after d q given)).begun ≡ Some b → (txs_after d q given).begun ≡ Some b
-    by_effect e h = grind arith
+    grind (arith, sym (ap (λ (s : Txs). s.begun) (txs_pushed d q given a)) ∙ was_open d q (given ++ a ∷ []) rest b (append_assoc given (a ∷ []) rest ∙ all) (let l = length-append given (a ∷ []) in omega (arith, l, less)) begun)
 
 -- ---- the owners of items
 module _ (d : Deployment) (m : Rows) (known : Known) (locked : IntentId → Bool) (rows : Matches d m known locked) (sane : Sane d known) where

@@ -90,11 +90,8 @@ module _ (d : Deployment) (c : Core) (m : Rows) (i : ℕ) (r : Run) (g : Begun) 
 
     rows_opened : Matches d rows_now next h.locked
     rows_opened = call_answered d given h.locked r.id k.instance (moved d r.id k.instance Done) Done caller_given unlocked (inl outside) (ap commit_in now) (moved_one d r.id k.instance Done)
-        (ap op_of now) (ap (λ e. row_added (length k.instance.answers) (txs_after d k.instance k.instance.answers).begun e Done) now ∙ no_row (length k.instance.answers) (txs_after d k.instance k.instance.answers).begun) rows_now
+        (ap op_of now) (ap (λ e. row_added (length k.instance.answers) (txs_after d k.instance k.instance.answers).begun e Done) now ∙ (grind arith)) rows_now
         (callee_row d c m r g h k finds false f v is hops new left None refl)
-      where
-        no_row : (n : ℕ) (b : Option ℕ) → row_added n b (Async f v) Done ≡ None
-        no_row n b = grind arith
 
     grows : Grows h.known next
     grows = grows_through h.known given next (callee_grows d c m r g h k finds false f v is hops new left None refl) (grows_moved d given r.id k.instance Done caller_given)

@@ -61,10 +61,7 @@ module _ (d : Deployment) (c : Core) (m : Rows) (r : Run) (g : Begun) (h : Right
 
   -- the log of calls has the callee that was made
   owed_is : owed_call h.known r.func (place_of r.id g.machine.steps) ≡ option_map {U = ℕ × Option Outcome} (λ j. (j.func, result_of j)) (map.get h.known callee)
-  owed_is = ap (λ o. called_by r.func o (map.get h.known callee)) k.made ∙ by_callee (map.get h.known callee)
-    where
-      by_callee : (o : Option Instance) → called_by r.func (Some k.instance) o ≡ option_map {U = ℕ × Option Outcome} (λ j. (j.func, result_of j)) o
-      by_callee o = grind arith
+  owed_is = ap (λ o. called_by r.func o (map.get h.known callee)) k.made ∙ grind arith
 
   pub not_made : owed_call h.known r.func (place_of r.id g.machine.steps) ≡ None → map.get h.known callee ≡ None
   not_made none = none_by (map.get h.known callee) (λ j at. let clash = sym (sym owed_is ∙ none) ∙ ap (option_map {U = ℕ × Option Outcome} (λ j. (j.func, result_of j))) at in cc)
@@ -135,10 +132,7 @@ module _ (d : Deployment) (c : Core) (m : Rows) (r : Run) (g : Begun) (h : Right
   absent_here = ap (λ n. map.get h.known (child_of r.id n)) (sym (step_here k left)) ∙ new
 
   pub no_outcome : k.instance.outcome ≡ None
-  no_outcome = not_over h k left (subst (λ e. IsTrue (wants_answer e)) (sym is) (by_wait w))
-    where
-      by_wait : (b : Bool) → IsTrue (wants_answer (call_of b f v))
-      by_wait b = grind arith
+  no_outcome = not_over h k left (subst (λ e. IsTrue (wants_answer e)) (sym is) (grind arith))
 
 -- .. its callee is in this transaction, if any
 module _ (d : Deployment) (c : Core) (m : Rows) (r : Run) (g : Begun) (h : Right d c m) (k : Knows d h.known r g) (finds : Inside m h.plain c.book k g.stage)
@@ -190,10 +184,7 @@ module _ (d : Deployment) (c : Core) (m : Rows) (r : Run) (g : Begun) (h : Right
 
   -- its transaction has not ended, so nobody joins one that has
   open_still : (u : TxId) → t ≡ Some u → tx_end d h.known u ≡ None
-  open_still u is_tx = now_open d h.known h.sane r.id k.instance u k.made (no_outcome d c m r g h k w f v is new left) (by_wait w (sym inner ∙ is_tx))
-    where
-      by_wait : (b : Bool) → within_by b (tx_now d r.id k.instance) ≡ Some u → tx_now d r.id k.instance ≡ Some u
-      by_wait b e = grind arith
+  open_still u is_tx = now_open d h.known h.sane r.id k.instance u k.made (no_outcome d c m r g h k w f v is new left) (grind (arith, sym inner ∙ is_tx))
 
   ends_same : (u : TxId) → tx_end d given u ≡ tx_end d h.known u
   ends_same u = made_set h.known made_id made_on (λ j o. ended_by d u.begin o ≡ ended_by d u.begin (map.get h.known j)) ((at_once_same d made_id made_new).ends u.begin ∙ ap (ended_by d u.begin) (sym absent)) (λ j. refl) u.intent
@@ -227,10 +218,7 @@ module _ (d : Deployment) (c : Core) (m : Rows) (i : ℕ) (r : Run) (g : Begun) 
   there = plain_there d c m i r g h live k finds out (call_of w f v) is left
 
   no_begin : begins d k.instance ≡ false
-  no_begin = ap (λ e. is_none k.instance.outcome && is_begin e) now ∙ by_outcome k.instance.outcome w
-    where
-      by_outcome : (o : Option Outcome) (b : Bool) → (is_none o && is_begin (call_of b f v)) ≡ false
-      by_outcome o b = grind arith
+  no_begin = ap (λ e. is_none k.instance.outcome && is_begin e) now ∙ grind arith
 
   pub call_entered : (next : Known) → Entered d c h.plain h.known (Step r.id) (step_by h.plain r.id k.instance (call_of w f v)) next
   call_entered next = change_entered d c m h (Step r.id) (step_by h.plain r.id k.instance (call_of w f v)) next refl

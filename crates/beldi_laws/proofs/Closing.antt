@@ -1,5 +1,5 @@
 -- Who took part in a transaction that has ended, and has its finish, has given back all: whatever row changes, unless it is such a finish.
-use Rattle.beldi_laws.proofs.Names.{AllFreed, AreClosed, AreReleased, Body, Bool, ByTx, CalleeBodyMatches, CalleeMatches, Core, Deployment, EndWalk, FinishMatches, Frame, Grown, GrownAt, Grows, Instance, Intent, IntentId, IntentMatches, IsReleased, Known, Matches, Member, None, Option, Owner, ParticipantsAreReleased, ParticipantsHaveRows, PlainState, Right, Row, Rows, Sane, Some, TookPart, TxId, ap, arith, decided_over, end_of, ended_by, ended_stays, false, first_end, has_ended, has_finish, inr, is_closed, is_own, is_some, key_in, lock_row, owns, refl, row_closed, same_some, subst, sym, true, tx_end, tx_in, tx_same, tx_self, txs_after, visited_by, ℕ, ◌∙◌, ◌∷◌, ◌≡◌}
+use Rattle.beldi_laws.proofs.Names.{AllFreed, AreClosed, AreReleased, Bool, ByTx, CalleeMatches, Core, Deployment, EndWalk, Frame, Grown, GrownAt, Grows, Instance, Intent, IntentId, IntentMatches, IsReleased, Known, Matches, Member, None, Option, Owner, ParticipantsAreReleased, ParticipantsHaveRows, PlainState, Right, Row, Rows, Sane, Some, TookPart, TxId, ap, arith, decided_over, end_of, ended_by, ended_stays, false, first_end, has_ended, has_finish, inr, is_closed, is_own, is_some, key_in, lock_row, owns, refl, row_closed, same_some, subst, sym, true, tx_end, tx_same, tx_self, txs_after, visited_by, ℕ, ◌∙◌, ◌∷◌, ◌≡◌}
 use Rattle.beldi_laws.proofs.Names.map
 use Rattle.beldi_laws.proofs.Names.rows
 use Rattle.beldi_txn.specs.Visited.{item_in}
@@ -41,10 +41,7 @@ closed_by r h = grind arith
 -- which it has only where its transaction has ended
 ended_for : (ended : TxId → Bool) (home : ℕ) (r : Option Row) (q : Instance) (t : TxId) → q.within ≡ Some t → CalleeMatches ended home r (Some q) → has_finish r ≡ true → ended t ≡ true
 ended_for ended home None q t inner h finish = cc
-ended_for ended home (Some (rows.Intent r)) q t inner h finish = by_body r.body refl h.body h.finishes
-  where
-    by_body : (b : Option Body) → r.body ≡ b → CalleeBodyMatches home b r.outcome (Some q) → FinishMatches ended (tx_in b) r.finish r.outcome → ended t ≡ true
-    by_body h0 is g f = grind arith
+ended_for ended home (Some (rows.Intent r)) q t inner h finish = grind (arith, h.body, h.finishes)
 ended_for ended home (Some r) q t inner h finish = absurd h
 
 module _ (d : Deployment) (m : Rows) (known : Known) (locked : IntentId → Bool) (matches : Matches d m known locked) (sane : Sane d known) (t : TxId) (p : Member) (part : TakesPart known t p) where

@@ -149,10 +149,7 @@ module _ (d : Deployment) (c : Core) (m : Rows) (i : ℕ) (r : Run) (g : Begun) 
     -- a transaction that has ended is this one, or had before
     end_cases : (t : TxId) (z : ℕ × Bool) → tx_end d next t ≡ Some z → ((t.intent ≡ r.id) × (t.begin ≡ o.begin) × (z.0 ≡ length k.instance.answers)) ⊎ (tx_end d h.known t ≡ Some z)
     end_cases t z e = known_set h.known r.id over (λ j u. ended_by d t.begin u ≡ Some z → t.intent ≡ j → ((j ≡ r.id) × (t.begin ≡ o.begin) × (z.0 ≡ length k.instance.answers)) ⊎ (ended_by d t.begin (map.get h.known j) ≡ Some z))
-        (λ ends mine. by_begin (t.begin == o.begin) refl (sym (end_is t.begin) ∙ ends)) (λ j other ends mine. inr ends) t.intent e refl
-      where
-        by_begin : (b : Bool) → (t.begin == o.begin) ≡ b → (if b then Some (length k.instance.answers, commit) else end_of d k.instance t.begin) ≡ Some z → ((r.id ≡ r.id) × (t.begin ≡ o.begin) × (z.0 ≡ length k.instance.answers)) ⊎ (ended_by d t.begin (map.get h.known r.id) ≡ Some z)
-        by_begin b g ends = grind arith
+        (λ ends mine. (grind (arith, sym (end_is t.begin) ∙ ends))) (λ j other ends mine. inr ends) t.intent e refl
 
     -- who took part did so before
     took_before : (t : TxId) (i : IntentId) → TookPart next t i → TookPart h.known t i

@@ -1,5 +1,5 @@
 -- The last turn of a run: its instance is ended.
-use Rattle.beldi_laws.proofs.Names.{Begun, Body, BodyMatches, Bool, CalleeBodyMatches, Caller, Core, Deployment, Ends, FinishMatches, Inside, Instance, IntentMatches, IntentRow, IsCalleeRow, Known, Knows, Matches, None, Option, Outcome, OutcomeMatches, PlainState, Return, Right, RootMatches, Row, RowKey, Rows, Run, Some, Step, Tell, TxId, act, answer_caller, ap, arith, callee_put, close_says, effect_of, end_asks, end_with, false, finish_at, func_called, has_ended, has_finish, has_no_hops, here, intent_ended, intent_key, is_did, is_inherited, is_some, is_waited, mark_if, not, option_map, outcome_of, refl, reply_if, root_of, same_some, set_others, set_row, subst, sym, true, turn_next, turned_by, tx_in, with_instance, within, ℕ, ◌==◌, ◌∙◌, ◌≡◌}
+use Rattle.beldi_laws.proofs.Names.{Begun, Body, BodyMatches, Bool, CalleeBodyMatches, Caller, Core, Deployment, Ends, FinishMatches, Inside, Instance, IntentMatches, IntentRow, IsCalleeRow, Known, Knows, Matches, None, Option, Outcome, OutcomeMatches, PlainState, Return, Right, Row, RowKey, Rows, Run, Some, Step, Tell, TxId, act, answer_caller, ap, arith, callee_put, close_says, effect_of, end_asks, end_with, false, finish_at, func_called, has_ended, has_finish, has_no_hops, here, intent_ended, intent_key, is_did, is_inherited, is_some, is_waited, mark_if, not, option_map, outcome_of, refl, reply_if, root_of, same_some, set_others, set_row, subst, sym, true, turn_next, turned_by, tx_in, with_instance, within, ℕ, ◌∙◌, ◌≡◌}
 use Rattle.beldi_laws.proofs.Names.map
 use Rattle.beldi_laws.proofs.Names.mark
 use Rattle.beldi_laws.proofs.Names.rows
@@ -55,12 +55,9 @@ module _ (d : Deployment) (c : Core) (m : Rows) (i : ℕ) (r : Run) (g : Begun) 
   end_stays : (j : IntentRow) → map.get m key ≡ Some (rows.Intent j) → StaysRow (map.get m key) (Some (rows.Intent (end_row j)))
   end_stays j at = record {
     there = λ e. refl;
-    finish = λ e. stays (stamped k.instance.within) j.finish (sym (ap has_finish at) ∙ e);
+    finish = λ e. (grind (arith, sym (ap has_finish at) ∙ e));
     calls = λ f e. sym (ap (option_map func_called) at) ∙ e;
   }
-    where
-      stays : (b : Bool) (f : Option ℕ) → is_some f ≡ true → is_some (finish_at b c.now f) ≡ true
-      stays b f e = grind arith
 
   -- .. and gets one only where it was called in no transaction
   ends_none : (next : Known) (q : Instance) → map.get next r.id ≡ Some q → q.within ≡ k.instance.within → (j : IntentRow) → map.get m key ≡ Some (rows.Intent j) → NoFinish d m (set_row m key (Some (rows.Intent (end_row j)))) next
@@ -130,10 +127,7 @@ module _ (d : Deployment) (c : Core) (m : Rows) (i : ℕ) (r : Run) (g : Begun) 
 
     open_by : (t : Bool) (home : ℕ) (j : IntentRow) → IntentMatches (has_ended d h.known) t home (Some (rows.Intent j)) (Some k.instance) → k.instance.outcome ≡ j.outcome
     open_by false home j f = open_callee home j.body j.outcome f.body
-    open_by true home j f = by_home (home == 0) f
-      where
-        by_home : (b : Bool) → RootMatches b (Some (rows.Intent j)) (Some k.instance) → k.instance.outcome ≡ j.outcome
-        by_home b f = grind arith
+    open_by true home j f = grind (arith, f)
 
     replies : (t : Bool) → has_no_hops r.id.hops ≡ t → (v : Outcome) → reply_if t o ≡ Some v → outcome_of (map.get left_state.made (root_of r.id.ticket)) ≡ Some v
     replies true root v told = ap (λ z. outcome_of (map.get left_state.made z)) (sym (root_is r.id root)) ∙ ap outcome_of (here h.plain.made r.id (done k o)) ∙ told

@@ -137,15 +137,12 @@ module _ (d : Deployment) (c : Core) (m : Rows) (h : Right d c m) where
       (row_put d h.known h.locked m (root_key t) (Some (rows.Intent i)) refl (record { bare = λ e. refl; finishes = refl; body = not_made }) h.rows) in
       subst (λ (w : Option Row × Tell). After d h.plain (record c { newest = c.newest + 1 }) (set_row m (root_key t) w.0) (seen.Issued t)) (ap (act Issue c.now) (sym is)) (record {
         right = right_by {q = h.plain} {next = h.known} {locked = h.locked} h.bounded h.legal h.guarded kept.shows
-            (λ u. ap is_some (got m (root_key t) (root_key u) (Some (rows.Intent i))) ∙ some_if (is_eq (id_cmp (root_of u) (root_of t))) (map.get m (root_key u)) ∙ next_ticket (is_eq (id_cmp (root_of u) (root_of t))) u c.newest refl (is_some (map.get m (root_key u))) (h.tickets u))
+            (λ u. ap is_some (got m (root_key t) (root_key u) (Some (rows.Intent i))) ∙ (grind arith) ∙ next_ticket (is_eq (id_cmp (root_of u) (root_of t))) u c.newest refl (is_some (map.get m (root_key u))) (h.tickets u))
             (runs_on d m n h.plain h.plain c.book c.book h.known h.known kept.grows (places_same d c.book h.known h.known) kept.others c.runs c.last_run h.runs);
         goes_on = grows_self h.plain.made;
         there = refl;
         reply = λ u o e. cc;
       })
-    where
-      some_if : (b : Bool) (r : Option Row) → is_some (cond b (Some (rows.Intent (record { issued = c.now; body = None; outcome = None; finish = None }))) r) ≡ cond b true (is_some r)
-      some_if b r = grind arith
 
   ticket_by : (r : Option Row) → map.get m (root_key (c.newest + 1)) ≡ r → AfterAct d h.plain m (root_key (c.newest + 1)) (λ t. ticket_next c (is_added t)) (act Issue c.now r)
   ticket_by None is = subst (λ (r : Option Row). After d h.plain (record c { newest = c.newest + 1 }) (set_row m (root_key (c.newest + 1)) (act Issue c.now r).0) (seen.Issued (c.newest + 1))) is (issued is)

@@ -110,13 +110,10 @@ module _ (d : Deployment) (c : Core) (m : Rows) (i : ℕ) (r : Run) (g : Begun) 
 
       rows_given : Matches d rows_now next h.locked
       rows_given = call_answered d (over k o) h.locked caller waiter caller_on answer caller_still caller_unlocked (inr (ap touched stands)) (ap commit_in stands) (moved_one d caller waiter answer)
-          (ap op_of stands) (ap (λ e. row_added (length waiter.answers) (txs_after d waiter waiter.answers).begun e answer) stands ∙ no_row (length waiter.answers) (txs_after d waiter waiter.answers).begun) rows_now
+          (ap op_of stands) (ap (λ e. row_added (length waiter.answers) (txs_after d waiter waiter.answers).begun e answer) stands ∙ (grind arith)) rows_now
           (subst (λ z. Matches d rows_now (map.insert h.known z (done k o)) h.locked) (sym called.is_callee)
           (subst (λ z. Matches d (set_row m z new) (map.insert h.known (child_of caller b.place.step) (done k o)) h.locked) row_key_is
           (given_back d h.known h.locked caller waiter k.instance b.place.step o o called.made callee_here open_still waited_here returning (ap h.locked (sym called.is_callee) ∙ unlocked d c m i r g h live k finds o is) m x (ap (map.get m) row_key_is ∙ at) h.rows)))
-        where
-          no_row : (n : ℕ) (u : Option ℕ) → row_added n u (Call k.instance.func k.instance.args) answer ≡ None
-          no_row n u = grind arith
 
       sane_given : Sane d next
       sane_given = subst (λ z. Sane d (map.insert (map.insert h.known z (done k o)) caller caller_on)) (sym called.is_callee) (returned_kept d h.known h.sane caller waiter k.instance b.place.step o called.made callee_here open_still waited_here returning)

@@ -152,10 +152,7 @@ fewer false n k h = h
 
 put_few : (m : FinMap nat_cmp Run) (i : ℕ) (o : Option Run) (k : ℕ) → IsTrue (is_some (map.get m i)) → map.len m ≤ k → map.len (put_run m i o) ≤ k
 put_few m i None k there h = subst (λ n. n ≤ k) (sym (len-remove nat_cmp_total m i)) (fewer (is_some (map.get m i)) (map.len m) k h)
-put_few m i (Some r) k there h = subst (λ n. n ≤ k) (sym (len-insert nat_cmp_total m i r)) (by_test (is_some (map.get m i)) there)
-  where
-    by_test : (b : Bool) → IsTrue b → cond b (map.len m) (map.len m + 1) ≤ k
-    by_test b t = grind arith
+put_few m i (Some r) k there h = subst (λ n. n ≤ k) (sym (len-insert nat_cmp_total m i r)) (grind (arith, there))
 
 -- what is known has grown beside the same book
 pub places_same : (d : Deployment) (book : List Entry) (known next : Known) → PlacesOn d book book known next

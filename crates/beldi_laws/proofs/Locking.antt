@@ -91,10 +91,7 @@ one_cause same = cc
 none_dead : (y : Item) (f : ℕ) (t : Option TxId) (e : Effect) (b : Bool) (j : IntentId) → ahead_by y f t e b ≡ Some (notes.Died j) → ⊥
 none_dead y f None e b j same = cc
 none_dead y f (Some t) e false j same = cc
-none_dead y f (Some t) e true j same = by_item (is_item y f (touched e)) same
-  where
-    by_item : (b : Bool) → (if b then Some notes.Got else None) ≡ Some (notes.Died j) → ⊥
-    by_item b same = grind arith
+none_dead y f (Some t) e true j same = grind (arith, same)
 
 -- a death that was noted is the answer
 noted_death : (p : Place) (a : Answer) (j : IntentId) → Some (answer.Aborted (record { place = p; holder = Some j })) ≡ death_in a → answer.Aborted (record { place = p; holder = Some j }) ≡ a

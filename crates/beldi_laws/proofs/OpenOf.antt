@@ -1,6 +1,6 @@
 -- What a run is in after answers: the transaction that it was called in throughout, or else its own one that is open; and so the
 -- transaction of the step there.
-use Rattle.beldi_laws.proofs.Names.{Answer, Deployment, Effect, Inherited, Instance, IntentId, List, None, Option, Own, RunTx, Some, TxId, Txs, [], along, along_pushed, ap, arith, effect_after, false, is_begin, is_bound, is_inherited, is_some, length, no_bound, none_begun, none_by, open_after, open_of, or_own, own_tx, refl, sym, tx_after, tx_by, tx_of, txs_after, txs_by, wants, with_cause, within, ℕ, ◌++◌, ◌∙◌, ◌∷◌, ◌≡◌}
+use Rattle.beldi_laws.proofs.Names.{Answer, Deployment, Effect, Inherited, Instance, IntentId, List, None, Option, Own, RunTx, Some, TxId, Txs, [], along, along_pushed, ap, arith, effect_after, false, is_begin, is_bound, is_inherited, is_some, length, no_bound, none_begun, none_by, open_after, open_of, or_own, refl, sym, tx_after, tx_by, tx_of, txs_after, txs_by, wants, with_cause, within, ℕ, ◌++◌, ◌∙◌, ◌∷◌, ◌≡◌}
 use Rattle.beldi_laws.proofs.Cases.{by_option}
 
 -- the Begin of one's own that is open
@@ -87,10 +87,7 @@ module _ (d : Deployment) (id : IntentId) (q : Instance) (given : List Answer) w
   tx_in x in_it = ap (λ w. or_own w (tx_by id q.func (length given) (effect_after d q given) (txs_after d q given).begun)) in_it
 
   pub tx_open : (o : RunTx) → open_of d q given ≡ Some o → is_begin (effect_after d q given) ≡ false → tx_after d id q given ≡ Some (tx_of id q.func o)
-  tx_open (Own o) is apart = tx_so (called_out d q given (ap is_inherited is)) (Some (Own o)) is ∙ by_effect (effect_after d q given) apart
-    where
-      by_effect : (e : Effect) → is_begin e ≡ false → tx_by id q.func (length given) e (Some o.begin) ≡ Some (own_tx id q.func o)
-      by_effect e h = grind arith
+  tx_open (Own o) is apart = tx_so (called_out d q given (ap is_inherited is)) (Some (Own o)) is ∙ grind (arith, apart)
   tx_open (Inherited x) is apart = tx_in x (called_in d q x given is)
 
   pub open_tx : (t : TxId) → tx_after d id q given ≡ Some t → is_begin (effect_after d q given) ≡ false → (o : RunTx) × (open_of d q given ≡ Some o) × (t ≡ tx_of id q.func o)
@@ -106,8 +103,5 @@ module _ (d : Deployment) (id : IntentId) (q : Instance) (given : List Answer) w
   -- in none, it is in none
   pub open_none : tx_after d id q given ≡ None → open_of d q given ≡ None
   open_none is = by_option q.within
-      (λ out. none_by (open_of d q given) (λ o e. by_some o (effect_after d q given) (ap is_inherited (sym e) ∙ open_out d q given out) (sym (tx_so out (Some o) e) ∙ is)))
+      (λ out. none_by (open_of d q given) (λ o e. (grind (arith, ap is_inherited (sym e) ∙ open_out d q given out, sym (tx_so out (Some o) e) ∙ is))))
       (λ x in_it. let clash = sym is ∙ tx_in x in_it in cc)
-    where
-      by_some : (o : RunTx) (e : Effect) → is_inherited (Some o) ≡ false → tx_by id q.func (length given) e (own_begin (Some o)) ≡ None → ⊥
-      by_some o e own k = grind arith

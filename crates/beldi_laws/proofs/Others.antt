@@ -74,10 +74,7 @@ lock_stays a p c e stay h = stay notes.Got h
 found_stays : (e : Effect) (a : TxAt) (s u : Option Row) (v w : Value) → (is_some (op_of e) ≡ false → u ≡ s) → (is_some s ≡ true → is_some u ≡ true) → (past_lock a ≡ true → w ≡ v) → Found e a s v → Found e a u w
 found_stays (Read t k) at.Item s u v w same there keeps h = same refl ∙ h
 found_stays (Read t k) (at.Keep x) s u v w same there keeps h = (λ i. value_in (same refl i) (keeps refl i)) ∙ h
-found_stays (CondWrite t k r o y) (at.Head x) s u v w same there keeps h = λ none. keeps refl ∙ h (absent s none there)
-  where
-    absent : (s : Option Row) → u ≡ None → (is_some s ≡ true → is_some u ≡ true) → s ≡ None
-    absent s none there = grind arith
+found_stays (CondWrite t k r o y) (at.Head x) s u v w same there keeps h = λ none. keeps refl ∙ h (grind (arith, none, there))
 found_stays (CondWrite t k r o y) (at.Write x) s u v w same there keeps h = there h
 found_stays e a s u v w same there keeps h = tt
 

@@ -1,5 +1,5 @@
 -- Steps outside transactions: where no Begin is open. There what is known of an instance is what the plain state has.
-use Rattle.beldi_laws.proofs.Names.{Answer, Beside, Bool, Deployment, Effect, FinMap, Grown, GrownAt, Instance, IntentId, IsOutside, Item, Known, Line, List, None, Option, PlainState, Sane, Some, TxId, Txs, [], ap, arith, begins_parts, effect_after, effect_of, false, from_begin, holds, id_cmp, in_line, inl, inside_holds_none, is_begin, is_some, length, line_opened, next, none_by, opened_grows, or_own, outcome_of, owner_is, refl, same_some, subst, sym, top, true, tx_begun, tx_by, txs_after, txs_by, txs_pushed, ◌++◌, ◌∙◌, ◌∷◌, ◌≡◌}
+use Rattle.beldi_laws.proofs.Names.{Answer, Beside, Bool, Deployment, Effect, FinMap, Grown, GrownAt, Instance, IntentId, IsOutside, Item, Known, Line, List, None, Option, PlainState, Sane, Some, TxId, Txs, [], ap, arith, begins_parts, effect_after, effect_of, false, from_begin, holds, id_cmp, in_line, inl, inside_holds_none, is_begin, is_some, length, line_opened, next, none_by, opened_grows, or_own, outcome_of, owner_is, refl, same_some, subst, sym, top, true, tx_begun, tx_by, txs_after, txs_pushed, ◌++◌, ◌∙◌, ◌∷◌, ◌≡◌}
 use Rattle.beldi_laws.proofs.Names.effect
 use Rattle.beldi_laws.proofs.Names.map
 use Rattle.beldi_laws.proofs.Names.plain
@@ -11,10 +11,7 @@ use Rattle.beldi_laws.proofs.Cases.{by_option}
 module _ (d : Deployment) (id : IntentId) (q : Instance) (given : List Answer) where
   -- an answer to it opens none
   pub outside_more : IsOutside d q given → is_begin (effect_after d q given) ≡ false → (a : Answer) → IsOutside d q (given ++ a ∷ [])
-  outside_more h apart a = (h.0, ap (λ (s : Txs). s.begun) (txs_pushed d q given a) ∙ by_effect (effect_after d q given) apart)
-    where
-      by_effect : (e : Effect) → is_begin e ≡ false → (txs_by (length given) e (txs_after d q given)).begun ≡ None
-      by_effect e g = grind arith
+  outside_more h apart a = (h.0, ap (λ (s : Txs). s.begun) (txs_pushed d q given a) ∙ (grind (arith, apart)))
 
 -- the effects that begin and end a transaction
 abbrev pub is_of_tx : Effect → Bool

@@ -1,5 +1,5 @@
 -- What rows keep of transactions is kept: where the plain state grows, where rows move by a frame, and where an instance is set.
-use Rattle.beldi_laws.proofs.Names.{AllShort, Answer, Bool, ByTx, Cause, Deployment, Effect, Frame, Grows, HoldersInsideAreMade, Instance, IntentId, IsBelow, IsFreePlace, Item, Known, List, None, Option, Outcome, OwnedAreUnmarked, OwnersCallNobody, ParticipantsAreReleased, ParticipantsHaveRows, Place, PlainState, Rows, Some, TookPart, TxId, Txs, [], answer_at_once, answered, answered_if, ap, arith, at_once, content_of, effect_of, end_of, ended, ended_by, inl, inr, is_some, key_in, known_set, length, moved, once, once_if, outside_parts, place_of, pushed_cases, refl, same_some, slice_get, subst, sym, touched, true, tx_after, tx_at, tx_end, tx_now, txs_after, txs_by, txs_pushed, ℕ, ◌∙◌, ◌≡◌, ◌≤◌}
+use Rattle.beldi_laws.proofs.Names.{AllShort, Answer, Bool, ByTx, Cause, Deployment, Effect, Frame, Grows, HoldersInsideAreMade, Instance, IntentId, IsBelow, IsFreePlace, Item, Known, List, None, Option, Outcome, OwnedAreUnmarked, OwnersCallNobody, ParticipantsAreReleased, ParticipantsHaveRows, Place, PlainState, Rows, Some, TookPart, TxId, Txs, [], answer_at_once, answered, answered_if, ap, arith, at_once, content_of, effect_of, end_of, ended, ended_by, inl, inr, is_some, key_in, known_set, length, moved, once, once_if, outside_parts, place_of, pushed_cases, refl, same_some, slice_get, subst, sym, touched, true, tx_after, tx_at, tx_end, tx_now, txs_after, txs_pushed, ℕ, ◌∙◌, ◌≡◌, ◌≤◌}
 use Rattle.beldi_laws.proofs.Names.answer
 use Rattle.beldi_laws.proofs.Names.effect
 use Rattle.beldi_laws.proofs.Names.map
@@ -141,10 +141,7 @@ one_answered d m p id s a made h = record {
 
 -- an answer to no End ends no transaction
 same_ends : (d : Deployment) (s : Instance) (a : Answer) → ((c : Bool) → effect_of d s ≡ effect.End c → ⊥) → (b : ℕ) → end_of d (answered s a) b ≡ end_of d s b
-same_ends d s a none b = ap (λ (t : Txs). t.ends b) (txs_pushed d s s.answers a) ∙ by_effect (effect_of d s) none
-  where
-    by_effect : (e : Effect) → ((c : Bool) → e ≡ effect.End c → ⊥) → (txs_by (length s.answers) e (txs_after d s s.answers)).ends b ≡ (txs_after d s s.answers).ends b
-    by_effect e none = grind arith
+same_ends d s a none b = ap (λ (t : Txs). t.ends b) (txs_pushed d s s.answers a) ∙ grind (arith, none)
 
 -- .. and what takes no turn, which ends none
 pub record SameBut (d : Deployment) (m : Rows) (p : PlainState) (id : IntentId) (s r : Instance) : Type 0 where

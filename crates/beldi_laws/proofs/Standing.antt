@@ -99,10 +99,7 @@ module _ (d : Deployment) (m : Rows) (known : Known) (locked : IntentId → Bool
       where
         by_wait : (j : Instance) (b : Bool) → Some a ≡ answer_given b j.outcome → CallMatches (map.get m (invoke_key q.func place)) (Some (j.func, if b then j.outcome else None)) → held_outside m place q.func (call_of b f v) ≡ Some a
         by_wait j true answered row = ap (option_map answer_of) (gave_owed (map.get m (invoke_key q.func place)) (Some (j.func, j.outcome)) row) ∙ sym answered
-        by_wait j false answered row = there_so (map.get m (invoke_key q.func place)) row ∙ sym answered
-          where
-            there_so : (r : Option Row) → CallMatches r (Some (j.func, None)) → ◌≡◌ {A = Option Answer} (option_map (λ i. Done) (call_in r)) (Some Done)
-            there_so r row = grind arith
+        by_wait j false answered row = (grind (arith, row)) ∙ sym answered
 
         by_callee : (o : Option Instance) → map.get known (child_of id n) ≡ o → held_outside m place q.func (call_of w f v) ≡ Some a
         by_callee None none = let clash = sym (sane.callees id q n w f v made (slice_get_within q.answers n a at) call) ∙ ap is_some none in cc

@@ -1,5 +1,5 @@
 -- What is so of the visits of an end: it is so once the decision is there, and stays through what others do.
-use Rattle.beldi_laws.proofs.Names.{AreMarked, AreReleased, AreSound, AtEnd, Bool, ByTx, Called, Core, Deployment, EndWalk, Frame, Grows, Instance, IntentId, IsCall, IsDecided, IsFreePlace, IsMember, IsOf, IsWay, IsWithin, IsWriting, Item, Known, List, Matches, Member, None, Option, Outcome, OwnedAreUnmarked, Owner, ParticipantsAreReleased, PlainState, Right, Row, Rows, Sane, Some, TookPart, TxId, Visited, [], ahead_by, ap, arith, aside_row, at_calls, at_step, commit_in, content_of, decided_over, effect_after, effect_of, ended_by, eqb-true, false, first_end, free_place, if◌then◌else◌, inl, inr, is_closed, is_decided, is_mark, is_own, is_some, item_row, last_step, length, lock_row, none_by, note_at, note_by, note_or, now_open, owed_note, owner_of, owns, refl, shadow_value, slice_get, slice_get_within, sym, take, true, tx_after, tx_end, tx_now, visited_by, visits_stand, ℕ, ◌&&◌, ◌==◌, ◌||◌, ◌∙◌, ◌∷◌, ◌≡◌}
+use Rattle.beldi_laws.proofs.Names.{AreMarked, AreReleased, AreSound, AtEnd, Bool, ByTx, Called, Core, Deployment, EndWalk, Frame, Grows, Instance, IntentId, IsCall, IsDecided, IsFreePlace, IsMember, IsOf, IsWay, IsWithin, IsWriting, Item, Known, List, Matches, Member, None, Option, Outcome, OwnedAreUnmarked, Owner, ParticipantsAreReleased, PlainState, Right, Row, Rows, Sane, Some, TookPart, TxId, Visited, [], ahead_by, ap, arith, aside_row, at_calls, at_step, commit_in, content_of, decided_over, effect_after, effect_of, eqb-true, false, first_end, free_place, if◌then◌else◌, inl, inr, is_closed, is_decided, is_mark, is_own, is_some, item_row, last_step, length, lock_row, none_by, note_at, note_by, note_or, now_open, owed_note, owner_of, owns, refl, shadow_value, slice_get, slice_get_within, sym, take, true, tx_after, tx_end, tx_now, visited_by, visits_stand, ℕ, ◌&&◌, ◌==◌, ◌||◌, ◌∙◌, ◌∷◌, ◌≡◌}
 use Rattle.beldi_laws.proofs.Names.effect
 use Rattle.beldi_laws.proofs.Names.map
 use Rattle.beldi_txn.specs.Tx.{op_of}
@@ -103,10 +103,7 @@ module _ (d : Deployment) (c : Core) (m n : Rows) (h : Right d c m) (q : PlainSt
 
       caller_of : (cs : List Called) → IsMember w m cs → IsKnownCall next (visited_by s cs) e → (y : Instance) × (map.get h.known (visited_by s cs).0 ≡ Some y) × (y.func ≡ (visited_by s cs).1)
       caller_of (b ∷ bs) member then_call = let k = members_joined d m h.known h.locked h.rows h.sane s z ended b bs member in (k.instance, k.made, k.func)
-      caller_of [] member then_call = by_owner (map.get h.known s.intent) refl ended
-        where
-          by_owner : (o : Option Instance) → map.get h.known s.intent ≡ o → ended_by d s.begin o ≡ Some z → (y : Instance) × (map.get h.known s.intent ≡ Some y) × (y.func ≡ s.func)
-          by_owner o is g = grind arith
+      caller_of [] member then_call = grind (arith, ended)
 
       caller : (y : Instance) × (map.get h.known p.0 ≡ Some y) × (y.func ≡ p.1)
       caller = caller_of cs member (call_known d n next after then_rows p e call.1)
