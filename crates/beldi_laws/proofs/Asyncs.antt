@@ -1,5 +1,5 @@
 -- The turns of a call that nobody waits for: it is opened once, its callee's row is put, and then it is marked as registered.
-use Rattle.beldi_laws.proofs.Names.{Absent, AlreadySet, Answer, Async, AsyncAt, Begins, Begun, Body, Bool, CallMatches, Core, Deployment, Done, Ends, Grows, Inside, Instance, IntentId, InvokeRow, IsBodyOf, Known, Knows, KnowsAt, List, Matches, None, NoteRegistered, On, OpenInvoke, Option, Place, PlainState, Register, Right, Row, RowKey, Rows, Run, Says, Set, Some, Step, Tell, Value, [], act, after_act, ahead_set, ap, arith, async_answer, async_asks, async_here_asks, async_here_says, async_says, at_once, back_of, call_answered, callee_body, callee_of, calls_at, child_of, commit_in, effect_before, effect_of, elsewhere, false, grows_through, has_callees, here, if◌then◌else◌, inl, intent_key, invoke_key, is_sent, is_some, issued_at, known_set, length, look_asks, moved, moved_one, new_instance, no_own_callee, no_root_key, none_out, note_says, op_of, open_says, opened, origin_stays, owed_call, place_of, refl, registered_asks, root_key, row_added, run_called, said, same_some, set_others, set_row, step_by, subst, sym, true, turn_next, turned_by, tx_after, tx_now, txs_after, ℕ, ◌∙◌, ◌∷◌, ◌≡◌}
+use Rattle.beldi_laws.proofs.Names.{Absent, AlreadySet, Answer, Async, AsyncAt, Begins, Begun, Body, Bool, CallMatches, Core, Deployment, Done, Ends, Inside, Instance, IntentId, InvokeRow, IsBodyOf, Known, Knows, KnowsAt, List, Matches, None, NoteRegistered, On, OpenInvoke, Option, Place, PlainState, Register, Right, Row, RowKey, Rows, Run, Says, Set, Some, Step, Tell, Value, [], act, after_act, ahead_set, ap, arith, async_answer, async_asks, async_here_asks, async_here_says, async_says, at_once, back_of, call_answered, callee_body, callee_of, calls_at, child_of, commit_in, effect_before, effect_of, elsewhere, false, grows_through, has_callees, here, if◌then◌else◌, inl, intent_key, invoke_key, is_sent, is_some, issued_at, known_set, length, look_asks, moved, moved_one, new_instance, no_own_callee, no_root_key, none_out, note_says, op_of, open_says, opened, origin_stays, owed_call, place_of, refl, registered_asks, root_key, row_added, run_called, said, same_some, set_others, set_row, step_by, subst, sym, true, turn_next, turned_by, tx_after, tx_now, txs_after, ℕ, ◌∙◌, ◌∷◌, ◌≡◌}
 use Rattle.beldi_laws.proofs.Names.async
 use Rattle.beldi_laws.proofs.Names.back
 use Rattle.beldi_laws.proofs.Names.kinds
@@ -93,9 +93,6 @@ module _ (d : Deployment) (c : Core) (m : Rows) (i : ℕ) (r : Run) (g : Begun) 
         (ap op_of now) (ap (λ e. row_added (length k.instance.answers) (txs_after d k.instance k.instance.answers).begun e Done) now ∙ (grind arith)) rows_now
         (callee_row d c m r g h k finds false f v is hops new left None refl)
 
-    grows : Grows h.known next
-    grows = grows_through h.known given next (callee_grows d c m r g h k finds false f v is hops new left None refl) (grows_moved d given r.id k.instance Done caller_given)
-
     -- its callee is in no transaction
     joins : NobodyJoins d h.known next
     joins t z j ended part = known_set given r.id (moved d r.id k.instance Done) (λ j o. o ≡ Some part.instance → is_some (map.get h.known j) ≡ true) (λ e. ap is_some k.made)
@@ -110,7 +107,7 @@ module _ (d : Deployment) (c : Core) (m : Rows) (i : ℕ) (r : Run) (g : Begun) 
         (sent_kept d h.known h.sane r.id k.instance f v k.made outside now (absent_here d c m r g h k false f v is new left))
         rows_opened (log_values h key row refl)
         (settled_outside d m state given r.id k.instance caller_given Done outside (callee_settled d c m r g h k finds false f v is hops new left None refl state leads.grows))
-        grows
+        (grows_through h.known given next (callee_grows d c m r g h k finds false f v is hops new left None refl) (grows_moved d given r.id k.instance Done caller_given))
         (log_frame d m key row refl (stays_new (map.get m key) row none) h.plain state h.known next refl joins)
         (no_intent d m key row next refl)
 

@@ -59,9 +59,6 @@ module _ (d : Deployment) (c : Core) (m : Rows) (i : ℕ) (r : Run) (g : Begun) 
   abbrev next_visit : Visit
   next_visit = at_calls [] None
 
-  steps : g.machine.steps ≡ length k.answers
-  steps = at_steps k
-
   effect_so : effect_after d k.instance k.answers ≡ effect.End commit
   effect_so = wanted_here k ∙ is
 
@@ -95,7 +92,7 @@ module _ (d : Deployment) (c : Core) (m : Rows) (i : ℕ) (r : Run) (g : Begun) 
     there = ap (map.get m) (sym own_key) ∙ behind_decided d m h.known h.locked h.rows r.id k.instance k.made sane_here k.answers a rest known_answers (let n = few in omega (arith, n)) o.begin commit effect_so begun_here
 
     ended : tx_end d h.known own ≡ Some (g.machine.steps, commit)
-    ended = ap (ended_by d o.begin) k.made ∙ end_here d k.instance k.answers a rest o.begin commit known_answers effect_so begun_here ∙ ap (λ z. Some (z, commit)) (sym steps)
+    ended = ap (ended_by d o.begin) k.made ∙ end_here d k.instance k.answers a rest o.begin commit known_answers effect_so begun_here ∙ ap (λ z. Some (z, commit)) (sym (at_steps k))
 
     finds_it : AfterPut (map.get m key)
     finds_it = subst AfterPut (sym there) (still d h.plain m key row (sym there)
@@ -116,17 +113,8 @@ module _ (d : Deployment) (c : Core) (m : Rows) (i : ℕ) (r : Run) (g : Begun) 
     begun_now : (txs_after d k.instance k.instance.answers).begun ≡ Some o.begin
     begun_now = subst (λ ts. (txs_after d k.instance ts).begun ≡ Some o.begin) all begun_here
 
-    open_now : open_of d k.instance k.instance.answers ≡ Some (Own o)
-    open_now = subst (λ ts. open_of d k.instance ts ≡ Some (Own o)) all open_here
-
-    few_now : length k.instance.answers < 30000
-    few_now = subst (λ (ts : List Answer). length ts < 30000) all few
-
     unlocked : h.locked r.id ≡ false
     unlocked = unlocked_elsewhere d h.known h.locked h.locked_at_ends r.id k.instance k.made (ap touched now)
-
-    none_put : map.get m key ≡ None
-    none_put = ap (map.get m) (sym own_key) ∙ no_decision d m h.known h.locked h.rows r.id k.instance k.made o.begin begun_now
 
     -- the rows after it, and what is known then
     abbrev n : Rows
@@ -169,7 +157,7 @@ module _ (d : Deployment) (c : Core) (m : Rows) (i : ℕ) (r : Run) (g : Begun) 
 
         unmarked : (t.intent ≡ r.id) × (t.begin ≡ o.begin) × (z.0 ≡ length k.instance.answers) → IsFreePlace next t z.0 a → ⊥
         unmarked mine (inl at) =
-            let clash = sym (no_note d m h.known h.locked h.rows r.id k.instance k.made (let l = few_now in omega (arith, l)) x unlocked)
+            let clash = sym (no_note d m h.known h.locked h.rows r.id k.instance k.made (let l = (subst (λ (ts : List Answer). length ts < 30000) all few) in omega (arith, l)) x unlocked)
             ∙ ap (note_at (content_of m x).notes) ((λ i. place_of (sym mine.0 i) (sym mine.2 i)) ∙ sym at) ∙ noted in cc
         unmarked mine (inr g) =
             let open_still : tx_end d h.known t ≡ None = (λ i. ended_by d (mine.1 i) (map.get h.known (mine.0 i))) ∙ ap (ended_by d o.begin) k.made ∙ (fits d k.instance).not_ended o.begin begun_now in
@@ -190,9 +178,6 @@ module _ (d : Deployment) (c : Core) (m : Rows) (i : ℕ) (r : Run) (g : Begun) 
     rows_now = subst (λ z. Matches d (set_row m z row) next h.locked) own_key
         (decided d h.known h.locked r.id k.instance over answer.Done k.made (moved_one d r.id k.instance answer.Done) unlocked commit now o.begin begun_now
         (λ j z t on apart none inside mine begin. ends_alone d h.known h.sane r.id k.instance k.made (λ f v call. let clash = sym now ∙ call in cc) j z t on apart none inside mine) m h.rows)
-
-    put_there : map.get n key ≡ row
-    put_there = row_got m key key row ∙ ap (λ b. cond b row (map.get m key)) (key_self key)
 
     roots : SameRoots m n
     roots u = ap is_some (set_others m key row (root_key u) (no_root u r.func (kinds.ReadLog (place_of r.id o.begin)) refl))
@@ -244,7 +229,7 @@ module _ (d : Deployment) (c : Core) (m : Rows) (i : ℕ) (r : Run) (g : Begun) 
       its_try = aborts_are_tries d m h.plain h.known h.locked own k.instance opened_tx k.made (now ∙ ap effect.End no_commit) unlocked h.holders
 
       try_entry : entry_of r.id mk ≡ Try r.id its_try.place its_try.holder
-      try_entry = ap (entry_of r.id) (mark ∙ (λ i. end_mark r.id (step_now i) (cause_is d r.id k.instance sane_here o open_now i) (no_commit i)))
+      try_entry = ap (entry_of r.id) (mark ∙ (λ i. end_mark r.id (step_now i) (cause_is d r.id k.instance sane_here o (subst (λ ts. open_of d k.instance ts ≡ Some (Own o)) all open_here) i) (no_commit i)))
           ∙ entry_fell r.id (length k.instance.answers) (last_answer k.instance.answers) its_try.place its_try.holder its_try.fell
 
       aborted : Decision tried
@@ -260,7 +245,7 @@ module _ (d : Deployment) (c : Core) (m : Rows) (i : ℕ) (r : Run) (g : Begun) 
     -- ---- what it keeps
     puts : (state : PlainState) → Decision state → AfterPut None
     puts state by = enters_on d c m i r g h live k finds is tx (stage.End next_visit) mk n state next over (here h.known r.id over) (grown_moved d r.id k.instance answer.Done) roots leads (kept_by d c m n h state next h.locked shows_now grows frame)
-        (refl, next_found n state next h.locked rows_now sane_now settled_now ended_now put_there)
+        (refl, next_found n state next h.locked rows_now sane_now settled_now ended_now (row_got m key key row ∙ ap (λ b. cond b row (map.get m key)) (key_self key)))
       where
         -- nobody holds the lock of an item that it owns
         free : IsFree d h.plain (entry_of r.id mk)
@@ -313,7 +298,7 @@ module _ (d : Deployment) (c : Core) (m : Rows) (i : ℕ) (r : Run) (g : Begun) 
         }
 
     puts_it : AfterPut (map.get m key)
-    puts_it = subst AfterPut (sym none_put) (by_commit commit refl)
+    puts_it = subst AfterPut (sym (ap (map.get m) (sym own_key) ∙ no_decision d m h.known h.locked h.rows r.id k.instance k.made o.begin begun_now)) (by_commit commit refl)
       where
         by_commit : (b : Bool) → commit ≡ b → AfterPut None
         by_commit true it_commits = puts (piece it_commits).state (committed it_commits)

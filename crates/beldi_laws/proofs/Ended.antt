@@ -58,8 +58,11 @@ module _ (d : Deployment) (q : Instance) (b : ℕ) where
   begun_before : (given rest : List Answer) → b < length given → (txs_after d q (given ++ rest)).begun ≡ Some b → (txs_after d q given).begun ≡ Some b
   begun_before given [] less h = ap (λ ts. (txs_after d q ts).begun) (sym (append-nil given)) ∙ h
   begun_before given (a ∷ rest) less h =
-      grind (arith, sym (ap (λ (s : Txs). s.begun) (txs_pushed d q given a))
-      ∙ begun_before (given ++ a ∷ []) rest (let l = length-append given (a ∷ []) in omega (arith, l, less)) (ap (λ ts. (txs_after d q ts).begun) (append_assoc given (a ∷ []) rest) ∙ h))
+      grind (
+        arith,
+        sym (ap (λ (s : Txs). s.begun) (txs_pushed d q given a))
+            ∙ begun_before (given ++ a ∷ []) rest (let l = length-append given (a ∷ []) in omega (arith, l, less)) (ap (λ ts. (txs_after d q ts).begun) (append_assoc given (a ∷ []) rest) ∙ h),
+      )
 
   begun_at : (n m : ℕ) → n ≤ m → m ≤ length q.answers → b < n → (txs_after d q (take m q.answers)).begun ≡ Some b → (txs_after d q (take n q.answers)).begun ≡ Some b
   begun_at n m le len less h =

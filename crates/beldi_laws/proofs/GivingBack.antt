@@ -86,12 +86,9 @@ module _ (d : Deployment) (c : Core) (m : Rows) (i : ℕ) (r : Run) (g : Begun) 
       waits_open : waiter.outcome ≡ None
       waits_open = none_by waiter.outcome (λ u e. let clash = sym stands ∙ (h.sane.each caller waiter called.made).over u e in cc)
 
-      waited : called.called.waits ≡ true
-      waited = ap is_waited (sym called.called.from) ∙ waited_here
-
       -- its caller is in the transaction that it was called in
       same_tx : k.instance.within ≡ tx_now d caller waiter
-      same_tx = called.called.within ∙ ap (λ u. within_by u (tx_at d caller waiter b.place.step)) waited ∙ ap (tx_at d caller waiter) at_call ∙ tx_here d caller waiter
+      same_tx = called.called.within ∙ ap (λ u. within_by u (tx_at d caller waiter b.place.step)) (ap is_waited (sym called.called.from) ∙ waited_here) ∙ ap (tx_at d caller waiter) at_call ∙ tx_here d caller waiter
 
       caller_unlocked : h.locked caller ≡ false
       caller_unlocked = unlocked_elsewhere d h.known h.locked h.locked_at_ends caller waiter called.made (ap touched stands)

@@ -1,5 +1,5 @@
 -- What the runs of others have found in the rows stays, through an event that keeps its frame.
-use Rattle.beldi_laws.proofs.Names.{Answer, Async, AtStage, Begun, Beside, Bool, ByTx, Call, CondWrite, Content, Core, Decide, DecidedAt, Deployment, Effect, End, EndAt, EndWalk, Entry, Found, Frame, Goes, Grown, Grows, HasLock, InItem, InOperation, Inside, Instance, IntentId, IsDecided, IsWriting, Item, Known, Knows, List, LockedAtEnds, Matches, None, Note, OpenTx, Option, Outcome, Own, Place, PlainState, Read, Released, Return, Right, Row, Rows, Run, RunTx, Sane, Some, Stage, TxAt, TxId, Txs, Value, Visit, Visited, [], ahead_by, along, along_append, ap, append-nil, append_assoc, arith, begin_of, child_of, content_of, effect_after, effect_of, end_of, end_walk, ended_by, ended_stays, eq-eqb, false, few_answers, front_is, got_before, got_by, if◌then◌else◌, in_tx, is_at, is_begin, is_eq, is_item, is_on, is_opened, is_past, is_sent, is_some, item_total, key_in, last_step, length, length-append, listed, lockset_key, log_key, no_decision, none_begun, note_at, note_is_ahead, now_open, open_of, place_of, plain_owner, refl, same_some, shadow_key, subst, sym, tied_itself, touched, true, true_false, tx_after, tx_end, tx_now, tx_of, tx_self, txs_after, txs_by, txs_pushed, value_at, value_in, wants, ℕ, ◌&&◌, ◌++◌, ◌<◌, ◌||◌, ◌∙◌, ◌∷◌, ◌≡◌}
+use Rattle.beldi_laws.proofs.Names.{Answer, Async, AtStage, Begun, Beside, Bool, ByTx, Call, CondWrite, Content, Core, Decide, DecidedAt, Deployment, Effect, End, EndAt, EndWalk, Entry, Found, Frame, Goes, Grown, Grows, HasLock, InItem, InOperation, Inside, Instance, IntentId, IsDecided, IsWriting, Item, Known, Knows, List, LockedAtEnds, Matches, None, Note, OpenTx, Option, Outcome, Own, Place, PlainState, Read, Released, Return, Right, Row, Rows, Run, RunTx, Sane, Some, Stage, TxAt, TxId, Txs, Value, Visit, Visited, [], ahead_by, along, along_append, ap, append-nil, append_assoc, arith, begin_of, child_of, content_of, effect_after, effect_of, end_of, end_walk, ended_by, ended_stays, eq-eqb, false, few_answers, front_is, got_before, got_by, if◌then◌else◌, in_tx, is_at, is_begin, is_eq, is_item, is_on, is_opened, is_past, is_sent, is_some, item_total, key_in, last_step, length, length-append, listed, lockset_key, log_key, no_decision, none_begun, note_at, note_is_ahead, now_open, place_of, plain_owner, refl, same_some, shadow_key, subst, sym, tied_itself, touched, true, true_false, tx_after, tx_end, tx_now, tx_of, tx_self, txs_after, txs_by, txs_pushed, value_at, value_in, wants, ℕ, ◌&&◌, ◌++◌, ◌<◌, ◌||◌, ◌∙◌, ◌∷◌, ◌≡◌}
 use Rattle.beldi_laws.proofs.Names.at
 use Rattle.beldi_laws.proofs.Names.effect
 use Rattle.beldi_laws.proofs.Names.map
@@ -111,9 +111,6 @@ decided_past a w m past h = grind arith
 -- ---- a run, before and after the event
 module _ (d : Deployment) (c : Core) (m n : Rows) (h : Right d c m) (q : PlainState) (next : Known) (after : IntentId → Bool) (shows : Shows d n q next after) (grows : Grows h.known next) (frame : Frame d m n h.plain q h.known next)
     (r : Run) (g : Begun) (k : Knows d h.known r g) (j : Instance) (made : map.get next r.id ≡ Some j) (w : Grown k.instance j) where
-  wanted_then : effect_after d j k.answers ≡ g.machine.effect
-  wanted_then = sym (effects_stay d k.instance j k.answers w) ∙ wanted_here k
-
   all_then : k.answers ++ (k.later ++ w.later) ≡ j.answers
   all_then = (stands_still k j made w).run_answers
 
@@ -139,18 +136,15 @@ module _ (d : Deployment) (c : Core) (m n : Rows) (h : Right d c m) (q : PlainSt
     now = effect_next k left_before
 
     now_then : effect_of d j ≡ g.machine.effect
-    now_then = ap (effect_after d j) (sym left) ∙ wanted_then
+    now_then = ap (effect_after d j) (sym left) ∙ sym (effects_stay d k.instance j k.answers w) ∙ wanted_here k
 
   -- ---- in an open transaction
   module _ (o : RunTx) (is_open : g.tx ≡ Some o) where
     abbrev tx : TxId
     tx = tx_of r.id r.func o
 
-    opened : open_of d k.instance k.answers ≡ Some o
-    opened = sym k.run_open ∙ is_open
-
     inside : is_begin g.machine.effect ≡ false → tx_after d r.id k.instance k.answers ≡ Some tx
-    inside apart = tx_open d r.id k.instance k.answers o opened (ap is_begin (wanted_here k) ∙ apart) ∙ ap (λ f. Some (tx_of r.id f o)) k.func
+    inside apart = tx_open d r.id k.instance k.answers o (sym k.run_open ∙ is_open) (ap is_begin (wanted_here k) ∙ apart) ∙ ap (λ f. Some (tx_of r.id f o)) k.func
 
     inside_then : is_begin g.machine.effect ≡ false → tx_after d r.id j k.answers ≡ Some tx
     inside_then apart = sym (tx_stays d r.id k.instance j k.answers w) ∙ inside apart
@@ -173,10 +167,7 @@ module _ (d : Deployment) (c : Core) (m n : Rows) (h : Right d c m) (q : PlainSt
         going : k.instance.outcome ≡ None
         going = no_outcome (effect_of d k.instance) k.instance.outcome (ap is_some (ap touched (now left ∙ is) ∙ touch)) (h.sane.each r.id k.instance k.made).over
 
-        -- it has not ended, before and after
-        open_before : tx_end d h.known tx ≡ None
-        open_before = now_open d h.known h.sane r.id k.instance tx k.made going now_in
-
+        -- its transaction has not ended, afterwards too
         open_after : tx_end d next tx ≡ None
         open_after = now_open d next shows.sane r.id j tx made (no_outcome (effect_of d j) j.outcome (ap is_some (ap touched (now_then left ∙ is) ∙ touch)) (shows.sane.each r.id j made).over) then_in
 
@@ -186,7 +177,7 @@ module _ (d : Deployment) (c : Core) (m n : Rows) (h : Right d c m) (q : PlainSt
           member = r.id;
           got = ap (got_by d tx item r.id (h.locked r.id)) k.made ∙ (λ z. got_before d tx item r.id k.instance || (ahead z && is_on tx item k.instance.func (now_in z) (effect_of d k.instance)))
               ∙ (λ z. got_before d tx item r.id k.instance || (tx_self tx z && is_item item (k.func z) (ap touched (now left ∙ is) z))) ∙ (λ z. got_before d tx item r.id k.instance || is_item item r.func (touch z)) ∙ (λ z. got_before d tx item r.id k.instance || is_eq (tied_itself item_total item z)) ∙ or_true (got_before d tx item r.id k.instance);
-        }) open_before
+        }) (now_open d h.known h.sane r.id k.instance tx k.made going now_in)
           where
             here : note_at (content_of m item).notes (place_of r.id (length k.instance.answers)) ≡ Some notes.Got
             here = ap (λ z. note_at (content_of m item).notes (place_of r.id z)) (sym (step_here k (left_before left))) ∙ noted

@@ -35,12 +35,9 @@ module _ {d : Deployment} {known : Known} {id : IntentId} {home : ℕ} {c : Opti
       returns : effect_after d k.instance k.answers ≡ Return o
       returns = wanted_here k ∙ is
 
-      none_begun : (txs_after d k.instance k.answers).begun ≡ None
-      none_begun = none_by (txs_after d k.instance k.answers).begun (λ b e. no_return d k.instance k.answers o (ap is_some e) returns)
-
       by_within : (w : Option TxId) → k.instance.within ≡ w → open_of d k.instance k.answers ≡ within w
       by_within (Some x) e = open_in d k.instance x k.answers e
-      by_within None e = open_none d id k.instance k.answers (outside_so d id k.instance k.answers (e, none_begun) (ap is_begin returns))
+      by_within None e = open_none d id k.instance k.answers (outside_so d id k.instance k.answers (e, (none_by (txs_after d k.instance k.answers).begun (λ b e. no_return d k.instance k.answers o (ap is_some e) returns))) (ap is_begin returns))
 
 -- ---- its stages
 module _ (d : Deployment) (c : Core) (m : Rows) (i : ℕ) (r : Run) (g : Begun) (h : Right d c m) (live : map.get c.runs i ≡ Some r) (k : Knows d h.known r g) (finds : Inside m h.plain c.book k g.stage) (e : Effect) (is : g.machine.effect ≡ e) where

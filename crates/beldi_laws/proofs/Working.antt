@@ -1,5 +1,5 @@
 -- The turns of an operation inside a transaction, past its lock: it looks at its shadow and at the item, keeps what it read, and makes and writes its shadow.
-use Rattle.beldi_laws.proofs.Names.{Answer, Begun, Bool, ByTx, Cause, Cell, CondCell, Content, Core, Deployment, Effect, Fits, Found, Frame, Goes, InItem, InOperation, Inside, Instance, IntentId, IsAnswer, IsFront, IsOpen, Item, Known, Knows, List, LockedOut, Look, Make, MakeCell, Matches, None, Note, Option, Owner, Place, PutRead, Rel, Right, Row, RowKey, Rows, Run, RunTx, Sane, Says, Some, SoundAt, Tell, TxAt, TxId, Value, WriteAt, WriteCell, [], act, ahead_set, ap, arith, at_tail, begin_of, begun_lists, behind_locks, behind_looks, behind_tests, behind_writes, cell_held, cell_noted, cond_to, content_apart, content_in, content_of, death_in, decision_key, did, effect_of, entered, false, first_rows_go, got_begun, grows_self, head_goes, head_key, head_made, id_cmp, id_total, if◌then◌else◌, inl, inr, is_begin, is_data, is_eq, is_some, item_leads, keep_goes, kinds_apart, length, listed, listed_open, listed_under, lock_answer, lock_or, lockset_key, log_key, looked, moved, next_or, no_log, no_shadow_note, note_at, noted, noted_or, on_cell, once_pushed, other_owner, passes, place_of, read_goes, read_inside, reads_go, refl, said, said_noted, sane_read, sane_tested, sane_wrote, set_here, set_others, set_row, shadow_key, shadow_lists, shadow_made, shadow_of, shadow_read, shadow_told, shadow_value, stays, subst, sym, test_inside, test_on, test_parts, tested, tests_go, tied_itself, touched, true, turn_next, turned_by, tx_after, tx_here_asks, tx_here_says, tx_now, tx_of, tx_says, unchanged, undecided, unless_held, value_at, value_in, was_did, write_goes, write_inside, write_leads, write_on, write_parts, writes_go, writes_on, ℕ, ◌++◌, ◌∙◌, ◌∷◌, ◌≡◌, ◌⊎◌}
+use Rattle.beldi_laws.proofs.Names.{Answer, Begun, Bool, ByTx, Cause, Cell, CondCell, Content, Core, Deployment, Effect, Fits, Found, Frame, Goes, InItem, InOperation, Inside, IntentId, IsAnswer, IsFront, IsOpen, Item, Known, Knows, List, LockedOut, Look, Make, MakeCell, Matches, None, Note, Option, Owner, Place, PutRead, Rel, Right, Row, RowKey, Rows, Run, RunTx, Sane, Says, Some, SoundAt, Tell, TxAt, TxId, Value, WriteAt, WriteCell, [], act, ahead_set, ap, arith, at_tail, begin_of, begun_lists, behind_locks, behind_looks, behind_tests, behind_writes, cell_held, cell_noted, cond_to, content_apart, content_in, content_of, death_in, decision_key, did, effect_of, entered, false, first_rows_go, got_begun, grows_self, head_goes, head_key, head_made, id_cmp, id_total, if◌then◌else◌, inl, inr, is_begin, is_data, is_eq, is_some, item_leads, keep_goes, kinds_apart, length, listed, listed_open, listed_under, lock_answer, lock_or, lockset_key, log_key, looked, moved, next_or, no_log, no_shadow_note, note_at, noted, noted_or, on_cell, once_pushed, other_owner, passes, place_of, read_goes, read_inside, reads_go, refl, said, said_noted, sane_read, sane_tested, sane_wrote, set_here, set_others, set_row, shadow_key, shadow_lists, shadow_made, shadow_of, shadow_read, shadow_told, shadow_value, stays, subst, sym, test_inside, test_on, test_parts, tested, tests_go, tied_itself, touched, true, turn_next, turned_by, tx_after, tx_here_asks, tx_here_says, tx_now, tx_of, tx_says, unchanged, undecided, unless_held, value_at, value_in, was_did, write_goes, write_inside, write_leads, write_on, write_parts, writes_go, writes_on, ℕ, ◌++◌, ◌∙◌, ◌∷◌, ◌≡◌, ◌⊎◌}
 use Rattle.beldi_laws.proofs.Names.answer
 use Rattle.beldi_laws.proofs.Names.at
 use Rattle.beldi_laws.proofs.Names.effect
@@ -270,9 +270,6 @@ module _ (d : Deployment) (c : Core) (m : Rows) (i : ℕ) (r : Run) (g : Begun) 
     abbrev log : RowKey
     log = log_key r.func place
 
-    read_front : (q : Instance) → map.get h.known r.id ≡ Some q → length q.answers ≡ g.machine.steps → k.later ≡ []
-    read_front = at_front d c m r g h k o here read is (t, key) refl
-
     -- it looks at its shadow
     shadow_turn : Turn read at.Shadow
     unfolding Leaves
@@ -291,7 +288,7 @@ module _ (d : Deployment) (c : Core) (m : Rows) (i : ℕ) (r : Run) (g : Begun) 
       begin = tt;
       asked = λ w. l.asked;
       locked = l.got;
-      found = λ q made step. let left = read_front q made step in ap (λ w. value_in w (value_at h.plain read_item)) (none left) ∙ sym (plain_there read is (t, key) refl l left) ∙ sym same;
+      found = λ q made step. let left = (at_front d c m r g h k o here read is (t, key) refl) q made step in ap (λ w. value_in w (value_at h.plain read_item)) (none left) ∙ sym (plain_there read is (t, key) refl l left) ∙ sym same;
     }))
 
     -- it keeps what it found
