@@ -53,11 +53,7 @@ module _ (d : Deployment) (c : Core) (m : Rows) (i : ℕ) (r : Run) (g : Begun) 
 
   -- its row keeps a finish that it has
   end_stays : (j : IntentRow) → map.get m key ≡ Some (rows.Intent j) → StaysRow (map.get m key) (Some (rows.Intent (end_row j)))
-  end_stays j at = record {
-    there = λ e. refl;
-    finish = λ e. (grind (arith, sym (ap has_finish at) ∙ e));
-    calls = λ f e. sym (ap (option_map func_called) at) ∙ e;
-  }
+  end_stays j at = record { there = λ e. refl; finish = λ e. (grind (arith, sym (ap has_finish at) ∙ e)); calls = λ f e. sym (ap (option_map func_called) at) ∙ e }
 
   -- .. and gets one only where it was called in no transaction
   ends_none : (next : Known) (q : Instance) → map.get next r.id ≡ Some q → q.within ≡ k.instance.within → (j : IntentRow) → map.get m key ≡ Some (rows.Intent j) → NoFinish d m (set_row m key (Some (rows.Intent (end_row j)))) next

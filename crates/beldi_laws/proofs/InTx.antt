@@ -54,9 +54,6 @@ module _ (d : Deployment) (c : Core) (m : Rows) (r : Run) (g : Begun) (h : Right
   pub same_item : its_item ≡ item
   same_item i = record { func = k.func i; table = x.0; key = x.1 }
 
-  pub steps : g.machine.steps ≡ length k.answers
-  steps = at_steps k
-
   pub effect_so : effect_after d k.instance k.answers ≡ e
   effect_so = wanted_here k ∙ is
 
@@ -88,7 +85,7 @@ module _ (d : Deployment) (c : Core) (m : Rows) (r : Run) (g : Begun) (h : Right
       let l = ap (λ (z : Instance). length z.answers) (same_some (sym k.made ∙ made)) in
       let n = ap length (known_answers a rest left) in
       let p = length-append k.answers (a ∷ rest) in
-      absurd (omega (arith, l, n, p, same, steps)))
+      let s = at_steps k in absurd (omega (arith, l, n, p, same, s)))
 
   module _ (left : k.later ≡ []) where
     pub now : effect_of d k.instance ≡ e

@@ -1,6 +1,6 @@
 -- The turns of an operation of a transaction up to its lock: a read looks whether a value was kept for it, the row is put that says that
 -- the lock is asked for, and the lock of the item is tried.
-use Rattle.beldi_laws.proofs.Names.{Act, Answer, AtItem, Begun, Bool, ByTx, Cause, Content, Core, Deployment, DidAs, DidOnce, Effect, Fits, Found, Frame, Goes, HasLock, InOperation, Inside, IntentId, IsAnswer, IsDeath, IsFreePlace, IsFront, Item, Known, Knows, List, Lock, LockAt, LockTold, Lockset, LoggedTurn, Logs, Look, Make, MakeCell, Matches, None, Note, OfBegin, Option, Owner, Place, Plain, PutLockset, Query, Released, Right, Row, RowKey, Rows, Run, RunTx, Sane, SaneInstance, Says, Some, SoundAt, TxAt, TxId, Value, WriteAt, WriteGoes, WriteWalk, [], act, age_of, ahead_by, ahead_front, ahead_set, ap, arith, asks_of, begin_of, behind_asks, behind_locks, behind_looks, behind_looks_dead, by_op, content_apart, content_here, content_in, content_of, death_answer, death_in, death_is_older, deaths_go, decision_key, did_lists, died, died_at, died_lists, dies, dies_inside, done_to, effect_after, effect_of, end_place, ended_by, false, given_goes, given_in, given_of, grows_self, has_asked, head_key, held, id_cmp, if◌then◌else◌, inl, inr, inserted, is_data, is_eq, is_item, is_log, is_shadow, is_some, item_asks, item_goes, item_of, key_cmp, kinds_apart, last_step, length, listed, lists_same, lock_answer, lock_did, lock_in, lock_is_there, lock_leads, lock_on, lock_or, locked_goes, lockset_ahead, lockset_key, lockset_put, log_key, looked, moved, no_row, none_out, note_at, note_goes, note_here, note_is_ahead, note_pushed, noted, noted_or, notes_stay, op_act, other_owner, owed_lockset, place_eq, place_of, place_same, put_goes, put_lockset, refl, rows_after, rows_go, said, same_some, sane_died, set_here, set_others, set_row, shadow_key, subst, sym, told, told_by, touched, true, true_false, turn_next, turned_by, tx_after, tx_end, tx_here_asks, tx_here_says, tx_now, tx_of, tx_says, unchanged, undecided, value_at, walk_so, with_note, write_asks, write_goes, ℕ, ◌++◌, ◌<◌, ◌∙◌, ◌∷◌, ◌≡◌}
+use Rattle.beldi_laws.proofs.Names.{Act, Answer, AtItem, Begun, Bool, ByTx, Cause, Content, Core, Deployment, DidAs, DidOnce, Effect, Fits, Found, Frame, Goes, HasLock, InOperation, Inside, IntentId, IsAnswer, IsDeath, IsFreePlace, IsFront, Item, Known, Knows, List, Lock, LockAt, LockTold, Lockset, LoggedTurn, Logs, Look, Make, MakeCell, Matches, None, Note, OfBegin, Option, Owner, Place, Plain, PutLockset, Query, Released, Right, Row, RowKey, Rows, Run, RunTx, Sane, Says, Some, SoundAt, TxAt, TxId, Value, WriteAt, WriteGoes, WriteWalk, [], act, age_of, ahead_by, ahead_front, ahead_set, ap, arith, asks_of, begin_of, behind_asks, behind_locks, behind_looks, behind_looks_dead, by_op, content_apart, content_here, content_in, content_of, death_answer, death_in, death_is_older, deaths_go, decision_key, did_lists, died, died_at, died_lists, dies, dies_inside, done_to, effect_after, effect_of, end_place, ended_by, false, given_goes, given_in, given_of, grows_self, has_asked, head_key, held, id_cmp, if◌then◌else◌, inl, inr, inserted, is_data, is_eq, is_item, is_log, is_shadow, is_some, item_asks, item_goes, item_of, key_cmp, kinds_apart, last_step, length, listed, lists_same, lock_answer, lock_did, lock_in, lock_is_there, lock_leads, lock_on, lock_or, locked_goes, lockset_ahead, lockset_key, lockset_put, log_key, looked, moved, no_row, none_out, note_at, note_goes, note_here, note_is_ahead, note_pushed, noted, noted_or, notes_stay, op_act, other_owner, owed_lockset, place_eq, place_of, place_same, put_goes, put_lockset, refl, rows_after, rows_go, said, same_some, sane_died, set_here, set_others, set_row, shadow_key, subst, sym, told, told_by, touched, true, true_false, turn_next, turned_by, tx_after, tx_end, tx_here_asks, tx_here_says, tx_now, tx_of, tx_says, unchanged, undecided, value_at, walk_so, with_note, write_asks, write_goes, ℕ, ◌++◌, ◌<◌, ◌∙◌, ◌∷◌, ◌≡◌}
 use Rattle.beldi_laws.proofs.Names.answer
 use Rattle.beldi_laws.proofs.Names.at
 use Rattle.beldi_laws.proofs.Names.effect
@@ -135,21 +135,11 @@ module _ (d : Deployment) (c : Core) (m : Rows) (i : ℕ) (r : Run) (g : Begun) 
   replays = in_tx.replays d c m i r g h live k finds o tx here e is x touch
 
   -- ---- its instance
-  steps : g.machine.steps ≡ length k.answers
-  steps = in_tx.steps d c m r g h k o here e is x touch
-
-  sane : SaneInstance d r.id k.instance
-  sane = turns.sane_instance h k
-
   few : length k.answers < last_step
   few = in_tx.short d c m r g h k o here e is x touch
 
   touch_here : touched (effect_after d k.instance k.answers) ≡ Some x
   touch_here = ap touched (in_tx.effect_so d c m r g h k o here e is x touch) ∙ touch
-
-  -- the begin of its transaction is the one that it asks with
-  begins : own.begin ≡ begin_of o
-  begins = in_tx.begin_is r.id r.func o
 
   abbrev its_item : Item
   its_item = record { func = k.instance.func; table = x.0; key = x.1 }
@@ -163,18 +153,18 @@ module _ (d : Deployment) (c : Core) (m : Rows) (i : ℕ) (r : Run) (g : Begun) 
     all = in_tx.known_answers d c m r g h k o here e is x touch a rest left
 
     told_here : LockTold (place_of r.id (length k.answers)) a
-    told_here = told d m h.known h.locked h.rows r.id k.instance k.made sane k.answers a rest all few own here x touch_here
+    told_here = told d m h.known h.locked h.rows r.id k.instance k.made (turns.sane_instance h k) k.answers a rest all few own here x touch_here
 
     note_here_is : note_at (content_of m item).notes place ≡ Some told_here.note
     unfolding told_here
     note_here_is =
-        let locks = behind_locks d m h.known h.locked h.rows r.id k.instance k.made sane k.answers a rest all few own here x touch_here in
-        (λ i. note_at (content_of m (sym same_item i)).notes (place_of r.id (steps i))) ∙ told_note (place_of r.id (length k.answers)) own (content_of m its_item) (content_of m its_item) told_here.note locks.0
+        let locks = behind_locks d m h.known h.locked h.rows r.id k.instance k.made (turns.sane_instance h k) k.answers a rest all few own here x touch_here in
+        (λ i. note_at (content_of m (sym same_item i)).notes (place_of r.id ((turns.at_steps k) i))) ∙ told_note (place_of r.id (length k.answers)) own (content_of m its_item) (content_of m its_item) told_here.note locks.0
 
     lockset_there : map.get m (lockset_key r.id (begin_of o) item) ≡ None → ⊥
     lockset_there none =
-        let asks = behind_asks d m h.known h.locked h.rows r.id k.instance k.made sane k.answers a rest all few own here x touch_here in
-        let absent : map.get m (lockset_key r.id own.begin its_item) ≡ None = (λ j. map.get m (lockset_key r.id (begins j) (same_item j))) ∙ none in
+        let asks = behind_asks d m h.known h.locked h.rows r.id k.instance k.made (turns.sane_instance h k) k.answers a rest all few own here x touch_here in
+        let absent : map.get m (lockset_key r.id own.begin its_item) ≡ None = (λ j. map.get m (lockset_key r.id ((in_tx.begin_is r.id r.func o) j) (same_item j))) ∙ none in
         true_false (ap (λ z. z.1) (sym (ap put_lockset absent) ∙ asks))
 
   -- ---- at the front
@@ -227,13 +217,13 @@ module _ (d : Deployment) (c : Core) (m : Rows) (i : ℕ) (r : Run) (g : Begun) 
       where
         by_answer : (b : Answer) → k.later ≡ b ∷ rest → IsAnswer place (Some own) (effect.Read x.0 x.1) b → answer.Value (given_in w) ≡ b
         by_answer (answer.Value v) left ok =
-            let row = behind_looks d m h.known h.locked h.rows r.id k.instance k.made sane k.answers (answer.Value v) rest (all (answer.Value v) rest left)
+            let row = behind_looks d m h.known h.locked h.rows r.id k.instance k.made (turns.sane_instance h k) k.answers (answer.Value v) rest (all (answer.Value v) rest left)
             few x.0 x.1 v is_read refl in
-            ap (λ z. answer.Value (given_in z)) (same_some (sym there ∙ sym (its_row (length k.answers) steps) ∙ row))
+            ap (λ z. answer.Value (given_in z)) (same_some (sym there ∙ sym (its_row (length k.answers) (turns.at_steps k)) ∙ row))
         by_answer (answer.Aborted z) left ok =
-            let row = behind_looks_dead d m h.known h.locked h.rows r.id k.instance k.made sane k.answers (answer.Aborted z) rest (all (answer.Aborted z) rest left)
+            let row = behind_looks_dead d m h.known h.locked h.rows r.id k.instance k.made (turns.sane_instance h k) k.answers (answer.Aborted z) rest (all (answer.Aborted z) rest left)
             few x.0 x.1 z is_read refl in
-            let clash = sym there ∙ sym (its_row (length k.answers) steps) ∙ row in cc
+            let clash = sym there ∙ sym (its_row (length k.answers) (turns.at_steps k)) ∙ row in cc
         by_answer b left ok = absurd ok
 
     by_row : (v : Option Row) → map.get m log_row ≡ v → Comes (tx_says at.Log (given_goes (begin_of o) (given_of (said (act Look c.now v).1)))) m
@@ -255,7 +245,7 @@ module _ (d : Deployment) (c : Core) (m : Rows) (i : ℕ) (r : Run) (g : Begun) 
     asked_now = set_row m lock_row (Some rows.Lockset)
 
     asked_matches : Matches d asked_now h.known h.locked
-    asked_matches = subst (λ l. Matches d (set_row m l (Some rows.Lockset)) h.known h.locked) (λ j. lockset_key r.id (begins j) (same_item j))
+    asked_matches = subst (λ l. Matches d (set_row m l (Some rows.Lockset)) h.known h.locked) (λ j. lockset_key r.id ((in_tx.begin_is r.id r.func o) j) (same_item j))
         (lockset_put d h.known h.locked m h.rows r.id k.instance own x k.made (in_tx.open_still d c m r g h k o here e is x touch left) (tx_is left) (not_ended left) (front left).touch)
 
     asked_lists : (y : Item) → listed asked_now y ≡ listed m y
@@ -368,7 +358,7 @@ module _ (d : Deployment) (c : Core) (m : Rows) (i : ℕ) (r : Run) (g : Begun) 
 
           taken_kept : Kept h n h.plain h.known taken
           taken_kept = kept_moving h n h.plain h.known taken (record { beside = h.beside; shadows = rows_go d m n h.plain h.known h.locked taken taken_more (set_shadows m (head_key item) v refl) h.shadows })
-              (ahead_front d h.known h.locked h.locked_at_ends r.id k.instance own x.0 x.1 (front left) sane) h.sane taken_matches
+              (ahead_front d h.known h.locked h.locked_at_ends r.id k.instance own x.0 x.1 (front left) (turns.sane_instance h k)) h.sane taken_matches
               (λ y. did_lists m own (no_decision_yet left) item v free (ap (λ (z : Content). z.value) row_did) (ap (λ (z : Content). z.owner) row_did) y ∙ h.values y) (settled h) (grows_self h.known) taken_frame (unfinished h.known)
 
         -- it dies: it has that answer from now on
@@ -403,7 +393,7 @@ module _ (d : Deployment) (c : Core) (m : Rows) (i : ℕ) (r : Run) (g : Begun) 
           died_matches : Matches d n next h.locked
           died_matches = subst (λ y. Matches d (set_row m (head_key y) v) next h.locked) same_item
               (dies_inside d h.known h.locked h.locked r.id k.instance k.made (none_out h.locked r.id unlocked) own (tx_is left) m h.rows x.0 x.1 j v (front left).touch
-              (subst (λ l. map.get m l ≡ Some rows.Lockset) (λ j. lockset_key r.id (sym begins j) (sym same_item j)) (in_tx.lockset_is (map.get m lock_row) (owed_lockset d (begin_of o) item r.id (map.get h.known r.id)) (lockset_ahead d h.known (begin_of o) item r.id (map.get h.known r.id)) (h.rows.keys lock_row) asked))
+              (subst (λ l. map.get m l ≡ Some rows.Lockset) (λ j. lockset_key r.id (sym (in_tx.begin_is r.id r.func o) j) (sym same_item j)) (in_tx.lockset_is (map.get m lock_row) (owed_lockset d (begin_of o) item r.id (map.get h.known r.id)) (lockset_ahead d h.known (begin_of o) item r.id (map.get h.known r.id)) (h.rows.keys lock_row) asked))
               unlocked fits_row (back (λ y p. note_at (content_of m y).notes p ≡ None) none) (back (λ y p. content_in v ≡ with_note (content_of m y) p (notes.Died j)) row_died))
             where
               back : (P : Item → Place → Type 0) → P item place → P its_item (place_now left)
@@ -476,7 +466,7 @@ module _ (d : Deployment) (c : Core) (m : Rows) (i : ℕ) (r : Run) (g : Begun) 
           (λ a rest left.
           let noted_so : (told_here a rest left).note ≡ notes.Died j = same_some (sym (note_here_is a rest left) ∙ there) in
           let same : answer.Aborted (record { place = place_of r.id (length k.answers); holder = Some j }) ≡ a = noted_death (place_of r.id (length k.answers)) a j (ap (λ u. lock_answer (place_of r.id (length k.answers)) (noted u)) (sym noted_so) ∙ (told_here a rest left).says) in
-          subst (λ z. Comes (says.Answers z None) n) (sym same ∙ ap (λ q. answer.Aborted (record { place = place_of r.id q; holder = Some j })) (sym steps)) (replays n a rest left roots (as_held whole)))
+          subst (λ z. Comes (says.Answers z None) n) (sym same ∙ ap (λ q. answer.Aborted (record { place = place_of r.id q; holder = Some j })) (sym (turns.at_steps k))) (replays n a rest left roots (as_held whole)))
 
       by_note : (u : Note) (first : Bool) → note_at (content_of n item).notes place ≡ Some u → DidOnce place (ByTx own) Lock first (content_of m item) (content_of n item) → Comes (tx_says (at.Lock (AtItem w)) (lock_leads place e (note_goes w u first))) n
       by_note notes.Got true got l = taken_now l.0 (dies (ByTx own) Lock (content_of m item).owner) refl l.1 got

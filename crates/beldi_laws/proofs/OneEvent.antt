@@ -21,11 +21,7 @@ same_rows : (c : Core) (m n : Rows) → n ≡ m → OneRowChanged c m n
 same_rows c m n same = record { key = least_key; rows = inl same; others = λ x apart. ap (λ l. content_of l x) same }
 
 one_act : (c : Core) (m n : Rows) (k : RowKey) (a : RowAct) → n ≡ after_act a c.now k m → OneRowChanged c m n
-one_act c m n k a is = record {
-  key = k;
-  rows = inr (a, is);
-  others = λ x apart. ap (λ l. content_of l x) is ∙ ap content_in (set_others m k (act a c.now (map.get m k)).0 (head_key x) apart);
-}
+one_act c m n k a is = record { key = k; rows = inr (a, is); others = λ x apart. ap (λ l. content_of l x) is ∙ ap content_in (set_others m k (act a c.now (map.get m k)).0 (head_key x) apart) }
 
 by_query : (c : Core) (q : Query) (m n : Rows) → n ≡ rows_after q c.now m → OneRowChanged c m n
 by_query c (Act k a) m n is = one_act c m n k a is

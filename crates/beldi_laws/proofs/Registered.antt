@@ -31,11 +31,7 @@ stays_new r v none = record {
 
 -- .. a call that is marked, or has its result
 pub stays_call : (r : Option Row) (x y : InvokeRow) → r ≡ Some (rows.Invoke x) → y.func ≡ x.func → StaysRow r (Some (rows.Invoke y))
-stays_call r x y is func = record {
-  there = λ e. refl;
-  finish = λ e. let clash = sym (ap has_finish is) ∙ e in cc;
-  calls = λ g e. ap Some func ∙ sym (ap (option_map func_called) is) ∙ e;
-}
+stays_call r x y is func = record { there = λ e. refl; finish = λ e. let clash = sym (ap has_finish is) ∙ e in cc; calls = λ g e. ap Some func ∙ sym (ap (option_map func_called) is) ∙ e }
 
 pub stays_marked : (now : ℕ) (r : Option Row) → StaysRow r (act NoteRegistered now r).0
 stays_marked now None = stays_same None

@@ -92,11 +92,7 @@ module _ (d : Deployment) (m : Rows) (p : PlainState) (known : Known) (id : Inte
 -- one that is known
 module _ (d : Deployment) (m : Rows) (p : PlainState) (known : Known) (id : IntentId) (k : Instance) (is : map.get known id ≡ Some k) (h : Settled d m p known) where
   pub one_known : IsSettled d m p id k
-  one_known = record {
-    holders = λ n c i inside dead holder. h.holders id k n c i is inside dead holder;
-    seated = λ t within over. h.seated id k t is within over;
-    short = h.short id (ap is_some is);
-  }
+  one_known = record { holders = λ n c i inside dead holder. h.holders id k n c i is inside dead holder; seated = λ t within over. h.seated id k t is within over; short = h.short id (ap is_some is) }
 
   -- .. goes along, and so does one that is as it was but for its answers, of which none ended a transaction
   pub goes_known : (s : Instance) → s.within ≡ k.within → ((b : ℕ) (z : ℕ × Bool) → end_of d s b ≡ Some z → end_of d k b ≡ Some z) → GoesAlong d m known id s
@@ -203,7 +199,4 @@ module _ (d : Deployment) (m : Rows) (p : PlainState) (known : Known) (id : Inte
 
   -- .. or at an operation inside, of whose death the holder was made
   pub settled_operated : (o : ℕ × List ℕ) → touched (effect_of d k) ≡ Some o → ((c : Cause) (i : IntentId) → a ≡ answer.Aborted c → c.holder ≡ Some i → is_some (map.get p.made i) ≡ true) → Settled d m p known → Settled d m p (map.insert known id (moved d id k a))
-  settled_operated o touch dead h = settled_moved (record {
-    no_end = λ c g. let clash = sym (ap touched g) ∙ touch in cc;
-    holder = λ c i inside. dead c i;
-  }) h
+  settled_operated o touch dead h = settled_moved (record { no_end = λ c g. let clash = sym (ap touched g) ∙ touch in cc; holder = λ c i inside. dead c i }) h

@@ -19,12 +19,12 @@ use Rattle.beldi_txn.specs.Tx.{item_goes, note_goes}
 use Rattle.beldi_laws.proofs.Frames.{NoFinish, NobodyJoins, frame_log, frame_shadow, is_lockset, items_stay, no_finish, nobody_new, nobody_set}
 use Rattle.beldi_laws.proofs.Settling.{settled_operated}
 use Rattle.beldi_laws.proofs.Grown.{grown_moved, grows_moved, moved_more}
-use Rattle.beldi_laws.proofs.InTx.{frees_none, open_still, item_self, goes_at, replays, set_roots, same_item, steps, effect_so, wants_here, short, known_answers, answers_so, at_front, now, tx_is, front, apart, opened as opened_here, owned as owned_here, was_locked}
+use Rattle.beldi_laws.proofs.InTx.{frees_none, open_still, item_self, goes_at, replays, set_roots, same_item, effect_so, wants_here, short, known_answers, answers_so, at_front, now, tx_is, front, apart, opened as opened_here, owned as owned_here, was_locked}
 use Rattle.beldi_laws.proofs.Keeping.{as_it_was}
 use Rattle.beldi_laws.proofs.Moves.{AfterQuery, AfterTurn, SameRoots, Kept}
 use Rattle.beldi_laws.proofs.Others.{kept_moving}
 use Rattle.beldi_laws.proofs.Shown.{settled}
-use Rattle.beldi_laws.proofs.Turns.{sane_instance, all_here, step_here, answers_on, stays_on}
+use Rattle.beldi_laws.proofs.Turns.{at_steps, sane_instance, all_here, step_here, answers_on, stays_on}
 
 -- ---- small facts
 -- the answer to an operation inside that did not die
@@ -139,10 +139,10 @@ module _ (d : Deployment) (c : Core) (m : Rows) (i : ℕ) (r : Run) (g : Begun) 
       all_known = known_answers d c m r g h k o here e is x touch a rest left
 
       as_behind : (P : Item → Place → Type 0) → P item place → P its_item (place_of r.id (length k.answers))
-      as_behind P z = subst (λ n. P its_item (place_of r.id n)) (steps d c m r g h k o here e is x touch) (subst (λ y. P y place) (sym same) z)
+      as_behind P z = subst (λ n. P its_item (place_of r.id n)) (at_steps k) (subst (λ y. P y place) (sym same) z)
 
       as_run : (P : Item → Place → Type 0) → P its_item (place_of r.id (length k.answers)) → P item place
-      as_run P z = subst (λ y. P y place) same (subst (λ n. P its_item (place_of r.id n)) (sym (steps d c m r g h k o here e is x touch)) z)
+      as_run P z = subst (λ y. P y place) same (subst (λ n. P its_item (place_of r.id n)) (sym (at_steps k)) z)
 
       -- it did not die
       not_dead : death_in a ≡ None
