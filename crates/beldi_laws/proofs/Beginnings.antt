@@ -1,5 +1,5 @@
 -- The first turn of a run: it finds its body, or registers the one that its call gave it.
-use Rattle.beldi_laws.proofs.Names.{Body, Bool, Core, Deployment, Func, IntentId, IntentMatches, IntentRow, IsAt, IsBodyOf, IsRowOf, Kind, KnowsBody, Look, Machine, None, Option, Register, Right, Row, RowKey, Rows, Run, RunTx, Some, [], act, ap, arith, at_begin, begin_in, body_in, body_registered, body_told, cond, eqb-true, false, func_at, got, has_ended, has_no_hops, if◌then◌else◌, intent_key, is_eq, is_some, issued_at, key_cmp, key_in, key_same, key_self, look_asks, looked, machine_begun, open_body, refl, register_asks, root_key, row_of, said, same_some, set_others, set_row, subst, sym, true, true_false, turn_next, within, ℕ, ◌==◌, ◌∙◌, ◌≡◌}
+use Rattle.beldi_laws.proofs.Names.{Body, Bool, Core, Deployment, Func, IntentId, IntentMatches, IntentRow, IsAt, IsBodyOf, IsRowOf, Kind, KnowsBody, Look, Machine, None, Option, Register, Right, Row, RowKey, Rows, Run, RunTx, Some, [], act, ap, arith, at_begin, begin_in, body_in, body_registered, body_told, cond, false, func_at, got, has_ended, has_no_hops, if◌then◌else◌, intent_key, is_eq, is_some, issued_at, key_cmp, key_in, key_same, key_self, look_asks, looked, machine_begun, open_body, refl, register_asks, root_key, row_of, said, same_some, set_others, set_row, subst, sym, true, true_false, turn_next, within, ℕ, ◌==◌, ◌∙◌, ◌≡◌}
 use Rattle.beldi_laws.proofs.Names.kinds
 use Rattle.beldi_laws.proofs.Names.map
 use Rattle.beldi_laws.proofs.Names.rows
@@ -39,8 +39,7 @@ module _ (d : Deployment) (c : Core) (m : Rows) (i : ℕ) (r : Run) (h : Right d
   made_in n (Some b) is row = by_func (b.func == r.func) refl
     where
       by_func : (t : Bool) → (b.func == r.func) ≡ t → MadeWith n (if t then Some b else None)
-      by_func true e = record { body = is b refl; func = eqb-true b.func r.func e; row = row }
-      by_func false e = tt
+      by_func t e = grind arith
 
   made_open : (n : Rows) (j : IntentRow) → IsRowOf j (map.get h.known r.id) → (has_no_hops r.id.hops ≡ false → is_some (map.get n (key_in r.func r.id)) ≡ true) → MadeWith n (body_in r.func (open_body j))
   unfolding MadeWith

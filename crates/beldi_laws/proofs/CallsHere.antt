@@ -15,7 +15,6 @@ use Rattle.beldi_laws.proofs.Turns.{answer_here, step_here, effect_next, not_ove
 use Rattle.beldi_value.proofs.Callees.{no_root}
 use Rattle.beldi_laws.proofs.Outside.{plain_none}
 use Rattle.beldi_known.specs.Beside.{begins}
-use Rattle.beldi_laws.proofs.Cases.{by_option}
 
 -- a call tells whether it waits, its function and its argument
 pub same_call : (a b : Bool) (f g : ℕ) (v u : Value) → call_of a f v ≡ call_of b g u → (a ≡ b) × (f ≡ g) × (v ≡ u)
@@ -67,9 +66,7 @@ module _ (d : Deployment) (c : Core) (m : Rows) (r : Run) (g : Begun) (h : Right
   not_made none = none_by (map.get h.known callee) (λ j at. let clash = sym (sym owed_is ∙ none) ∙ ap (option_map {U = ℕ × Option Outcome} (λ j. (j.func, result_of j))) at in cc)
 
   pub was_made : (z : ℕ × Option Outcome) → owed_call h.known r.func (place_of r.id g.machine.steps) ≡ Some z → (j : Instance) × (map.get h.known callee ≡ Some j) × (result_of j ≡ z.1)
-  was_made z there = let owed = sym there ∙ owed_is in by_option (map.get h.known callee)
-      (λ none. let clash = owed ∙ ap (option_map {U = ℕ × Option Outcome} (λ j. (j.func, result_of j))) none in cc)
-      (λ j at. (j, at, ap (λ z. z.1) (sym (same_some (owed ∙ ap (option_map {U = ℕ × Option Outcome} (λ j. (j.func, result_of j))) at)))))
+  was_made z there = grind arith
 
   pub made_by : (x : InvokeRow) → owed_call h.known r.func (place_of r.id g.machine.steps) ≡ Some (x.func, x.result) → is_some (map.get h.known callee) ≡ true
   made_by x there = let j = was_made (x.func, x.result) there in ap is_some j.1

@@ -73,8 +73,7 @@ module _ (d : Deployment) (c : Core) (m : Rows) (i : ℕ) (r : Run) (g : Begun) 
     outcome_there (Some u) has there = has ∙ ap Some (same_outcome d c m i r g h live k finds o is u has)
 
     matches_now : (t : Bool) (u : Option Outcome) → u ≡ Some o → OutcomeMatches t (Some o) u
-    matches_now true u has = λ v e. has ∙ e
-    matches_now false u has = has
+    matches_now t u has = grind arith
 
     body_ended : (home : ℕ) (b : Option Body) (u : Option Outcome) → CalleeBodyMatches home b u (Some k.instance) → CalleeBodyMatches home b (Some o) (Some k.instance)
     body_ended home None u f = absurd f
@@ -82,8 +81,7 @@ module _ (d : Deployment) (c : Core) (m : Rows) (i : ℕ) (r : Run) (g : Begun) 
 
     -- its row has its finish with its outcome where it was called in no transaction, and else keeps what it has
     finishes_now : (w : Option TxId) (f : Option ℕ) (u : Option Outcome) → FinishMatches (has_ended d h.known) w f u → FinishMatches (has_ended d h.known) w (finish_at (stamped w) c.now f) (Some o)
-    finishes_now None f u was = finished f
-    finishes_now (Some t) f u was = was
+    finishes_now w f u was = grind arith
 
     tx_there : (home : ℕ) (b : Option Body) (u : Option Outcome) → CalleeBodyMatches home b u (Some k.instance) → tx_in b ≡ k.instance.within
     tx_there home b u f = grind arith
@@ -119,7 +117,7 @@ module _ (d : Deployment) (c : Core) (m : Rows) (i : ℕ) (r : Run) (g : Begun) 
     open_root b u f = grind arith
 
     open_callee : (home : ℕ) (b : Option Body) (u : Option Outcome) → CalleeBodyMatches home b u (Some k.instance) → k.instance.outcome ≡ u
-    open_callee home h1 u f = grind arith
+    open_callee home b u f = grind arith
 
     open_by : (t : Bool) (home : ℕ) (j : IntentRow) → IntentMatches (has_ended d h.known) t home (Some (rows.Intent j)) (Some k.instance) → k.instance.outcome ≡ j.outcome
     open_by false home j f = open_callee home j.body j.outcome f.body

@@ -43,7 +43,7 @@ module _ (d : Deployment) (id : IntentId) (q : Instance) where
 
       -- where the answer is none that was aborted, nothing was before
       no_end : (e : Effect) → effect_after d q ts ≡ e → ((c : Bool) → e ≡ effect.End c → ⊥) → (w : OpenTx) → IsCause ts w → (u : Option Cause) → w.cause ≡ u → u ≡ None
-      no_end e is other w z h5 there = grind arith
+      no_end e is other w z u there = grind arith
 
       plainly : (e : Effect) → effect_after d q ts ≡ e → ((c : Bool) → e ≡ effect.End c → ⊥) → (w : OpenTx) → open_of d q ts ≡ Some (Own w) → w ≡ o → o.cause ≡ None
       plainly e is other w opened same = ap (λ (y : OpenTx). y.cause) (sym same) ∙ no_end e is other w (h w opened) w.cause refl

@@ -1,5 +1,5 @@
 -- The listing of the rows is that of the plain state.
-use Rattle.beldi_laws.proofs.Names.{Bool, Core, Deployment, Item, KeepsNoNull, Kind, List, None, Null, Option, Ordering, PlainState, Right, Row, RowKey, Rows, Some, T, Value, [], ap, arith, below_all, cond, content_in, entries_sorted, false, find, flat_map, get-entries, head_key, head_order, is_eq, is_lt, is_sorted, item_cmp, item_exact, item_text, item_total, key_cmp, key_same, line_at, listed, listed_under, listing_of, no_null, or_null, refl, row_line, run_of, same_entries, shown_under, subst, sym, tables_text, tied_itself, true, value_line, zero, ℕ, ◌&&◌, ◌++◌, ◌∙◌, ◌∷◌, ◌≡◌}
+use Rattle.beldi_laws.proofs.Names.{Bool, Core, Deployment, Item, KeepsNoNull, Kind, List, None, Null, Option, Ordering, PlainState, Right, Row, RowKey, Rows, Some, T, Value, [], ap, arith, below_all, cond, content_in, entries_sorted, false, find, flat_map, get-entries, head_key, is_eq, is_lt, is_sorted, item_cmp, item_exact, item_text, item_total, key_cmp, key_same, line_at, listed, listed_under, listing_of, no_null, or_null, refl, row_line, run_of, same_entries, shown_under, subst, sym, tables_text, tied_itself, true, value_line, zero, ℕ, ◌&&◌, ◌++◌, ◌∙◌, ◌∷◌, ◌≡◌}
 use Rattle.beldi_laws.proofs.Names.kinds
 use Rattle.beldi_laws.proofs.Names.map
 use Rattle.beldi_laws.proofs.Names.rows
@@ -54,10 +54,7 @@ below_valued : (x y : Item) (v : Value) (zs : List (Item × Value)) → T (is_lt
 below_valued x y v zs h g = grind arith
 
 below_entry : (m : Rows) (x : Item) (f : ℕ) (k : Kind) (r : Row) (zs : List (Item × Value)) → T (is_lt (key_cmp (head_key x) (record { home = f; kind = k }))) → T (below_all item_cmp x zs) → T (below_all item_cmp x (cons_some (item_entry m f k r) zs))
-below_entry m x f (kinds.Data t k zero) (rows.Cell c) zs h g =
-    let y : Item = record { func = f; table = t; key = k } in
-    below_valued x y (shown_under m f t k c.owner c.value) zs (subst (λ o. T (is_lt o)) (head_order x y) h) g
-below_entry m x f k r zs h g = g
+below_entry m x f k r zs h g = grind arith
 
 below_items : (m : Rows) (x : Item) (es : List (RowKey × Row)) → T (below_all key_cmp (head_key x) es) → T (below_all item_cmp x (items_in m es))
 below_items m x [] h = tt

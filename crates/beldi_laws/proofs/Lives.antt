@@ -1,5 +1,5 @@
 -- Live runs, and what they know when the book has grown.
-use Rattle.beldi_laws.proofs.Names.{Answer, Begins, Begun, Body, Bool, Caller, Deployment, Entry, Equal-is, FinMap, Grown, GrownAt, Grows, Inside, Instance, IntentId, IsAt, IsBodyOf, IsKeptLate, IsLast, IsTrue, Item, Keeps, Known, Knows, KnowsAt, List, Looks, Machine, None, Option, PlainState, Read, Registers, Rows, Run, RunAt, RunTx, RunsMatch, Some, StandsAt, Value, WasThere, [], answered, ap, append-nil, append_assoc, arith, body_of, changed, changes_more, changes_of, cond, count_changes, elsewhere, false, get-insert, get-remove, here, is_eq, is_some, len-insert, len-remove, length, length-append, ltb-false, most_runs, moved, nat_cmp, nat_cmp-IsAntisymmetric, nat_cmp_total, nat_lt, open_of, put_got, put_run, refl, same_some, subst, sym, true, with_answer, ℕ, ◌++◌, ◌+◌, ◌<◌, ◌∙◌, ◌∷◌, ◌≡◌, ◌≤◌}
+use Rattle.beldi_laws.proofs.Names.{Answer, Begins, Begun, Body, Bool, Caller, Deployment, Entry, Equal-is, FinMap, Grown, GrownAt, Grows, Inside, Instance, IntentId, IsAt, IsBodyOf, IsKeptLate, IsLast, IsTrue, Item, Keeps, Known, Knows, KnowsAt, List, Looks, Machine, None, Option, PlainState, Read, Registers, Rows, Run, RunAt, RunTx, RunsMatch, Some, StandsAt, Value, WasThere, [], answered, ap, append-nil, append_assoc, arith, changed, changes_more, changes_of, cond, count_changes, elsewhere, false, get-insert, get-remove, here, is_eq, is_some, len-insert, len-remove, length, length-append, ltb-false, most_runs, moved, nat_cmp, nat_cmp-IsAntisymmetric, nat_cmp_total, nat_lt, open_of, put_got, put_run, refl, subst, sym, true, with_answer, ℕ, ◌++◌, ◌+◌, ◌<◌, ◌∙◌, ◌∷◌, ◌≡◌, ◌≤◌}
 use Rattle.beldi_laws.proofs.Names.answer
 use Rattle.beldi_laws.proofs.Names.entry
 use Rattle.beldi_laws.proofs.Names.map
@@ -65,9 +65,7 @@ module _ {d : Deployment} {p : Known} (q : Known) {id : IntentId} {home : ℕ} {
 
 -- a body stays that of its instance
 body_on : (b : Body) (o u : Option Instance) → GrownAt o u → IsBodyOf b o → IsBodyOf b u
-body_on b None u w h = let clash = h.made in cc
-body_on b (Some i) None w h = absurd w
-body_on b (Some i) (Some j) w h = record { instance = j; made = refl; body = h.body ∙ ap body_of (same_some (sym h.made)) ∙ λ k. record { func = sym w.func k; args = sym w.args k; tx = sym w.within k; from = sym w.from k } }
+body_on b o u w h = grind arith
 
 -- a run that has begun finds in the rows n what it has to, where it did in the rows m, when the book has grown
 abbrev pub InsideOn : Deployment → Rows → Rows → PlainState → PlainState → List Entry → Known → Known → Type 0
@@ -147,8 +145,7 @@ module _ (d : Deployment) (book : List Entry) (p : PlainState) (id : IntentId) (
 
 -- ---- live runs
 fewer : (b : Bool) (n k : ℕ) → n ≤ k → cond b (n - 1) n ≤ k
-fewer true n k h = omega arith
-fewer false n k h = h
+fewer b n k h = grind arith
 
 put_few : (m : FinMap nat_cmp Run) (i : ℕ) (o : Option Run) (k : ℕ) → IsTrue (is_some (map.get m i)) → map.len m ≤ k → map.len (put_run m i o) ≤ k
 put_few m i None k there h = subst (λ n. n ≤ k) (sym (len-remove nat_cmp_total m i)) (fewer (is_some (map.get m i)) (map.len m) k h)
@@ -185,8 +182,7 @@ runs_more d m p book known live last r room here h = record {
 }
   where
     by_test : (b : Bool) → cond b (map.len live) (map.len live + 1) ≤ most_runs
-    by_test true = omega arith
-    by_test false = omega arith
+    by_test b = grind arith
 
 -- .. and was not started
 pub runs_before : (d : Deployment) (m : Rows) (p : PlainState) (book : List Entry) (known : Known) (live : FinMap nat_cmp Run) (last : ℕ) (r : Run) → ((n : ℕ) → IsTrue (is_some (map.get live n)) → n ≤ last) → RunsMatch d m p book known (map.insert live (last + 1) r) (last + 1) → RunsMatch d m p book known live last
@@ -201,8 +197,7 @@ runs_before d m p book known live last r given h = record {
         let same = nat_cmp-IsAntisymmetric n (last + 1) ((Equal-is (nat_cmp n (last + 1))).0 e) in absurd (omega (arith, same, le))))
 
     fewer_before : (b : Bool) → cond b (map.len live) (map.len live + 1) ≤ most_runs → map.len live ≤ most_runs
-    fewer_before true le = le
-    fewer_before false le = omega (arith, le)
+    fewer_before b le = grind arith
 
     not_live : (n : ℕ) (o : Option Run) → map.get live n ≡ o → last < n → RunAt d m p book known o
     not_live n None is more = tt

@@ -1,9 +1,8 @@
 -- Who took part in a transaction that has ended is who its end visits: the rows of calls lead from its owner to each of them, and to
 -- nobody else.
-use Rattle.beldi_laws.proofs.Names.{AllShort, AtEnd, Bool, CallMatches, Called, CalledBy, CallerOf, Deployment, Done, Instance, IntentId, IsAnswer, IsCall, IsCalled, IsMember, IsWay, IsWithin, Known, List, Matches, Member, None, Option, Outcome, Row, Rows, Sane, Some, TookPart, TxId, [], all_called, answer_given, ap, arith, begun_before, call_key, call_of, called_at, called_by, caller_in, child_of, effect_before, ended_by, eq-eqb, eqb-true, false, first_end, func_called, has_callees, has_no_hops, if◌then◌else◌, intent_key, is_some, key_in, length, length-append, lt-ltb, member_at, member_more, option_map, or_own, place_of, refl, result_of, same_some, subst, sym, take, true, tx_at, tx_by, tx_end, txs_after, visited_by, way_more, within_by, ℕ, ◌++◌, ◌<◌, ◌==◌, ◌∙◌, ◌∷◌, ◌≡◌, ◌≤◌}
+use Rattle.beldi_laws.proofs.Names.{AllShort, AtEnd, Bool, CallMatches, Called, CalledBy, CallerOf, Deployment, Done, Instance, IntentId, IsAnswer, IsCall, IsCalled, IsMember, IsWay, IsWithin, Known, List, Matches, Member, None, Option, Outcome, Row, Rows, Sane, Some, TookPart, TxId, [], all_called, answer_given, ap, arith, begun_before, call_key, call_of, called_at, called_by, caller_in, child_of, effect_before, ended_by, eq-eqb, false, first_end, func_called, has_callees, has_no_hops, if◌then◌else◌, intent_key, is_some, key_in, length, length-append, lt-ltb, member_at, member_more, option_map, or_own, place_of, refl, result_of, same_some, subst, sym, take, true, tx_at, tx_by, tx_end, txs_after, visited_by, way_more, within_by, ℕ, ◌++◌, ◌<◌, ◌==◌, ◌∙◌, ◌∷◌, ◌≡◌, ◌≤◌}
 use Rattle.beldi_laws.proofs.Names.kinds
 use Rattle.beldi_laws.proofs.Names.map
-use Rattle.beldi_laws.proofs.Names.rows
 use Rattle.beldi_value.proofs.Callees.{no_root}
 use Rattle.beldi_txn.specs.Way.{callee_of}
 use Rattle.beldi_known.proofs.OwnTx.{Own}
@@ -44,18 +43,13 @@ module _ (d : Deployment) (m : Rows) (known : Known) (locked : IntentId → Bool
     call_known is = by_row (map.get m (call_key p.1 p.0 c.step)) (h.keys (call_key p.1 p.0 c.step)) is
       where
         by_test : (i j : Instance) → map.get known p.0 ≡ Some i → map.get known (child_of p.0 c.step) ≡ Some j → (z : ℕ × Option Outcome) → z.0 ≡ c.func → (b : Bool) → (i.func == p.1) ≡ b → (if b then Some (j.func, result_of j) else None) ≡ Some z → IsKnownCall known p c
-        by_test i j made there z same true e owed = record { caller = i; made = made; func = eqb-true i.func p.1 e; callee = j; there = there; its = ap (λ (y : ℕ × Option Outcome). y.0) (same_some owed) ∙ same }
-        by_test i j made there z same false e owed = cc
+        by_test i j made there z same b e owed = grind arith
 
         by_known : (o u : Option Instance) → map.get known p.0 ≡ o → map.get known (child_of p.0 c.step) ≡ u → (z : ℕ × Option Outcome) → z.0 ≡ c.func → called_by p.1 o u ≡ Some z → IsKnownCall known p c
-        by_known None u made there z same owed = cc
-        by_known (Some i) None made there z same owed = cc
-        by_known (Some i) (Some j) made there z same owed = by_test i j made there z same (i.func == p.1) refl owed
+        by_known o u made there z same owed = grind arith
 
         by_row : (r : Option Row) → CallMatches r (called_by p.1 (map.get known p.0) (map.get known (child_of p.0 c.step))) → option_map func_called r ≡ Some c.func → IsKnownCall known p c
-        by_row None owed e = cc
-        by_row (Some (rows.Invoke i)) owed e = by_known (map.get known p.0) (map.get known (child_of p.0 c.step)) refl refl (i.func, i.result) (same_some e) owed
-        by_row (Some r) owed e = absurd owed
+        by_row r owed e = grind arith
 
     -- and one that is owed is there
     pub call_there : IsKnownCall known p c → called_at m p c.step ≡ Some c.func

@@ -125,8 +125,7 @@ with_one d p c m x r room h knows = record {
 
 -- what a test decides, as a plan
 pub if_plan : {A : Type 0} (S : A → Type 0) (b : Bool) (p q : A) → (b ≡ true → S p) → (b ≡ false → S q) → S (if b then p else q)
-if_plan S true p q g h = g refl
-if_plan S false p q g h = h refl
+if_plan S b p q g h = grind arith
 
 -- a turn that may start a run of what its run calls
 abbrev starts_by : Option Wait → Bool → Bool

@@ -1,5 +1,5 @@
 -- Where the host and its rows are right, each step of an instance has one answer; and it stays, whatever comes.
-use Rattle.beldi_laws.proofs.Names.{Abort, Act, Answer, AnswersOf, AnswersStay, Async, Begin, Begins, Begun, Call, CallGoesOn, CondWrite, Core, Deployment, Died, Done, Effect, End, GoesOn, Got, HeldAnswersStay, Instance, IntentId, InvokeRow, IsAt, Item, Knows, KnowsAt, None, Note, OnItem, OneAnswerPerStep, OneRowChanged, Option, Outcome, Place, Read, Right, RightHasOneAnswer, Row, RowKey, Rows, Run, RunAt, Some, TxId, Value, WasGiven, Write, act, after_act, answer_aside, answer_of, ap, arith, at_each, call_in, calls_stay, content_in, decides, given, given_in, head_key, held_answer, held_inside, held_note, held_outside, inl, inr, invoke_key, is_some, item_in, log_key, note_at, note_of_lock, noted_answer, notes_stay, on, op_of, option_and_then, option_map, refl, result_in, same_some, shadow_key, subst, sym, ℕ, ◌∙◌, ◌≡◌}
+use Rattle.beldi_laws.proofs.Names.{Abort, Act, Answer, AnswersOf, AnswersStay, Async, Begin, Begins, Begun, Call, CallGoesOn, CondWrite, Core, Deployment, Died, Done, Effect, End, GoesOn, Got, HeldAnswersStay, Instance, IntentId, InvokeRow, Item, Knows, KnowsAt, None, Note, OnItem, OneAnswerPerStep, OneRowChanged, Option, Outcome, Place, Read, Right, RightHasOneAnswer, Row, RowKey, Rows, Run, RunAt, Some, TxId, Value, WasGiven, Write, act, after_act, answer_aside, answer_of, ap, arith, at_each, call_in, calls_stay, content_in, decides, given, given_in, head_key, held_answer, held_inside, held_note, held_outside, inl, inr, invoke_key, item_in, log_key, note_at, note_of_lock, noted_answer, notes_stay, on, op_of, option_and_then, option_map, refl, result_in, shadow_key, subst, sym, ℕ, ◌∙◌, ◌≡◌}
 use Rattle.beldi_laws.proofs.Names.answer
 use Rattle.beldi_laws.proofs.Names.map
 use Rattle.beldi_laws.proofs.Names.query
@@ -14,16 +14,7 @@ module _ (d : Deployment) (c : Core) (m : Rows) (h : Right d c m) (id : IntentId
   known i r g live at = (subst (λ o. KnowsAt d m h.plain c.book h.known r o) at (subst (RunAt d m h.plain c.book h.known) live (h.runs.runs i))).0
 
   given_of : (q : Instance) (r : Run) (g : Begun) → map.get h.known id ≡ Some q → r.id ≡ id → Knows d h.known r g → WasGiven d q r g
-  given_of q r g made same k =
-      let is : k.instance ≡ q = same_some (sym k.made ∙ ap (map.get h.known) same ∙ made) in
-      let func : r.func ≡ q.func = sym k.func ∙ ap (λ z. z.func) is in
-      record {
-        same_func = func;
-        given = k.answers;
-        later = k.later;
-        first = k.run_answers ∙ ap (λ z. z.answers) is;
-        machine = subst (λ (z : Instance). IsAt d q.func z.args (is_some z.within) g.machine k.answers) is (subst (λ f. IsAt d f k.instance.args (is_some k.instance.within) g.machine k.answers) func k.machine);
-      }
+  given_of q r g made same k = grind arith
 
   answers_of : (o : Option Instance) → map.get h.known id ≡ o → AnswersOf d c m id o
   answers_of None none = λ r g b. let k = known b.number r g b.live b.begun in let clash : Some k.instance ≡ None = sym k.made ∙ ap (map.get h.known) b.same_id ∙ none in cc
@@ -43,7 +34,7 @@ of_note : (o : Option Note) (x : Answer) → option_and_then noted_answer o ≡ 
 of_note o x is = grind arith
 
 value_stays : (f : Option Value → Option Answer) → f None ≡ None → (a : Act) (now : ℕ) (x : Answer) (o : Option Row) → f (option_map given_in o) ≡ Some x → f (option_map given_in (act a now o).0) ≡ Some x
-value_stays f none a now x h5 is = grind arith
+value_stays f none a now x o is = grind arith
 
 note_stays : (a : Act) (now : ℕ) (p : Place) (x : Answer) (o : Option Row) → option_and_then noted_answer (note_at (content_in o).notes p) ≡ Some x → option_and_then noted_answer (note_at (content_in (act a now o).0).notes p) ≡ Some x
 note_stays a now p x o is = let n = of_note (note_at (content_in o).notes p) x is in ap (option_and_then noted_answer) (notes_stay a now o p n.0 n.1 ∙ sym n.1) ∙ is

@@ -1,9 +1,8 @@
 -- What one event changes: at most one row, never past the room, and at most one entry of the book, which its answer tells.
-use Rattle.beldi_laws.proofs.Names.{After, AllocError, Begins, Begun, Binding, Body, BookGrew, Bool, Caller, CameOn, ChangesOneRow, Core, Crash, Deployment, DropsHaveCause, Err, Event, EventBy, Failed, Followed, Full, Func, Ic, IfOk, IntentId, IsTrue, KeepsRoom, Looks, Lost, Machine, Mark, None, Ok, OneRowChanged, Option, OutOfMemory, Plan, Query, Registers, Request, Restart, Result, Rose, Row, RowAct, RowKey, Rows, Run, RunTx, Says, Seen, Some, Stage, Start, StepBy, TableErr, TableState, Tick, Ticket, Told, Turn, Turned, Value, Wait, WritesWhatIsTold, [], act, after_act, after_turn, ap, arith, asks, at_once_of, begin_in, begun, binding_of, body_registered, body_told, bound_by, bound_of, collect_next, collect_says, collected, cond, content_in, content_of, count_changes, counted, crash_plan, ended_run, entries_told, entry_of, false, first_stage, func_at, goes_from, goes_to, has_run, head_key, heard, if_lent, if◌then◌else◌, inl, inr, is_added, is_crowded, is_dropped, is_lost, is_some, key_total, last_moment, launched, least_key, len-insert, len-remove, lends, made, marked, may_start, most_events, no_memory, no_run, not, off, option_map, option_to_list, passed, plan, plan_of, query_adds, refl, refused, refused_by, refused_stand, request_next, rows_after, run_next, run_plan, run_told, same_some, says_of, set_others, set_row, stage_says, started, starts_of, subst, sym, takes, ticket_next, told_at, true, turn_next, turned_by, turned_core, unbound, unheard_next, within, ℕ, ◌+◌, ◌-◌, ◌<◌, ◌==◌, ◌^◌, ◌||◌, ◌∙◌, ◌≡◌, ◌≤◌}
+use Rattle.beldi_laws.proofs.Names.{After, AllocError, Begins, Begun, Binding, Body, BookGrew, Bool, Caller, CameOn, ChangesOneRow, Core, Crash, Deployment, DropsHaveCause, Err, Event, EventBy, Failed, Followed, Full, Func, Ic, IfOk, IntentId, IsTrue, KeepsRoom, Looks, Lost, Machine, Mark, None, Ok, OneRowChanged, Option, OutOfMemory, Plan, Query, Registers, Request, Restart, Result, Rose, Row, RowAct, RowKey, Rows, Run, RunTx, Says, Seen, Some, Stage, Start, StepBy, TableErr, TableState, Tick, Ticket, Told, Turn, Turned, Value, Wait, WritesWhatIsTold, [], act, after_act, after_turn, ap, arith, asks, at_once_of, begin_in, binding_of, body_registered, body_told, bound_by, bound_of, collect_next, collect_says, collected, cond, content_in, content_of, count_changes, counted, crash_plan, ended_run, entries_told, entry_of, false, first_stage, func_at, goes_from, goes_to, has_run, head_key, heard, if_lent, if◌then◌else◌, inl, inr, is_added, is_crowded, is_dropped, is_lost, is_some, key_total, last_moment, launched, least_key, len-insert, len-remove, lends, made, marked, may_start, most_events, no_memory, no_run, not, off, option_map, option_to_list, passed, plan, plan_of, query_adds, refl, refused, refused_by, refused_stand, request_next, rows_after, run_next, run_plan, run_told, same_some, says_of, set_others, set_row, stage_says, started, starts_of, subst, sym, takes, ticket_next, told_at, true, turn_next, turned_by, turned_core, unbound, unheard_next, ℕ, ◌+◌, ◌-◌, ◌<◌, ◌==◌, ◌^◌, ◌||◌, ◌∙◌, ◌≡◌, ◌≤◌}
 use Rattle.beldi_laws.proofs.Names.binding
 use Rattle.beldi_laws.proofs.Names.collect
 use Rattle.beldi_laws.proofs.Names.map
-use Rattle.beldi_laws.proofs.Names.says
 use Rattle.beldi_laws.proofs.Names.seen
 use Rattle.beldi_laws.proofs.Names.wait
 use Rattle.std.proofs.Common.{nat_lt}
@@ -43,13 +42,11 @@ set_fits : (m : Rows) (k : RowKey) (room : ℕ) (v : Option Row) → map.len m �
 set_fits m k room None h more = subst (λ n. n ≤ room) (sym (len-remove key_total m k)) (by_test (map.contains_key m k))
   where
     by_test : (b : Bool) → cond b (map.len m - 1) (map.len m) ≤ room
-    by_test true = omega (arith, h)
-    by_test false = h
+    by_test b = grind arith
 set_fits m k room (Some r) h more = subst (λ n. n ≤ room) (sym (len-insert key_total m k r)) (by_test (map.contains_key m k) more)
   where
     by_test : (b : Bool) → (IsTrue (not b && true) → map.len m < room) → cond b (map.len m) (map.len m + 1) ≤ room
-    by_test true more = h
-    by_test false more = omega (arith, more refl)
+    by_test b more = grind arith
 
 adds_row : (a : RowAct) (now : ℕ) (o : Option Row) → IsTrue (not (is_some o) && is_some (act a now o).0) → IsTrue (not (is_some o) && is_some (off a now).0)
 adds_row a now o h = grind arith
@@ -103,12 +100,10 @@ no_run_tells : (c : Core) (b : Bool) → PlanTells c (at_once c (if b then seen.
 no_run_tells c b = grind arith
 
 run_tells : (c : Core) (i : ℕ) (o : Option Run) → PlanTells c (run_plan c i o)
-run_tells c i None = no_run_tells c ((i == 0) || nat_lt c.last_run i)
-run_tells c i (Some r) = if_plan (PlanTells c) (nat_lt r.deadline c.now) _ _ (λ late. (refl, refl, refl)) (λ t. tt)
+run_tells c i o = grind arith
 
 crash_tells : (c : Core) (i : ℕ) (o : Option Run) → PlanTells c (crash_plan c i o)
-crash_tells c i None = no_run_tells c ((i == 0) || nat_lt c.last_run i)
-crash_tells c i (Some r) = if_plan (PlanTells c) (nat_lt r.deadline c.now) _ _ (λ late. (refl, refl, refl)) (λ t. (refl, refl, refl))
+crash_tells c i o = grind arith
 
 plan_of_tells : (d : Deployment) (e : Event) (c : Core) → PlanTells c (plan_of d e c)
 plan_of_tells d Ticket c = if_plan (PlanTells c) (c.newest == 2 ^ 32 - 1) _ _ (λ t. (refl, refl, refl)) (λ t. tt)
@@ -135,15 +130,10 @@ stands_unmarked : (d : Deployment) (r : Run) (s : Machine × Option RunTx) (c : 
 stands_unmarked d r s c m w is = let z = at_once_of d r.id s in goes_unmarked r z c m (first_stage r.id c z.1 z.0.steps z.0.effect) w is
 
 says_unmarked : (d : Deployment) (r : Run) (g : Begun) (s : Says) → Unmarked (turned_by d r g s)
-says_unmarked d r g (says.Waits u) w is = refl
-says_unmarked d r g (says.Answers a m) w is = stands_unmarked d r (takes d g.machine g.tx a) g.caller m w is
-says_unmarked d r g (says.Starts a) w is = stands_unmarked d r (takes d g.machine g.tx a) g.caller None w is
-says_unmarked d r g s w is = cc
+says_unmarked d r g s w is = grind arith
 
 begins_unmarked : (d : Deployment) (r : Run) (f : Option Func) (b : Option Body) → Unmarked (begin_in d r f b)
-begins_unmarked d r f None w is = cc
-begins_unmarked d r None (Some b) w is = cc
-begins_unmarked d r (Some f) (Some b) w is = stands_unmarked d r (begun d r.func b.args (is_some b.tx), within b.tx) b.from None w is
+begins_unmarked d r f b w is = grind arith
 
 waits_unmarked : (d : Deployment) (n : ℕ) (r : Run) (at : RunAt) (t : Told) → Unmarked (told_at d n r at t)
 waits_unmarked d n r Looks t = begins_unmarked d r (func_at d r.func) (body_told r.func t)
@@ -165,12 +155,10 @@ module _ (i : ℕ) (id : IntentId) (s : Turned) (c : Core) where
   unmoved q same = record { book = same; told = refl; heard = refl }
 
   started_tells : (o : Option Run) → MadeTells (started c o)
-  started_tells None = unmoved (c, None) refl
-  started_tells (Some k) = unmoved (started c (Some k)) refl
+  started_tells o = grind arith
 
   opened_tells : (o : Option Run) → MadeTells (may_start c o)
-  opened_tells None = unmoved (c, None) refl
-  opened_tells (Some k) = if_plan MadeTells (has_run c.runs k.id || is_crowded c) _ _ (λ t. unmoved (c, None) refl) (λ t. started_tells (Some k))
+  opened_tells o = grind arith
 
   waits_tells : s.mark ≡ None → (x : Seen) → entries_told (Turn i) x ≡ [] → is_dropped x ≡ false → TurnTells i id s c (c, x)
   waits_tells unmarked x silent heard = record { book = refl; told = ap (λ m. option_to_list (option_map (entry_of id) m)) unmarked ∙ sym silent; heard = heard }
@@ -310,8 +298,7 @@ module _ (d : Deployment) (c : Core) where
   came_heard e b w lost s = grind arith
 
   plan_heard : (e : Event) (b : Core) (old new : TableState) (p : Plan) → is_lost e ≡ false → PlanTells c p → StepBy d e c p b old new (Ok seen.Dropped) → Rose old.faults new.faults
-  plan_heard e b old new (at_once k y) lost g s = let clash : true ≡ false = ap is_dropped s.0.1 ∙ g.2 in cc
-  plan_heard e b old new (asks q) lost g s = s.2.cause.failed (came_heard e b s.0 lost s.1)
+  plan_heard e b old new p lost g s = grind arith
 
 pub drops_have_cause : DropsHaveCause
 drops_have_cause d e c b old new lost s = plan_heard d (counted c) e b old new (plan d e c) lost (plan_tells d e c) s

@@ -1,14 +1,11 @@
 -- The turns of an operation on an item: they rest on the law that a chain is a logged cell, and on what each operation is.
 use Rattle.beldi_laws.proofs.Names.{Answer, Answers, Begun, CellOp, Core, Deployment, DidOnce, DoneRows, Effect, Frame, Grows, Inside, Instance, IntentId, IsAnswer, IsFree, IsTrue, Item, Known, Knows, List, LoggedTurn, Logs, Matches, None, Note, OnItem, Place, Plain, PlainState, Query, Right, RowKey, Rows, Run, Sane, Says, Some, SoundAt, Step, TxId, Value, WriteAt, WriteGoes, WriteWalk, [], ahead_set, answer_after, answer_noted, answers_it, ap, arith, by_op, cell_key, cell_of, cell_op, commit_in, content_of, does_so, done_note, done_says, effect_before, effect_of, enabled_step, false, free_at_operation, head_key, holds, if_answers, if◌then◌else◌, is_begin, is_eq, is_shadow, is_some, item_in, item_total, item_touched, key_cmp, kind_of, kinds_apart, length, moved, moved_one, no_root, no_tx, nobody_else, none_out, note_after, note_at, note_done, note_here, note_of, note_of_op, noted_answer, op_of, operate, operation_answers, operation_done, operation_step, option_and_then, place_of, put_asks, put_says, refl, root_key, rows_after, same_some, set_agrees, sets, shadow_key, slice_get, subst, sym, tied_itself, told_by, touched_by, true, turn_next, turned_by, tx_after, tx_now, unbarred, value_at, walk_so, wants_answer, write_asks, write_goes, write_says, ℕ, ◌∙◌, ◌∷◌, ◌≡◌}
-use Rattle.beldi_laws.proofs.Names.answer
-use Rattle.beldi_laws.proofs.Names.effect
 use Rattle.beldi_laws.proofs.Names.kind
 use Rattle.beldi_laws.proofs.Names.kinds
 use Rattle.beldi_laws.proofs.Names.map
 use Rattle.beldi_laws.proofs.Names.mark
 use Rattle.beldi_laws.proofs.Names.owner
 use Rattle.beldi_laws.proofs.Names.stage
-use Rattle.beldi_laws.proofs.Names.value
 use Rattle.beldi_laws.proofs.Names.writes
 use Rattle.beldi_known.specs.Owed.{noted}
 use Rattle.beldi_laws.proofs.Moves.{AfterTurn, AfterQuery, SameRoots, change_entered, Entered, Kept, Stays}
@@ -28,28 +25,14 @@ abbrev ReadsAs : Effect → OnItem → Answer → Type 0
 ReadsAs e o a = (option_and_then noted_answer (noted o.does a) ≡ Some a) × (answers_it e a ≡ true)
 
 pub noted_back : (p : Place) (e : Effect) (o : OnItem) (a : Answer) → op_of e ≡ Some o → IsAnswer p None e a → ReadsAs e o a
-noted_back p (effect.Write t k v) o answer.Done h is = subst (λ z. ReadsAs (effect.Write t k v) z answer.Done) (same_some h) (refl, refl)
-noted_back p (effect.CondWrite t k r u v) o (answer.Value (value.Bool b)) h is = subst (λ z. ReadsAs (effect.CondWrite t k r u v) z (answer.Value (value.Bool b))) (same_some h) (refl, refl)
-noted_back p (effect.Lock t k) o answer.Done h is = subst (λ z. ReadsAs (effect.Lock t k) z answer.Done) (same_some h) (refl, refl)
-noted_back p (effect.Unlock t k) o answer.Done h is = subst (λ z. ReadsAs (effect.Unlock t k) z answer.Done) (same_some h) (refl, refl)
-noted_back p (effect.Read t k) o a h is = cc
-noted_back p (effect.Call f v) o a h is = cc
-noted_back p (effect.Async f v) o a h is = cc
-noted_back p effect.Begin o a h is = cc
-noted_back p (effect.End c) o a h is = cc
-noted_back p effect.Abort o a h is = cc
-noted_back p e o a h is = absurd is
+noted_back p e o a h is = grind arith
 
 -- ---- what an operation does to its item's cell
 abbrev IsCell : Effect → OnItem → Type 0
 IsCell e o = cell_op e ≡ Some (record { table = o.table; key = o.key; op = cell_of o.does })
 
 its_cell : (e : Effect) (o : OnItem) → op_of e ≡ Some o → IsCell e o
-its_cell (effect.Write t k v) o h = subst (IsCell (effect.Write t k v)) (same_some h) refl
-its_cell (effect.CondWrite t k r u v) o h = subst (IsCell (effect.CondWrite t k r u v)) (same_some h) refl
-its_cell (effect.Lock t k) o h = subst (IsCell (effect.Lock t k)) (same_some h) refl
-its_cell (effect.Unlock t k) o h = subst (IsCell (effect.Unlock t k)) (same_some h) refl
-its_cell e o h = cc
+its_cell e o h = grind arith
 
 -- ---- an effect that is an operation on an item: how it is entered, what it touches, and where it may stand
 is_change : (id : IntentId) (e : Effect) (o : OnItem) → op_of e ≡ Some o → kind_of id e ≡ kind.Change

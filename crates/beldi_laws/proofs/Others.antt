@@ -66,9 +66,7 @@ lock_noted : (a : TxAt) (p : Place) (c : Content) → past_lock a ≡ true → H
 lock_noted a p c h g = grind arith
 
 lock_stays : (a : TxAt) (p : Place) (c e : Content) → ((w : Note) → note_at c.notes p ≡ Some w → note_at e.notes p ≡ Some w) → HasLock a p c → HasLock a p e
-lock_stays at.Log p c e stay h = tt
-lock_stays (at.Lock l) p c e stay h = tt
-lock_stays a p c e stay h = stay notes.Got h
+lock_stays a p c e stay h = grind arith
 
 -- what it found stays, where the shadow does, but of a write, and the plain value does, past the lock
 found_stays : (e : Effect) (a : TxAt) (s u : Option Row) (v w : Value) → (is_some (op_of e) ≡ false → u ≡ s) → (is_some s ≡ true → is_some u ≡ true) → (past_lock a ≡ true → w ≡ v) → Found e a s v → Found e a u w

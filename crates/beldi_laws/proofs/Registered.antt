@@ -38,8 +38,7 @@ stays_marked now None = stays_same None
 stays_marked now (Some (rows.Invoke x)) = by_mark x x.registered
   where
     by_mark : (x : InvokeRow) (b : Bool) → StaysRow (Some (rows.Invoke x)) (Some (rows.Invoke (register_to x b).0))
-    by_mark x true = stays_same (Some (rows.Invoke x))
-    by_mark x false = stays_call (Some (rows.Invoke x)) x (record x { registered = true }) refl refl
+    by_mark x b = grind arith
 stays_marked now (Some w) = stays_same (Some w)
 
 module _ (d : Deployment) (m : Rows) (k : RowKey) (v : Option Row) (kind : is_row_log k.kind ≡ true) where
@@ -69,8 +68,7 @@ pub no_more : (d : Deployment) (m : Rows) (k : RowKey) (v : Option Row) (next : 
 no_more d m k v next before = no_new_finish m (set_row m k v) k (set_others m k v) d next (λ e. before (ap has_finish (sym (got m k k v ∙ ap (λ b. cond b v (map.get m k)) (key_self k))) ∙ e))
 
 unfinished : (ended : TxId → Bool) (t : Option TxId) → FinishMatches ended t None None
-unfinished ended None = refl
-unfinished ended (Some t) = λ e. cc
+unfinished ended t = grind arith
 
 -- ---- a callee was registered: its row, which was not there, has its body
 pub callee_registered : (d : Deployment) (m : Rows) (known : Known) (locked : IntentId → Bool) (id : IntentId) (b : Body) (now : ℕ) → has_no_hops id.hops ≡ false → IsBodyOf b (map.get known id) → Matches d m known locked
@@ -81,8 +79,7 @@ callee_registered d m known locked id b now hops body h none = callee_put d know
     absent = subst (λ r. CalleeMatches (has_ended d known) b.func r (map.get known id)) none (subst (λ t. IntentMatches (has_ended d known) t b.func (map.get m (record { home = b.func; kind = kinds.Intent id })) (map.get known id)) hops (h.keys (record { home = b.func; kind = kinds.Intent id })))
 
     by_wait : (t : Bool) → is_waited b.from ≡ t → OutcomeMatches t None body.instance.outcome
-    by_wait true e = λ u is. cc
-    by_wait false e = absent.open_still body.instance body.made (sym (ap (λ z. z.func) body.body)) (ap (λ z. is_waited z.from) (sym body.body) ∙ e)
+    by_wait t e = grind arith
 
 -- ---- a call was marked as registered: no row owes that
 module _ (d : Deployment) (m : Rows) (known : Known) (locked : IntentId → Bool) (home : ℕ) (a : Place) (now : ℕ) (h : Matches d m known locked) where

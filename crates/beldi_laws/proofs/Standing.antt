@@ -59,9 +59,7 @@ decided_so c = grind arith
 
 -- a root without outcome has its row
 open_by : (d : Deployment) (m : Rows) (t : ℕ) (q : Instance) (r : Option Row) → map.get m (root_key t) ≡ r → RootMatches true r (Some q) → q.outcome ≡ None → HasNotEnded m (root_key t)
-open_by d m t q None is root none = cc
-open_by d m t q (Some (rows.Intent i)) is root none = record { row = i; there = is; not_ended = never_ended i (no_outcome i.body i.outcome q root.body none) root.finishes }
-open_by d m t q (Some r) is root none = absurd root
+open_by d m t q r is root none = grind arith
 
 module _ (d : Deployment) (m : Rows) (known : Known) (locked : IntentId → Bool) (h : Matches d m known locked) (sane : Sane d known) where
   -- ---- the answers of an instance

@@ -25,8 +25,7 @@ module _ {d : Deployment} (n : Rows) (p : PlainState) (book : List Entry) {known
   first e z is = subst (λ w. AtStage n p book k w e z) (same_some is)
 
   by_hops : (v w : Stage) (e : Effect) (z : Option RunTx) → (has_callees id ≡ true → AtStage n p book k v e z) → (b : Bool) → has_callees id ≡ b → (if b then Some v else None) ≡ Some w → AtStage n p book k w e z
-  by_hops v w e z knows true hops is = first e z is (knows hops)
-  by_hops v w e z knows false hops is = cc
+  by_hops v w e z knows b hops is = grind arith
 
   -- a body returns in no transaction of its own, and in the one that it was called in to who waits
   pub first_stands : (e : Effect) (z : Option RunTx) (w : Stage) → (is_some z ≡ true → (u : Outcome) → e ≡ Return u → is_waited c ≡ true) → first_stage id c z s.steps e ≡ Some w → AtStage n p book k w e z
@@ -44,16 +43,13 @@ module _ {d : Deployment} (n : Rows) (p : PlainState) (book : List Entry) {known
   first_stands (Return u) z w waits is = by_caller c refl is
     where
       outside : (y : Option RunTx) → (is_some y ≡ true → ⊥) → is_waited c ≡ false → AtStage n p book k stage.Tell (Return u) y
-      outside None none e = e
-      outside (Some y) none e = absurd (none refl)
+      outside y none e = grind arith
 
       by_wait : (b : Bool) → is_waited c ≡ b → Some (if b then stage.Back else stage.Tell) ≡ Some w → AtStage n p book k w (Return u) z
-      by_wait true e is = first (Return u) z is e
-      by_wait false e is = first (Return u) z is (outside z (λ inner. let clash = sym e ∙ waits inner u refl in cc) e)
+      by_wait b e is = grind arith
 
       by_caller : (b : Option Caller) → c ≡ b → Some (last_stage b) ≡ Some w → AtStage n p book k w (Return u) z
-      by_caller None from is = first (Return u) z is (λ inner. waits inner u refl, λ waited. let clash = sym (ap is_waited from) ∙ waited in cc)
-      by_caller (Some b) from is = by_wait b.waits (ap is_waited from) is
+      by_caller b from is = grind arith
   first_stands e z w waits is = cc
 
 -- where a Begin is open no body returns

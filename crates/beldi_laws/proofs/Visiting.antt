@@ -1,18 +1,16 @@
 -- The turns of a run at the end of its transaction, past the decision: it visits who took part, one after another; of each the items that
 -- it asked the locks of, and gives each back once; and gives each of them but its own instance a finish.
-use Rattle.beldi_laws.proofs.Names.{AllReleased, Answer, AreReleased, Begun, Body, Bool, Called, CalleeBodyMatches, CalleeMatches, Callees, Content, Core, Decide, Deployment, EndAt, EndGoes, EndWalk, FinishMatches, Frame, Free, FreeOp, GetsFinish, Inherited, Inside, Instance, IntentId, IntentMatches, IntentRow, IsAnswer, IsCalleeRow, IsMember, IsTrue, Item, Kind, Knows, Leads, List, Matches, Member, Next, None, Note, OpenTx, Option, Own, ParticipantsAreReleased, ParticipantsHaveRows, Place, Query, ReadGoes, Right, Row, RowKey, Rows, Run, RunTx, Shadow, Some, SoundAt, Stamp, Told, TookPart, Tx, TxId, Value, Visit, Visited, WriteAt, WriteGoes, [], ap, arith, asked, at_each, back_from, call_goes, calls_goes, commit_in, content_in, content_of, counts, decision_key, done_to, effect_after, end_by_asks, end_by_says, end_goes, end_walk, ended_at, ended_by, false, first_end, free_place, freed_goes, func_called, given_or, given_value, grows_self, has_callees, has_ended, has_finish, has_no_hops, head_key, if◌then◌else◌, inl, inr, intent_key, invokes_found, is_committed, is_decided, is_eq, is_mark, is_past, is_shadow, is_some, key_cmp, key_exact, key_in, key_same, key_total, keys_set, kinds_apart, last_goes, last_step, length, listed, lockset_found, log_key, next_goes, no_decision, no_root, note_at, notes_stay, option_map, own_tx, place_of, read_goes, refl, release_lists, released, root_key, row_put, rows_after, same_map, same_some, set_row, shadow_key, shadow_value, split_last, stepped, subst, sym, told_by, true, turn_next, turned_by, turns, tx_after, tx_end, tx_eq, tx_in, tx_same, tx_self, txs_after, unchanged, value_goes, value_in, visit_asks, visit_says, visited_by, wants_answer, was_answered, write_goes, ℕ, ◌&&◌, ◌++◌, ◌==◌, ◌||◌, ◌∙◌, ◌∷◌, ◌≡◌}
+use Rattle.beldi_laws.proofs.Names.{AllReleased, Answer, AreReleased, Begun, Body, Bool, Called, CalleeBodyMatches, CalleeMatches, Callees, Content, Core, Decide, Deployment, EndAt, EndGoes, EndWalk, FinishMatches, Frame, Free, FreeOp, GetsFinish, Inherited, Inside, Instance, IntentId, IntentMatches, IntentRow, IsAnswer, IsCalleeRow, IsMember, IsTrue, Item, Kind, Knows, Leads, List, Matches, Member, Next, None, Note, OpenTx, Option, Own, ParticipantsAreReleased, ParticipantsHaveRows, Place, Query, ReadGoes, Right, Row, RowKey, Rows, Run, RunTx, Shadow, Some, SoundAt, Stamp, Told, TookPart, Tx, TxId, Value, Visit, Visited, WriteAt, WriteGoes, [], ap, arith, asked, at_each, back_from, call_goes, calls_goes, commit_in, content_in, content_of, counts, decision_key, done_to, effect_after, end_by_asks, end_by_says, end_goes, end_walk, ended_at, ended_by, false, first_end, free_place, freed_goes, func_called, given_or, given_value, grows_self, has_callees, has_ended, has_finish, has_no_hops, head_key, if◌then◌else◌, inl, inr, intent_key, is_committed, is_decided, is_eq, is_mark, is_past, is_shadow, is_some, key_cmp, key_exact, key_in, key_same, key_total, keys_set, kinds_apart, last_goes, last_step, length, listed, log_key, next_goes, no_decision, no_root, note_at, notes_stay, option_map, own_tx, place_of, refl, release_lists, released, root_key, row_put, rows_after, same_map, same_some, set_row, shadow_key, shadow_value, stepped, subst, sym, told_by, true, turn_next, turned_by, turns, tx_after, tx_end, tx_eq, tx_in, tx_same, tx_self, txs_after, unchanged, value_goes, value_in, visit_asks, visit_says, visited_by, wants_answer, was_answered, ℕ, ◌&&◌, ◌++◌, ◌==◌, ◌||◌, ◌∙◌, ◌∷◌, ◌≡◌}
 use Rattle.beldi_laws.proofs.Names.answer
 use Rattle.beldi_laws.proofs.Names.effect
 use Rattle.beldi_laws.proofs.Names.goes
 use Rattle.beldi_laws.proofs.Names.kinds
 use Rattle.beldi_laws.proofs.Names.map
-use Rattle.beldi_laws.proofs.Names.note
 use Rattle.beldi_laws.proofs.Names.rows
 use Rattle.beldi_laws.proofs.Names.says
 use Rattle.beldi_laws.proofs.Names.stage
 use Rattle.beldi_laws.proofs.Names.value
 use Rattle.beldi_txn.specs.End.{moved}
-use Rattle.beldi_txn.specs.Way.{is_owner}
 use Rattle.beldi_known.proofs.Behind.{front}
 use Rattle.beldi_laws.proofs.Askers.{owns_none}
 use Rattle.beldi_laws.proofs.Closing.{at_key, closed_rows_of, owner_is}
@@ -46,16 +44,13 @@ module _ (cs : List Called) (af : Option ℕ) (y : Option (ℕ × List ℕ)) (u 
   calls_past commit end p (Some c) = by_test (counts end cs c)
     where
       by_test : (b : Bool) → IsPast commit Callees (if b then call_goes (has_callees p.0) cs c else goes.On Next)
-      by_test true = called_past commit (has_callees p.0) c
-      by_test false = refl
+      by_test b = grind arith
 
   last_past : (commit b : Bool) → IsPast commit Next (last_goes b)
   last_past commit b = grind arith
 
   next_past : (commit : Bool) (f : Option (ℕ × List ℕ)) → IsPast commit Next (next_goes cs f)
-  next_past commit None = last_past commit (is_owner cs)
-  next_past true (Some j) = refl
-  next_past false (Some j) = refl
+  next_past commit f = grind arith
 
   shadow_past : (commit : Bool) (g : ReadGoes) → IsPast commit Shadow (value_goes g)
   shadow_past commit g = grind arith
@@ -67,12 +62,7 @@ module _ (cs : List Called) (af : Option ℕ) (y : Option (ℕ × List ℕ)) (u 
   back_past s = grind arith
 
   goes_past : (x : TxId) (end : ℕ) (commit : Bool) (a : EndAt) (t : Told) → is_past a ≡ true → IsPast commit a (end_goes x end commit cs a t)
-  goes_past x end commit Decide t past = cc
-  goes_past x end commit Callees t past = let p = visited_by x cs in calls_past commit end p (invokes_found p.1 p.0 t)
-  goes_past x end commit Next t past = let p = visited_by x cs in next_past commit (lockset_found p.1 p.0 x.begin t)
-  goes_past x end commit Shadow t past = shadow_past commit (read_goes None t)
-  goes_past x end commit (Free f) t past = free_past commit f (write_goes note.Freed t)
-  goes_past x end commit Stamp t past = back_past (split_last cs)
+  goes_past x end commit a t past = grind arith
 
 -- ---- the rows of a turn
 -- rows that differ at one key are the others with that row set
@@ -176,11 +166,7 @@ module _ (d : Deployment) (c : Core) (m : Rows) (h : Right d c m) where
         record { finishes = by_body g.intent.body was.body; body = was.body }
       where
         by_body : (b : Option Body) → CalleeBodyMatches p.1 b g.intent.outcome (map.get h.known p.0) → FinishMatches (has_ended d h.known) (tx_in b) (Some g.finish) g.intent.outcome
-        by_body None body = absurd body
-        by_body (Some b) body =
-            let w = body.0 in
-            let inner : b.tx ≡ Some s = ap (λ (y : Body). y.tx) w.body ∙ ap (λ (y : Instance). y.within) (same_some (sym w.made ∙ part.made)) ∙ part.within in
-            subst (λ o. FinishMatches (has_ended d h.known) o (Some g.finish) g.intent.outcome) (sym inner) (λ some. ap is_some ended)
+        by_body b body = grind arith
 
     put : Matches d n h.known h.locked
     put = subst (λ l. Matches d l h.known h.locked) all (row_put d h.known h.locked m key (Some (rows.Intent finished)) refl

@@ -1,6 +1,6 @@
 -- Ids that are known are as long as ids may be, and rows of locks and of calls are of steps that bodies have: so the end of a
 -- transaction finds the first of the rows of whom it visits.
-use Rattle.beldi_laws.proofs.Names.{AllShort, Answer, AreHops, Bool, Called, CalledBy, Core, Deployment, Effect, FindsFirstCall, FindsFirstLock, Instance, IntentId, IntentMatches, IsAnswer, IsApart, IsCalled, IsMember, IsNarrow, IsTrue, Item, Kind, Known, List, LocksetMatches, Matches, Member, None, Option, Place, Right, Row, Rows, Sane, SaneInstance, Some, TxId, Txs, Value, [], add-one, and_parts, ap, append-nil, arith, asks_lock, begin_is, begins, begins_at, call_of, called_begun, effect_after, effect_before, effect_of, ended_by, false, few_answers, first_apart, first_end, first_narrow, fits_at, func_called, gathered, get_or, has_ended, inl, inr, is_begin, is_item, is_none, is_open, is_some, length, length-append, length-take-le, lockset_ahead, lockset_key, lockset_of, ltb-true, most, nat_le, nat_lt, next_step, no_begin, option_map, owed_lockset, refl, root_key, root_of, root_or_called, same_some, slice_get, subst, suc, sym, take-append-le, take_more, touched, true, tx_after, tx_end, tx_now, txs_after, txs_by, txs_pushed, visited_by, wants_answer, zero, ℕ, ◌&&◌, ◌++◌, ◌+◌, ◌<◌, ◌||◌, ◌∙◌, ◌∷◌, ◌≡◌, ◌≤◌, ◌⊎◌}
+use Rattle.beldi_laws.proofs.Names.{AllShort, Answer, AreHops, Bool, Called, CalledBy, Core, Deployment, Effect, FindsFirstCall, FindsFirstLock, Instance, IntentId, IntentMatches, IsAnswer, IsApart, IsCalled, IsMember, IsNarrow, IsTrue, Item, Kind, Known, List, LocksetMatches, Matches, Member, None, Option, Place, Right, Row, Rows, Sane, SaneInstance, Some, TxId, Txs, Value, [], add-one, and_parts, ap, append-nil, arith, asks_lock, begin_is, begins, begins_at, call_of, called_begun, effect_after, effect_before, effect_of, ended_by, false, few_answers, first_apart, first_end, first_narrow, fits_at, func_called, gathered, get_or, has_ended, inl, inr, is_begin, is_item, is_none, is_open, is_some, length, length-append, length-take-le, lockset_ahead, lockset_key, lockset_of, most, nat_le, nat_lt, next_step, no_begin, option_map, owed_lockset, refl, root_key, root_of, root_or_called, same_some, slice_get, subst, suc, sym, take-append-le, take_more, touched, true, tx_after, tx_end, tx_now, txs_after, txs_by, txs_pushed, visited_by, wants_answer, zero, ℕ, ◌&&◌, ◌++◌, ◌+◌, ◌<◌, ◌||◌, ◌∙◌, ◌∷◌, ◌≡◌, ◌≤◌, ◌⊎◌}
 use Rattle.beldi_laws.proofs.Names.answer
 use Rattle.beldi_laws.proofs.Names.effect
 use Rattle.beldi_laws.proofs.Names.kinds
@@ -212,8 +212,7 @@ module _ (d : Deployment) (c : Core) (m : Rows) (h : Right d c m) where
       by_row o made g = grind arith
 
       positive : (b : Bool) → nat_lt 0 t ≡ b → (b && nat_le t c.newest) ≡ true → 1 ≤ t
-      positive true e g = ltb-true 0 t e
-      positive false e g = cc
+      positive b e g = grind arith
 
   module _ (t : TxId) (z : ℕ × Bool) (ended : tx_end d h.known t ≡ Some z) where
     owner_visits : (o : Option Instance) → map.get h.known t.intent ≡ o → ended_by d t.begin o ≡ Some z → IsVisitor d m h.known h.locked h.rows h.sane t (t.intent, t.func)
