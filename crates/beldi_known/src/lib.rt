@@ -5,7 +5,7 @@
 //! `specs/Shadows` (what shadows show of it), `specs/Listed` (the value that is listed),
 //! `specs/Stands` (the answers that the rows hold, and that they stand for a plain state),
 //! `specs/Acts` (the acts inside a transaction), `specs/Operations` (those outside), `specs/Frame` (an answer more), `specs/InsideLaws`
-//! (what acts inside keep).
+//! (what acts inside keep), `specs/Behind` (a run behind what is known, or at its front).
 //!
 //! Proved, by lemmas of `proofs` that the laws of `beldi_laws` go by:
 //! - An answer more changes what its instance owes at its place alone (`moved_one`, `Frame`).

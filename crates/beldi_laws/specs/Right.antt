@@ -49,7 +49,7 @@ use Rattle.beldi_known.specs.Known.{Known}
 use Rattle.beldi_order.specs.Txs.{along, effect_after}
 use Rattle.beldi_known.specs.Matches.{Matches, LockedAtEnds}
 use Rattle.beldi_known.specs.Sane.{Sane}
-use Rattle.beldi_laws.specs.Stands.{key_in}
+use Rattle.beldi_known.specs.Stands.{key_in}
 use Rattle.beldi_laws.specs.Inside.{InItem, Released, end_walk, OwnedAreUnmarked, OwnersCallNobody, ParticipantsAreReleased, ParticipantsHaveRows}
 use Rattle.beldi_known.specs.Beside.{Beside}
 use Rattle.beldi_known.specs.InsideLaws.{HoldersInsideAreMade}

@@ -1,7 +1,7 @@
 //! What every event of the host keeps: the book is legal, and the rows stand for its plain run. It has no code.
 //! It stands on the step of the host, on the plain machine, and on what rows hold and owe (`beldi_known`). Its
-//! definitions: `specs/Right` (the invariant), `specs/Inside` (what runs inside a transaction have found, and what an event keeps
-//! for the runs of others), `specs/OneAnswer` (what was answered to the steps of an instance), `specs/Laws` (the laws).
+//! definitions: `specs/Right` (the invariant, with what a run knows at each stage), `specs/Inside` (what an operation inside a transaction has
+//! found, and what an event keeps for the runs of others), `specs/OneAnswer` (what was answered to the steps of an instance), `specs/Laws` (the laws).
 //!
 //! Proved:
 //! - A host that nothing has happened to is right, over no rows (`begins_right`).
@@ -25,21 +25,21 @@
 //!
 //! Files:
 //! - Code (`src/`): `laws` one function a law, with no body.
-//! - Lemmas (`proofs/`): `Outside` steps outside transactions, and what is known there; `Passing` what a run is in at a call
-//!   or a return; `Committed` what stands for an instance; `Grown` that instances go on; `Shown` what rows show of a plain
-//!   state; `KeptSane` that what is known stays sane; `Lives` live runs; `Moves` the host after an event; `Frames` what a row
-//!   that is set leaves for others, `Others` that they keep what they found, `Keeping` both for turns outside; `Settling`
-//!   what rows keep of transactions, where an instance is set; `OpenOf` what a run is in after answers, `Ended`, `Released`
-//!   past an end nothing is owned; `Turns` what each thing that a stage says leaves; `Owed` what the rows have of a step;
-//!   `Operations` the turn of an operation on an item, by the law that a chain is a logged cell, `Readings` that of a read;
-//!   `Registered` the row of a callee, and `Beginnings`, `CallsHere`, `Callings`, `Asyncs`, `GivingBack`, `Endings` the turns
-//!   at which a run begins, calls, returns (`Returns`) and ends; `InTx` a run at an operation inside, `Locking` its turns up
-//!   to the lock, by the `Ages` of owners, `Working` those past it; `Deciding` the decision, by what has `Fallen`; `Visiting`
-//!   the visits after it, of the `Members` that its calls lead to, by the `Widths` of ids, which are `Short`, `Visits` that
-//!   they begin and stay so, `Closing` that who has its finish has given back all, `Askers` that one of them asked the lock
-//!   of what is owned still; `InsideTurns` all of them; `Events` what an event keeps; `Standing`, `Starts`, `Listing` what
-//!   follows; `OneAnswer` one answer, and that no act takes it away; `OneEvent` what one event changes, and what of it is
-//!   told.
+//! - Lemmas (`proofs/`): `Cases` cases of a value; `Outside` steps outside transactions, and what is known there; `Passing`
+//!   what a run is in at a call or a return; `Committed` what stands for an instance; `Grown` that instances go on; `Shown`
+//!   what rows show of a plain state; `KeptSane` that what is known stays sane; `Lives` live runs; `Moves` the host after an
+//!   event; `Frames` what a row that is set leaves for others, `Others` that they keep what they found, `Keeping` both for
+//!   turns outside; `Settling` what rows keep of transactions, where an instance is set; `OpenOf` what a run is in after
+//!   answers, `Ended`, `Released` past an end nothing is owned; `Turns` what each thing that a stage says leaves; `Owed` what
+//!   the rows have of a step; `Operations` the turn of an operation on an item, by the law that a chain is a logged cell,
+//!   `Readings` that of a read; `Registered` the row of a callee, and `Beginnings`, `CallsHere`, `Callings`, `Asyncs`,
+//!   `GivingBack`, `Endings` the turns at which a run begins, calls, returns (`Returns`) and ends; `InTx` a run at an
+//!   operation inside, `Locking` its turns up to the lock, by the `Ages` of owners, `Working` those past it; `Deciding` the
+//!   decision, by what has `Fallen`; `Visiting` the visits after it, of the `Members` that its calls lead to, by the `Widths`
+//!   of ids, which are `Short`, `Visits` that they begin and stay so, `Closing` that who has its finish has given back all,
+//!   `Askers` that one of them asked the lock of what is owned still; `Events` what an event keeps; `Standing`, `Starts`,
+//!   `Listing` what follows; `OneAnswer` one answer, and that no act takes it away; `OneEvent` what one event changes, and
+//!   what of it is told.
 #![tactic(auto)]
 
 mod laws;
