@@ -1,37 +1,6 @@
 -- A book that was written is read again, and the first bad line of a text is one.
-use Rattle.std.proofs.Common.{◌≡◌, ℕ, suc, ◌-◌, ◌^◌, ◌<◌, ◌≤◌, true, false, List, [], ◌∷◌, ◌++◌, length, length-append, Option, Some, None, Ok, Err, refl, ap, ap₂, sym, ◌∙◌, subst, arith, append-nil, append_assoc}
-use Rattle.std.specs.Prelude.{decimal, codes, min}
-use Rattle.std.specs.Char.{is_ascii_digit}
-use Rattle.std.specs.List.{AllByRecursion}
-use Rattle.std.specs.Str.{all_ascii_digits}
-use Rattle.std.proofs.lemmas.Bool.{and_parts}
-use Rattle.std.proofs.lemmas.Fmt.{digits_decimal}
-use Rattle.std.proofs.lemmas.Option.{same_Some}
-use Rattle.beldi_value.specs.Cut.{before, after}
-use Rattle.beldi_value.specs.Injective.{same_values}
-use Rattle.beldi_value.specs.Json.{text_of}
-use Rattle.beldi_value.specs.Number.{numeral_at}
-use Rattle.beldi_value.specs.Reading.{read_of}
-use Rattle.beldi_value.specs.Text.{id_text, place_text}
-use Rattle.beldi_value.specs.Value.{datum_of}
-use Rattle.beldi_value.specs.declared.id.IntentId.{IntentId}
-use Rattle.beldi_value.specs.declared.value.Value.{Value}
-use Rattle.beldi_value.proofs.Ints.{own, numeral_of}
-use Rattle.beldi_value.proofs.ReadAgain.{read_again}
-use Rattle.beldi_tree.specs.Bindings.{is_name}
-use Rattle.beldi_tree.specs.Names.{func_at, func_text, name_or}
-use Rattle.beldi_tree.specs.declared.deployment.Deployment.{Deployment}
-use Rattle.beldi_tree.specs.declared.deployment.Func.{Func}
-use Rattle.beldi_book.specs.declared.entry.Entry.{Entry}
-use Rattle.beldi_book.specs.declared.entry.Entry.TheVariants.{Start, Read, Step, Tx, Try}
-use Rattle.beldi_book.specs.declared.book.BookErr.TheVariants.{OutOfMemory, BadEntry}
-use Rattle.beldi_book.specs.Text.{entry_text, book_text, holder_text}
-use Rattle.beldi_book.specs.Line.{IsValue, IsHolder, IsProper, IsLineOf, IsTextOf, HasBadLine}
-use Rattle.beldi_book.specs.Laws.{digit_first, IsWord, AreNamed, IsWithin, BookIsReadAgain, NothingElseIsRead}
-use Rattle.beldi_book.proofs.Cuts.{parts, none_after, number_clear, id_clear}
-use Rattle.beldi_book.proofs.LineFeeds.{text_flat}
-use Rattle.beldi_book.proofs.Others.{other_read}
-use Rattle.beldi_book.proofs.Starts.{starts_so, append_same}
+use Rattle.beldi_book.proofs.Names.{AllByRecursion, AreNamed, BadEntry, BookIsReadAgain, Deployment, Entry, Err, Func, HasBadLine, IntentId, IsHolder, IsLineOf, IsProper, IsTextOf, IsValue, IsWithin, IsWord, List, None, NothingElseIsRead, Ok, Option, OutOfMemory, Read, Some, Start, Step, Try, Tx, Value, [], after, all_ascii_digits, and_parts, ap, append-nil, append_assoc, ap₂, arith, before, book_text, codes, datum_of, decimal, digit_first, digits_decimal, entry_text, false, func_at, func_text, holder_text, id_text, is_ascii_digit, is_name, length, length-append, min, name_or, numeral_at, numeral_of, own, place_text, read_again, read_of, refl, same_Some, same_values, subst, suc, sym, text_of, true, ℕ, ◌++◌, ◌-◌, ◌<◌, ◌^◌, ◌∙◌, ◌∷◌, ◌≡◌, ◌≤◌}
+use Rattle.beldi_book.proofs.{Cuts.parts, Cuts.none_after, Cuts.number_clear, Cuts.id_clear, LineFeeds.text_flat, Others.other_read, Starts.starts_so, Starts.append_same}
 
 -- ---- functions by their texts
 digits_first : (ds : List ℕ) → all_ascii_digits ds ≡ true → digit_first ds ≡ true

@@ -1,11 +1,5 @@
 -- A text that is read line by line.
-use Rattle.std.proofs.Common.{◌≡◌, ℕ, List, [], ◌∷◌, ◌++◌, Some, None, ap, ap₂, sym, ◌∙◌, append-nil, append_assoc}
-use Rattle.std.specs.List.{AllByRecursion}
-use Rattle.beldi_value.specs.Cut.{before, after}
-use Rattle.beldi_tree.specs.declared.deployment.Deployment.{Deployment}
-use Rattle.beldi_book.specs.declared.entry.Entry.{Entry}
-use Rattle.beldi_book.specs.Text.{entry_text, book_text}
-use Rattle.beldi_book.specs.Line.{IsProper, IsLineOf, IsTextOf}
+use Rattle.beldi_book.proofs.Names.{AllByRecursion, Deployment, Entry, IsLineOf, IsProper, IsTextOf, List, None, Some, [], after, ap, append-nil, append_assoc, ap₂, before, book_text, entry_text, sym, ℕ, ◌++◌, ◌∙◌, ◌∷◌, ◌≡◌}
 use Rattle.beldi_book.proofs.Cuts.{joined, clear_before}
 
 -- the front of the text that was read so far

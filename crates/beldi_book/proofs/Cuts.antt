@@ -1,23 +1,5 @@
 -- Texts that are cut at a mark, and texts in which no mark stands.
-use Rattle.std.proofs.Common.{◌≡◌, ℕ, ◌+◌, ◌-◌, ◌^◌, ◌<◌, ◌≤◌, ◌==◌, true, false, List, [], ◌∷◌, ◌++◌, length, take, drop, Option, Some, None, refl, ap, sym, ◌∙◌, subst, arith, take-append-drop, if◌then◌else◌}
-use Rattle.std.specs.Prelude.{nat_lt, decimal, option_map, option_and_then}
-use Rattle.std.specs.Char.{is_ascii_digit}
-use Rattle.std.specs.List.{AllByRecursion}
-use Rattle.std.specs.Str.{all_ascii_digits}
-use Rattle.std.specs.Cmp.Lexicographic.{same_text, other_text}
-use Rattle.std.proofs.Math.Seq.{take-append_seam}
-use Rattle.std.proofs.lemmas.Bool.Decides.{nat_tests}
-use Rattle.std.proofs.lemmas.Bool.{and_parts}
-use Rattle.std.proofs.lemmas.Fmt.{digits_decimal}
-use Rattle.std.proofs.lemmas.Option.{same_Some}
-use borrow.Author.Tests.{eqb-true}
-use Rattle.beldi_value.specs.Cut.{before, after}
-use Rattle.beldi_value.specs.Text.{hops_text, id_text}
-use Rattle.beldi_value.specs.IdAt.{parts_of, step_at, ticket_at, steps_at, hops_at, with_hops, id_from, id_at}
-use Rattle.beldi_value.specs.declared.id.IntentId.{IntentId}
-use Rattle.beldi_value.proofs.Ints.{own, numeral_within}
-use Rattle.beldi_tree.specs.Bindings.{is_name}
-use Rattle.beldi_book.specs.Line.{IsId}
+use Rattle.beldi_book.proofs.Names.{AllByRecursion, IntentId, IsId, List, None, Option, Some, [], after, all_ascii_digits, and_parts, ap, arith, before, decimal, digits_decimal, drop, eqb-true, false, hops_at, hops_text, id_at, id_from, id_text, if◌then◌else◌, is_ascii_digit, is_name, length, nat_lt, nat_tests, numeral_within, option_and_then, option_map, other_text, own, parts_of, refl, same_Some, same_text, step_at, steps_at, subst, sym, take, take-append-drop, take-append_seam, ticket_at, true, with_hops, ℕ, ◌++◌, ◌+◌, ◌-◌, ◌<◌, ◌==◌, ◌^◌, ◌∙◌, ◌∷◌, ◌≡◌, ◌≤◌}
 
 -- ---- cut at a mark
 -- a text with a mark after it, and then more

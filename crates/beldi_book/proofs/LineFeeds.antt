@@ -1,15 +1,6 @@
 -- No line feed stands in the text of a value.
-use Rattle.std.proofs.Common.{◌≡◌, ℕ, zero, suc, ◌^◌, ◌<◌, ◌≤◌, ◌==◌, ℤ, pos, negsuc, Bool, true, false, ◌&&◌, List, [], ◌∷◌, ◌++◌, Option, None, Some, is_none, inl, inr, refl, ap, ◌∙◌, arith}
-use Rattle.std.proofs.lemmas.Bool.{and_parts, cases_lt, cases_eq}
-use Rattle.std.proofs.lemmas.Bool.Decides.{nat_tests}
-use lib.Signed.{mag}
-use Rattle.json.specs.Print.{escape_byte, escape, quoted}
-use Rattle.json.proofs.Printed.Strings.{escape_byte_plain}
-use Rattle.serde_json.specs.Written.{comma_if, items_text, members_text, number_text}
-use Rattle.beldi_value.specs.Cut.{after}
-use Rattle.beldi_value.specs.Datum.{Datum, null, boolean, int, text, list, fields, Datums, no_items, item, Fields, no_fields, field}
-use Rattle.beldi_value.specs.Formed.{IsFormed, AreFormed, HaveForm}
-use Rattle.beldi_value.specs.Json.{number_of, json_items, json_fields, text_of}
+use Rattle.json.specs.Print.{escape_byte}
+use Rattle.beldi_book.proofs.Names.{AreFormed, Bool, Datum, Datums, Fields, HaveForm, IsFormed, List, None, Option, Some, [], after, and_parts, ap, arith, boolean, cases_eq, cases_lt, comma_if, escape, escape_byte_plain, false, field, fields, inl, inr, int, is_none, item, items_text, json_fields, json_items, list, mag, members_text, nat_tests, negsuc, no_fields, no_items, null, number_of, number_text, pos, quoted, refl, suc, text, text_of, true, zero, ℕ, ℤ, ◌&&◌, ◌++◌, ◌<◌, ◌==◌, ◌^◌, ◌∙◌, ◌∷◌, ◌≡◌, ◌≤◌}
 use Rattle.beldi_book.proofs.Cuts.{none_after, other_byte, number_clear}
 
 flat : List ℕ → Type 0

@@ -1,8 +1,5 @@
 -- The changes of a book, and the places of its reads.
-use Rattle.std.proofs.Common.{◌≡◌, ℕ, zero, suc, ◌+◌, ◌≤◌, Bool, true, false, List, [], ◌∷◌, ◌++◌, length, Option, Some, None, is_none, refl, ap, sym, ◌∙◌, arith, length-append}
-use mir.Val.{bool_byte}
-use Rattle.beldi_book.specs.declared.entry.Entry.{Entry}
-use Rattle.beldi_book.specs.Order.{seen_of, if_change, changes_of, count_changes, until_change, by_change, front, back, put_by, put_read, put_reads, linear}
+use Rattle.beldi_book.proofs.Names.{Bool, Entry, List, None, Option, Some, [], ap, arith, back, bool_byte, by_change, changes_of, count_changes, false, front, if_change, is_none, length, length-append, linear, put_by, put_read, put_reads, refl, seen_of, suc, sym, true, until_change, zero, ℕ, ◌++◌, ◌+◌, ◌∙◌, ◌∷◌, ◌≡◌, ◌≤◌}
 
 few_by : (o : Option ℕ) (e : Entry) (es : List Entry) (n : ℕ) → length es ≤ n → length (if_change o e es) ≤ n + 1
 few_by None e es n h = omega arith

@@ -1,23 +1,5 @@
 -- The entries that are no starts: what is read is the entry of the line, and the line of such an entry is read.
-use Rattle.std.proofs.Common.{◌≡◌, ℕ, ◌-◌, ◌^◌, ◌<◌, true, false, List, ◌∷◌, ◌++◌, Option, Some, None, refl, ap, ap₂, sym, ◌∙◌, subst, arith, if◌then◌else◌}
-use Rattle.std.specs.Prelude.{decimal, codes, option_map, option_and_then}
-use Rattle.std.specs.Cmp.Lexicographic.{same_text}
-use Rattle.std.proofs.lemmas.Option.{same_Some}
-use Rattle.beldi_value.specs.Cut.{before, after}
-use Rattle.beldi_value.specs.IdAt.{id_at}
-use Rattle.beldi_value.specs.Number.{numeral_at}
-use Rattle.beldi_value.specs.Text.{id_text, place_text}
-use Rattle.beldi_value.specs.declared.id.IntentId.{IntentId}
-use Rattle.beldi_value.specs.declared.place.Place.{Place}
-use Rattle.beldi_value.proofs.IdTexts.{reads, alone}
-use Rattle.beldi_value.proofs.Ints.{numeral_of, numeral_back, numeral_within}
-use Rattle.beldi_tree.specs.Bindings.{is_name}
-use Rattle.beldi_tree.specs.declared.deployment.Deployment.{Deployment}
-use Rattle.beldi_book.specs.declared.entry.Entry.{Entry}
-use Rattle.beldi_book.specs.declared.entry.Entry.TheVariants.{Start, Read, Step, Tx, Try}
-use Rattle.beldi_book.specs.Text.{entry_text, holder_text}
-use Rattle.beldi_book.specs.Line.{IsId, IsHolder, IsProper, IsLineOf}
-use Rattle.beldi_book.specs.Words.{small_at, place_at, holder_at, read_at, try_at, other_at}
+use Rattle.beldi_book.proofs.Names.{Deployment, Entry, IntentId, IsHolder, IsId, IsLineOf, IsProper, List, None, Option, Place, Read, Some, Start, Step, Try, Tx, after, alone, ap, ap₂, arith, before, codes, decimal, entry_text, false, holder_at, holder_text, id_at, id_text, if◌then◌else◌, is_name, numeral_at, numeral_back, numeral_of, numeral_within, option_and_then, option_map, other_at, place_at, place_text, read_at, reads, refl, same_Some, same_text, small_at, subst, sym, true, try_at, ℕ, ◌++◌, ◌-◌, ◌<◌, ◌^◌, ◌∙◌, ◌∷◌, ◌≡◌}
 use Rattle.beldi_book.proofs.Cuts.{Parts, parts, joined, number_clear, id_clear, none_after, other_byte, id_proper}
 
 -- what was bound

@@ -1,9 +1,5 @@
 -- Reads that are put by their places make the linear order.
-use Rattle.std.proofs.Common.{◌≡◌, ℕ, zero, suc, ◌+◌, ◌<◌, ◌≤◌, List, [], ◌∷◌, ◌++◌, length, get_or, slice_set, Option, Some, None, refl, ap, ap₂, sym, ◌∙◌, arith, append-nil, append_assoc}
-use Rattle.std.specs.Prelude.{MatchOption, option_to_list}
-use Rattle.beldi_book.specs.declared.entry.Entry.{Entry}
-use Rattle.beldi_book.specs.Order.{seen_of, if_change, changes_of, until_change, by_change, front, back, put_by, put_reads, linear}
-use Rattle.beldi_book.specs.Places.{empty_places, put_to, put_by_seen, put_all_in, woven}
+use Rattle.beldi_book.proofs.Names.{Entry, List, MatchOption, None, Option, Some, [], ap, append-nil, append_assoc, ap₂, arith, back, by_change, changes_of, empty_places, front, get_or, if_change, length, linear, option_to_list, put_all_in, put_by, put_by_seen, put_reads, put_to, refl, seen_of, slice_set, suc, sym, until_change, woven, zero, ℕ, ◌++◌, ◌+◌, ◌<◌, ◌∙◌, ◌∷◌, ◌≡◌, ◌≤◌}
 use Rattle.beldi_book.proofs.Orders.{changes_more}
 
 -- these are changes, and there is a place before each and one after all, with reads alone

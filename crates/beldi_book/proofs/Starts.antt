@@ -1,25 +1,7 @@
 -- The lines that start a root: a function is named, or numbered where the deployment lacks it.
-use Rattle.std.proofs.Common.{◌≡◌, ℕ, ◌-◌, ◌^◌, ◌<◌, ◌≤◌, true, false, List, [], ◌∷◌, ◌++◌, length, take, drop, Option, Some, None, Result, Ok, Err, refl, ap, ap₂, sym, ◌∙◌, subst, arith, Bor}
-use Rattle.std.specs.Prelude.{decimal, codes, IfOk, is_some, option_copied}
-use Rattle.std.specs.Cmp.Lexicographic.{same_text}
-use Rattle.std.proofs.lemmas.Option.{same_Some}
-use Rattle.beldi_value.specs.Cut.{before, after}
-use Rattle.beldi_value.specs.Json.{text_of}
-use Rattle.beldi_value.specs.Number.{numeral_at}
-use Rattle.beldi_value.specs.Value.{datum_of}
-use Rattle.beldi_value.specs.declared.value.Value.{Value}
-use Rattle.beldi_value.proofs.Ints.{numeral_of, numeral_back, numeral_within}
-use Rattle.beldi_tree.specs.Bindings.{is_name}
-use Rattle.beldi_tree.specs.Names.{func_at, func_text, name_or}
-use Rattle.beldi_tree.specs.declared.deployment.Deployment.{Deployment}
-use Rattle.beldi_tree.specs.declared.deployment.Func.{Func}
-use Rattle.beldi_book.specs.declared.entry.Entry.{Entry}
-use Rattle.beldi_book.specs.declared.entry.Entry.TheVariants.{Start, Read, Step, Tx, Try}
-use Rattle.beldi_book.specs.Text.{entry_text}
-use Rattle.beldi_book.specs.Line.{IsLineOf, IsEntryOf, IsArgs, Names, IsCalled, Follows, IsCallOf, IsNumbered, IsCall, IsStart}
-use Rattle.beldi_book.specs.Words.{small_at, other_at}
-use Rattle.beldi_book.proofs.Cuts.{parts, joined, number_clear, stripped, not_stripped}
-use Rattle.beldi_book.proofs.Others.{small_read, small_back, other_read, other_back}
+use Rattle.std.specs.Prelude.{IfOk}
+use Rattle.beldi_book.proofs.Names.{Bor, Deployment, Entry, Err, Follows, Func, IsArgs, IsCall, IsCallOf, IsCalled, IsEntryOf, IsLineOf, IsNumbered, IsStart, List, Names, None, Ok, Option, Read, Result, Some, Start, Step, Try, Tx, Value, [], after, ap, ap₂, arith, before, codes, datum_of, decimal, drop, entry_text, false, func_at, func_text, is_name, is_some, length, name_or, numeral_at, numeral_back, numeral_of, numeral_within, option_copied, other_at, refl, same_Some, same_text, small_at, subst, sym, take, text_of, true, ℕ, ◌++◌, ◌-◌, ◌<◌, ◌^◌, ◌∙◌, ◌∷◌, ◌≡◌, ◌≤◌}
+use Rattle.beldi_book.proofs.{Cuts.parts, Cuts.joined, Cuts.number_clear, Cuts.stripped, Cuts.not_stripped, Others.small_read, Others.small_back, Others.other_read, Others.other_back}
 
 -- ---- a name, and arguments
 pub names : (name words rest json : List ℕ) → is_name (take (length name) words) name ≡ true → rest ≡ drop (length name) words → is_name (take 1 rest) (32 ∷ []) ≡ true → json ≡ drop 1 rest → words ≡ name ++ 32 ∷ json

@@ -1,21 +1,9 @@
 -- What holds of a book's text.
 use Rattle.std.specs.Prelude.{◌≡◌, ℕ, ◌<◌, ◌^◌, Bool, true, false, IsTrue, List, [], ◌∷◌, Some, None, Result, Ok, Err}
-use Rattle.std.specs.Char.{is_ascii_digit}
-use Rattle.std.specs.List.{AllByRecursion}
-use Rattle.beldi_value.specs.Cut.{after}
-use Rattle.beldi_value.specs.Formed.{IsFormed}
-use Rattle.beldi_value.specs.Limits.{is_within}
-use Rattle.beldi_value.specs.Value.{datum_of}
-use Rattle.beldi_tree.specs.declared.deployment.Deployment.{Deployment}
-use Rattle.beldi_tree.specs.declared.deployment.Func.{Func}
-use Rattle.beldi_tree.specs.Names.{func_at}
-use Rattle.beldi_book.specs.declared.entry.Entry.{Entry}
-use Rattle.beldi_book.specs.declared.entry.Entry.TheVariants.{Start, Read, Step, Tx, Try}
-use Rattle.beldi_book.specs.declared.book.BookErr.{BookErr}
-use Rattle.beldi_book.specs.declared.book.BookErr.TheVariants.{OutOfMemory, BadEntry}
-use Rattle.beldi_book.specs.Book.{Entries}
-use Rattle.beldi_book.specs.Text.{book_text}
-use Rattle.beldi_book.specs.Line.{IsProper, IsTextOf, HasBadLine, ReadsBook}
+use Rattle.std.specs.{Char.is_ascii_digit, List.AllByRecursion}
+use Rattle.beldi_value.specs.{Cut.after, Formed.IsFormed, Limits.is_within, Value.datum_of}
+use Rattle.beldi_tree.specs.{declared.deployment.Deployment.Deployment, declared.deployment.Func.Func, Names.func_at}
+use Rattle.beldi_book.specs.{declared.entry.Entry.Entry, declared.entry.Entry.TheVariants.Start, declared.entry.Entry.TheVariants.Read, declared.entry.Entry.TheVariants.Step, declared.entry.Entry.TheVariants.Tx, declared.entry.Entry.TheVariants.Try, declared.book.BookErr.BookErr, declared.book.BookErr.TheVariants.OutOfMemory, declared.book.BookErr.TheVariants.BadEntry, Book.Entries, Text.book_text, Line.IsProper, Line.IsTextOf, Line.HasBadLine, Line.ReadsBook}
 
 -- a digit is first, or nothing
 abbrev pub digit_first : List ℕ → Bool

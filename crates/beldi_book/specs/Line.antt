@@ -1,23 +1,9 @@
 -- Which line is the text of which entry, and which text that of which entries.
 use Rattle.std.specs.Prelude.{◌≡◌, ℕ, suc, ◌<◌, ◌≤◌, ◌-◌, ◌^◌, min, IsTrue, List, ◌∷◌, ◌++◌, length, Option, Some, None, Result, Ok, Err, codes, decimal}
 use Rattle.std.specs.List.{AllByRecursion}
-use Rattle.beldi_value.specs.Cut.{before, after}
-use Rattle.beldi_value.specs.Datum.{Datum}
-use Rattle.beldi_value.specs.Json.{text_of}
-use Rattle.beldi_value.specs.Limits.{is_within}
-use Rattle.beldi_value.specs.Reading.{read_of}
-use Rattle.beldi_value.specs.Value.{datum_of}
-use Rattle.beldi_value.specs.declared.id.IntentId.{IntentId}
-use Rattle.beldi_value.specs.declared.value.Value.{Value}
-use Rattle.beldi_tree.specs.declared.deployment.Deployment.{Deployment}
-use Rattle.beldi_tree.specs.declared.deployment.Func.{Func}
-use Rattle.beldi_tree.specs.Names.{func_at, func_text}
-use Rattle.beldi_book.specs.declared.entry.Entry.{Entry}
-use Rattle.beldi_book.specs.declared.entry.Entry.TheVariants.{Start, Read, Step, Tx, Try}
-use Rattle.beldi_book.specs.declared.book.BookErr.{BookErr}
-use Rattle.beldi_book.specs.declared.book.BookErr.TheVariants.{OutOfMemory, BadEntry}
-use Rattle.beldi_book.specs.Book.{Entries}
-use Rattle.beldi_book.specs.Text.{entry_text, book_text}
+use Rattle.beldi_value.specs.{Cut.before, Cut.after, Datum.Datum, Json.text_of, Limits.is_within, Reading.read_of, Value.datum_of, declared.id.IntentId.IntentId, declared.value.Value.Value}
+use Rattle.beldi_tree.specs.{declared.deployment.Deployment.Deployment, declared.deployment.Func.Func, Names.func_at, Names.func_text}
+use Rattle.beldi_book.specs.{declared.entry.Entry.Entry, declared.entry.Entry.TheVariants.Start, declared.entry.Entry.TheVariants.Read, declared.entry.Entry.TheVariants.Step, declared.entry.Entry.TheVariants.Tx, declared.entry.Entry.TheVariants.Try, declared.book.BookErr.BookErr, declared.book.BookErr.TheVariants.OutOfMemory, declared.book.BookErr.TheVariants.BadEntry, Book.Entries, Text.entry_text, Text.book_text}
 
 -- an id's ticket is not 0, it and the steps have 32 bits, and there are 63 hops at most
 pub record IsId (id : IntentId) : Type 0 where

@@ -1,7 +1,6 @@
 -- The order in which the entries of a book took effect. A read may be kept late: it belongs where it was made.
 use Rattle.std.specs.Prelude.{ℕ, zero, suc, ◌≤◌, List, [], ◌∷◌, ◌++◌, length, Option, Some, None}
-use Rattle.beldi_book.specs.declared.entry.Entry.{Entry}
-use Rattle.beldi_book.specs.declared.entry.Entry.TheVariants.{Start, Read, Step, Tx, Try}
+use Rattle.beldi_book.specs.declared.entry.Entry.{Entry, TheVariants.Start, TheVariants.Read, TheVariants.Step, TheVariants.Tx, TheVariants.Try}
 
 -- how many changes had been made where a read belongs; none of an entry that is a change
 abbrev pub seen_of : Entry → Option ℕ

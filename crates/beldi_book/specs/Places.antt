@@ -1,7 +1,6 @@
 -- The linear order of a book by places: one before each change, and one after all, each with the reads that stand there.
 use Rattle.std.specs.Prelude.{ℕ, zero, suc, List, [], ◌∷◌, ◌++◌, map, Option, Some, None}
-use Rattle.beldi_book.specs.declared.entry.Entry.{Entry}
-use Rattle.beldi_book.specs.Order.{seen_of}
+use Rattle.beldi_book.specs.{declared.entry.Entry.Entry, Order.seen_of}
 
 -- no read stands anywhere yet
 abbrev pub empty_places : List Entry → List (List Entry)

@@ -1,19 +1,9 @@
 -- The text of entries.
 use Rattle.std.specs.Prelude.{ℕ, List, ◌++◌, flat_map, slice_get, Option, Some, None, codes}
 use Rattle.std.specs.Fmt.{decimal}
-use Rattle.beldi_value.specs.Json.{text_of}
-use Rattle.beldi_value.specs.Datum.{text}
-use Rattle.beldi_value.specs.Value.{datum_of}
-use Rattle.beldi_value.specs.declared.value.Value.{Value}
-use Rattle.beldi_value.specs.Text.{id_text, place_text}
-use Rattle.beldi_value.specs.declared.id.IntentId.{IntentId}
-use Rattle.beldi_tree.specs.declared.deployment.Deployment.{Deployment}
-use Rattle.beldi_tree.specs.declared.deployment.Func.{Func}
-use Rattle.beldi_tree.specs.declared.deployment.TableHead.{TableHead}
-use Rattle.beldi_tree.specs.Names.{func_text}
-use Rattle.beldi_tree.specs.Names.{func_at}
-use Rattle.beldi_book.specs.declared.entry.Entry.{Entry}
-use Rattle.beldi_book.specs.declared.entry.Entry.TheVariants.{Start, Read, Step, Tx, Try}
+use Rattle.beldi_value.specs.{Json.text_of, Datum.text, Value.datum_of, declared.value.Value.Value, Text.id_text, Text.place_text, declared.id.IntentId.IntentId}
+use Rattle.beldi_tree.specs.{declared.deployment.Deployment.Deployment, declared.deployment.Func.Func, declared.deployment.TableHead.TableHead, Names.func_text, Names.func_at}
+use Rattle.beldi_book.specs.declared.entry.Entry.{Entry, TheVariants.Start, TheVariants.Read, TheVariants.Step, TheVariants.Tx, TheVariants.Try}
 
 -- a holder's id, or `-`
 abbrev pub holder_text : Option IntentId → List ℕ

@@ -1,13 +1,8 @@
 -- The parts that a line is read by: ids, numbers, places and holders, and the entries that have no other parts.
 use Rattle.std.specs.Prelude.{ℕ, ◌-◌, ◌^◌, List, Option, Some, None, option_map, option_and_then, codes, if◌then◌else◌}
-use Rattle.beldi_value.specs.Cut.{before, after}
-use Rattle.beldi_value.specs.IdAt.{id_at}
-use Rattle.beldi_value.specs.Number.{numeral_at}
-use Rattle.beldi_value.specs.declared.id.IntentId.{IntentId}
-use Rattle.beldi_value.specs.declared.place.Place.{Place}
+use Rattle.beldi_value.specs.{Cut.before, Cut.after, IdAt.id_at, Number.numeral_at, declared.id.IntentId.IntentId, declared.place.Place.Place}
 use Rattle.beldi_tree.specs.Bindings.{is_name}
-use Rattle.beldi_book.specs.declared.entry.Entry.{Entry}
-use Rattle.beldi_book.specs.declared.entry.Entry.TheVariants.{Read, Step, Tx, Try}
+use Rattle.beldi_book.specs.declared.entry.Entry.{Entry, TheVariants.Read, TheVariants.Step, TheVariants.Tx, TheVariants.Try}
 
 -- `?`
 infixl 10 ◌>>=◌

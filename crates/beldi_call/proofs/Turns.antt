@@ -1,33 +1,15 @@
 -- What the turns of calls leave.
-use Rattle.std.proofs.Common.{◌≡◌, ℕ, Bool, true, false, cond, Option, None, Some, is_some, refl, ap, sym, ◌∙◌, subst}
 use Rattle.std.specs.FinMap as map
-use Rattle.beldi_value.specs.declared.outcome.Outcome.{Outcome}
-use Rattle.beldi_value.specs.declared.place.Place.{Place}
-use Rattle.beldi_row.specs.Key.{RowKey}
-use Rattle.beldi_row.specs.declared.row.Row.{Row}
-use Rattle.beldi_row.specs.declared.row.Row.TheVariants as rows
-use Rattle.beldi_row.specs.declared.row.Body.{Body}
-use Rattle.beldi_row.specs.declared.act.Act.{Act}
-use Rattle.beldi_row.specs.declared.act.Act.TheVariants as acts
-use Rattle.beldi_row.specs.Act.{act, register_to}
-use Rattle.beldi_row.specs.Table.{Rows, set_row}
-use Rattle.beldi_row.proofs.Gets.{got, key_self}
-use Rattle.beldi_walk.specs.declared.query.Query.{Query}
-use Rattle.beldi_walk.specs.Query.{said, rows_after, told_by}
-use Rattle.beldi_walk.proofs.Promises.{turned, at_each}
+use Rattle.std.proofs.Common.{◌≡◌, ℕ, Bool, true, false, cond, Option, None, Some, is_some, refl, ap, sym, ◌∙◌, subst}
+use Rattle.beldi_value.specs.declared.{outcome.Outcome.Outcome, place.Place.Place}
+use Rattle.beldi_row.{specs.Key.RowKey, specs.declared.row.Row.Row, specs.declared.row.Body.Body, specs.declared.act.Act.Act, specs.Act.act, specs.Act.register_to, specs.Table.Rows, specs.Table.set_row, proofs.Gets.got, proofs.Gets.key_self}
+use Rattle.beldi_walk.{specs.declared.query.Query.Query, specs.Query.said, specs.Query.rows_after, specs.Query.told_by, proofs.Promises.turned, proofs.Promises.at_each}
 use Rattle.beldi_invokelog.specs.InvokeLog.{invoke_key, call_in, result_in, registered_in, result_of, back_of}
-use Rattle.beldi_call.specs.declared.call.CallAt.{CallAt}
-use Rattle.beldi_call.specs.declared.call.CallAt.TheVariants as at_call
-use Rattle.beldi_call.specs.declared.call.CallSays.{CallSays}
-use Rattle.beldi_call.specs.Call as call
-use Rattle.beldi_call.specs.Call.{CallTurn, CallsTellTheirResult, SaidAt, result_said}
-use Rattle.beldi_call.specs.declared.async_call.AsyncAt.{AsyncAt}
-use Rattle.beldi_call.specs.declared.async_call.AsyncAt.TheVariants.{Open, Register, Note}
-use Rattle.beldi_call.specs.declared.async_call.AsyncSays.{AsyncSays}
-use Rattle.beldi_call.specs.declared.async_call.AsyncSays.TheVariants.{Going, Opened, Done}
 use Rattle.beldi_intent.specs.Intent.{intent_key}
-use Rattle.beldi_call.specs.Async as async
 use Rattle.beldi_call.specs.Async.{AsyncTurn, CalleesAreEnrolled, EnrolledStays, EnrolledAt, OpenedAt, is_done, callee_key}
+use Rattle.beldi_call.specs.{declared.call.CallAt.CallAt, declared.call.CallSays.CallSays, Call.CallTurn, Call.CallsTellTheirResult, Call.SaidAt, Call.result_said, declared.async_call.AsyncAt.AsyncAt, declared.async_call.AsyncAt.TheVariants.Open, declared.async_call.AsyncAt.TheVariants.Register, declared.async_call.AsyncAt.TheVariants.Note, declared.async_call.AsyncSays.AsyncSays, declared.async_call.AsyncSays.TheVariants.Going, declared.async_call.AsyncSays.TheVariants.Opened, declared.async_call.AsyncSays.TheVariants.Done}
+use Rattle.beldi_call.specs.Call as call
+use Rattle.beldi_call.specs.Async as async
 
 -- what is so of a row before, and of the one that it is set to
 set_so : (P : Option Row → Option Row → Type 0) (m : Rows) (k : RowKey) (v : Option Row) → P (map.get m k) v → P (map.get m k) (map.get (set_row m k v) k)
@@ -37,31 +19,31 @@ set_so P m k v h = subst (P (map.get m k)) (sym (got m k k v ∙ ap (λ b. cond 
 abbrev CallRow : CallAt → CallSays → Option Row → Option Row → Type 0
 CallRow at says r s = (result_said says ≡ result_in (call_in s)) × SaidAt at says r s
 
-look_so : (r : Option Row) (o : Option Outcome) → result_in (call_in r) ≡ o → CallRow at_call.Look (call.look_says o) r r
+look_so : (r : Option Row) (o : Option Outcome) → result_in (call_in r) ≡ o → CallRow CallAt.Look (call.look_says o) r r
 look_so r None is = (sym is, (refl, refl))
 look_so r (Some o) is = (sym is, refl)
 
-open_so : (r : Row) (o : Option Outcome) → result_in (call_in (Some r)) ≡ o → CallRow at_call.Open (call.open_says false o) (Some r) (Some r)
+open_so : (r : Row) (o : Option Outcome) → result_in (call_in (Some r)) ≡ o → CallRow CallAt.Open (call.open_says false o) (Some r) (Some r)
 open_so r None is = (sym is, (refl, refl, refl))
 open_so r (Some o) is = (sym is, refl)
 
-opens : (func now : ℕ) (r : Option Row) → CallRow at_call.Open (call.call_says func at_call.Open (said (act (acts.OpenInvoke func) now r).1)) r (act (acts.OpenInvoke func) now r).0
+opens : (func now : ℕ) (r : Option Row) → CallRow CallAt.Open (call.call_says func CallAt.Open (said (act (Act.OpenInvoke func) now r).1)) r (act (Act.OpenInvoke func) now r).0
 opens func now None = (refl, (refl, refl, refl))
-opens func now (Some (rows.Invoke i)) = open_so (rows.Invoke i) i.result refl
+opens func now (Some (Row.Invoke i)) = open_so (Row.Invoke i) i.result refl
 opens func now (Some r) = open_so r None refl
 
-looks : (now : ℕ) (r : Option Row) → CallRow at_call.Look (call.look_says (result_of (said (act acts.Look now r).1))) r (act acts.Look now r).0
+looks : (now : ℕ) (r : Option Row) → CallRow CallAt.Look (call.look_says (result_of (said (act Act.Look now r).1))) r (act Act.Look now r).0
 looks now None = look_so None None refl
 looks now (Some r) = look_so (Some r) (result_in (call_in (Some r))) refl
 
 call_made : (home func : ℕ) (p : Place) (at : CallAt) (now : ℕ) (m : Rows) → let q = call.call_asks home p func at in
     CallRow at (call.call_says func at (told_by q now m)) (map.get m (invoke_key home p)) (map.get (rows_after q now m) (invoke_key home p))
-call_made home func p at_call.Open now m =
+call_made home func p CallAt.Open now m =
     let k = invoke_key home p in let o = map.get m k in
-    set_so (CallRow at_call.Open (call.call_says func at_call.Open (said (act (acts.OpenInvoke func) now o).1))) m k (act (acts.OpenInvoke func) now o).0 (opens func now o)
-call_made home func p at_call.Look now m =
+    set_so (CallRow CallAt.Open (call.call_says func CallAt.Open (said (act (Act.OpenInvoke func) now o).1))) m k (act (Act.OpenInvoke func) now o).0 (opens func now o)
+call_made home func p CallAt.Look now m =
     let k = invoke_key home p in let o = map.get m k in
-    set_so (CallRow at_call.Look (call.look_says (result_of (said (act acts.Look now o).1)))) m k (act acts.Look now o).0 (looks now o)
+    set_so (CallRow CallAt.Look (call.look_says (result_of (said (act Act.Look now o).1)))) m k (act Act.Look now o).0 (looks now o)
 
 pub calls_tell : CallsTellTheirResult
 calls_tell w x now old new s h = turned (call.walk_asks w) now (call.walk_next w) (call.walk_says w) (λ m n z. CallTurn w m n z.1)
@@ -92,16 +74,16 @@ open_mark : (r : Row) (b : Bool) → registered_in (call_in (Some r)) ≡ b → 
 open_mark r false is = (sym is, (refl, refl, refl))
 open_mark r true is = (sym is, tt)
 
-opens_so : (func now : ℕ) (r : Option Row) → AsyncRow Open (async.async_says func Open (said (act (acts.OpenInvoke func) now r).1)) r (act (acts.OpenInvoke func) now r).0
+opens_so : (func now : ℕ) (r : Option Row) → AsyncRow Open (async.async_says func Open (said (act (Act.OpenInvoke func) now r).1)) r (act (Act.OpenInvoke func) now r).0
 opens_so func now None = (refl, (refl, refl, refl))
-opens_so func now (Some (rows.Invoke i)) = open_mark (rows.Invoke i) i.registered refl
+opens_so func now (Some (Row.Invoke i)) = open_mark (Row.Invoke i) i.registered refl
 opens_so func now (Some r) = (refl, (refl, refl, refl))
 
-marks_so : (now : ℕ) (r : Option Row) → AsyncRow Note (async.note_says (back_of (said (act acts.NoteRegistered now r).1))) r (act acts.NoteRegistered now r).0
+marks_so : (now : ℕ) (r : Option Row) → AsyncRow Note (async.note_says (back_of (said (act Act.NoteRegistered now r).1))) r (act Act.NoteRegistered now r).0
 marks_so now None = (refl, tt)
-marks_so now (Some (rows.Invoke i)) = by_mark i.registered refl
+marks_so now (Some (Row.Invoke i)) = by_mark i.registered refl
   where
-    by_mark : (b : Bool) → i.registered ≡ b → AsyncRow Note (async.note_says (back_of (said (register_to i b).1))) (Some (rows.Invoke i)) (Some (rows.Invoke (register_to i b).0))
+    by_mark : (b : Bool) → i.registered ≡ b → AsyncRow Note (async.note_says (back_of (said (register_to i b).1))) (Some (Row.Invoke i)) (Some (Row.Invoke (register_to i b).0))
     by_mark false is = (refl, tt)
     by_mark true is = (sym is, tt)
 marks_so now (Some r) = (refl, tt)
@@ -113,7 +95,7 @@ unmarked r before after = absurd (clash (sym before ∙ after))
     clash : false ≡ true → ⊥
     clash h = cc
 
-open_keeps : (func now : ℕ) (r : Option Row) → registered_in (call_in r) ≡ false → registered_in (call_in (act (acts.OpenInvoke func) now r).0) ≡ false
+open_keeps : (func now : ℕ) (r : Option Row) → registered_in (call_in r) ≡ false → registered_in (call_in (act (Act.OpenInvoke func) now r).0) ≡ false
 open_keeps func now None h = refl
 open_keeps func now (Some r) h = h
 
@@ -137,27 +119,27 @@ module _ (home : ℕ) (p : Place) (b : Body) (now : ℕ) (m : Rows) where
   open_turn : AfterTurn Open (rows_after (async.async_asks home p b Open) now m) (async.async_says b.func Open (told_by (async.async_asks home p b Open) now m))
   open_turn =
       let o = map.get m key in
-      let v = (act (acts.OpenInvoke b.func) now o).0 in
-      let says = async.async_says b.func Open (said (act (acts.OpenInvoke b.func) now o).1) in
+      let v = (act (Act.OpenInvoke b.func) now o).0 in
+      let says = async.async_says b.func Open (said (act (Act.OpenInvoke b.func) now o).1) in
       let row = set_so (AsyncRow Open says) m key v (opens_so b.func now o) in
       let keeps = set_so (λ r s. registered_in (call_in r) ≡ false → registered_in (call_in s) ≡ false) m key v (open_keeps b.func now o) in
       record { done = row.0; opened = row.1; enrolled = λ h. no_note says (map.get (set_row m key v) callee); marks = λ h before after. unmarked (map.get (set_row m key v) key) (keeps before) after }
 
-  register_row : (r : Option Row) → is_some (act (acts.Register b) now r).0 ≡ true
+  register_row : (r : Option Row) → is_some (act (Act.Register b) now r).0 ≡ true
   register_row None = refl
   register_row (Some r) = refl
 
   register_turn : AfterTurn Register (rows_after (async.async_asks home p b Register) now m) Going
   register_turn =
-      let v = (act (acts.Register b) now (map.get m callee)).0 in
+      let v = (act (Act.Register b) now (map.get m callee)).0 in
       let there = set_so (λ r s. is_some s ≡ true) m callee v (register_row (map.get m callee)) in
       record { done = refl; opened = tt; enrolled = λ h. there; marks = λ h before after. there }
 
   note_turn : AfterTurn Note (rows_after (async.async_asks home p b Note) now m) (async.async_says b.func Note (told_by (async.async_asks home p b Note) now m))
   note_turn =
       let o = map.get m key in
-      let v = (act acts.NoteRegistered now o).0 in
-      let says = async.note_says (back_of (said (act acts.NoteRegistered now o).1)) in
+      let v = (act Act.NoteRegistered now o).0 in
+      let says = async.note_says (back_of (said (act Act.NoteRegistered now o).1)) in
       let row = set_so (AsyncRow Note says) m key v (marks_so now o) in
       let stays = there_stays (async.async_asks home p b Note) now m callee in
       record { done = row.0; opened = row.1; enrolled = stays; marks = λ h before after. stays h }

@@ -1,25 +1,13 @@
 -- A call that nobody waits for, as a machine that asks one thing a turn.
 use Rattle.std.specs.Prelude.{◌≡◌, ℕ, ◌&&◌, Bool, true, false, is_some, is_none, Option, Ok}
 use Rattle.std.specs.FinMap as map
-use Rattle.beldi_value.specs.Id.{child_of}
-use Rattle.beldi_value.specs.declared.id.IntentId.{IntentId}
-use Rattle.beldi_value.specs.declared.place.Place.{Place}
-use Rattle.beldi_row.specs.Key.{RowKey}
-use Rattle.beldi_row.specs.declared.row.Body.{Body}
-use Rattle.beldi_row.specs.declared.row.Row.{Row}
-use Rattle.beldi_row.specs.Table.{Rows, TableState, Tells}
-use Rattle.beldi_walk.specs.declared.query.Query.{Query}
-use Rattle.beldi_walk.specs.Query.{Told, rows_after}
-use Rattle.beldi_walk.specs.Walk.{Turned}
-use Rattle.beldi_invokelog.specs.declared.invoke_log.Back.{Back}
-use Rattle.beldi_invokelog.specs.declared.invoke_log.Back.TheVariants.{Set, AlreadySet, Absent}
+use Rattle.beldi_value.specs.{Id.child_of, declared.id.IntentId.IntentId, declared.place.Place.Place}
+use Rattle.beldi_row.specs.{Key.RowKey, declared.row.Body.Body, declared.row.Row.Row, Table.Rows, Table.TableState, Table.Tells}
+use Rattle.beldi_walk.specs.{declared.query.Query.Query, Query.Told, Query.rows_after, Walk.Turned}
 use Rattle.beldi_invokelog.specs.InvokeLog.{invoke_key, call_at, registered_in, open_asks, registered_asks, invoked_of, back_of}
+use Rattle.beldi_invokelog.specs.declared.invoke_log.Back.{Back, TheVariants.Set, TheVariants.AlreadySet, TheVariants.Absent}
 use Rattle.beldi_intent.specs.Intent.{intent_key, register_asks}
-use Rattle.beldi_call.specs.declared.async_call.AsyncAt.{AsyncAt}
-use Rattle.beldi_call.specs.declared.async_call.AsyncAt.TheVariants.{Open, Register, Note}
-use Rattle.beldi_call.specs.declared.async_call.AsyncSays.{AsyncSays}
-use Rattle.beldi_call.specs.declared.async_call.AsyncSays.TheVariants.{Going, Opened, Done}
-use Rattle.beldi_call.specs.declared.async_call.AsyncWalk.{AsyncWalk}
+use Rattle.beldi_call.specs.declared.async_call.{AsyncAt.AsyncAt, AsyncAt.TheVariants.Open, AsyncAt.TheVariants.Register, AsyncAt.TheVariants.Note, AsyncSays.AsyncSays, AsyncSays.TheVariants.Going, AsyncSays.TheVariants.Opened, AsyncSays.TheVariants.Done, AsyncWalk.AsyncWalk}
 
 -- what is called at a place
 abbrev pub callee_of : Place → IntentId

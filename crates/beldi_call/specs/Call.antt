@@ -1,20 +1,11 @@
 -- A call that waits for its result, as a machine that asks one thing a turn.
 use Rattle.std.specs.Prelude.{◌≡◌, ℕ, Bool, true, is_some, is_none, Option, Some, None, Ok}
 use Rattle.std.specs.FinMap as map
-use Rattle.beldi_value.specs.declared.outcome.Outcome.{Outcome}
-use Rattle.beldi_value.specs.declared.place.Place.{Place}
-use Rattle.beldi_row.specs.Key.{RowKey}
-use Rattle.beldi_row.specs.declared.row.Row.{Row}
-use Rattle.beldi_row.specs.Table.{Rows, TableState, Tells}
-use Rattle.beldi_walk.specs.declared.query.Query.{Query}
-use Rattle.beldi_walk.specs.Query.{Told}
-use Rattle.beldi_walk.specs.Walk.{Turned}
+use Rattle.beldi_value.specs.declared.{outcome.Outcome.Outcome, place.Place.Place}
+use Rattle.beldi_row.specs.{Key.RowKey, declared.row.Row.Row, Table.Rows, Table.TableState, Table.Tells}
+use Rattle.beldi_walk.specs.{declared.query.Query.Query, Query.Told, Walk.Turned}
 use Rattle.beldi_invokelog.specs.InvokeLog.{invoke_key, call_at, result_in, open_asks, result_asks, invoked_of, result_of}
-use Rattle.beldi_call.specs.declared.call.CallAt.{CallAt}
-use Rattle.beldi_call.specs.declared.call.CallAt.TheVariants.{Open, Look}
-use Rattle.beldi_call.specs.declared.call.CallSays.{CallSays}
-use Rattle.beldi_call.specs.declared.call.CallSays.TheVariants.{Opened, NotYet, Done}
-use Rattle.beldi_call.specs.declared.call.CallWalk.{CallWalk}
+use Rattle.beldi_call.specs.declared.call.{CallAt.CallAt, CallAt.TheVariants.Open, CallAt.TheVariants.Look, CallSays.CallSays, CallSays.TheVariants.Opened, CallSays.TheVariants.NotYet, CallSays.TheVariants.Done, CallWalk.CallWalk}
 
 -- ---- what is asked, and what follows from what is told
 -- the call is opened in the first turn, and looked at from then on

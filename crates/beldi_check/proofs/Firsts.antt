@@ -1,16 +1,5 @@
 -- The first offence, from one part of the text to the next.
-use Rattle.std.proofs.Common.{◌≡◌, ℕ, suc, ◌+◌, ◌<◌, ◌≤◌, nat_lt, Bool, true, false, List, [], ◌∷◌, length, map, get_or, slice_get, drop, Option, Some, None, option_map, refl, ap, ◌∙◌, sym, subst, arith, add-one, ◌||◌, if◌then◌else◌}
-use Rattle.std.proofs.lemmas.Bool.{ltb-true}
-use Rattle.std.proofs.Math.Seq.{drop-cons}
-use Rattle.beldi_check.specs.declared.why.Why.TheVariants.{TooMany}
-use Rattle.std.specs.Option.{option_or}
-use Rattle.std.specs.List.{list_any}
-use Rattle.beldi_tree.specs.declared.deployment.Func.{Func}
-use Rattle.beldi_check.specs.Site.{sites_of}
-use Rattle.beldi_check.specs.Calls.{reaches, blocks}
-use Rattle.beldi_check.specs.declared.calls.Link.TheVariants.{Call}
-use Rattle.beldi_check.specs.declared.rules.Rule.{Rule}
-use Rattle.beldi_check.specs.Rules.{Offence, past_most, first_site, first_from, first_statement, first_offence, double_name}
+use Rattle.beldi_check.proofs.Names.{Bool, Call, Func, List, None, Offence, Option, Rule, Some, TooMany, [], add-one, ap, arith, blocks, double_name, drop, drop-cons, false, first_from, first_offence, first_site, first_statement, get_or, if◌then◌else◌, length, list_any, ltb-true, map, nat_lt, option_map, option_or, past_most, reaches, refl, sites_of, slice_get, subst, suc, sym, true, ℕ, ◌+◌, ◌<◌, ◌||◌, ◌∙◌, ◌∷◌, ◌≡◌, ◌≤◌}
 
 -- where there is no first of two, there is none of either
 pub neither_left : (o p : Option Offence) → option_or o p ≡ None → o ≡ None

@@ -1,6 +1,6 @@
 -- Cells that say of each two whether one leads to the other.
-use Rattle.std.proofs.Common.{◌≡◌, ℕ, zero, suc, ◌+◌, ◌<◌, Bool, ◌||◌, ◌&&◌, List, length, refl, subst, ◌∙◌, sym, add-one}
-use Rattle.beldi_check.specs.Calls.{IsGrid, row_at, cell, over, through}
+use Rattle.beldi_check.specs.Calls.{through}
+use Rattle.beldi_check.proofs.Names.{Bool, IsGrid, List, add-one, cell, length, over, refl, row_at, subst, suc, sym, zero, ℕ, ◌&&◌, ◌+◌, ◌<◌, ◌||◌, ◌∙◌, ◌≡◌}
 
 pub cell_is : (m n : ℕ) (e : ℕ → ℕ → Bool) (rows : List (List Bool)) → IsGrid m n e rows → (i j : ℕ) → i < m → j < n → cell rows i j ≡ e i j
 cell_is m n e rows g i j h k = (g.each i h).each j k

@@ -1,21 +1,5 @@
 -- A deployment is accepted exactly where it keeps every rule, at each function, table and statement.
-use Rattle.std.proofs.Common.{◌≡◌, ℕ, zero, suc, ◌+◌, ◌<◌, ◌≤◌, nat_lt, Bool, true, false, ◌||◌, List, [], ◌∷◌, ◌++◌, length, take, slice_get, Option, Some, None, option_map, if◌then◌else◌, refl, ap, ◌∙◌, sym, subst, arith}
-use Rattle.std.proofs.lemmas.List.{append-nil, append_assoc}
-use Rattle.std.proofs.lemmas.Bool.{lt-ltb}
-use Rattle.std.proofs.lemmas.Option.{slice_get_past}
-use Rattle.std.specs.Option.{option_or}
-use Rattle.std.specs.List.{list_any}
-use Rattle.beldi_tree.specs.declared.deployment.Func.{Func}
-use Rattle.beldi_tree.specs.declared.deployment.TableHead.{TableHead}
-use Rattle.beldi_tree.specs.Bindings.{is_name}
-use Rattle.beldi_check.specs.Site.{Spot, sites_of, line_at}
-use Rattle.beldi_check.specs.Calls.{reaches, blocks}
-use Rattle.beldi_check.specs.declared.calls.Link.TheVariants.{Call, Start}
-use Rattle.beldi_check.specs.declared.rules.Rule.{Rule}
-use Rattle.beldi_check.specs.declared.rules.Rule.TheVariants as rule
-use Rattle.beldi_check.specs.declared.why.Why.TheVariants.{CallCycle, Duplicate, TooMany}
-use Rattle.beldi_check.specs.Rules.{has_function, has_table, double_table, double_name, past_most, named, why_of, first_site, first_from, first_statement, first_cycle, first_broken, rules_of_places, rules_of_transactions, first_offence}
-use Rattle.beldi_check.specs.Keeps.{KeepsRules, AcceptsExactly}
+use Rattle.beldi_check.proofs.Names.{AcceptsExactly, Bool, Call, CallCycle, Duplicate, Func, KeepsRules, List, None, Option, Rule, Some, Spot, Start, TableHead, TooMany, [], ap, append-nil, append_assoc, arith, blocks, double_name, double_table, false, first_broken, first_cycle, first_from, first_offence, first_site, first_statement, has_function, has_table, if◌then◌else◌, is_name, length, line_at, list_any, lt-ltb, named, nat_lt, option_map, option_or, past_most, reaches, refl, rules_of_places, rules_of_transactions, sites_of, slice_get, slice_get_past, subst, suc, sym, take, true, why_of, zero, ℕ, ◌++◌, ◌+◌, ◌<◌, ◌||◌, ◌∙◌, ◌∷◌, ◌≡◌, ◌≤◌}
 use Rattle.beldi_check.proofs.Firsts.{neither_left, neither_right, kept_if, few}
 
 -- ---- parts of what does not hold
@@ -114,13 +98,13 @@ function_keeps r fs (g ∷ gs) m n zero f e at is =
 function_keeps r fs (g ∷ gs) m n (suc k) f e at is = function_keeps r fs gs (m + 1) n k f (neither_right (first_site r fs g (reaches Call fs (blocks fs) m) (sites_of g.body)) _ e) at (omega arith)
 
 rule_keeps : (fs : List Func) → first_broken fs rules_of_places ≡ None → first_broken fs rules_of_transactions ≡ None → (r : Rule) → first_statement r fs ≡ None
-rule_keeps fs p q rule.UnknownFunction = neither_left _ (first_broken fs (rule.UnknownTable ∷ rule.BreakOutside ∷ rule.NestedTx ∷ rule.LeavesTx ∷ [])) p
-rule_keeps fs p q rule.UnknownTable = neither_left _ (first_broken fs (rule.BreakOutside ∷ rule.NestedTx ∷ rule.LeavesTx ∷ [])) (neither_right (first_statement rule.UnknownFunction fs) _ p)
-rule_keeps fs p q rule.BreakOutside = neither_left _ (first_broken fs (rule.NestedTx ∷ rule.LeavesTx ∷ [])) (neither_right (first_statement rule.UnknownTable fs) _ (neither_right (first_statement rule.UnknownFunction fs) _ p))
-rule_keeps fs p q rule.NestedTx = neither_left _ (first_broken fs (rule.LeavesTx ∷ [])) (neither_right (first_statement rule.BreakOutside fs) _ (neither_right (first_statement rule.UnknownTable fs) _ (neither_right (first_statement rule.UnknownFunction fs) _ p)))
-rule_keeps fs p q rule.LeavesTx = neither_left _ None (neither_right (first_statement rule.NestedTx fs) _ (neither_right (first_statement rule.BreakOutside fs) _ (neither_right (first_statement rule.UnknownTable fs) _ (neither_right (first_statement rule.UnknownFunction fs) _ p))))
-rule_keeps fs p q rule.AsyncInTx = neither_left _ (first_broken fs (rule.LockInTx ∷ [])) q
-rule_keeps fs p q rule.LockInTx = neither_left _ None (neither_right (first_statement rule.AsyncInTx fs) _ q)
+rule_keeps fs p q Rule.UnknownFunction = neither_left _ (first_broken fs (Rule.UnknownTable ∷ Rule.BreakOutside ∷ Rule.NestedTx ∷ Rule.LeavesTx ∷ [])) p
+rule_keeps fs p q Rule.UnknownTable = neither_left _ (first_broken fs (Rule.BreakOutside ∷ Rule.NestedTx ∷ Rule.LeavesTx ∷ [])) (neither_right (first_statement Rule.UnknownFunction fs) _ p)
+rule_keeps fs p q Rule.BreakOutside = neither_left _ (first_broken fs (Rule.NestedTx ∷ Rule.LeavesTx ∷ [])) (neither_right (first_statement Rule.UnknownTable fs) _ (neither_right (first_statement Rule.UnknownFunction fs) _ p))
+rule_keeps fs p q Rule.NestedTx = neither_left _ (first_broken fs (Rule.LeavesTx ∷ [])) (neither_right (first_statement Rule.BreakOutside fs) _ (neither_right (first_statement Rule.UnknownTable fs) _ (neither_right (first_statement Rule.UnknownFunction fs) _ p)))
+rule_keeps fs p q Rule.LeavesTx = neither_left _ None (neither_right (first_statement Rule.NestedTx fs) _ (neither_right (first_statement Rule.BreakOutside fs) _ (neither_right (first_statement Rule.UnknownTable fs) _ (neither_right (first_statement Rule.UnknownFunction fs) _ p))))
+rule_keeps fs p q Rule.AsyncInTx = neither_left _ (first_broken fs (Rule.LockInTx ∷ [])) q
+rule_keeps fs p q Rule.LockInTx = neither_left _ None (neither_right (first_statement Rule.AsyncInTx fs) _ q)
 
 -- ---- cycles
 

@@ -1,4 +1,5 @@
 pub mod Firsts
 pub mod Grids
 pub mod Keeps
+mod Names
 pub mod Paths

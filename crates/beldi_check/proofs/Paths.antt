@@ -1,10 +1,6 @@
 -- That a function leads to another one by its cells exactly where there is a path.
-use Rattle.std.proofs.Common.{◌≡◌, ℕ, zero, suc, ◌<◌, Bool, true, false, ◌||◌, ◌&&◌, IsTrue, ◌⊎◌, inl, inr, List, [], ◌∷◌, ◌++◌, length, slice_get, Some, None, refl, subst, arith, nat_lt}
-use Rattle.std.proofs.lemmas.Bool.{ltb-true}
-use Rattle.std.proofs.lemmas.Bool.Decides.{nat_tests}
-use Rattle.std.proofs.lemmas.Option.{slice_get_within}
-use Rattle.beldi_tree.specs.declared.deployment.Func.{Func}
-use Rattle.beldi_check.specs.Calls.{Link, edge, edge_to, through, reaches, IsPath, ReachesByPaths}
+use Rattle.beldi_check.specs.Calls.{through}
+use Rattle.beldi_check.proofs.Names.{Bool, Func, IsPath, IsTrue, Link, List, None, ReachesByPaths, Some, [], arith, edge, edge_to, false, inl, inr, length, ltb-true, nat_lt, nat_tests, reaches, refl, slice_get, slice_get_within, subst, suc, true, zero, ℕ, ◌&&◌, ◌++◌, ◌<◌, ◌||◌, ◌∷◌, ◌≡◌, ◌⊎◌}
 
 left : (a b : Bool) → IsTrue a → IsTrue (a || b)
 left true b h = refl

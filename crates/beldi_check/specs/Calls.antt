@@ -2,12 +2,9 @@
 use Rattle.std.specs.Prelude.{◌≡◌, ◌↔◌, ℕ, zero, suc, ◌<◌, ◌==◌, Bool, false, ◌&&◌, ◌||◌, IsTrue, List, [], ◌∷◌, length, slice_get, Option, Some, None, if◌then◌else◌}
 use Rattle.std.specs.List.{list_any}
 use Rattle.std.proofs.Common.{get_or}
-use Rattle.beldi_tree.specs.declared.deployment.Func.{Func}
-use Rattle.beldi_tree.specs.Command.{Command, call, async}
-use Rattle.beldi_tree.specs.Bindings.{is_name}
-use Rattle.beldi_check.specs.Site.{sites_of}
+use Rattle.beldi_tree.specs.{declared.deployment.Func.Func, Command.Command, Command.call, Command.async, Bindings.is_name}
+use Rattle.beldi_check.specs.{Site.sites_of, declared.calls.Link.TheVariants.Start}
 pub use Rattle.beldi_check.specs.declared.calls.Link.{Link}
-use Rattle.beldi_check.specs.declared.calls.Link.TheVariants.{Start}
 
 -- whether a statement leads to the function of this name: calls it, or has it run
 abbrev pub leads : Link → List ℕ → Command → Bool

@@ -1,14 +1,7 @@
 -- What it is to keep every rule, said of each function, table and statement.
 use Rattle.std.specs.Prelude.{◌≡◌, ◌↔◌, ◌<◌, ◌≤◌, ℕ, false, List, length, slice_get, Some, None}
-use Rattle.beldi_tree.specs.declared.deployment.Deployment.{Deployment}
-use Rattle.beldi_tree.specs.declared.deployment.Func.{Func}
-use Rattle.beldi_tree.specs.declared.deployment.TableHead.{TableHead}
-use Rattle.beldi_tree.specs.Bindings.{is_name}
-use Rattle.beldi_check.specs.Site.{Spot, sites_of}
-use Rattle.beldi_check.specs.Calls.{reaches, blocks}
-use Rattle.beldi_check.specs.declared.calls.Link.TheVariants.{Call, Start}
-use Rattle.beldi_check.specs.declared.rules.Rule.{Rule}
-use Rattle.beldi_check.specs.Rules.{named, IsChecked}
+use Rattle.beldi_tree.specs.{declared.deployment.Deployment.Deployment, declared.deployment.Func.Func, declared.deployment.TableHead.TableHead, Bindings.is_name}
+use Rattle.beldi_check.specs.{Site.Spot, Site.sites_of, Calls.reaches, Calls.blocks, declared.calls.Link.TheVariants.Call, declared.calls.Link.TheVariants.Start, declared.rules.Rule.Rule, Rules.named, Rules.IsChecked}
 
 pub record KeepsRules (fs : List Func) : Type 0 where
   -- no two functions have one name, nor two tables of a function

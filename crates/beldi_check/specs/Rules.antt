@@ -1,22 +1,10 @@
 -- The rules that a deployment keeps, and the first place where it breaks one.
 use Rattle.std.specs.Prelude.{◌≡◌, ℕ, ◌+◌, nat_lt, Bool, true, false, not, ◌&&◌, ◌||◌, List, [], ◌∷◌, ◌++◌, slice_get, Option, Some, None, option_map, option_and_then, if◌then◌else◌}
-use Rattle.std.specs.Option.{option_or}
-use Rattle.std.specs.List.{list_any}
-use Rattle.beldi_tree.specs.declared.deployment.Deployment.{Deployment}
-use Rattle.beldi_tree.specs.declared.deployment.Func.{Func}
-use Rattle.beldi_tree.specs.declared.deployment.TableHead.{TableHead}
+use Rattle.std.specs.{Option.option_or, List.list_any}
 use Rattle.beldi_tree.specs.Command.{Command, read, write, condwrite, call, async, lock, unlock, transaction, break, return}
-use Rattle.beldi_tree.specs.Bindings.{is_name}
-use Rattle.beldi_tree.specs.Names.{func_place}
-use Rattle.beldi_check.specs.Site.{Spot, sites_of, line_at}
-use Rattle.beldi_check.specs.Calls.{reaches, blocks}
-use Rattle.beldi_check.specs.declared.calls.Link.TheVariants.{Call, Start}
-use Rattle.beldi_check.specs.declared.rules.Rule.{Rule}
-use Rattle.beldi_check.specs.declared.rules.Rule.TheVariants as rule
-use Rattle.beldi_check.specs.declared.why.Why.{Why}
+use Rattle.beldi_tree.specs.{declared.deployment.Deployment.Deployment, declared.deployment.Func.Func, declared.deployment.TableHead.TableHead, Bindings.is_name, Names.func_place}
 use Rattle.beldi_check.specs.declared.why.Why.TheVariants.{UnknownFunction, UnknownTable, Duplicate, TooMany, BreakOutside, NestedTx, LeavesTx, CallCycle, AsyncInTx, LockInTx}
-use Rattle.beldi_check.specs.declared.why.CheckErr.{CheckErr}
-use Rattle.beldi_check.specs.declared.why.CheckErr.TheVariants.{OutOfMemory, Refused}
+use Rattle.beldi_check.specs.{Site.Spot, Site.sites_of, Site.line_at, Calls.reaches, Calls.blocks, declared.calls.Link.TheVariants.Call, declared.calls.Link.TheVariants.Start, declared.rules.Rule.Rule, declared.why.Why.Why, declared.why.CheckErr.CheckErr, declared.why.CheckErr.TheVariants.OutOfMemory, declared.why.CheckErr.TheVariants.Refused}
 
 -- a line, and the rule that it breaks
 abbrev pub Offence : Type 0
@@ -96,22 +84,22 @@ is_lock c = false
 -- where a statement of this function breaks the rule, the name that the refusal gives;
 -- `within` says whether a transaction's first block reaches the function by calls
 abbrev pub named : Rule → List Func → Func → Bool → Spot → Option (List ℕ)
-named rule.UnknownFunction fs f within s = option_and_then (λ n. some_if (not (has_function fs n)) n) (func_in s.1)
-named rule.UnknownTable fs f within s = option_and_then (λ n. some_if (not (has_table f.tables n)) n) (table_in s.1)
-named rule.BreakOutside fs f within s = some_if (is_break s.1 && not s.0.in_repeat) f.name
-named rule.NestedTx fs f within s = some_if (is_transaction s.1 && s.0.in_transaction) f.name
-named rule.LeavesTx fs f within s = some_if ((is_return s.1 && s.0.in_transaction) || (is_break s.1 && s.0.leaves)) f.name
-named rule.AsyncInTx fs f within s = some_if (is_async s.1 && (s.0.in_transaction || within)) f.name
-named rule.LockInTx fs f within s = some_if (is_lock s.1 && (s.0.in_transaction || within)) f.name
+named Rule.UnknownFunction fs f within s = option_and_then (λ n. some_if (not (has_function fs n)) n) (func_in s.1)
+named Rule.UnknownTable fs f within s = option_and_then (λ n. some_if (not (has_table f.tables n)) n) (table_in s.1)
+named Rule.BreakOutside fs f within s = some_if (is_break s.1 && not s.0.in_repeat) f.name
+named Rule.NestedTx fs f within s = some_if (is_transaction s.1 && s.0.in_transaction) f.name
+named Rule.LeavesTx fs f within s = some_if ((is_return s.1 && s.0.in_transaction) || (is_break s.1 && s.0.leaves)) f.name
+named Rule.AsyncInTx fs f within s = some_if (is_async s.1 && (s.0.in_transaction || within)) f.name
+named Rule.LockInTx fs f within s = some_if (is_lock s.1 && (s.0.in_transaction || within)) f.name
 
 abbrev pub why_of : Rule → List ℕ → Why
-why_of rule.UnknownFunction n = UnknownFunction n
-why_of rule.UnknownTable n = UnknownTable n
-why_of rule.BreakOutside n = BreakOutside n
-why_of rule.NestedTx n = NestedTx n
-why_of rule.LeavesTx n = LeavesTx n
-why_of rule.AsyncInTx n = AsyncInTx n
-why_of rule.LockInTx n = LockInTx n
+why_of Rule.UnknownFunction n = UnknownFunction n
+why_of Rule.UnknownTable n = UnknownTable n
+why_of Rule.BreakOutside n = BreakOutside n
+why_of Rule.NestedTx n = NestedTx n
+why_of Rule.LeavesTx n = LeavesTx n
+why_of Rule.AsyncInTx n = AsyncInTx n
+why_of Rule.LockInTx n = LockInTx n
 
 abbrev pub offence_at : Rule → List Func → Func → Bool → Spot → Option Offence
 offence_at r fs f within s = option_map (λ n. (line_at s.1, why_of r n)) (named r fs f within s)
@@ -144,10 +132,10 @@ first_broken fs (r ∷ rs) = option_or (first_statement r fs) (first_broken fs r
 
 -- the rules that stand before that of cycles, and those after it
 abbrev pub rules_of_places : List Rule
-rules_of_places = rule.UnknownFunction ∷ rule.UnknownTable ∷ rule.BreakOutside ∷ rule.NestedTx ∷ rule.LeavesTx ∷ []
+rules_of_places = Rule.UnknownFunction ∷ Rule.UnknownTable ∷ Rule.BreakOutside ∷ Rule.NestedTx ∷ Rule.LeavesTx ∷ []
 
 abbrev pub rules_of_transactions : List Rule
-rules_of_transactions = rule.AsyncInTx ∷ rule.LockInTx ∷ []
+rules_of_transactions = Rule.AsyncInTx ∷ Rule.LockInTx ∷ []
 
 abbrev pub first_offence : List Func → Option Offence
 first_offence fs =

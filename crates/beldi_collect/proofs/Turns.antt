@@ -1,22 +1,14 @@
 -- What a turn of the intent collector tells.
-use Rattle.std.proofs.Common.{◌≡◌, Bool, true, false, if◌then◌else◌, Option, None, Some, refl, ap, sym, ◌∙◌}
 use Rattle.std.specs.Option.{option_map}
+use Rattle.std.proofs.Common.{◌≡◌, Bool, true, false, if◌then◌else◌, Option, None, Some, refl, ap, sym, ◌∙◌}
 use Rattle.beldi_value.specs.declared.id.IntentId.{IntentId}
-use Rattle.beldi_row.specs.Key.{RowKey}
-use Rattle.beldi_row.specs.declared.key.Kind.{Kind}
-use Rattle.beldi_row.specs.declared.key.Kind.TheVariants as kinds
-use Rattle.beldi_row.specs.declared.row.Body.{Body}
-use Rattle.beldi_row.specs.declared.row.IntentRow.{IntentRow}
-use Rattle.beldi_row.specs.declared.row.Row.{Row}
-use Rattle.beldi_row.specs.declared.row.Row.TheVariants as rows
-use Rattle.beldi_row.specs.Table.{Rows, next_row}
+use Rattle.beldi_row.specs.{Key.RowKey, declared.key.Kind.Kind, declared.row.Body.Body, declared.row.IntentRow.IntentRow, declared.row.Row.Row, Table.Rows, Table.next_row}
 use Rattle.beldi_walk.proofs.Promises.{turned}
 use Rattle.beldi_intent.specs.Intent.{is_ended}
-use Rattle.beldi_collect.specs.declared.intent_cursor.IntentCursor.{IntentCursor}
-use Rattle.beldi_collect.specs.Collect.{found_says, open_at, row_says}
 use Rattle.beldi_collect.specs.Cursor.{cursor_asks, cursor_next, cursor_says, goes_on, open_says, row_told, IsUnended, CursorTurn, NextIntentIsTold}
+use Rattle.beldi_collect.specs.{declared.intent_cursor.IntentCursor.IntentCursor, Collect.found_says, Collect.open_at, Collect.row_says}
 
-same_intent : (i j : IntentRow) (r : Row) → r ≡ rows.Intent i → r ≡ rows.Intent j → i ≡ j
+same_intent : (i j : IntentRow) (r : Row) → r ≡ Row.Intent i → r ≡ Row.Intent j → i ≡ j
 same_intent i j r a b = cc
 
 module _ (c : IntentCursor) (m : Rows) (k : RowKey) (r : Row) (next : next_row m c.at ≡ Some (k, r)) where
@@ -26,15 +18,15 @@ module _ (c : IntentCursor) (m : Rows) (k : RowKey) (r : Row) (next : next_row m
   passes : ((id : IntentId) (b : Body) → IsUnended k r id b → ⊥) → Turn None
   passes none = record { rows = refl; said = ((k, r), next, refl, none) }
 
-  stops : (id : IntentId) (i : IntentRow) → k.kind ≡ kinds.Intent id → r ≡ rows.Intent i → (b : Bool) → is_ended i ≡ b → (o : Option Body) → i.body ≡ o
+  stops : (id : IntentId) (i : IntentRow) → k.kind ≡ Kind.Intent id → r ≡ Row.Intent i → (b : Bool) → is_ended i ≡ b → (o : Option Body) → i.body ≡ o
       → Turn (option_map (λ x. (id, x)) (if b then None else o))
   stops id i at is true ended o has = passes (λ j b u. let clash : true ≡ false = sym ended ∙ ap is_ended (same_intent i u.intent r is u.row) ∙ u.lasts in cc)
   stops id i at is false lasts None has = passes (λ j b u. let clash : None ≡ Some b = sym has ∙ ap (λ (z : IntentRow). z.body) (same_intent i u.intent r is u.row) ∙ u.body in cc)
   stops id i at is false lasts (Some b) has = record { rows = refl; said = ((k, r), next, record { intent = i; key = at; row = is; lasts = lasts; body = has }, refl, refl) }
 
   by_row : (kind : Kind) → k.kind ≡ kind → (s : Row) → r ≡ s → Turn (open_at kind s)
-  by_row (kinds.Intent id) at (rows.Intent i) is = stops id i at is (is_ended i) refl i.body refl
-  by_row (kinds.Intent id) at s is = passes (λ j b u. let clash = sym is ∙ u.row in cc)
+  by_row (Kind.Intent id) at (Row.Intent i) is = stops id i at is (is_ended i) refl i.body refl
+  by_row (Kind.Intent id) at s is = passes (λ j b u. let clash = sym is ∙ u.row in cc)
   by_row kind at s is = passes (λ j b u. let clash = sym at ∙ u.key in cc)
 
 made : (c : IntentCursor) (m : Rows) (o : Option (RowKey × Row)) → next_row m c.at ≡ o → CursorTurn c (goes_on c (found_says o)) m m (row_told o)

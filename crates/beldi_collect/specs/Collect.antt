@@ -3,18 +3,10 @@ use Rattle.std.specs.Prelude.{◌+◌, ◌-◌, ◌^◌, nat_lt, [], Option, Som
 use Rattle.std.specs.Option.{option_map}
 use denote.Bor.{Bor}
 use Rattle.beldi_value.specs.declared.id.IntentId.{IntentId}
-use Rattle.beldi_row.specs.Key.{RowKey}
-use Rattle.beldi_row.specs.declared.key.Kind.{Kind}
-use Rattle.beldi_row.specs.declared.key.Kind.TheVariants as kinds
-use Rattle.beldi_row.specs.declared.row.Body.{Body}
-use Rattle.beldi_row.specs.declared.row.Row.{Row}
-use Rattle.beldi_row.specs.declared.row.Row.TheVariants as rows
-use Rattle.beldi_walk.specs.declared.query.Query.{Query}
-use Rattle.beldi_walk.specs.declared.query.Query.TheVariants.{After}
-use Rattle.beldi_walk.specs.Query.{Told, found}
+use Rattle.beldi_row.specs.{Key.RowKey, declared.key.Kind.Kind, declared.row.Body.Body, declared.row.Row.Row}
+use Rattle.beldi_walk.specs.{declared.query.Query.Query, declared.query.Query.TheVariants.After, Query.Told, Query.found}
 use Rattle.beldi_intent.specs.Intent.{open_body}
-use Rattle.beldi_collect.specs.declared.cursor.Found.{Found}
-use Rattle.beldi_collect.specs.declared.cursor.Found.TheVariants.{Passed, Unended, Round}
+use Rattle.beldi_collect.specs.declared.cursor.Found.{Found, TheVariants.Passed, TheVariants.Unended, TheVariants.Round}
 
 -- the row after the cursor
 abbrev pub collect_asks : RowKey → Query
@@ -22,16 +14,16 @@ collect_asks cursor = After cursor
 
 -- before the intents of the home that follows; at the last home there is none
 abbrev pub next_home : RowKey → RowKey
-next_home k = if nat_lt k.home (2 ^ 16 - 1) then record { home = k.home + 1; kind = kinds.Intent (record { ticket = 0; hops = [] }) } else k
+next_home k = if nat_lt k.home (2 ^ 16 - 1) then record { home = k.home + 1; kind = Kind.Intent (record { ticket = 0; hops = [] }) } else k
 
 -- where the cursor stands after a row: the rows of a home that are no intents are passed at once
 abbrev pub passing : RowKey → Kind → RowKey
-passing k (kinds.Intent id) = k
+passing k (Kind.Intent id) = k
 passing k other = next_home k
 
 -- the intent of a row, if it has a body and has not ended
 abbrev pub open_at : Kind → Row → Option (IntentId × Body)
-open_at (kinds.Intent id) (rows.Intent i) = option_map (λ b. (id, b)) (open_body i)
+open_at (Kind.Intent id) (Row.Intent i) = option_map (λ b. (id, b)) (open_body i)
 open_at kind r = None
 
 abbrev pub row_says : RowKey → Option (IntentId × Body) → Found

@@ -2,23 +2,10 @@
 use Rattle.std.specs.Prelude.{◌≡◌, ℕ, false, Option, Some, None, Ok}
 use Rattle.std.specs.declared.cmp.Ordering.TheVariants.{Less}
 use Rattle.beldi_value.specs.declared.id.IntentId.{IntentId}
-use Rattle.beldi_row.specs.Key.{RowKey, key_cmp, least_key}
-use Rattle.beldi_row.specs.declared.key.Kind.TheVariants as kinds
-use Rattle.beldi_row.specs.declared.row.Body.{Body}
-use Rattle.beldi_row.specs.declared.row.IntentRow.{IntentRow}
-use Rattle.beldi_row.specs.declared.row.Row.{Row}
-use Rattle.beldi_row.specs.declared.row.Row.TheVariants as rows
-use Rattle.beldi_row.specs.Table.{Rows, TableState, Tells, next_row}
-use Rattle.beldi_walk.specs.declared.query.Query.{Query}
-use Rattle.beldi_walk.specs.Query.{Told, found}
-use Rattle.beldi_walk.specs.Walk.{Turned}
+use Rattle.beldi_row.specs.{Key.RowKey, Key.key_cmp, Key.least_key, declared.row.Body.Body, declared.row.IntentRow.IntentRow, declared.row.Row.Row, Table.Rows, Table.TableState, Table.Tells, Table.next_row, declared.key.Kind.Kind}
+use Rattle.beldi_walk.specs.{declared.query.Query.Query, Query.Told, Query.found, Walk.Turned}
 use Rattle.beldi_intent.specs.Intent.{is_ended}
-use Rattle.beldi_collect.specs.Collect.{collect_asks, collect_says, open_at, passing}
-use Rattle.beldi_collect.specs.declared.cursor.Found.{Found}
-use Rattle.beldi_collect.specs.declared.cursor.Found.TheVariants as found_data
-use Rattle.beldi_collect.specs.declared.intent_cursor.IcSays.{IcSays}
-use Rattle.beldi_collect.specs.declared.intent_cursor.IcSays.TheVariants.{Passed, Unended, Round}
-use Rattle.beldi_collect.specs.declared.intent_cursor.IntentCursor.{IntentCursor}
+use Rattle.beldi_collect.specs.{Collect.collect_asks, Collect.collect_says, Collect.open_at, Collect.passing, declared.cursor.Found.Found, declared.intent_cursor.IcSays.IcSays, declared.intent_cursor.IcSays.TheVariants.Passed, declared.intent_cursor.IcSays.TheVariants.Unended, declared.intent_cursor.IcSays.TheVariants.Round, declared.intent_cursor.IntentCursor.IntentCursor}
 
 abbrev pub first_cursor : IntentCursor
 first_cursor = record { at = least_key; kept = None }
@@ -28,9 +15,9 @@ cursor_asks c = collect_asks c.at
 
 -- before an intent that has not ended it stands, and keeps the key of its row
 abbrev pub goes_on : IntentCursor → Found → IntentCursor
-goes_on c (found_data.Passed k) = record { at = k; kept = None }
-goes_on c (found_data.Unended k id f) = record { at = c.at; kept = Some k }
-goes_on c found_data.Round = first_cursor
+goes_on c (Found.Passed k) = record { at = k; kept = None }
+goes_on c (Found.Unended k id f) = record { at = c.at; kept = Some k }
+goes_on c Found.Round = first_cursor
 
 abbrev pub cursor_next : IntentCursor → Told → IntentCursor
 cursor_next c t = goes_on c (collect_says t)
@@ -51,8 +38,8 @@ cursor_says c t = Round
 -- the row is that of an intent which has a body and has not ended
 pub record IsUnended (k : RowKey) (r : Row) (id : IntentId) (b : Body) : Type 0 where
   pub intent : IntentRow
-  pub key : k.kind ≡ kinds.Intent id
-  pub row : r ≡ rows.Intent intent
+  pub key : k.kind ≡ Kind.Intent id
+  pub row : r ≡ Row.Intent intent
   pub lasts : is_ended intent ≡ false
   pub body : intent.body ≡ Some b
 
@@ -73,4 +60,4 @@ NextIntentIsTold = (c x : IntentCursor) (now : ℕ) (old new : TableState) (s : 
 
 -- between a row and where the cursor is set past it no intent has its key
 abbrev pub NoIntentIsJumped : Type 0
-NoIntentIsJumped = (k q : RowKey) (id : IntentId) → key_cmp k q ≡ Less → key_cmp q (passing k k.kind) ≡ Less → q.kind ≡ kinds.Intent id → ⊥
+NoIntentIsJumped = (k q : RowKey) (id : IntentId) → key_cmp k q ≡ Less → key_cmp q (passing k k.kind) ≡ Less → q.kind ≡ Kind.Intent id → ⊥

@@ -1,21 +1,8 @@
 -- What the two endings of a parse say of the words.
-use Rattle.std.proofs.Common.{◌≡◌, inl, inr, true, false, List, [], Option, Some, None, Box, option_map, option_and_then, refl, ap, sym, subst, subst₂, ◌∙◌}
-use Rattle.clap.specs.Walk.{Text}
-use Rattle.clap.specs.Simple.{App, HasMatchesOf, is_simple, subcommand_rows}
-use Rattle.clap.specs.Kinds.{HasKind, IsAmong}
-use Rattle.clap.specs.Faults.{fault_of, is_simple_and_free}
-use Rattle.clap.specs.Matches.{subcommand_name_of}
-use Rattle.clap.specs.Values.{kind_of}
-use Rattle.clap.specs.declared.error.Error.{Error}
-use Rattle.clap.specs.declared.error.kind.ErrorKind.TheVariants.{OutOfMemory}
-use Rattle.clap.specs.declared.parser.matches.ArgMatches.{ArgMatches}
-use Rattle.clap.specs.declared.parser.matches.ArgMatches.TheViews.{out-ArgMatches, out-SubCommand}
-use Rattle.clap.specs.declared.parser.matches.SubCommand.{SubCommand}
-use Rattle.clap.proofs.OnLiterals.{clap_on_literals}
 use Rattle.std.specs.Box.{box_value}
-use Rattle.beldi_command.specs.Command.{command_named, command_of}
-use Rattle.beldi_command.specs.Parser.{has_divider, run_or_check}
-use Rattle.beldi_command.proofs.Asked.{IsAsked, is_asked, met}
+use Rattle.clap.{specs.Walk.Text, specs.Simple.App, specs.Simple.HasMatchesOf, specs.Simple.is_simple, specs.Simple.subcommand_rows, specs.Kinds.HasKind, specs.Kinds.IsAmong, specs.Faults.fault_of, specs.Faults.is_simple_and_free, specs.Matches.subcommand_name_of, specs.Values.kind_of, specs.declared.error.Error.Error, specs.declared.error.kind.ErrorKind.TheVariants.OutOfMemory, specs.declared.parser.matches.ArgMatches.ArgMatches, specs.declared.parser.matches.ArgMatches.TheViews.out-ArgMatches, specs.declared.parser.matches.ArgMatches.TheViews.out-SubCommand, specs.declared.parser.matches.SubCommand.SubCommand, proofs.OnLiterals.clap_on_literals}
+use Rattle.std.proofs.Common.{◌≡◌, inl, inr, true, false, List, [], Option, Some, None, Box, option_map, option_and_then, refl, ap, sym, subst, subst₂, ◌∙◌}
+use Rattle.beldi_command.{specs.Command.command_named, specs.Command.command_of, specs.Parser.has_divider, specs.Parser.run_or_check, proofs.Asked.IsAsked, proofs.Asked.is_asked, proofs.Asked.met}
 
 -- `clap` says of such a command which matches it gives, and how it fails
 is_told : is_simple run_or_check ≡ true

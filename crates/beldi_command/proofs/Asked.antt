@@ -1,16 +1,9 @@
 -- What clap makes of the words is the command that they ask for, where none of them is `--`.
-use Rattle.std.proofs.Common.{◌≡◌, ◌⊎◌, inl, inr, Bool, true, false, List, [], ◌∷◌, Option, Some, None, option_map, option_and_then, bytes_eq, codes, refl, sym, subst}
-use Rattle.std.proofs.lemmas.Bool.{or_parts}
-use Rattle.std.proofs.lemmas.Slice.Eq.{bytes_eq-Decides}
-use Rattle.clap.specs.Walk.{Text, idle, nothing_held, subcommand_met, walk_from, walked}
 use Rattle.clap.specs.Simple.{App, Shape, built, built_leaf, inherited, names_of, new_shape, subcommand_of}
-use Rattle.clap.specs.Faults.{entered_fault, fault_of, level_fault}
-use Rattle.clap.proofs.OnLiterals.{clap_on_literals}
-use Rattle.beldi_command.specs.declared.command.Command.{Command}
-use Rattle.beldi_command.specs.Command.{command_named, command_of}
-use Rattle.beldi_command.specs.Parser.{has_divider, run_or_check}
-use Rattle.beldi_command.proofs.Strays.{Fails, strayed, without_args, by_first, by_next}
-use Rattle.beldi_command.proofs.Entered.{entered}
+use Rattle.clap.{specs.Walk.Text, specs.Walk.idle, specs.Walk.nothing_held, specs.Walk.subcommand_met, specs.Walk.walk_from, specs.Walk.walked, specs.Faults.entered_fault, specs.Faults.fault_of, specs.Faults.level_fault, proofs.OnLiterals.clap_on_literals}
+use Rattle.std.proofs.Common.{◌≡◌, ◌⊎◌, inl, inr, Bool, true, false, List, [], ◌∷◌, Option, Some, None, option_map, option_and_then, bytes_eq, codes, refl, sym, subst}
+use Rattle.std.proofs.lemmas.{Bool.or_parts, Slice.Eq.bytes_eq-Decides}
+use Rattle.beldi_command.{specs.declared.command.Command.Command, specs.Command.command_named, specs.Command.command_of, specs.Parser.has_divider, specs.Parser.run_or_check, proofs.Strays.Fails, proofs.Strays.strayed, proofs.Strays.without_args, proofs.Strays.by_first, proofs.Strays.by_next, proofs.Entered.entered}
 
 -- the command that the subcommand that was met is
 abbrev pub met : List Text → Option Command

@@ -1,6 +1,6 @@
 -- A walk that met a subcommand keeps the words that follow for it.
-use Rattle.std.proofs.Common.{◌≡◌, List, [], ◌∷◌, ◌++◌, Some, fold, ap, sym, ◌∙◌, append-nil, append_assoc}
 use Rattle.clap.specs.Walk.{Names, Text, Walk, walked, walked_from}
+use Rattle.std.proofs.Common.{◌≡◌, List, [], ◌∷◌, ◌++◌, Some, fold, ap, sym, ◌∙◌, append-nil, append_assoc}
 
 pub entered : (names : Names) (w : Walk) (p : Text × List Text) (rest : List Text) → w.stopped ≡ Some p → (fold (walked [] names) w rest).stopped ≡ Some (p.0, p.1 ++ rest)
 unfolding walked

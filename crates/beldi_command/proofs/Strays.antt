@@ -1,13 +1,10 @@
 -- A command without arguments refuses a first word that is no subcommand of it and is not `--`.
-use Rattle.std.proofs.Common.{◌≡◌, ℕ, zero, suc, Bool, true, false, List, [], ◌∷◌, Option, Some, None, bytes_eq, chars, length, slice_get, refl, sym, subst, if◌then◌else◌}
 use Rattle.std.specs.Option.{option_map_or}
-use Rattle.clap.specs.Lexer.{long_of, short_of}
 use Rattle.clap.specs.Walk.{Held, Names, Step, Text, trailing, idle, plain, after_flag, bundle_step, bundle_met, long_or_other, nothing_held, short_or_plain, subcommand_met, subcommand_or_other, walk_from}
-use Rattle.clap.specs.Simple.{Shape}
-use Rattle.clap.specs.Kinds.{Kinds, or_else}
 use Rattle.clap.specs.Faults.{bundle_fault, bundle_step_fault, flag_word_fault, flags_fault, level_fault, other_fault, step_fault, stray_fault, turn_fault, walk_fault}
-use Rattle.clap.specs.declared.error.kind.ErrorKind.{ErrorKind}
+use Rattle.clap.specs.{Lexer.long_of, Lexer.short_of, Simple.Shape, Kinds.Kinds, Kinds.or_else, declared.error.kind.ErrorKind.ErrorKind}
 use Rattle.clap.specs.declared.error.kind.ErrorKind.TheVariants as kind
+use Rattle.std.proofs.Common.{◌≡◌, ℕ, zero, suc, Bool, true, false, List, [], ◌∷◌, Option, Some, None, bytes_eq, chars, length, slice_get, refl, sym, subst, if◌then◌else◌}
 
 -- some kind of error comes
 abbrev pub Fails : Kinds → Type 0

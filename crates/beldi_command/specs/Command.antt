@@ -1,8 +1,7 @@
 -- The grammar `run | check`: the command that words ask for.
 use Rattle.std.specs.Prelude.{ℕ, List, [], ◌∷◌, Option, Some, None, codes, if◌then◌else◌}
 use Rattle.std.specs.Str.{bytes_eq}
-use Rattle.beldi_command.specs.declared.command.Command.{Command}
-use Rattle.beldi_command.specs.declared.command.Command.TheVariants.{Run, Check}
+use Rattle.beldi_command.specs.declared.command.Command.{Command, TheVariants.Run, TheVariants.Check}
 
 -- the command of this name
 abbrev pub command_named : List ℕ → Option Command

@@ -1,8 +1,7 @@
 -- What `clap` is given: a command that has two subcommands and nothing else, and wants one of them; and the word `--`, to which
 -- `clap` gives a meaning of its own.
 use Rattle.std.specs.Prelude.{ℕ, Bool, true, List, codes}
-use Rattle.std.specs.List.{list_any}
-use Rattle.std.specs.Str.{bytes_eq}
+use Rattle.std.specs.{List.list_any, Str.bytes_eq}
 use Rattle.clap.specs.Simple.{App, Shape, new_app, new_shape, with_subcommand}
 
 -- no program's name among the words, no help, no version, and a subcommand is wanted

@@ -1,11 +1,6 @@
 -- One more, and one less, of what is counted.
-use Rattle.std.proofs.Common.{◌≡◌, ℕ, ◌+◌, ◌-◌, Bool, true, false, cond, Option, None, Some, refl, ap, sym, ◌∙◌, subst, if◌then◌else◌}
-use Rattle.std.specs.FinMap as map
-use Rattle.std.specs.FinMap.{get-insert, get-remove, same_map}
-use Rattle.std.specs.Ordering.{is_eq}
-use Rattle.beldi_value.specs.Id.{id_cmp, id_total, id_exact}
-use Rattle.beldi_value.specs.declared.id.IntentId.{IntentId}
-use Rattle.beldi_core.specs.Counts.{CountMap, less, RaisedAt, LoweredTo, LoweredAt}
+use Rattle.beldi_core.proofs.Names.{Bool, CountMap, IntentId, LoweredAt, LoweredTo, None, Option, RaisedAt, Some, ap, cond, false, get-insert, get-remove, id_cmp, id_exact, id_total, if◌then◌else◌, is_eq, less, refl, same_map, subst, sym, true, ℕ, ◌+◌, ◌-◌, ◌∙◌, ◌≡◌}
+use Rattle.beldi_core.proofs.Names.map
 
 module _ (m n : CountMap) (id : IntentId) where
   pub raised : (o : Option ℕ) (k : ℕ) → o ≡ Some k → n ≡ map.insert m id (k + 1) → RaisedAt m n id o true

@@ -1,23 +1,7 @@
 -- What is counted of the runs, as runs come and go.
-use Rattle.std.proofs.Common.{◌≡◌, ◌≢◌, ◌⊎◌, inl, inr, ℕ, zero, suc, ◌+◌, ◌-◌, ◌≤◌, Bool, true, false, cond, T, List, [], ◌∷◌, None, Some, is_some, ◌||◌, refl, ap, sym, ◌∙◌, subst, arith, if◌then◌else◌}
-use Rattle.std.specs.Prelude.{◌==◌, nat_lt}
-use Rattle.std.specs.List.{list_any}
-use borrow.Author.Tests.{ltb-true, ltb-false}
-use Rattle.std.proofs.lemmas.Bool.Decides.{eqb_tells, nat_tests}
-use Rattle.std.proofs.lemmas.Cmp.{eq_by_cmp_equiv, tied_itself}
-use Rattle.std.specs.Cmp.{nat_cmp_total, Equal-is}
-use Rattle.std.specs.Ordering.{nat_cmp, is_eq}
-use Rattle.std.specs.FinMap as map
-use Rattle.std.specs.FinMap.{nat_cmp-IsAntisymmetric, get-entries, entries_sorted, get-insert, get-remove, same_map}
-use Rattle.std.specs.FinMap.Entries.{find, is_sorted}
-use Rattle.beldi_value.specs.Id.{id_cmp, id_total, id_exact}
-use Rattle.beldi_value.specs.declared.id.IntentId.{IntentId}
-use Rattle.beldi_step.specs.declared.run.Run.{Run}
-use Rattle.beldi_step.specs.Host.{has_run}
-use Rattle.beldi_core.specs.Runs.{RunMap, AllKept}
-use Rattle.beldi_core.specs.Counts.{CountMap, AllCounted, count_at, more, less, is_of, more_if, counted, kept_as, number_of}
-use Rattle.beldi_core.proofs.Least.{none_under}
-use Rattle.beldi_core.proofs.Truths.{first, second}
+use Rattle.beldi_core.proofs.Names.{AllCounted, AllKept, Bool, CountMap, Equal-is, IntentId, List, None, Run, RunMap, Some, T, [], ap, arith, cond, count_at, counted, entries_sorted, eq_by_cmp_equiv, eqb_tells, false, find, get-entries, get-insert, get-remove, has_run, id_cmp, id_exact, id_total, if◌then◌else◌, inl, inr, is_eq, is_of, is_some, is_sorted, kept_as, less, list_any, ltb-false, ltb-true, more, more_if, nat_cmp, nat_cmp-IsAntisymmetric, nat_cmp_total, nat_lt, nat_tests, number_of, refl, same_map, subst, suc, sym, tied_itself, true, zero, ℕ, ◌+◌, ◌-◌, ◌==◌, ◌||◌, ◌∙◌, ◌∷◌, ◌≡◌, ◌≢◌, ◌≤◌, ◌⊎◌}
+use Rattle.beldi_core.proofs.{Least.none_under, Truths.first, Truths.second}
+use Rattle.beldi_core.proofs.Names.map
 
 not_some : false ≡ true → ⊥
 not_some h = cc

@@ -1,21 +1,7 @@
 -- The least number past another, of the entries of a map.
-use Rattle.std.proofs.Common.{◌≡◌, ℕ, ◌<◌, ◌≤◌, true, false, cond, ◌&&◌, T, List, [], ◌∷◌, Option, None, Some, refl, ap, sym, ◌∙◌, subst, arith}
-use Rattle.std.specs.Prelude.{IsSome, filter}
-use Rattle.std.specs.Option.{MatchOption, option_map}
-use denote.Bor.{Bor}
-use Rattle.std.specs.Map.{keys_of}
-use Rattle.std.specs.List.Sorted.{IsStrictlySortedBy}
-use Rattle.std.specs.FinMap as map
-use Rattle.std.specs.FinMap.{nat_cmp-IsAntisymmetric, get-entries, entries_sorted}
-use Rattle.std.specs.FinMap.Entries.{find, is_sorted, below_all}
-use Rattle.std.specs.Cmp.{nat_cmp_total, ranks, Equal-is}
-use Rattle.std.specs.Ordering.{nat_cmp, is_eq, is_lt, MatchOrdering}
-use Rattle.std.proofs.lemmas.Cmp.{tied_itself}
-use Rattle.std.proofs.lemmas.Map.Keys.{ge_from_not_lt}
-use Rattle.beldi_row.proofs.Rows.{entries_rows}
+use Rattle.beldi_core.proofs.Names.{Bor, Equal-is, IsLeastPast, IsSome, IsStrictlySortedBy, List, MatchOption, MatchOrdering, None, Option, Run, RunMap, Some, T, [], ap, arith, below_all, cond, entries_rows, entries_sorted, false, filter, find, ge_from_not_lt, get-entries, is_eq, is_lt, is_sorted, keys_of, nat_cmp, nat_cmp-IsAntisymmetric, nat_cmp_total, option_map, ranks, refl, subst, sym, tied_itself, true, ℕ, ◌&&◌, ◌<◌, ◌∙◌, ◌∷◌, ◌≡◌, ◌≤◌}
 use Rattle.beldi_core.proofs.Truths.{first, second, test_true, less}
-use Rattle.beldi_step.specs.declared.run.Run.{Run}
-use Rattle.beldi_core.specs.Runs.{RunMap, IsLeastPast}
+use Rattle.beldi_core.proofs.Names.map
 
 apart : (j k : ℕ) → (j ≡ k → ⊥) → is_eq (nat_cmp j k) ≡ false
 apart j k h = (elim (is_eq (nat_cmp j k)) as (λ b. is_eq (nat_cmp j k) ≡ b → b ≡ false) [

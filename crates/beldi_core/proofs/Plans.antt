@@ -1,31 +1,7 @@
 -- An event that was planned, and then followed, is one step.
-use Rattle.std.proofs.Common.{◌≡◌, ℕ, Bool, true, false, if◌then◌else◌, Option, None, Some, Result, Ok, Err, refl, ap, sym, ◌∙◌, subst}
-use Rattle.std.specs.Prelude.{nat_lt}
-use Rattle.std.specs.FinMap as map
-use Rattle.std.specs.declared.alloc.AllocError.{AllocError}
-use Rattle.beldi_tree.specs.declared.deployment.Deployment.{Deployment}
-use Rattle.beldi_row.specs.declared.table.TableErr.{TableErr}
-use Rattle.beldi_row.specs.declared.table.TableErr.TheVariants.{OutOfMemory}
-use Rattle.beldi_row.specs.Table.{TableState}
-use Rattle.beldi_book.specs.Order.{count_changes}
-use Rattle.beldi_walk.specs.declared.query.Query.{Query}
-use Rattle.beldi_walk.specs.Query.{Told, Came}
-use Rattle.beldi_walk.proofs.Queries.{unasked}
-use Rattle.beldi_step.specs.declared.event.Event.{Event}
-use Rattle.beldi_step.specs.declared.event.Event.TheVariants.{Turn, Lost}
-use Rattle.beldi_step.specs.declared.event.Seen.{Seen}
-use Rattle.beldi_step.specs.declared.event.Seen.TheVariants as seen
-use Rattle.beldi_step.specs.declared.run.Mark.{Mark}
-use Rattle.beldi_step.specs.declared.run.Run.{Run}
-use Rattle.beldi_step.specs.declared.run.TurnSays.{TurnSays}
-use Rattle.beldi_step.specs.Run.{run_asks, run_told}
-use Rattle.beldi_core.specs.declared.events.Pending.{Pending}
-use Rattle.beldi_core.specs.declared.events.Planned.{Planned}
-use Rattle.beldi_core.specs.declared.runs.Copies.{Copies}
-use Rattle.beldi_core.specs.Runs.{Numbered, RunMap, RunTold}
-use Rattle.beldi_step.specs.Host.{Core, Plan, at_once, asks, plan, plan_of, counted, marked, after_turn, run_next, unheard_next, ended_run, run_plan, crash_plan, no_run, Followed, StepBy, Stepped}
-use Rattle.beldi_core.specs.Parts.{NoMemory, PlannedOf, Copied, TellsTurn, entered, mark_told, event_of, turn_event, base, Asked}
-use Rattle.beldi_step.proofs.PutRun.{remove_put}
+use Rattle.beldi_step.specs.Host.{counted}
+use Rattle.beldi_core.proofs.Names.{AllocError, Asked, Bool, Came, Copied, Copies, Core, Deployment, Err, Event, Followed, Lost, Mark, NoMemory, None, Numbered, Ok, Option, OutOfMemory, Pending, Plan, Planned, PlannedOf, Query, Result, Run, RunMap, RunTold, Seen, Some, StepBy, Stepped, TableErr, TableState, TellsTurn, Told, Turn, TurnSays, after_turn, ap, asks, at_once, base, count_changes, crash_plan, ended_run, entered, event_of, false, if◌then◌else◌, mark_told, marked, nat_lt, no_run, plan, plan_of, refl, remove_put, run_asks, run_next, run_plan, run_told, subst, sym, true, turn_event, unasked, unheard_next, ℕ, ◌∙◌, ◌≡◌}
+use Rattle.beldi_core.proofs.Names.map
 
 -- ---- the step
 no_memory_by : (d : Deployment) (e : Event) (c z : Core) (r : Result Seen AllocError) (s : TableState) (p : Plan) → NoMemory e c p z r → StepBy d e c p z s s r
@@ -48,8 +24,8 @@ module _ (d : Deployment) (c z : Core) (a : RunMap) (i : ℕ) (t : Told) (n : Co
   unheard_by (Some r) (Err m') m h name at is =
       is ∙ (λ k. record c { runs = map.remove (h.0 k) i; book = marked c.book (name k).id ((at ∙ h.1) k) }) ∙ ap (λ q. record c { runs = q; book = marked c.book r.id (run_told d (count_changes c.book) r t).mark }) (remove_put c.runs i None)
 
-  pub unheard : (x : Result TurnSays (Option Mark)) (m : Option Mark) → RunTold d (count_changes c.book) c.runs a i (map.get c.runs i) t x → Copied n (map.get c.runs i) → m ≡ mark_told x → z ≡ record c { runs = map.remove a i; book = marked c.book n.id m } → Followed d (Lost i) c (Ok t) z (Ok seen.Dropped)
-  unheard x m h name at is = λ j. (unheard_by (map.get c.runs i) x m h name at is j, seen.Dropped)
+  pub unheard : (x : Result TurnSays (Option Mark)) (m : Option Mark) → RunTold d (count_changes c.book) c.runs a i (map.get c.runs i) t x → Copied n (map.get c.runs i) → m ≡ mark_told x → z ≡ record c { runs = map.remove a i; book = marked c.book n.id m } → Followed d (Lost i) c (Ok t) z (Ok Seen.Dropped)
+  unheard x m h name at is = λ j. (unheard_by (map.get c.runs i) x m h name at is j, Seen.Dropped)
 
   -- .. and where there was no memory for what follows
   unheard_made : (x : TurnSays) → RunTold d (count_changes c.book) c.runs a i (map.get c.runs i) t (Ok x) → Copied n (map.get c.runs i) → z ≡ record c { runs = map.remove a i; book = marked c.book n.id x.mark } → Some (unheard_next d c i t (map.get c.runs i)) ≡ Some z
@@ -86,7 +62,7 @@ idle c i (Some r) x none is = cc
 
 -- .. and one that is, in time
 asks_in_time : (c : Core) (i : ℕ) (o : Option Run) (r : Run) → o ≡ Some r → nat_lt r.deadline c.now ≡ false → run_plan c i o ≡ asks (run_asks r)
-asks_in_time c i o r is early = ap (run_plan c i) is ∙ ap (λ b. if b then at_once (ended_run c i) seen.Expired else asks (run_asks r)) early
+asks_in_time c i o r is early = ap (run_plan c i) is ∙ ap (λ b. if b then at_once (ended_run c i) Seen.Expired else asks (run_asks r)) early
 
 -- ---- a turn, whether its answer is lost or not
 pub idle_turn : (d : Deployment) (c : Core) (i : ℕ) (lost : Bool) (x : Seen) → map.get c.runs i ≡ None → x ≡ no_run c i → plan_of d (turn_event i lost) c ≡ at_once c x

@@ -1,27 +1,7 @@
 -- The runs as a map, and a turn of one of them.
-use Rattle.std.proofs.Common.{◌≡◌, ℕ, suc, ◌+◌, ◌-◌, ◌<◌, ◌≤◌, Bool, true, false, cond, List, Option, None, Some, is_none, Result, Ok, Err, refl, ap, sym, ◌∙◌, subst, arith}
-use Rattle.std.specs.Prelude.{nat_lt, IsSome}
-use borrow.Author.Tests.{ltb-true, ltb-false}
-use Rattle.std.specs.Map.{lookup}
-use Rattle.std.specs.BTreeMap.{is_at}
-use Rattle.std.specs.FinMap as map
-use Rattle.std.specs.FinMap.{nat_cmp-IsAntisymmetric, get-empty, get-insert, get-remove, same_map}
-use Rattle.std.specs.Cmp.{nat_cmp_total, Equal-is}
-use Rattle.std.specs.Ordering.{nat_cmp, eq_by_cmp, is_eq}
-use Rattle.std.proofs.lemmas.Cmp.{eq_by_cmp_equiv, tied_itself}
-use Rattle.beldi_tree.specs.declared.deployment.Deployment.{Deployment}
-use Rattle.beldi_walk.specs.Query.{Told}
-use Rattle.beldi_step.specs.declared.run.Run.{Run}
-use Rattle.beldi_step.specs.declared.run.TurnSays.{TurnSays}
-use Rattle.beldi_step.specs.declared.run.Mark.{Mark}
-use Rattle.beldi_step.specs.Run.{Turned, Turns, says_of, going, followed, run_told}
-use Rattle.beldi_step.specs.Host.{put_run}
-use Rattle.beldi_step.proofs.PutRun.{remove_put}
-use Rattle.beldi_core.specs.Runs.{RunMap, AllGiven, AllKept, withdrawn, ends_run, settled, uncounted, settled_counts, RunTold}
-use Rattle.beldi_row.proofs.Rows.{get_rows, none_removed}
-use Rattle.beldi_value.specs.Id.{id_cmp}
-use Rattle.beldi_core.specs.Counts.{CountMap, AllCounted, more, kept_as}
+use Rattle.beldi_core.proofs.Names.{AllCounted, AllGiven, AllKept, Bool, CountMap, Deployment, Equal-is, Err, IsSome, List, Mark, None, Ok, Option, Result, Run, RunMap, RunTold, Some, Told, TurnSays, Turned, Turns, ap, arith, cond, ends_run, eq_by_cmp, eq_by_cmp_equiv, false, followed, get-empty, get-insert, get-remove, get_rows, going, id_cmp, is_at, is_eq, is_none, kept_as, lookup, ltb-false, ltb-true, more, nat_cmp, nat_cmp-IsAntisymmetric, nat_cmp_total, nat_lt, none_removed, put_run, refl, remove_put, run_told, same_map, says_of, settled, settled_counts, subst, suc, sym, tied_itself, true, uncounted, withdrawn, ℕ, ◌+◌, ◌-◌, ◌<◌, ◌∙◌, ◌≡◌, ◌≤◌}
 use Rattle.beldi_core.proofs.Counting.{inside, put_counted, removed_counted, same_counted, counted_lower, gone_here, put_there}
+use Rattle.beldi_core.proofs.Names.map
 
 -- entries without one key
 pub one_removed : (es fs : List (ℕ × Run)) (k : ℕ) → ((q : ℕ) → lookup (is_at (nat_cmp q)) fs ≡ cond (is_at (nat_cmp k) q) None (lookup (is_at (nat_cmp q)) es)) → map.from_entries {R = nat_cmp} fs ≡ map.remove (map.from_entries es) k

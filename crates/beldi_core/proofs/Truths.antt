@@ -1,8 +1,5 @@
 -- What a test says where it holds.
-use Rattle.std.proofs.Common.{◌≡◌, Bool, true, false, ◌&&◌, T, refl}
-use Rattle.std.specs.Ordering.{is_lt}
-use Rattle.std.specs.declared.cmp.Ordering.{Ordering}
-use Rattle.std.specs.declared.cmp.Ordering.TheVariants.{Less, Equal, Greater}
+use Rattle.beldi_core.proofs.Names.{Bool, Equal, Greater, Less, Ordering, T, false, is_lt, refl, true, ◌&&◌, ◌≡◌}
 
 pub first : (a b : Bool) → T (a && b) → T a
 first true b p = tt

@@ -1,10 +1,8 @@
 -- How many live runs each intent has.
 use Rattle.std.specs.Prelude.{◌≡◌, ℕ, ◌+◌, ◌-◌, zero, suc, nat_lt, Bool, true, false, Option, Some, None, if◌then◌else◌}
+use Rattle.std.specs.{FinMap.FinMap, Ordering.nat_cmp, Ordering.is_eq}
 use Rattle.std.specs.FinMap as map
-use Rattle.std.specs.FinMap.{FinMap}
-use Rattle.std.specs.Ordering.{nat_cmp, is_eq}
-use Rattle.beldi_value.specs.Id.{id_cmp}
-use Rattle.beldi_value.specs.declared.id.IntentId.{IntentId}
+use Rattle.beldi_value.specs.{Id.id_cmp, declared.id.IntentId.IntentId}
 use Rattle.beldi_step.specs.declared.run.Run.{Run}
 
 abbrev pub CountMap : Type 0

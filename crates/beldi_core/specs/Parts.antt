@@ -1,38 +1,16 @@
 -- An event is planned, and then followed: what holds between the two.
 use Rattle.std.specs.Prelude.{◌≡◌, ℕ, ◌-◌, ◌^◌, ◌≤◌, ◌<◌, Bool, true, false, ◌++◌, ◌∷◌, [], Option, Some, None, Result, Ok, Err, IsSome}
-use Rattle.std.specs.FinMap as map
 use Rattle.std.specs.declared.alloc.AllocError.{AllocError}
-use Rattle.beldi_value.specs.Id.{root_of}
-use Rattle.beldi_value.specs.declared.id.IntentId.{IntentId}
-use Rattle.beldi_value.specs.declared.value.Value.{Value}
-use Rattle.beldi_value.specs.declared.outcome.Outcome.{Outcome}
+use Rattle.std.specs.FinMap as map
+use Rattle.beldi_value.specs.{Id.root_of, declared.id.IntentId.IntentId, declared.value.Value.Value, declared.outcome.Outcome.Outcome}
 use Rattle.beldi_tree.specs.declared.deployment.Deployment.{Deployment}
-use Rattle.beldi_row.specs.declared.table.TableErr.{TableErr}
-use Rattle.beldi_row.specs.declared.table.TableErr.TheVariants.{OutOfMemory}
-use Rattle.beldi_row.specs.Table.{TableState}
 use Rattle.beldi_book.specs.declared.entry.Entry.TheVariants.{Start}
-use Rattle.beldi_walk.specs.declared.query.Query.{Query}
-use Rattle.beldi_walk.specs.Query.{Told, Came, lends}
-use Rattle.beldi_step.specs.declared.event.Event.{Event}
-use Rattle.beldi_step.specs.declared.event.Event.TheVariants.{Ticket, Request, Turn, Lost, Ic}
-use Rattle.beldi_step.specs.declared.event.Seen.{Seen}
-use Rattle.beldi_step.specs.declared.event.Seen.TheVariants as seen
-use Rattle.beldi_intent.specs.declared.intent.Binding.{Binding}
-use Rattle.beldi_intent.specs.declared.intent.Binding.TheVariants as binding
-use Rattle.beldi_step.specs.declared.run.Mark.{Mark}
-use Rattle.beldi_step.specs.declared.run.Run.{Run}
-use Rattle.beldi_step.specs.declared.run.TurnSays.{TurnSays}
-use Rattle.beldi_intent.specs.Intent.{binding_of}
+use Rattle.beldi_row.specs.{declared.table.TableErr.TableErr, declared.table.TableErr.TheVariants.OutOfMemory, Table.TableState}
+use Rattle.beldi_walk.specs.{declared.query.Query.Query, Query.Told, Query.Came, Query.lends}
+use Rattle.beldi_intent.specs.{declared.intent.Binding.Binding, Intent.binding_of}
 use Rattle.beldi_step.specs.Host.{Core, Plan, at_once, asks, plan, plan_of, counted, new_run, unbound, refused, ended_run, marked, after_turn, acted, AtOnce, Followed}
-use Rattle.beldi_core.specs.declared.host_core.HostCore.{HostCore}
-use Rattle.beldi_core.specs.declared.events.Planned.TheVariants as planned
-use Rattle.beldi_core.specs.declared.events.Planned.{Planned as Plans}
-use Rattle.beldi_core.specs.declared.events.Immediate.{Immediate}
-use Rattle.beldi_core.specs.declared.events.Immediate.TheVariants as immediate
-use Rattle.beldi_core.specs.declared.events.Pending.{Pending}
-use Rattle.beldi_core.specs.declared.events.Pending.TheVariants as pending
-use Rattle.beldi_core.specs.declared.runs.Copies.{Copies}
-use Rattle.beldi_core.specs.Runs.{Numbered, withdrawn, started, copied}
+use Rattle.beldi_step.specs.declared.{event.Event.Event, event.Event.TheVariants.Ticket, event.Event.TheVariants.Request, event.Event.TheVariants.Turn, event.Event.TheVariants.Lost, event.Event.TheVariants.Ic, event.Seen.Seen, run.Mark.Mark, run.Run.Run, run.TurnSays.TurnSays}
+use Rattle.beldi_core.specs.{declared.host_core.HostCore.HostCore, declared.events.Planned.Planned as Plans, declared.events.Immediate.Immediate, declared.events.Pending.Pending, declared.runs.Copies.Copies, Runs.Numbered, Runs.withdrawn, Runs.started, Runs.copied}
 
 -- the host without its table, as events speak of it
 abbrev pub core_in : HostCore → Core
@@ -51,11 +29,11 @@ base (Request t f a) c = without_last c
 base e c = c
 
 abbrev pub event_of : Pending → Event
-event_of pending.Ticket = Ticket
-event_of (pending.Request t f a) = Request t f a
-event_of (pending.Turn i n) = Turn i
-event_of (pending.Lost i n) = Lost i
-event_of pending.Ic = Ic
+event_of Pending.Ticket = Ticket
+event_of (Pending.Request t f a) = Request t f a
+event_of (Pending.Turn i n) = Turn i
+event_of (Pending.Lost i n) = Lost i
+event_of Pending.Ic = Ic
 
 abbrev pub Copied : Copies → Option Run → Type 0
 Copied n None = ⊥
@@ -74,31 +52,31 @@ pub record RunReady (c : Core) (i : ℕ) (n : Copies) (spare : ℕ) : Type 0 whe
   pub room : 1 ≤ spare
 
 abbrev pub Ready : Deployment → Pending → Core → ℕ → Type 0
-Ready d pending.Ticket c spare = c.newest < 2 ^ 32 - 1
-Ready d (pending.Request t f a) c spare = RequestReady d c t f spare
-Ready d (pending.Turn i n) c spare = RunReady c i n spare
-Ready d (pending.Lost i n) c spare = RunReady c i n spare
-Ready d pending.Ic c spare = c.last_run < c.taken
+Ready d Pending.Ticket c spare = c.newest < 2 ^ 32 - 1
+Ready d (Pending.Request t f a) c spare = RequestReady d c t f spare
+Ready d (Pending.Turn i n) c spare = RunReady c i n spare
+Ready d (Pending.Lost i n) c spare = RunReady c i n spare
+Ready d Pending.Ic c spare = c.last_run < c.taken
 
 -- a request has the place of its run
 abbrev pub HasPlace : Pending → Core → Type 0
-HasPlace (pending.Request t f a) c = 1 ≤ c.last_run
+HasPlace (Pending.Request t f a) c = 1 ≤ c.last_run
 HasPlace p c = Unit
 
 -- ---- planning
 -- an answer at once, as all events are answered
 abbrev pub as_seen : Immediate → Seen
-as_seen immediate.NoTicket = seen.NoTicket
-as_seen (immediate.Unknown t) = seen.Unknown t
-as_seen immediate.Crowded = seen.Crowded
-as_seen immediate.Spent = seen.Spent
-as_seen immediate.Expired = seen.Expired
-as_seen immediate.NoRun = seen.NoRun
-as_seen immediate.RunOver = seen.RunOver
-as_seen immediate.Crashed = seen.Crashed
-as_seen (immediate.Started i) = seen.Started i
-as_seen (immediate.Now n) = seen.Now n
-as_seen immediate.ClockEnd = seen.ClockEnd
+as_seen Immediate.NoTicket = Seen.NoTicket
+as_seen (Immediate.Unknown t) = Seen.Unknown t
+as_seen Immediate.Crowded = Seen.Crowded
+as_seen Immediate.Spent = Seen.Spent
+as_seen Immediate.Expired = Seen.Expired
+as_seen Immediate.NoRun = Seen.NoRun
+as_seen Immediate.RunOver = Seen.RunOver
+as_seen Immediate.Crashed = Seen.Crashed
+as_seen (Immediate.Started i) = Seen.Started i
+as_seen (Immediate.Now n) = Seen.Now n
+as_seen Immediate.ClockEnd = Seen.ClockEnd
 
 -- the event of a run's turn, whose answer it may lose
 abbrev pub turn_event : ℕ → Bool → Event
@@ -106,8 +84,8 @@ turn_event i false = Turn i
 turn_event i true = Lost i
 
 abbrev pub turn_pending : ℕ → Copies → Bool → Pending
-turn_pending i n false = pending.Turn i n
-turn_pending i n true = pending.Lost i n
+turn_pending i n false = Pending.Turn i n
+turn_pending i n true = Pending.Lost i n
 
 -- out of memory before anything was asked; of the events that ask nothing only one that starts a run may be so
 abbrev pub NoMemory : Event → Core → Plan → Core → Result Seen AllocError → Type 0
@@ -121,8 +99,8 @@ pub record Asking (d : Deployment) (e : Event) (c z : Core) (spare : ℕ) (q : Q
   pub ready : Ready d p z spare
 
 abbrev pub PlannedBy : Deployment → Event → Core → Core → ℕ → Plan → Result Plans AllocError → Type 0
-PlannedBy d e c z spare k (Ok (planned.Now y)) = k ≡ at_once z (as_seen y)
-PlannedBy d e c z spare k (Ok (planned.Asks q p)) = Asking d e c z spare q p k
+PlannedBy d e c z spare k (Ok (Plans.Now y)) = k ≡ at_once z (as_seen y)
+PlannedBy d e c z spare k (Ok (Plans.Asks q p)) = Asking d e c z spare q p k
 PlannedBy d e c z spare k (Err w) = NoMemory e c k z (Err w)
 
 -- an event that was counted
@@ -135,7 +113,7 @@ Planned d e c z spare r = PlannedBy d e (counted c) z spare (plan d e c) r
 -- ---- following
 -- a request whose run was started, by what its bind came to
 abbrev pub BoundTo : Core → ℕ → ℕ → Value → Binding → Core → Seen → Type 0
-BoundTo k t f a binding.Bound z x = (z ≡ record k { book = k.book ++ Start t f a ∷ [] }) × (x ≡ seen.Bound t k.last_run)
+BoundTo k t f a Binding.Bound z x = (z ≡ record k { book = k.book ++ Start t f a ∷ [] }) × (x ≡ Seen.Bound t k.last_run)
 BoundTo k t f a b z x = (z ≡ without_last k) × (x ≡ unbound t b)
 
 abbrev pub BoundBy : Core → ℕ → ℕ → Value → Told → Core → Result Seen AllocError → Type 0

@@ -1,19 +1,11 @@
 -- The live runs by number, what each asks, and what becomes of one that is told.
 use Rattle.std.specs.Prelude.{◌≡◌, ℕ, ◌+◌, ◌-◌, ◌<◌, Bool, true, false, IsSome, Option, Some, None, Result, Ok, Err}
+use Rattle.std.specs.{FinMap.FinMap, BTreeMap.BTreeMap, Ordering.nat_cmp}
 use Rattle.std.specs.FinMap as map
-use Rattle.std.specs.FinMap.{FinMap}
-use Rattle.std.specs.BTreeMap.{BTreeMap}
-use Rattle.std.specs.Ordering.{nat_cmp}
 use Rattle.beldi_tree.specs.declared.deployment.Deployment.{Deployment}
-use Rattle.beldi_walk.specs.declared.query.Query.{Query}
-use Rattle.beldi_walk.specs.Query.{Told}
-use Rattle.beldi_step.specs.declared.run.Mark.{Mark}
-use Rattle.beldi_step.specs.declared.run.Run.{Run}
-use Rattle.beldi_step.specs.declared.run.TurnSays.{TurnSays}
-use Rattle.beldi_step.specs.Run.{says_of, callee_of, run_asks, run_told}
-use Rattle.beldi_step.specs.Host.{put_run}
-use Rattle.beldi_core.specs.Counts.{CountMap, AllCounted, less}
-use Rattle.beldi_core.specs.declared.runs.Copies.{Copies}
+use Rattle.beldi_walk.specs.{declared.query.Query.Query, Query.Told}
+use Rattle.beldi_step.specs.{declared.run.Mark.Mark, declared.run.Run.Run, declared.run.TurnSays.TurnSays, Run.says_of, Run.callee_of, Run.run_asks, Run.run_told, Host.put_run}
+use Rattle.beldi_core.specs.{Counts.CountMap, Counts.AllCounted, Counts.less, declared.runs.Copies.Copies}
 
 abbrev pub RunMap : Type 0
 RunMap = FinMap nat_cmp Run

@@ -1,53 +1,22 @@
 -- A chain is a logged cell.
-use Rattle.std.proofs.Common.{◌≡◌, ℕ, Bool, true, false, cond, if◌then◌else◌, Option, None, Some, Ok, Err, refl, ap, sym, ◌∙◌, subst}
 use Rattle.std.specs.FinMap as map
-use Rattle.beldi_value.specs.declared.id.IntentId.{IntentId}
-use Rattle.beldi_value.specs.declared.place.Owner.{Owner}
-use Rattle.beldi_value.specs.declared.place.Owner.TheVariants as owner
-use Rattle.beldi_value.specs.Id.{age_of, is_older}
-use Rattle.beldi_value.specs.declared.place.Place.{Place}
-use Rattle.beldi_value.specs.declared.place.TxId.{TxId}
-use Rattle.beldi_value.specs.Passes.{passes}
-use Rattle.beldi_value.specs.declared.value.Value.TheVariants.{Null}
-use Rattle.beldi_row.specs.declared.notes.Note.{Note}
-use Rattle.beldi_row.specs.declared.notes.Note.TheVariants.{Died}
-use Rattle.beldi_row.specs.declared.row.Cell.{Cell}
-use Rattle.beldi_row.specs.declared.row.Row.{Row}
-use Rattle.beldi_row.specs.declared.row.Row.TheVariants as rows
-use Rattle.beldi_row.specs.declared.act.Act.{Act}
-use Rattle.beldi_row.specs.declared.act.Act.TheVariants.{Look, MakeCell}
-use Rattle.beldi_row.specs.declared.table.TableErr.{TableErr}
-use Rattle.beldi_row.specs.declared.table.TableErr.TheVariants.{OutOfMemory, Failed, Full}
+use Rattle.std.proofs.Common.{◌≡◌, ℕ, Bool, true, false, cond, if◌then◌else◌, Option, None, Some, Ok, Err, refl, ap, sym, ◌∙◌, subst}
+use Rattle.beldi_value.specs.{declared.id.IntentId.IntentId, declared.place.Owner.Owner, Id.age_of, Id.is_older, declared.place.Place.Place, declared.place.TxId.TxId, Passes.passes, declared.value.Value.TheVariants.Null}
 use Rattle.beldi_row.specs.Act.{Tell, act, did, held, died, not_owner, tested, other_owner, owns, noted_or, next_or, held_or, owned_or, at_tail, unless_held, if_owned, entered}
-use Rattle.beldi_row.specs.Log.{note_at}
-use Rattle.beldi_row.specs.Table.{Rows, after_act}
-use Rattle.beldi_row.proofs.Gets.{got, key_self}
-use Rattle.beldi_row.proofs.Logs.{note_here, once_pushed}
-use Rattle.beldi_row.proofs.Tells.{tells_map}
-use Rattle.beldi_walk.specs.Query.{Told, said, rows_after, told_by, CameOn}
-use Rattle.beldi_walk.proofs.Looks.{look_stands, never_full}
-use Rattle.beldi_daal.specs.declared.cell.CellOp.{CellOp}
-use Rattle.beldi_daal.specs.declared.cell.CellOp.TheVariants.{Write, Cond, Lock, Free}
-use Rattle.beldi_daal.specs.declared.cell.WriteAt.{WriteAt}
-use Rattle.beldi_daal.specs.declared.cell.WriteAt.TheVariants.{Try, Make}
-use Rattle.beldi_daal.specs.declared.cell.WriteGoes.TheVariants as writes
-use Rattle.beldi_daal.specs.declared.walk.WriteWalk.{WriteWalk}
-use Rattle.beldi_daal.specs.declared.read_walk.ReadSays.{ReadSays}
-use Rattle.beldi_daal.specs.declared.read_walk.ReadWalk.{ReadWalk}
+use Rattle.beldi_row.{specs.declared.notes.Note.Note, specs.declared.notes.Note.TheVariants.Died, specs.declared.row.Cell.Cell, specs.declared.row.Row.Row, specs.declared.act.Act.Act, specs.declared.act.Act.TheVariants.Look, specs.declared.act.Act.TheVariants.MakeCell, specs.declared.table.TableErr.TableErr, specs.declared.table.TableErr.TheVariants.OutOfMemory, specs.declared.table.TableErr.TheVariants.Failed, specs.declared.table.TableErr.TheVariants.Full, specs.Log.note_at, specs.Table.Rows, specs.Table.after_act, proofs.Gets.got, proofs.Gets.key_self, proofs.Logs.note_here, proofs.Logs.once_pushed, proofs.Tells.tells_map}
+use Rattle.beldi_walk.{specs.Query.Told, specs.Query.said, specs.Query.rows_after, specs.Query.told_by, specs.Query.CameOn, proofs.Looks.look_stands, proofs.Looks.never_full}
 use Rattle.beldi_daal.specs.Cell.{op_act, done_note, write_asks, write_goes, cell_goes, got_or_held, in_the_way}
-use Rattle.beldi_daal.specs.Content.{content_in, SoundAt}
 use Rattle.beldi_daal.specs.Logged.{note_after, value_after, owner_after, waited, died_of, dies, held_by, unless_owned, barred, done_to, died_at, DidAs, Logs, LoggedTurn, WritesAreLogged, ReadsContent, ReadTurn, ReadsAreContents}
-use Rattle.beldi_daal.specs.ReadWalk.{read_key, read_asks, read_says, read_so}
-use Rattle.beldi_daal.specs.Walk.{walk_key, walk_asks, walk_says, walk_so}
+use Rattle.beldi_daal.specs.{declared.cell.CellOp.CellOp, declared.cell.CellOp.TheVariants.Write, declared.cell.CellOp.TheVariants.Cond, declared.cell.CellOp.TheVariants.Lock, declared.cell.CellOp.TheVariants.Free, declared.cell.WriteAt.WriteAt, declared.cell.WriteAt.TheVariants.Try, declared.cell.WriteAt.TheVariants.Make, declared.walk.WriteWalk.WriteWalk, declared.read_walk.ReadSays.ReadSays, declared.read_walk.ReadWalk.ReadWalk, Content.content_in, Content.SoundAt, ReadWalk.read_key, ReadWalk.read_asks, ReadWalk.read_says, ReadWalk.read_so, Walk.walk_key, Walk.walk_asks, Walk.walk_says, Walk.walk_so, declared.cell.WriteGoes.WriteGoes}
 
 -- what an act left of the row, and what it told, is right of what stood there
 abbrev Fits : Place → Owner → CellOp → Option Row → Option Row × Tell → Type 0
 Fits p who op r z = Logs p who op (walk_so (write_goes (done_note op) (said z.1))) (content_in r) (content_in z.0) × SoundAt z.0
 
 module _ (p : Place) (who : Owner) (op : CellOp) where
-  module _ (c : Cell) (sound : SoundAt (Some (rows.Cell c))) where
+  module _ (c : Cell) (sound : SoundAt (Some (Row.Cell c))) where
     abbrev OnCell : Cell × Tell → Type 0
-    OnCell z = Fits p who op (Some (rows.Cell c)) (Some (rows.Cell z.0), z.1)
+    OnCell z = Fits p who op (Some (Row.Cell c)) (Some (Row.Cell z.0), z.1)
 
     by_next : (n : Option ℕ) (z : Cell × Tell) → c.next ≡ n → OnCell z → OnCell (next_or c n z)
     by_next None z is h = h
@@ -76,19 +45,19 @@ module _ (p : Place) (who : Owner) (op : CellOp) where
     entry t = (entered p (note_after op c.value) (value_after op c.value) (owner_after op who c.owner) c, t)
 
     abbrev IsDone : Tell → Type 0
-    IsDone t = write_goes (done_note op) (said t) ≡ writes.Done (note_after op c.value) true
+    IsDone t = write_goes (done_note op) (said t) ≡ WriteGoes.Done (note_after op c.value) true
 
     done : (t : Tell) → IsDone t → Alive → note_at c.log p ≡ None → barred op who c.owner ≡ None → OnCell (entry t)
     done t goes alive none free = (
-      subst (λ g. Logs p who op (walk_so g) (content_in (Some (rows.Cell c))) (done_to p who op (content_in (Some (rows.Cell c))))) (sym goes)
-          (note_here c.log p (note_after op c.value) none, (none, subst (λ a. DidAs p who op a (content_in (Some (rows.Cell c))) (done_to p who op (content_in (Some (rows.Cell c))))) (sym alive) (free, refl))),
+      subst (λ g. Logs p who op (walk_so g) (content_in (Some (Row.Cell c))) (done_to p who op (content_in (Some (Row.Cell c))))) (sym goes)
+          (note_here c.log p (note_after op c.value) none, (none, subst (λ a. DidAs p who op a (content_in (Some (Row.Cell c))) (done_to p who op (content_in (Some (Row.Cell c))))) (sym alive) (free, refl))),
       (sound.0, once_pushed c.log p (note_after op c.value) none sound.1, sound.2, sound.3),
     )
 
     -- it died: the death is noted
     dead : (a : IntentId) → dies who op c.owner ≡ Some a → note_at c.log p ≡ None → OnCell (entered p (Died a) c.value c.owner c, died a)
     dead a is none = (
-      (note_here c.log p (Died a) none, (none, subst (λ z. DidAs p who op z (content_in (Some (rows.Cell c))) (died_at p a (content_in (Some (rows.Cell c))))) (sym is) refl)),
+      (note_here c.log p (Died a) none, (none, subst (λ z. DidAs p who op z (content_in (Some (Row.Cell c))) (died_at p a (content_in (Some (Row.Cell c))))) (sym is) refl)),
       (sound.0, once_pushed c.log p (Died a) none sound.1, sound.2, sound.3),
     )
 
@@ -100,42 +69,42 @@ module _ (p : Place) (who : Owner) (op : CellOp) where
 
   made : (now : ℕ) (r : Option Row) → SoundAt r → Fits p who op r (act (MakeCell Null None) now r)
   made now None h = (refl, (refl, tt, refl, refl))
-  made now (Some (rows.Cell c)) h = (refl, h)
+  made now (Some (Row.Cell c)) h = (refl, h)
   made now (Some r) h = absurd h
 
 -- a lock, by who asks and by the other owner
-module _ (p : Place) (c : Cell) (sound : SoundAt (Some (rows.Cell c))) (none : note_at c.log p ≡ None) where
+module _ (p : Place) (c : Cell) (sound : SoundAt (Some (Row.Cell c))) (none : note_at c.log p ≡ None) where
   abbrev AtLock : Owner → Cell × Tell → Type 0
   AtLock who z = OnCell p who Lock c sound z
 
-  by_intent : (a : IntentId) (o : Option Owner) → other_owner (owner.Intent a) c.owner ≡ o → AtLock (owner.Intent a) (owned_or p (owner.Intent a) c o (entry p (owner.Intent a) Lock c sound did))
-  by_intent a None is = done p (owner.Intent a) Lock c sound did refl refl none (ap held_by is)
+  by_intent : (a : IntentId) (o : Option Owner) → other_owner (Owner.Intent a) c.owner ≡ o → AtLock (Owner.Intent a) (owned_or p (Owner.Intent a) c o (entry p (Owner.Intent a) Lock c sound did))
+  by_intent a None is = done p (Owner.Intent a) Lock c sound did refl refl none (ap held_by is)
   by_intent a (Some o) is = ((none, ap held_by is, refl), sound)
 
-  by_age : (t : TxId) (o : Owner) (b : Bool) → is_older t.intent (age_of o) ≡ b → other_owner (owner.Tx t) c.owner ≡ Some o
-      → AtLock (owner.Tx t) (if b then (c, held o) else (entered p (Died (age_of o)) c.value c.owner c, died (age_of o)))
-  by_age t o true older is = ((none, ap (λ x. held_by (waited (owner.Tx t) x)) is ∙ ap (λ x. held_by (if x then Some o else None)) older, refl), sound)
-  by_age t o false older is = dead p (owner.Tx t) Lock c sound (age_of o) (ap (died_of (owner.Tx t)) is ∙ ap (λ x. if x then None else Some (age_of o)) older) none
+  by_age : (t : TxId) (o : Owner) (b : Bool) → is_older t.intent (age_of o) ≡ b → other_owner (Owner.Tx t) c.owner ≡ Some o
+      → AtLock (Owner.Tx t) (if b then (c, held o) else (entered p (Died (age_of o)) c.value c.owner c, died (age_of o)))
+  by_age t o true older is = ((none, ap (λ x. held_by (waited (Owner.Tx t) x)) is ∙ ap (λ x. held_by (if x then Some o else None)) older, refl), sound)
+  by_age t o false older is = dead p (Owner.Tx t) Lock c sound (age_of o) (ap (died_of (Owner.Tx t)) is ∙ ap (λ x. if x then None else Some (age_of o)) older) none
 
-  by_tx : (t : TxId) (o : Option Owner) → other_owner (owner.Tx t) c.owner ≡ o → AtLock (owner.Tx t) (owned_or p (owner.Tx t) c o (entry p (owner.Tx t) Lock c sound did))
-  by_tx t None is = done p (owner.Tx t) Lock c sound did refl (ap (died_of (owner.Tx t)) is) none (ap (λ x. held_by (waited (owner.Tx t) x)) is)
+  by_tx : (t : TxId) (o : Option Owner) → other_owner (Owner.Tx t) c.owner ≡ o → AtLock (Owner.Tx t) (owned_or p (Owner.Tx t) c o (entry p (Owner.Tx t) Lock c sound did))
+  by_tx t None is = done p (Owner.Tx t) Lock c sound did refl (ap (died_of (Owner.Tx t)) is) none (ap (λ x. held_by (waited (Owner.Tx t) x)) is)
   by_tx t (Some o) is = by_age t o (is_older t.intent (age_of o)) refl is
 
   by_who : (who : Owner) → AtLock who (owned_or p who c (other_owner who c.owner) (entry p who Lock c sound did))
-  by_who (owner.Intent a) = by_intent a (other_owner (owner.Intent a) c.owner) refl
-  by_who (owner.Tx t) = by_tx t (other_owner (owner.Tx t) c.owner) refl
+  by_who (Owner.Intent a) = by_intent a (other_owner (Owner.Intent a) c.owner) refl
+  by_who (Owner.Tx t) = by_tx t (other_owner (Owner.Tx t) c.owner) refl
 
 -- each operation on a cell, and where no row is
 module _ (p : Place) (who : Owner) (now : ℕ) where
   -- none but a lock dies
   alive : (who : Owner) (op : CellOp) (o : Option Owner) → (op ≡ Lock → ⊥) → dies who op o ≡ None
-  alive (owner.Intent a) op o h = refl
-  alive (owner.Tx t) Lock o h = absurd (h refl)
-  alive (owner.Tx t) (Write v) o h = refl
-  alive (owner.Tx t) (Cond r u v) o h = refl
-  alive (owner.Tx t) (Free v) o h = refl
+  alive (Owner.Intent a) op o h = refl
+  alive (Owner.Tx t) Lock o h = absurd (h refl)
+  alive (Owner.Tx t) (Write v) o h = refl
+  alive (Owner.Tx t) (Cond r u v) o h = refl
+  alive (Owner.Tx t) (Free v) o h = refl
 
-  on_cell : (op : CellOp) (c : Cell) → SoundAt (Some (rows.Cell c)) → Fits p who op (Some (rows.Cell c)) (act (op_act p who op) now (Some (rows.Cell c)))
+  on_cell : (op : CellOp) (c : Cell) → SoundAt (Some (Row.Cell c)) → Fits p who op (Some (Row.Cell c)) (act (op_act p who op) now (Some (Row.Cell c)))
   on_cell (Write v) c h = unheld p who (Write v) c h did refl (alive who (Write v) c.owner (λ e. cc)) refl
   on_cell (Cond r o v) c h = unheld p who (Cond r o v) c h (tested (passes c.value r o)) refl (alive who (Cond r o v) c.owner (λ e. cc)) refl
   on_cell Lock c h = by_note p who Lock c h (note_at c.log p) (owned_or p who c (other_owner who c.owner) (entry p who Lock c h did)) refl (λ none. by_who p c h none who)
@@ -149,7 +118,7 @@ module _ (p : Place) (who : Owner) (now : ℕ) where
 
   tried : (op : CellOp) (r : Option Row) → SoundAt r → Fits p who op r (act (op_act p who op) now r)
   tried op None h = on_none op
-  tried op (Some (rows.Cell c)) h = on_cell op c h
+  tried op (Some (Row.Cell c)) h = on_cell op c h
   tried op (Some r) h = absurd h
 
 module _ (w : WriteWalk) (m n : Rows) (sound : SoundAt (map.get m (walk_key w))) where
@@ -177,17 +146,17 @@ writes_are_logged w x now old new s (Err v, h, c) = absurd h
 
 -- ---- the walk of a read
 module _ (w : ReadWalk) where
-  by_way : (c : Cell) (o : Option Owner) → in_the_way w.who c.owner ≡ o → ReadsContent w.who (read_so (got_or_held c o)) (content_in (Some (rows.Cell c)))
+  by_way : (c : Cell) (o : Option Owner) → in_the_way w.who c.owner ≡ o → ReadsContent w.who (read_so (got_or_held c o)) (content_in (Some (Row.Cell c)))
   by_way c None is = (is, refl)
   by_way c (Some o) is = is
 
-  by_last : (c : Cell) (n : Option ℕ) → c.next ≡ n → c.next ≡ None → ReadsContent w.who (read_so (cell_goes w.who c n)) (content_in (Some (rows.Cell c)))
+  by_last : (c : Cell) (n : Option ℕ) → c.next ≡ n → c.next ≡ None → ReadsContent w.who (read_so (cell_goes w.who c n)) (content_in (Some (Row.Cell c)))
   by_last c None is last = by_way c (in_the_way w.who c.owner) refl
   by_last c (Some n) is last = let clash = sym is ∙ last in cc
 
   pub by_row : (now : ℕ) (r : Option Row) → SoundAt r → ReadsContent w.who (read_says w (said (act Look now r).1)) (content_in r)
   by_row now None h = refl
-  by_row now (Some (rows.Cell c)) h = by_last c c.next refl h.0
+  by_row now (Some (Row.Cell c)) h = by_last c c.next refl h.0
   by_row now (Some r) h = absurd h
 
   module _ (now room : ℕ) (m n : Rows) where

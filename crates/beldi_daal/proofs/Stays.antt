@@ -1,23 +1,10 @@
 -- No act takes away the note of a place.
 use Rattle.std.proofs.Common.{◌≡◌, ℕ, Bool, true, false, List, [], ◌∷◌, ◌++◌, Option, None, Some, if◌then◌else◌}
-use Rattle.beldi_value.specs.Id.{age_of}
-use Rattle.beldi_value.specs.Passes.{passes}
-use Rattle.beldi_value.specs.declared.place.Owner.{Owner}
-use Rattle.beldi_value.specs.declared.place.Place.{Place}
-use Rattle.beldi_value.specs.declared.value.Value.{Value}
-use Rattle.beldi_row.specs.declared.act.Act.{Act}
+use Rattle.beldi_value.specs.{Id.age_of, Passes.passes, declared.place.Owner.Owner, declared.place.Place.Place, declared.value.Value.Value}
 use Rattle.beldi_row.specs.declared.act.Act.TheVariants.{Look, Issue, Bind, Register, End, Stamp, PutRead, OpenInvoke, CallBack, NoteRegistered, PutLockset, MakeCell, WriteCell, CondCell, LockCell, FreeCell}
-use Rattle.beldi_row.specs.declared.notes.Note.{Note}
-use Rattle.beldi_row.specs.declared.notes.Note.TheVariants.{Wrote, Cond, Got, Died, Freed}
-use Rattle.beldi_row.specs.declared.row.Cell.{Cell}
-use Rattle.beldi_row.specs.declared.row.IntentRow.{IntentRow}
-use Rattle.beldi_row.specs.declared.row.InvokeRow.{InvokeRow}
-use Rattle.beldi_row.specs.declared.row.Row.{Row}
-use Rattle.beldi_row.specs.declared.row.Row.TheVariants as rows
 use Rattle.beldi_row.specs.Act.{Tell, gone, did, held, died, no_row, tested, not_owner, on, on_intent, on_invoke, on_cell, bind_to, end_with, stamp_with, call_back_to, register_to, noted_or, next_or, held_or, waits_for, owned_or, at_tail, unless_held, if_owned, owns, given_or, other_owner, entered, write_at, cond_at, lock_at, free_at}
-use Rattle.beldi_row.specs.Log.{note_at, place_eq}
-use Rattle.beldi_daal.specs.Content.{content_in}
-use Rattle.beldi_daal.specs.Logged.{NotesStay}
+use Rattle.beldi_row.specs.{declared.act.Act.Act, declared.notes.Note.Note, declared.notes.Note.TheVariants.Wrote, declared.notes.Note.TheVariants.Cond, declared.notes.Note.TheVariants.Got, declared.notes.Note.TheVariants.Died, declared.notes.Note.TheVariants.Freed, declared.row.Cell.Cell, declared.row.IntentRow.IntentRow, declared.row.InvokeRow.InvokeRow, declared.row.Row.Row, Log.note_at, Log.place_eq}
+use Rattle.beldi_daal.specs.{Content.content_in, Logged.NotesStay}
 
 front_note : (es fs : List (Place × Note)) (p : Place) (n : Note) → note_at es p ≡ Some n → note_at (es ++ fs) p ≡ Some n
 front_note [] fs p n is = cc
@@ -77,15 +64,15 @@ abbrev Stays : Row → Row → Type 0
 Stays r s = (p : Place) (n : Note) → note_at (content_in (Some r)).notes p ≡ Some n → note_at (content_in (Some s)).notes p ≡ Some n
 
 on_intents : (f : IntentRow → IntentRow × Tell) (t : Tell) (r : Row) → Stays r (on_intent f t r).0
-on_intents f t (rows.Intent i) = λ p n is. is
+on_intents f t (Row.Intent i) = λ p n is. is
 on_intents f t r = λ p n is. is
 
 on_calls : (f : InvokeRow → InvokeRow × Tell) (t : Tell) (r : Row) → Stays r (on_invoke f t r).0
-on_calls f t (rows.Invoke i) = λ p n is. is
+on_calls f t (Row.Invoke i) = λ p n is. is
 on_calls f t r = λ p n is. is
 
 on_cells : (f : Cell → Cell × Tell) (t : Tell) → ((c : Cell) → Keeps c (f c)) → (r : Row) → Stays r (on_cell f t r).0
-on_cells f t h (rows.Cell c) = h c
+on_cells f t h (Row.Cell c) = h c
 on_cells f t h r = λ p n is. is
 
 row_stays : (a : Act) (now : ℕ) (r : Row) → Stays r (on a now r).0

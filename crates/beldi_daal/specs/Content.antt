@@ -1,13 +1,7 @@
 -- What the rows of an item hold.
 use Rattle.std.specs.Prelude.{◌≡◌, false, List, [], Option, Some, None}
-use Rattle.beldi_value.specs.declared.place.Owner.{Owner}
-use Rattle.beldi_value.specs.declared.place.Place.{Place}
-use Rattle.beldi_value.specs.declared.value.Value.{Value}
-use Rattle.beldi_value.specs.declared.value.Value.TheVariants.{Null}
-use Rattle.beldi_row.specs.declared.notes.Note.{Note}
-use Rattle.beldi_row.specs.declared.row.Row.{Row}
-use Rattle.beldi_row.specs.declared.row.Row.TheVariants as rows
-use Rattle.beldi_row.specs.Log.{NoneTwice}
+use Rattle.beldi_value.specs.declared.{place.Owner.Owner, place.Place.Place, value.Value.Value, value.Value.TheVariants.Null}
+use Rattle.beldi_row.specs.{declared.notes.Note.Note, declared.row.Row.Row, Log.NoneTwice}
 
 -- its value, who owns it, and what was done to it, each with the place that it was done for
 pub record Content : Type 0 where
@@ -17,12 +11,12 @@ pub record Content : Type 0 where
 
 -- an item without a row is null, and nothing was done to it
 abbrev pub content_in : Option Row → Content
-content_in (Some (rows.Cell c)) = record { value = c.value; owner = c.owner; notes = c.log }
+content_in (Some (Row.Cell c)) = record { value = c.value; owner = c.owner; notes = c.log }
 content_in r = record { value = Null; owner = None; notes = [] }
 
 -- the rows of an item are one cell that no row follows, in which no place occurs twice, and which is not to be removed; or
 -- there is none
 abbrev pub SoundAt : Option Row → Type 0
 SoundAt None = Unit {0}
-SoundAt (Some (rows.Cell c)) = (c.next ≡ None) × NoneTwice c.log × (c.marked ≡ false) × (c.dangled ≡ None)
+SoundAt (Some (Row.Cell c)) = (c.next ≡ None) × NoneTwice c.log × (c.marked ≡ false) × (c.dangled ≡ None)
 SoundAt (Some r) = ⊥

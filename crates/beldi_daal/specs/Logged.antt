@@ -1,38 +1,12 @@
 -- A chain is a logged cell: a turn of a walk leaves the content of every item as it is, but for its own operation, which has
 -- one effect at its place, however many walks there are for it.
 use Rattle.std.specs.Prelude.{◌≡◌, ℕ, Bool, true, false, if◌then◌else◌, [], ◌∷◌, ◌++◌, Option, Some, None, Result, Ok, Err}
-use Rattle.std.specs.FinMap as map
 use Rattle.std.specs.Ordering.{is_eq}
-use Rattle.beldi_value.specs.declared.id.IntentId.{IntentId}
-use Rattle.beldi_value.specs.declared.place.Owner.{Owner}
-use Rattle.beldi_value.specs.declared.place.Owner.TheVariants as owner
-use Rattle.beldi_value.specs.Id.{age_of, is_older}
-use Rattle.beldi_value.specs.declared.place.Place.{Place}
-use Rattle.beldi_value.specs.declared.value.Value.{Value}
-use Rattle.beldi_value.specs.Passes.{passes}
-use Rattle.beldi_row.specs.declared.act.Act.{Act}
-use Rattle.beldi_row.specs.declared.notes.Note.{Note}
-use Rattle.beldi_row.specs.declared.notes.Note.TheVariants as note
-use Rattle.beldi_row.specs.Act.{act, other_owner, owns, given_or}
-use Rattle.beldi_row.specs.Key.{RowKey, key_cmp}
-use Rattle.beldi_row.specs.declared.row.Row.{Row}
-use Rattle.beldi_row.specs.Log.{note_at}
-use Rattle.beldi_row.specs.declared.table.TableErr.{TableErr}
-use Rattle.beldi_row.specs.declared.table.TableErr.TheVariants.{OutOfMemory, Failed, Full}
-use Rattle.beldi_row.specs.Table.{Rows, TableState, Tells}
+use Rattle.std.specs.FinMap as map
+use Rattle.beldi_value.specs.{declared.id.IntentId.IntentId, declared.place.Owner.Owner, Id.age_of, Id.is_older, declared.place.Place.Place, declared.value.Value.Value, Passes.passes}
+use Rattle.beldi_row.specs.{declared.act.Act.Act, declared.notes.Note.Note, Act.act, Act.other_owner, Act.owns, Act.given_or, Key.RowKey, Key.key_cmp, declared.row.Row.Row, Log.note_at, declared.table.TableErr.TableErr, declared.table.TableErr.TheVariants.OutOfMemory, declared.table.TableErr.TheVariants.Failed, declared.table.TableErr.TheVariants.Full, Table.Rows, Table.TableState, Table.Tells}
 use Rattle.beldi_walk.specs.Walk.{Turned}
-use Rattle.beldi_daal.specs.declared.cell.CellOp.{CellOp}
-use Rattle.beldi_daal.specs.declared.cell.CellOp.TheVariants.{Write, Cond, Lock, Free}
-use Rattle.beldi_daal.specs.declared.walk.WriteSays.{WriteSays}
-use Rattle.beldi_daal.specs.declared.walk.WriteSays.TheVariants.{Going, Done, NotOwner, Held, Worn}
-use Rattle.beldi_daal.specs.declared.walk.WriteWalk.{WriteWalk}
-use Rattle.beldi_daal.specs.declared.read_walk.ReadWalk.{ReadWalk}
-use Rattle.beldi_daal.specs.declared.read_walk.ReadSays.{ReadSays}
-use Rattle.beldi_daal.specs.declared.read_walk.ReadSays.TheVariants as reading
-use Rattle.beldi_daal.specs.Content.{Content, content_in, SoundAt}
-use Rattle.beldi_daal.specs.Cell.{in_the_way}
-use Rattle.beldi_daal.specs.ReadWalk.{read_key, read_asks, read_next, read_says}
-use Rattle.beldi_daal.specs.Walk.{walk_key, walk_asks, walk_next, walk_says}
+use Rattle.beldi_daal.specs.{declared.cell.CellOp.CellOp, declared.cell.CellOp.TheVariants.Write, declared.cell.CellOp.TheVariants.Cond, declared.cell.CellOp.TheVariants.Lock, declared.cell.CellOp.TheVariants.Free, declared.walk.WriteSays.WriteSays, declared.walk.WriteSays.TheVariants.Going, declared.walk.WriteSays.TheVariants.Done, declared.walk.WriteSays.TheVariants.NotOwner, declared.walk.WriteSays.TheVariants.Held, declared.walk.WriteSays.TheVariants.Worn, declared.walk.WriteWalk.WriteWalk, declared.read_walk.ReadWalk.ReadWalk, declared.read_walk.ReadSays.ReadSays, Content.Content, Content.content_in, Content.SoundAt, Cell.in_the_way, ReadWalk.read_key, ReadWalk.read_asks, ReadWalk.read_next, ReadWalk.read_says, Walk.walk_key, Walk.walk_asks, Walk.walk_next, Walk.walk_says}
 
 -- ---- the walk of a write
 -- what an operation makes of the value, and of the owner, where this one asks; and the note that it leaves, by the value that
@@ -50,30 +24,30 @@ owner_after Lock who o = Some who
 owner_after (Free v) who o = None
 
 abbrev pub note_after : CellOp → Value → Note
-note_after (Write v) w = note.Wrote
-note_after (Cond r o v) w = note.Cond (passes w r o)
-note_after Lock w = note.Got
-note_after (Free v) w = note.Freed
+note_after (Write v) w = Note.Wrote
+note_after (Cond r o v) w = Note.Cond (passes w r o)
+note_after Lock w = Note.Got
+note_after (Free v) w = Note.Freed
 
 -- who asks for a lock where another owner is: an intent waits for it, and so does a transaction that is older ..
 abbrev pub waited : Owner → Option Owner → Option Owner
-waited (owner.Intent a) o = o
-waited (owner.Tx t) None = None
-waited (owner.Tx t) (Some o) = if is_older t.intent (age_of o) then Some o else None
+waited (Owner.Intent a) o = o
+waited (Owner.Tx t) None = None
+waited (Owner.Tx t) (Some o) = if is_older t.intent (age_of o) then Some o else None
 
 -- .. any other transaction dies of it: the age of that owner
 abbrev pub died_of : Owner → Option Owner → Option IntentId
-died_of (owner.Intent a) o = None
-died_of (owner.Tx t) None = None
-died_of (owner.Tx t) (Some o) = if is_older t.intent (age_of o) then None else Some (age_of o)
+died_of (Owner.Intent a) o = None
+died_of (Owner.Tx t) None = None
+died_of (Owner.Tx t) (Some o) = if is_older t.intent (age_of o) then None else Some (age_of o)
 
 -- only who asks for a lock dies
 abbrev pub dies : Owner → CellOp → Option Owner → Option IntentId
-dies (owner.Intent a) op o = None
-dies (owner.Tx t) (Write v) o = None
-dies (owner.Tx t) (Cond r u v) o = None
-dies (owner.Tx t) Lock o = died_of (owner.Tx t) (other_owner (owner.Tx t) o)
-dies (owner.Tx t) (Free v) o = None
+dies (Owner.Intent a) op o = None
+dies (Owner.Tx t) (Write v) o = None
+dies (Owner.Tx t) (Cond r u v) o = None
+dies (Owner.Tx t) Lock o = died_of (Owner.Tx t) (other_owner (Owner.Tx t) o)
+dies (Owner.Tx t) (Free v) o = None
 
 -- what bars it, as the walk says: another owner, or, where it gives the item back, that who asks does not own it
 abbrev pub held_by : Option Owner → Option WriteSays
@@ -96,7 +70,7 @@ done_to p who op c = record { value = value_after op c.value; owner = owner_afte
 
 -- .. and after a death there, of an owner with this age
 abbrev pub died_at : Place → IntentId → Content → Content
-died_at p a c = record { value = c.value; owner = c.owner; notes = c.notes ++ (p, note.Died a) ∷ [] }
+died_at p a c = record { value = c.value; owner = c.owner; notes = c.notes ++ (p, Note.Died a) ∷ [] }
 
 -- by whether who asks dies: nothing barred the operation, and it was done, or the death was noted
 abbrev pub DidAs : Place → Owner → CellOp → Option IntentId → Content → Content → Type 0
@@ -142,10 +116,10 @@ NotesStay = (a : Act) (now : ℕ) (r : Option Row) (p : Place) (n : Note) → no
 -- ---- the walk of a read
 -- what it says is so of the content: the value, none where the item has no row; or the owner that is in the way
 abbrev pub ReadsContent : Option Owner → ReadSays → Content → Type 0
-ReadsContent who (reading.Got None) c = c ≡ content_in None
-ReadsContent who (reading.Got (Some v)) c = (in_the_way who c.owner ≡ None) × (v ≡ c.value)
-ReadsContent who (reading.Held o) c = in_the_way who c.owner ≡ Some o
-ReadsContent who reading.Going c = ⊥
+ReadsContent who (ReadSays.Got None) c = c ≡ content_in None
+ReadsContent who (ReadSays.Got (Some v)) c = (in_the_way who c.owner ≡ None) × (v ≡ c.value)
+ReadsContent who (ReadSays.Held o) c = in_the_way who c.owner ≡ Some o
+ReadsContent who ReadSays.Going c = ⊥
 
 -- the rows are as before, and a Look adds none, so it is never refused as Full; what is said is so where the chain is sound
 abbrev pub ReadTurn : ReadWalk → Rows → Rows → Result ReadSays TableErr → Type 0

@@ -1,19 +1,9 @@
 -- The walk of a read, as a machine that makes one Look a turn.
 use Rattle.std.specs.Prelude.{ℕ, Option}
 use Rattle.beldi_value.specs.declared.place.Owner.{Owner}
-use Rattle.beldi_row.specs.Key.{RowKey}
-use Rattle.beldi_row.specs.declared.act.Act.TheVariants.{Look}
-use Rattle.beldi_walk.specs.declared.query.Query.{Query}
-use Rattle.beldi_walk.specs.declared.query.Query.TheVariants.{Act}
-use Rattle.beldi_walk.specs.Query.{Told}
-use Rattle.beldi_daal.specs.declared.cell.ReadGoes.{ReadGoes}
-use Rattle.beldi_daal.specs.declared.cell.ReadGoes.TheVariants as reads
-use Rattle.beldi_daal.specs.declared.walk.Item.{Item}
-use Rattle.beldi_daal.specs.declared.read_walk.ReadWalk.{ReadWalk}
-use Rattle.beldi_daal.specs.declared.read_walk.ReadSays.{ReadSays}
-use Rattle.beldi_daal.specs.declared.read_walk.ReadSays.TheVariants.{Going, Got, Held}
-use Rattle.beldi_daal.specs.Cell.{read_goes}
-use Rattle.beldi_daal.specs.Walk.{first_key}
+use Rattle.beldi_row.specs.{Key.RowKey, declared.act.Act.TheVariants.Look}
+use Rattle.beldi_walk.specs.{declared.query.Query.Query, declared.query.Query.TheVariants.Act, Query.Told}
+use Rattle.beldi_daal.specs.{declared.cell.ReadGoes.ReadGoes, declared.walk.Item.Item, declared.read_walk.ReadWalk.ReadWalk, declared.read_walk.ReadSays.ReadSays, declared.read_walk.ReadSays.TheVariants.Going, declared.read_walk.ReadSays.TheVariants.Got, declared.read_walk.ReadSays.TheVariants.Held, Cell.read_goes, Walk.first_key}
 
 abbrev pub first_read : ℕ → Item → Option Owner → ReadWalk
 first_read home item who = record { home = home; item = item; who = who }
@@ -29,9 +19,9 @@ abbrev pub read_next : ReadWalk → Told → ReadWalk
 read_next w t = w
 
 abbrev pub read_so : ReadGoes → ReadSays
-read_so reads.On = Going
-read_so (reads.Got v) = Got v
-read_so (reads.Held o) = Held o
+read_so ReadGoes.On = Going
+read_so (ReadGoes.Got v) = Got v
+read_so (ReadGoes.Held o) = Held o
 
 -- its answer to what it was told
 abbrev pub read_says : ReadWalk → Told → ReadSays

@@ -1,20 +1,9 @@
 -- The walk of a write, as a machine that asks one thing a turn.
 use Rattle.std.specs.Prelude.{ℕ}
-use Rattle.beldi_value.specs.declared.place.Place.{Place}
-use Rattle.beldi_value.specs.declared.place.Owner.{Owner}
+use Rattle.beldi_value.specs.declared.place.{Place.Place, Owner.Owner}
 use Rattle.beldi_row.specs.Key.{RowKey}
-use Rattle.beldi_walk.specs.declared.query.Query.{Query}
-use Rattle.beldi_walk.specs.Query.{Told}
-use Rattle.beldi_daal.specs.declared.cell.WriteAt.TheVariants.{Try}
-use Rattle.beldi_daal.specs.declared.cell.WriteGoes.{WriteGoes}
-use Rattle.beldi_daal.specs.declared.cell.WriteGoes.TheVariants as writes
-use Rattle.beldi_daal.specs.declared.walk.WriteWalk.{WriteWalk}
-use Rattle.beldi_daal.specs.declared.walk.Item.{Item}
-use Rattle.beldi_daal.specs.declared.walk.Item.TheVariants.{Plain, Shadow}
-use Rattle.beldi_daal.specs.declared.cell.CellOp.{CellOp}
-use Rattle.beldi_daal.specs.declared.walk.WriteSays.{WriteSays}
-use Rattle.beldi_daal.specs.declared.walk.WriteSays.TheVariants.{Going, Done, NotOwner, Held}
-use Rattle.beldi_daal.specs.Cell.{cell_key, shadow_key, done_note, write_asks, write_goes}
+use Rattle.beldi_walk.specs.{declared.query.Query.Query, Query.Told}
+use Rattle.beldi_daal.specs.{declared.cell.WriteAt.TheVariants.Try, declared.cell.WriteGoes.WriteGoes, declared.walk.WriteWalk.WriteWalk, declared.walk.Item.Item, declared.walk.Item.TheVariants.Plain, declared.walk.Item.TheVariants.Shadow, declared.cell.CellOp.CellOp, declared.walk.WriteSays.WriteSays, declared.walk.WriteSays.TheVariants.Going, declared.walk.WriteSays.TheVariants.Done, declared.walk.WriteSays.TheVariants.NotOwner, declared.walk.WriteSays.TheVariants.Held, Cell.cell_key, Cell.shadow_key, Cell.done_note, Cell.write_asks, Cell.write_goes}
 
 abbrev pub first_walk : ℕ → Item → Place → Owner → CellOp → WriteWalk
 first_walk home item place who op = record { home = home; item = item; place = place; who = who; op = op; at = Try }
@@ -32,16 +21,16 @@ walk_asks w = write_asks (walk_key w) w.place w.who w.op w.at
 
 -- the walk stands where it stood, unless it goes on
 abbrev pub walk_at : WriteWalk → WriteGoes → WriteWalk
-walk_at w (writes.On at) = record w { at = at }
-walk_at w (writes.Done n first) = w
-walk_at w writes.NotOwner = w
-walk_at w (writes.Held o) = w
+walk_at w (WriteGoes.On at) = record w { at = at }
+walk_at w (WriteGoes.Done n first) = w
+walk_at w WriteGoes.NotOwner = w
+walk_at w (WriteGoes.Held o) = w
 
 abbrev pub walk_so : WriteGoes → WriteSays
-walk_so (writes.On at) = Going
-walk_so (writes.Done n first) = Done n first
-walk_so writes.NotOwner = NotOwner
-walk_so (writes.Held o) = Held o
+walk_so (WriteGoes.On at) = Going
+walk_so (WriteGoes.Done n first) = Done n first
+walk_so WriteGoes.NotOwner = NotOwner
+walk_so (WriteGoes.Held o) = Held o
 
 -- the walk after it was told, and its answer
 abbrev pub walk_next : WriteWalk → Told → WriteWalk

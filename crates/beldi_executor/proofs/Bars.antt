@@ -1,27 +1,7 @@
 -- What bars an effect from being carried out, and a transaction from being one step.
-use Rattle.std.proofs.Common.{◌≡◌, Bool, true, false, Option, Some, None, Ok, Err, refl, ap, sym, ◌∙◌}
-use Rattle.std.specs.Prelude.{is_none}
-use Rattle.std.specs.FinMap as map
-use Rattle.beldi_value.specs.declared.id.IntentId.{IntentId}
-use Rattle.beldi_tree.specs.declared.deployment.Deployment.{Deployment}
-use Rattle.beldi_value.specs.declared.outcome.Outcome.{Outcome}
-use Rattle.beldi_value.specs.declared.place.Place.{Place}
-use Rattle.beldi_lang.specs.declared.effect.Effect.{Effect}
-use Rattle.beldi_lang.specs.declared.effect.Effect.TheVariants as effect
-use Rattle.beldi_lang.specs.declared.machine.Machine.{Machine}
-use Rattle.beldi_book.specs.declared.entry.Entry.TheVariants.{Tx, Try}
-use Rattle.beldi_plain.specs.Plain.{PlainState, Instance, effect_of, kind_of, step_by, if_open, unless, can_step, is_waiting, if_built}
-use Rattle.beldi_executor.specs.Answers.{Did, IsFree, StandsFree, DidStep, bar_of, bar_open, bar_waiting, bar_step, bar_made, bar_no, bar_piece, bar_try}
 use Rattle.beldi_plain.specs.Entries.{after}
-use Rattle.beldi_executor.specs.Inside.{Begins, StandsAtBegin, Pieced, Tried}
-use Rattle.beldi_plain.specs.Piece.{piece_from, try_from}
-use Rattle.beldi_executor.specs.declared.draft.Actor.{Actor}
-use Rattle.beldi_plain.specs.declared.kind.Kind.{Kind}
-use Rattle.beldi_plain.specs.declared.kind.Kind.TheVariants.{Read, Change, Inside, Unbuilt}
-use Rattle.beldi_executor.specs.declared.plain.Bar.{Bar}
-use Rattle.beldi_executor.specs.declared.plain.Bar.TheVariants.{OtherEffect, NoEnd}
-use Rattle.beldi_executor.specs.declared.plain.PlainErr.TheVariants.{OutOfMemory, NotEnabled}
-use Rattle.beldi_executor.specs.declared.plain.PlainErr.{PlainErr}
+use Rattle.beldi_executor.proofs.Names.{Actor, Bar, Begins, Bool, Change, Deployment, Did, DidStep, Effect, Err, Inside, Instance, IntentId, IsFree, Kind, Machine, NoEnd, None, NotEnabled, Ok, Option, OtherEffect, OutOfMemory, Outcome, Pieced, Place, PlainErr, PlainState, Read, Some, StandsAtBegin, StandsFree, Tried, Try, Tx, Unbuilt, ap, bar_made, bar_no, bar_of, bar_open, bar_piece, bar_step, bar_try, bar_waiting, can_step, effect_of, false, if_built, if_open, is_none, is_waiting, kind_of, piece_from, refl, step_by, sym, true, try_from, unless, ◌∙◌, ◌≡◌}
+use Rattle.beldi_executor.proofs.Names.map
 
 -- an instance that has not returned, and does not wait
 steps : {X : Type 0} (o : Option Instance) (q : Instance) (w : Instance → Bool) (f : Instance → Option X) → o ≡ Some q → q.outcome ≡ None → w q ≡ false → can_step o w f ≡ f q
@@ -67,7 +47,7 @@ pub no_begin : (d : Deployment) (p : PlainState) (id : IntentId) (why : PlainErr
 no_begin d p id OutOfMemory h = tt
 no_begin d p id (NotEnabled b) h = λ f g other. (never (map.get p.made id) (is_waiting d p id) (λ q. f q (effect_of d q)) b h, h (λ q. g q (effect_of d q)))
 
-pub other_begin : (d : Deployment) (p : PlainState) (id : IntentId) (m : Machine) → IsFree d p id m → (m.effect ≡ effect.Begin → ⊥) → StandsAtBegin d p id (Err (NotEnabled OtherEffect))
+pub other_begin : (d : Deployment) (p : PlainState) (id : IntentId) (m : Machine) → IsFree d p id m → (m.effect ≡ Effect.Begin → ⊥) → StandsAtBegin d p id (Err (NotEnabled OtherEffect))
 other_begin d p id m r n = λ f g other.
     let q = r.ready.instance in
     let none = other q m.effect n in (
@@ -75,12 +55,12 @@ other_begin d p id m r n = λ f g other.
       barred d p id m r _ ∙ ap (g q) (sym r.ready.stands.0) ∙ none.1,
     )
 
-other_piece : (d : Deployment) (p : PlainState) (id : IntentId) (q : Instance) (e : Effect) → (e ≡ effect.Begin → ⊥) → (piece_from d p id q e ≡ None) × (bar_piece d p id q e ≡ Some OtherEffect)
-other_piece d p id q effect.Begin n = absurd (n refl)
+other_piece : (d : Deployment) (p : PlainState) (id : IntentId) (q : Instance) (e : Effect) → (e ≡ Effect.Begin → ⊥) → (piece_from d p id q e ≡ None) × (bar_piece d p id q e ≡ Some OtherEffect)
+other_piece d p id q Effect.Begin n = absurd (n refl)
 other_piece d p id q e n = (refl, refl)
 
-other_try : (d : Deployment) (p : PlainState) (id : IntentId) (at : Place) (h : Option IntentId) (q : Instance) (e : Effect) → (e ≡ effect.Begin → ⊥) → (try_from d p id at h q e ≡ None) × (bar_try d p id at h q e ≡ Some OtherEffect)
-other_try d p id at h q effect.Begin n = absurd (n refl)
+other_try : (d : Deployment) (p : PlainState) (id : IntentId) (at : Place) (h : Option IntentId) (q : Instance) (e : Effect) → (e ≡ Effect.Begin → ⊥) → (try_from d p id at h q e ≡ None) × (bar_try d p id at h q e ≡ Some OtherEffect)
+other_try d p id at h q Effect.Begin n = absurd (n refl)
 other_try d p id at h q e n = (refl, refl)
 
 pub no_piece : (d : Deployment) (p r : PlainState) (id : IntentId) (why : PlainErr) → StandsAtBegin d p id (Err why) → r ≡ p → Did d (Tx id) p r (Err why)
@@ -96,13 +76,13 @@ module _ (d : Deployment) (p : PlainState) (id : IntentId) (m : Machine) (h : Be
   abbrev q : Instance
   q = h.free.ready.instance
 
-  at_begin : effect_of d q ≡ effect.Begin
+  at_begin : effect_of d q ≡ Effect.Begin
   at_begin = sym h.free.ready.stands.0 ∙ h.begins
 
-  piece_is : after d p (Tx id) ≡ piece_from d p id q effect.Begin
+  piece_is : after d p (Tx id) ≡ piece_from d p id q Effect.Begin
   piece_is = stepped d p id m h.free (λ q. piece_from d p id q (effect_of d q)) ∙ ap (piece_from d p id q) at_begin
 
-  piece_bar : bar_of d p (Tx id) ≡ bar_piece d p id q effect.Begin
+  piece_bar : bar_of d p (Tx id) ≡ bar_piece d p id q Effect.Begin
   piece_bar = barred d p id m h.free (λ q. bar_piece d p id q (effect_of d q)) ∙ ap (bar_piece d p id q) at_begin
 
   pub piece_done : (r : PlainState) (k : Actor) → Pieced d p id q r (Ok k) → Did d (Tx id) p r (Ok tt)
@@ -113,10 +93,10 @@ module _ (d : Deployment) (p : PlainState) (id : IntentId) (m : Machine) (h : Be
   piece_not r (NotEnabled b) did = (did.0, piece_is ∙ did.1, piece_bar ∙ ap (λ o. bar_no NoEnd o None) did.1 ∙ ap (λ b. Some b) (sym did.2))
 
   module _ (at : Place) (hold : Option IntentId) where
-    try_is : after d p (Try id at hold) ≡ try_from d p id at hold q effect.Begin
+    try_is : after d p (Try id at hold) ≡ try_from d p id at hold q Effect.Begin
     try_is = stepped d p id m h.free (λ q. try_from d p id at hold q (effect_of d q)) ∙ ap (try_from d p id at hold q) at_begin
 
-    try_bar : bar_of d p (Try id at hold) ≡ bar_try d p id at hold q effect.Begin
+    try_bar : bar_of d p (Try id at hold) ≡ bar_try d p id at hold q Effect.Begin
     try_bar = barred d p id m h.free (λ q. bar_try d p id at hold q (effect_of d q)) ∙ ap (bar_try d p id at hold q) at_begin
 
     pub try_done : (r : PlainState) (k : Actor) → Tried d p id q at hold r (Ok k) → Did d (Try id at hold) p r (Ok tt)

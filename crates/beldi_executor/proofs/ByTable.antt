@@ -1,20 +1,7 @@
 -- The items table by table are the items.
-use Rattle.std.proofs.Common.{◌≡◌, ℕ, Bool, true, false, cond, T, ◌&&◌, List, [], ◌∷◌, ◌++◌, Option, Some, None, is_some, Result, Ok, Err, OnErr, IfOk, refl, ap, sym, ◌∙◌, subst}
-use Rattle.std.proofs.lemmas.Cmp.{tied_itself}
 use Rattle.std.specs.FinMap as finite
-use Rattle.std.specs.FinMap.{FinMap, get-entries, entries_sorted, get-empty, get-insert, get-remove, get-from_sorted, entries-from_sorted, same_map}
-use Rattle.std.specs.FinMap.Entries.{find, is_sorted, below_all}
-use Rattle.std.specs.Ordering.{nat_cmp, ordering_then, is_eq, is_lt, eq_by_cmp}
-use Rattle.std.specs.Cmp.{nat_cmp_total}
-use Rattle.std.specs.declared.alloc.AllocError.{AllocError}
-use Rattle.std.specs.declared.cmp.Ordering.{Ordering}
-use Rattle.std.specs.declared.cmp.Ordering.TheVariants.{Less, Equal, Greater}
-use Rattle.beldi_value.specs.declared.value.Value.{Value}
-use Rattle.beldi_value.specs.declared.value.Value.TheVariants as value
-use Rattle.beldi_plain.specs.Item.{Item, item_cmp, item_total, item_exact}
-use Rattle.beldi_plain.specs.Operation.{set_item}
-use Rattle.beldi_executor.specs.ByTable.{key_cmp, key_total, table_cmp, table_total, table_exact, Cells, Tables, item_at, cells_at, items_in, items_of, or_none, put_cell, unset_cell, at_key}
-use Rattle.beldi_executor.specs.declared.tables.TableId.{TableId}
+use Rattle.std.proofs.Common.{◌&&◌, OnErr, IfOk}
+use Rattle.beldi_executor.proofs.Names.{AllocError, Bool, Cells, Equal, Err, FinMap, Greater, Item, Less, List, None, Ok, Option, Ordering, Result, Some, T, TableId, Tables, Value, [], ap, at_key, below_all, cells_at, cond, entries-from_sorted, entries_sorted, eq_by_cmp, false, find, get-empty, get-entries, get-from_sorted, get-insert, get-remove, is_eq, is_lt, is_some, is_sorted, item_at, item_cmp, item_exact, item_total, items_in, items_of, key_cmp, key_total, nat_cmp, nat_cmp_total, or_none, ordering_then, put_cell, refl, same_map, set_item, subst, sym, table_cmp, table_exact, table_total, tied_itself, true, unset_cell, ℕ, ◌++◌, ◌∙◌, ◌∷◌, ◌≡◌}
 use Rattle.beldi_executor.proofs.Finite.{same_key, same_set, absent_removed}
 
 both : (a b : Bool) → T a → T b → T (a && b)
@@ -142,16 +129,16 @@ items_empty = same_map item_total item_exact _ _ (λ x. get_items finite.empty x
 -- ---- a cell that is set is an item that is set
 
 abbrev pub some_of : Value → Option Value
-some_of value.Null = None
+some_of Value.Null = None
 some_of v = Some v
 
 pub get_set : (m : FinMap item_cmp Value) (x : Item) (v : Value) (q : Item) → finite.get (set_item m x v) q ≡ cond (is_eq (item_cmp q x)) (some_of v) (finite.get m q)
-get_set m x value.Null q = get-remove item_total m x q
-get_set m x (value.Bool b) q = get-insert item_total m x (value.Bool b) q
-get_set m x (value.Int n) q = get-insert item_total m x (value.Int n) q
-get_set m x (value.Text s) q = get-insert item_total m x (value.Text s) q
-get_set m x (value.List vs) q = get-insert item_total m x (value.List vs) q
-get_set m x (value.Rec fs) q = get-insert item_total m x (value.Rec fs) q
+get_set m x Value.Null q = get-remove item_total m x q
+get_set m x (Value.Bool b) q = get-insert item_total m x (Value.Bool b) q
+get_set m x (Value.Int n) q = get-insert item_total m x (Value.Int n) q
+get_set m x (Value.Text s) q = get-insert item_total m x (Value.Text s) q
+get_set m x (Value.List vs) q = get-insert item_total m x (Value.List vs) q
+get_set m x (Value.Rec fs) q = get-insert item_total m x (Value.Rec fs) q
 
 parted : (a b k : Ordering) (x y : Option Value) → cond (is_eq (ordering_then a (ordering_then b k))) x y ≡ cond (is_eq (ordering_then a b)) (cond (is_eq k) x y) y
 parted Less b k x y = refl
@@ -218,10 +205,10 @@ pub items_unset : (a b : Tables) (m : FinMap item_cmp Value) (t : TableId) (k : 
 items_unset a b m t k is h = ap items_of h ∙ unset_items a t k (finite.get a t) refl ∙ ap (λ n. finite.remove n (item_at t k)) is
 
 -- an item that is set to what is not null
-pub not_null : (m : FinMap item_cmp Value) (x : Item) (v : Value) → (v ≡ value.Null → ⊥) → finite.insert m x v ≡ set_item m x v
-not_null m x value.Null h = absurd (h refl)
-not_null m x (value.Bool b) h = refl
-not_null m x (value.Int n) h = refl
-not_null m x (value.Text s) h = refl
-not_null m x (value.List vs) h = refl
-not_null m x (value.Rec fs) h = refl
+pub not_null : (m : FinMap item_cmp Value) (x : Item) (v : Value) → (v ≡ Value.Null → ⊥) → finite.insert m x v ≡ set_item m x v
+not_null m x Value.Null h = absurd (h refl)
+not_null m x (Value.Bool b) h = refl
+not_null m x (Value.Int n) h = refl
+not_null m x (Value.Text s) h = refl
+not_null m x (Value.List vs) h = refl
+not_null m x (Value.Rec fs) h = refl

@@ -1,23 +1,8 @@
 -- The instances of a transaction under way: its owner, and those that were made since.
-use Rattle.std.proofs.Common.{◌≡◌, inl, inr, ℕ, Bool, true, false, is_some, cond, List, [], ◌∷◌, ◌++◌, length, Option, Some, None, refl, ap, sym, ◌∙◌, subst, append_assoc}
-use Rattle.std.proofs.lemmas.List.{append-nil, reverse-append, take_at}
-use Rattle.std.proofs.lemmas.Cmp.{eq_by_cmp_equiv}
-use Rattle.std.specs.Prelude.{◌⊎◌, reverse, take, MatchOption, ◌+◌, ◌-◌, option_to_list, if◌then◌else◌}
-use Rattle.std.specs.FinMap as map
-use Rattle.std.specs.FinMap.{FinMap, get-insert, get-remove, same_map}
-use Rattle.std.specs.Ordering.{is_eq}
-use Rattle.beldi_value.specs.Id.{id_cmp, id_total, id_exact}
-use Rattle.beldi_value.specs.declared.id.IntentId.{IntentId}
-use Rattle.beldi_value.specs.declared.place.TxId.{TxId}
-use Rattle.beldi_lang.specs.declared.effect.Answer.{Answer}
-use Rattle.beldi_plain.specs.Plain.{PlainState, Instance, answered, with_instance}
-use Rattle.beldi_plain.specs.Piece.{gives}
-use Rattle.beldi_executor.specs.Executor.{at_one, cut_to}
-use Rattle.beldi_executor.specs.Undo.{IsUndone, all_back}
-use Rattle.beldi_executor.specs.Inside.{Longer, IsDraft, Popped, all_gone, AreKept}
-use Rattle.beldi_executor.specs.declared.draft.Actor.{Actor}
-use Rattle.beldi_executor.specs.declared.draft.Draft.{Draft}
+use Rattle.std.specs.Prelude.{take, ◌+◌}
+use Rattle.beldi_executor.proofs.Names.{Actor, Answer, AreKept, Bool, Draft, FinMap, Instance, IntentId, IsDraft, IsUndone, List, Longer, MatchOption, None, Option, PlainState, Popped, Some, TxId, [], all_back, all_gone, answered, ap, append-nil, append_assoc, at_one, cond, cut_to, eq_by_cmp_equiv, false, get-insert, get-remove, gives, id_cmp, id_exact, id_total, if◌then◌else◌, inl, inr, is_eq, is_some, length, option_to_list, refl, reverse, reverse-append, same_map, subst, sym, take_at, true, with_instance, ℕ, ◌++◌, ◌-◌, ◌∙◌, ◌∷◌, ◌≡◌, ◌⊎◌}
 use Rattle.beldi_executor.proofs.Finite.{apart, there, same_key, same_set, set_removed}
+use Rattle.beldi_executor.proofs.Names.map
 
 abbrev pub Instances : Type 0
 Instances = FinMap id_cmp Instance

@@ -1,30 +1,7 @@
 -- A call of the one at the front.
-use Rattle.std.proofs.Common.{◌≡◌, ℕ, ◌<◌, Bool, true, false, is_some, [], ◌∷◌, ◌++◌, length, length-append, Option, Some, None, Ok, Err, Result, refl, ap, sym, ◌∙◌, subst, arith}
-use Rattle.std.proofs.lemmas.Bool.{ltb-true}
-use Rattle.std.specs.Prelude.{IfOk, OnErr, ◌&&◌, not, if◌then◌else◌}
-use Rattle.std.specs.FinMap as map
-use Rattle.std.specs.Ordering.{is_eq}
-use Rattle.std.specs.declared.alloc.AllocError.{AllocError}
-use Rattle.beldi_value.specs.Id.{id_cmp, id_total, child_of, has_callees}
-use Rattle.beldi_value.specs.declared.id.IntentId.{IntentId}
-use Rattle.beldi_value.specs.declared.place.Caller.{Caller}
-use Rattle.beldi_value.specs.declared.place.TxId.{TxId}
-use Rattle.beldi_value.specs.declared.value.Value.{Value}
-use Rattle.beldi_tree.specs.declared.deployment.Deployment.{Deployment}
-use Rattle.beldi_lang.specs.declared.effect.Effect.{Effect}
-use Rattle.beldi_lang.specs.declared.effect.Effect.TheVariants as effect
-use Rattle.beldi_lang.specs.Machine.{begun}
-use Rattle.beldi_lang.specs.Wants.{wants_answer}
-use Rattle.beldi_lang.proofs.Resumes.{at_begin}
-use Rattle.beldi_plain.specs.Plain.{PlainState, Instance, unless, with_instance}
-use Rattle.beldi_plain.specs.Piece.{Going, new_member, moves_by}
-use Rattle.beldi_executor.specs.Inside.{GoesOn, IsDraft, Moved, all_gone, can_move, going, seen}
-use Rattle.beldi_executor.specs.declared.draft.Actor.{Actor}
-use Rattle.beldi_executor.specs.declared.draft.Draft.{Draft}
-use Rattle.beldi_executor.proofs.Finite.{apart, there}
-use Rattle.beldi_executor.proofs.Made.{none_of}
-use Rattle.beldi_executor.proofs.Drafts.{Instances, same_id, draft_kept, absent_gone, entered_gone}
-use Rattle.beldi_executor.proofs.Lines.{shorter, its_step, its_func, line_kept}
+use Rattle.beldi_executor.proofs.Names.{Actor, AllocError, Bool, Caller, Deployment, Draft, Effect, Err, GoesOn, Going, IfOk, Instance, IntentId, IsDraft, Moved, None, Ok, OnErr, Option, PlainState, Result, Some, TxId, Value, [], all_gone, ap, arith, at_begin, begun, can_move, child_of, false, going, has_callees, id_cmp, id_total, if◌then◌else◌, is_eq, is_some, length, length-append, ltb-true, moves_by, new_member, not, refl, seen, subst, sym, true, unless, wants_answer, with_instance, ℕ, ◌&&◌, ◌++◌, ◌<◌, ◌∙◌, ◌∷◌, ◌≡◌}
+use Rattle.beldi_executor.proofs.{Finite.apart, Finite.there, Made.none_of, Drafts.Instances, Drafts.same_id, Drafts.draft_kept, Drafts.absent_gone, Drafts.entered_gone, Lines.shorter, Lines.its_step, Lines.its_func, Lines.line_kept}
+use Rattle.beldi_executor.proofs.Names.map
 
 and_both : (a b : Bool) → (a && b) ≡ true → (a ≡ true) × (b ≡ true)
 and_both true true h = (refl, refl)
@@ -35,13 +12,13 @@ not_false : (b : Bool) → not b ≡ true → b ≡ false
 not_false false h = refl
 not_false true h = cc
 
-pub call_room : (t : TxId) (made : Instances) (id : IntentId) (n f : ℕ) (v : Value) (e : Effect) → e ≡ effect.Call f v → can_move t made id n e ≡ true → length id.hops < 63
+pub call_room : (t : TxId) (made : Instances) (id : IntentId) (n f : ℕ) (v : Value) (e : Effect) → e ≡ Effect.Call f v → can_move t made id n e ≡ true → length id.hops < 63
 call_room t made id n f v e is can = ltb-true (length id.hops) 63 (and_both (has_callees id) (not (is_some (map.get made (child_of id n)))) (ap (can_move t made id n) (sym is) ∙ can)).0
 
 -- what it calls is to be made
 module _ (d : Deployment) (t : TxId) (p : PlainState) (q : Instance) (r : PlainState) (h : Draft) (a : Actor) (f : ℕ) (v : Value)
     (g : GoesOn d t p q r h a)
-    (calls : a.machine.effect ≡ effect.Call f v)
+    (calls : a.machine.effect ≡ Effect.Call f v)
     (can : can_move t r.made a.id a.machine.steps a.machine.effect ≡ true) where
   can_call : (has_callees a.id && not (is_some (map.get r.made (child_of a.id a.machine.steps)))) ≡ true
   can_call = ap (can_move t r.made a.id a.machine.steps) (sym calls) ∙ can

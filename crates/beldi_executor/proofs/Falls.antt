@@ -1,31 +1,12 @@
 -- The end of a transaction, with commit or without, and the place where it aborts.
-use Rattle.std.proofs.Common.{◌≡◌, ℕ, Bool, true, false, Option, Some, None, Ok, Err, refl, ap, sym, ◌∙◌}
-use Rattle.std.specs.Prelude.{◌&&◌, if◌then◌else◌}
-use Rattle.std.specs.FinMap as map
-use Rattle.beldi_value.specs.Id.{id_exact}
-use Rattle.beldi_value.specs.declared.id.IntentId.{IntentId}
-use Rattle.beldi_value.specs.declared.outcome.Cause.{Cause}
-use Rattle.beldi_value.specs.declared.place.TxId.{TxId}
-use Rattle.beldi_tree.specs.declared.deployment.Deployment.{Deployment}
-use Rattle.beldi_lang.specs.declared.effect.Answer.TheVariants as answer
-use Rattle.beldi_lang.specs.declared.effect.Effect.{Effect}
-use Rattle.beldi_lang.specs.declared.effect.Effect.TheVariants as effect
-use Rattle.beldi_lang.specs.Wants.{wants_answer}
-use Rattle.beldi_plain.specs.Plain.{PlainState, Instance}
-use Rattle.beldi_plain.specs.Piece.{Going, gives, is_owner, dies_at, fallen, fault_by, falls_by, ends_on}
-use Rattle.beldi_executor.specs.Inside.{GoesOn, Gave, Comes, after, seen, ends, over_at, no_end}
-use Rattle.beldi_executor.specs.declared.draft.Actor.{Actor}
-use Rattle.beldi_executor.specs.declared.draft.Draft.{Draft}
-use Rattle.beldi_executor.specs.declared.plain.Bar.{Bar}
-use Rattle.beldi_executor.specs.declared.plain.PlainErr.TheVariants.{NotEnabled}
-use Rattle.beldi_executor.proofs.Finite.{same_key}
-use Rattle.beldi_executor.proofs.Touched.{touched_wants}
-use Rattle.beldi_executor.proofs.Lines.{its_step, gave_seen}
+use Rattle.beldi_executor.proofs.Names.{Actor, Bar, Bool, Cause, Comes, Deployment, Draft, Effect, Err, Gave, GoesOn, Going, Instance, IntentId, None, NotEnabled, Ok, Option, PlainState, Some, TxId, after, ap, dies_at, ends, ends_on, fallen, falls_by, false, fault_by, gives, id_exact, if◌then◌else◌, is_owner, no_end, over_at, refl, seen, sym, true, wants_answer, ℕ, ◌&&◌, ◌∙◌, ◌≡◌, Answer}
+use Rattle.beldi_executor.proofs.{Finite.same_key, Touched.touched_wants, Lines.its_step, Lines.gave_seen}
+use Rattle.beldi_executor.proofs.Names.map
 
 -- ---- the owner's end
 
 ends_wants : (c : Bool) (e : Effect) → ends c e ≡ true → wants_answer e ≡ true
-ends_wants c (effect.End b) h = refl
+ends_wants c (Effect.End b) h = refl
 ends_wants c e h = cc
 
 both : (a b : Bool) → (a && b) ≡ true → (a ≡ true) × (b ≡ true)
@@ -38,16 +19,16 @@ module _ (d : Deployment) (t : TxId) (p : PlainState) (q : Instance) (r : PlainS
   abbrev over : Bool
   over = is_owner h.tx a.id && ends commit a.machine.effect
 
-  over_so : (b : Bool) → over ≡ b → over_at t commit (seen r h.undo) a.id x a.machine.effect ≡ (if b then Some (gives (seen r h.undo) a.id x answer.Done) else None)
-  over_so b is = ap (λ b. if b then Some (gives (seen r h.undo) a.id x answer.Done) else None) (ap (λ t. is_owner t a.id && ends commit a.machine.effect) (sym g.draft.tx) ∙ is)
+  over_so : (b : Bool) → over ≡ b → over_at t commit (seen r h.undo) a.id x a.machine.effect ≡ (if b then Some (gives (seen r h.undo) a.id x Answer.Done) else None)
+  over_so b is = ap (λ b. if b then Some (gives (seen r h.undo) a.id x Answer.Done) else None) (ap (λ t. is_owner t a.id && ends commit a.machine.effect) (sym g.draft.tx) ∙ is)
 
   pub over_wants : over ≡ true → wants_answer a.machine.effect ≡ true
   over_wants is = ends_wants commit a.machine.effect (both (is_owner h.tx a.id) (ends commit a.machine.effect) is).1
 
   -- it is done
-  pub over_done : (s : PlainState) (b : Actor) → over ≡ true → Gave d t p q r h a answer.Done s (Ok b) → Comes d t p q h (over_at t commit (seen r h.undo) a.id x a.machine.effect) (no_end commit) s (Ok b)
+  pub over_done : (s : PlainState) (b : Actor) → over ≡ true → Gave d t p q r h a Answer.Done s (Ok b) → Comes d t p q h (over_at t commit (seen r h.undo) a.id x a.machine.effect) (no_end commit) s (Ok b)
   over_done s b is gave =
-      let now = gave_seen d t p q r h a answer.Done s b gave x here in
+      let now = gave_seen d t p q r h a Answer.Done s b gave x here in
       let owner = (both (is_owner h.tx a.id) (ends commit a.machine.effect) is).0 in (
         gave.0,
         ap (λ (g : Going). g.front) now ∙ sym (same_key id_exact t.intent a.id (ap (λ t. is_owner t a.id) (sym g.draft.tx) ∙ owner)),
@@ -66,11 +47,11 @@ none_over false x = refl
 
 -- a fault led there
 pub fault_so : (t : TxId) (p : PlainState) (id : IntentId) (q : Instance) (e : Effect) → fault_by t p id q None e ≡ over_at t false p id q e
-fault_so t p id q (effect.End b) = refl
-fault_so t p id q e = none_over (is_owner t id) (Some (gives p id q answer.Done))
+fault_so t p id q (Effect.End b) = refl
+fault_so t p id q e = none_over (is_owner t id) (Some (gives p id q Answer.Done))
 
 pub dies_wants : (h : Option IntentId) (e : Effect) → dies_at h e ≡ true → wants_answer e ≡ true
-dies_wants None effect.Abort c = refl
+dies_wants None Effect.Abort c = refl
 dies_wants None e c = cc
 dies_wants (Some h) e c = touched_wants e c
 
@@ -81,7 +62,7 @@ not_dead go t p id q h e lives = ap (λ b. if b then go (fallen p id q h) else f
 -- .. or it is, and the transaction goes on
 pub is_dead : (d : Deployment) (t : TxId) (p : PlainState) (q : Instance) (r : PlainState) (h : Draft) (a : Actor) (x : Instance) (hold : Option IntentId) (cause : Cause) (left : ℕ)
     → GoesOn d t p q r h a → map.get r.made a.id ≡ Some x → dies_at hold a.machine.effect ≡ true → cause ≡ record { place = record { intent = a.id; step = a.machine.steps }; holder = hold }
-    → falls_by (ends_on d left t false) t (seen r h.undo) a.id x hold a.machine.effect ≡ ends_on d left t false (after r h a x (answer.Aborted cause))
+    → falls_by (ends_on d left t false) t (seen r h.undo) a.id x hold a.machine.effect ≡ ends_on d left t false (after r h a x (Answer.Aborted cause))
 is_dead d t p q r h a x hold cause left g here dies is =
     ap (λ b. if b then ends_on d left t false (fallen (seen r h.undo) a.id x hold) else fault_by t (seen r h.undo) a.id x hold a.machine.effect) dies
-    ∙ ap (λ c. ends_on d left t false (after r h a x (answer.Aborted c))) ((λ i. record { place = record { intent = a.id; step = sym (its_step d r a g.acts x here) i }; holder = hold }) ∙ sym is)
+    ∙ ap (λ c. ends_on d left t false (after r h a x (Answer.Aborted c))) ((λ i. record { place = record { intent = a.id; step = sym (its_step d r a g.acts x here) i }; holder = hold }) ∙ sym is)

@@ -1,10 +1,5 @@
 -- Finite maps, a key at a time.
-use Rattle.std.proofs.Common.{◌≡◌, true, false, cond, Some, None, refl, ap, sym, ◌∙◌}
-use Rattle.std.specs.FinMap.{FinMap, IsAntisymmetric, get, insert, remove, get-insert, get-remove, same_map}
-use Rattle.std.specs.Cmp.{IsTotalOrder}
-use Rattle.std.specs.Ordering.{is_eq}
-use Rattle.std.specs.declared.cmp.Ordering.{Ordering}
-use Rattle.std.specs.declared.cmp.Ordering.TheVariants.{Less, Equal, Greater}
+use Rattle.beldi_executor.proofs.Names.{Equal, FinMap, Greater, IsAntisymmetric, IsTotalOrder, Less, None, Ordering, Some, ap, cond, false, get, get-insert, get-remove, insert, is_eq, refl, remove, same_map, sym, true, ◌∙◌, ◌≡◌}
 
 equal : (o : Ordering) → is_eq o ≡ true → o ≡ Equal
 equal Less e = cc

@@ -1,23 +1,7 @@
 -- What a transaction has set in place: put back, and as it sees it.
-use Rattle.std.proofs.Common.{◌≡◌, ℕ, Bool, true, false, cond, List, [], ◌∷◌, ◌++◌, Option, Some, None, is_some, refl, ap, sym, ◌∙◌, subst}
-use Rattle.std.proofs.lemmas.Cmp.{eq_by_cmp_equiv}
-use Rattle.std.specs.FinMap as map
-use Rattle.std.specs.FinMap.{get-insert, get-remove, same_map}
-use Rattle.std.specs.Ordering.{is_eq}
-use Rattle.beldi_value.specs.declared.value.Value.{Value}
-use Rattle.beldi_value.specs.declared.value.Value.TheVariants as value
-use Rattle.beldi_lang.specs.declared.effect.Answer.TheVariants as answer
-use Rattle.beldi_lang.specs.declared.effect.Effect.{Effect}
-use Rattle.beldi_lang.specs.declared.effect.Effect.TheVariants as effect
-use Rattle.beldi_tree.specs.Bindings.{or_null}
-use Rattle.beldi_plain.specs.Item.{Item, item_cmp, item_total, item_exact}
-use Rattle.beldi_plain.specs.Operation.{OnItem, op_of, item_in, sets, set_if, set_item, answer_after}
-use Rattle.beldi_plain.specs.Plain.{Instance, item_of}
-use Rattle.beldi_executor.specs.Executor.{items_if, answer_by, answer_if}
-use Rattle.beldi_executor.specs.Undo.{Items, item_was, was, put_in, kept_in, puts, keeps, back, all_back, HasRoom, AllHaveRoom, IsUndone, swept_if, swept, all_swept}
-use Rattle.beldi_executor.specs.declared.undo.Was.{Was}
-use Rattle.beldi_executor.proofs.ByTable.{some_of, get_set}
-use Rattle.beldi_executor.proofs.Finite.{same_key, set_removed, there}
+use Rattle.beldi_executor.proofs.Names.{AllHaveRoom, Bool, Effect, HasRoom, Instance, IsUndone, Item, Items, List, None, OnItem, Option, Some, Value, Was, [], all_back, all_swept, answer_after, answer_by, answer_if, ap, back, cond, eq_by_cmp_equiv, false, get-insert, get-remove, is_eq, is_some, item_cmp, item_exact, item_in, item_of, item_total, item_was, items_if, keeps, kept_in, op_of, or_null, put_in, puts, refl, same_map, set_if, set_item, sets, subst, swept, swept_if, sym, true, was, ℕ, ◌++◌, ◌∙◌, ◌∷◌, ◌≡◌, Answer}
+use Rattle.beldi_executor.proofs.{ByTable.some_of, ByTable.get_set, Finite.same_key, Finite.set_removed, Finite.there}
+use Rattle.beldi_executor.proofs.Names.map
 
 -- ---- put back
 
@@ -72,33 +56,33 @@ puts_undone b m ws func (Some o) h = put_undone b m ws (item_in func o) (sets o.
 
 abbrev no_null : Option Value → Option Value
 no_null None = None
-no_null (Some value.Null) = None
+no_null (Some Value.Null) = None
 no_null (Some v) = Some v
 
 null_so : (o : Option Value) → or_null (no_null o) ≡ or_null o
 null_so None = refl
-null_so (Some value.Null) = refl
-null_so (Some (value.Bool b)) = refl
-null_so (Some (value.Int n)) = refl
-null_so (Some (value.Text s)) = refl
-null_so (Some (value.List vs)) = refl
-null_so (Some (value.Rec fs)) = refl
+null_so (Some Value.Null) = refl
+null_so (Some (Value.Bool b)) = refl
+null_so (Some (Value.Int n)) = refl
+null_so (Some (Value.Text s)) = refl
+null_so (Some (Value.List vs)) = refl
+null_so (Some (Value.Rec fs)) = refl
 
 set_so : (v : Value) → no_null (Some v) ≡ some_of v
-set_so value.Null = refl
-set_so (value.Bool b) = refl
-set_so (value.Int n) = refl
-set_so (value.Text s) = refl
-set_so (value.List vs) = refl
-set_so (value.Rec fs) = refl
+set_so Value.Null = refl
+set_so (Value.Bool b) = refl
+set_so (Value.Int n) = refl
+set_so (Value.Text s) = refl
+set_so (Value.List vs) = refl
+set_so (Value.Rec fs) = refl
 
 swept_so : (v : Value) → no_null (some_of v) ≡ some_of v
-swept_so value.Null = refl
-swept_so (value.Bool b) = refl
-swept_so (value.Int n) = refl
-swept_so (value.Text s) = refl
-swept_so (value.List vs) = refl
-swept_so (value.Rec fs) = refl
+swept_so Value.Null = refl
+swept_so (Value.Bool b) = refl
+swept_so (Value.Int n) = refl
+swept_so (Value.Text s) = refl
+swept_so (Value.List vs) = refl
+swept_so (Value.Rec fs) = refl
 
 -- nothing is removed where no null is
 stays : (m : Items) (x : Item) (o : Option Value) → map.get m x ≡ o → no_null o ≡ o → (j : Item) → map.get m j ≡ cond (is_eq (item_cmp j x)) (no_null (map.get m j)) (map.get m j)
@@ -110,16 +94,16 @@ stays m x o here plain j =
 
 get_if : (m : Items) (x : Item) (o : Option Value) → map.get m x ≡ o → (j : Item) → map.get (swept_if m x o) j ≡ cond (is_eq (item_cmp j x)) (no_null (map.get m j)) (map.get m j)
 get_if m x None here j = stays m x None here refl j
-get_if m x (Some value.Null) here j =
+get_if m x (Some Value.Null) here j =
     get-remove item_total m x j ∙ elim (is_eq (item_cmp j x)) as (λ b. is_eq (item_cmp j x) ≡ b → cond b None (map.get m j) ≡ cond b (no_null (map.get m j)) (map.get m j)) [
       | true ↦ λ e. sym (ap no_null (ap (map.get m) (same_key item_exact j x e) ∙ here))
       | false ↦ λ e. refl
     ] refl
-get_if m x (Some (value.Bool b)) here j = stays m x (Some (value.Bool b)) here refl j
-get_if m x (Some (value.Int n)) here j = stays m x (Some (value.Int n)) here refl j
-get_if m x (Some (value.Text s)) here j = stays m x (Some (value.Text s)) here refl j
-get_if m x (Some (value.List vs)) here j = stays m x (Some (value.List vs)) here refl j
-get_if m x (Some (value.Rec fs)) here j = stays m x (Some (value.Rec fs)) here refl j
+get_if m x (Some (Value.Bool b)) here j = stays m x (Some (Value.Bool b)) here refl j
+get_if m x (Some (Value.Int n)) here j = stays m x (Some (Value.Int n)) here refl j
+get_if m x (Some (Value.Text s)) here j = stays m x (Some (Value.Text s)) here refl j
+get_if m x (Some (Value.List vs)) here j = stays m x (Some (Value.List vs)) here refl j
+get_if m x (Some (Value.Rec fs)) here j = stays m x (Some (Value.Rec fs)) here refl j
 
 get_swept : (m : Items) (x j : Item) → map.get (swept m x) j ≡ cond (is_eq (item_cmp j x)) (no_null (map.get m j)) (map.get m j)
 get_swept m x j = get_if m x (map.get m x) refl j
@@ -183,5 +167,5 @@ answer_so m ws q (Some o) = ap (λ v. Some (answer_after o.does v)) (value_seen 
 
 -- .. and is answered so
 pub answer_seen : (m : Items) (ws : List Was) (q : Instance) (e : Effect) → answer_by (all_swept m ws) q e ≡ answer_by m q e
-answer_seen m ws q (effect.Read t k) = ap (λ v. Some (answer.Value v)) (value_seen m ws (item_of q t k))
+answer_seen m ws q (Effect.Read t k) = ap (λ v. Some (Answer.Value v)) (value_seen m ws (item_of q t k))
 answer_seen m ws q e = answer_so m ws q (op_of e)

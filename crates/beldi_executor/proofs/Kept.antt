@@ -1,38 +1,11 @@
 -- The machines that are kept stand for their instances.
-use Rattle.std.proofs.Common.{◌≡◌, inl, inr, ℕ, Bool, is_some, true, false, List, [], ◌∷◌, ◌++◌, take, drop, Option, Some, None, Result, Ok, Err, refl, ap, sym, ◌∙◌, subst, IfSome}
-use Rattle.std.proofs.lemmas.List.{take-append-drop}
-use Rattle.std.proofs.lemmas.Cmp.{eq_by_cmp_equiv}
-use Rattle.std.specs.FinMap as map
-use Rattle.std.specs.FinMap.{FinMap, get-empty}
-use Rattle.std.specs.Ordering.{is_eq}
-use Rattle.std.specs.declared.alloc.AllocError.{AllocError}
-use Rattle.beldi_value.specs.Id.{id_cmp, id_total, id_exact}
-use Rattle.beldi_value.specs.declared.id.IntentId.{IntentId}
-use Rattle.beldi_value.specs.declared.value.Value.{Value}
-use Rattle.beldi_value.specs.declared.outcome.Outcome.{Outcome}
-use Rattle.beldi_tree.specs.declared.deployment.Deployment.{Deployment}
-use Rattle.beldi_lang.specs.declared.effect.Effect.{Effect}
-use Rattle.beldi_lang.specs.declared.effect.Effect.TheVariants as effect
-use Rattle.beldi_lang.specs.declared.effect.Answer.{Answer}
-use Rattle.beldi_lang.specs.declared.effect.Answer.TheVariants as answer
-use Rattle.beldi_lang.specs.Callee.{answer_of}
-use Rattle.beldi_lang.specs.declared.machine.Machine.{Machine}
-use Rattle.beldi_lang.specs.Wants.{wants_answer, wants}
-use Rattle.beldi_lang.specs.Machine.{IsAt, resumed}
-use Rattle.beldi_lang.proofs.Resumes.{at_effect, at_next, returns_stay}
-use Rattle.beldi_plain.specs.Item.{item_cmp}
-use Rattle.beldi_plain.specs.Operation.{OnItem, op_of, item_in}
-use Rattle.beldi_plain.specs.Plain.{PlainState, Instance, answered, ended, give, operated, with_instance, with_callee, step_by, value_at, item_of, new_instance, callee_of, calls_at, waits_at}
-use Rattle.beldi_executor.specs.Executor.{StandsAfter, StandsFor, StandsForOne, AllStand, IsKept, Passes, Follows, Acted, ActedAt, Made, answer_if, answer_on, next_of, next_told, next_by, waiter}
-use Rattle.beldi_executor.specs.declared.next.Next.{Next}
-use Rattle.beldi_executor.specs.Answers.{IsReady, IsFree}
-use Rattle.beldi_executor.specs.Inside.{AreKept}
-use Rattle.beldi_executor.proofs.Finite.{apart, there, gone, same_key, same_set}
-use Rattle.beldi_executor.proofs.Made.{tell, caller_told, none_of}
+use Rattle.beldi_executor.proofs.Names.{Acted, ActedAt, AllStand, AllocError, Answer, AreKept, Bool, Deployment, Effect, Err, FinMap, Follows, IfSome, Instance, IntentId, IsAt, IsFree, IsKept, IsReady, List, Machine, Made, Next, None, Ok, OnItem, Option, Outcome, Passes, PlainState, Result, Some, StandsAfter, StandsFor, StandsForOne, Value, [], answer_if, answer_of, answer_on, answered, ap, at_effect, at_next, callee_of, calls_at, drop, ended, eq_by_cmp_equiv, false, get-empty, give, id_cmp, id_exact, id_total, inl, inr, is_eq, is_some, item_cmp, item_in, item_of, new_instance, next_by, next_of, next_told, op_of, operated, refl, resumed, returns_stay, step_by, subst, sym, take, take-append-drop, true, value_at, waiter, waits_at, wants, wants_answer, with_callee, with_instance, ℕ, ◌++◌, ◌∙◌, ◌∷◌, ◌≡◌}
+use Rattle.beldi_executor.proofs.{Finite.apart, Finite.there, Finite.gone, Finite.same_key, Finite.same_set, Made.tell, Made.caller_told, Made.none_of}
+use Rattle.beldi_executor.proofs.Names.map
 
 -- an effect that is not answered is a return
-returns_so : (e : Effect) → wants_answer e ≡ false → (o : Outcome) × (e ≡ effect.Return o)
-returns_so (effect.Return o) none = (o, refl)
+returns_so : (e : Effect) → wants_answer e ≡ false → (o : Outcome) × (e ≡ Effect.Return o)
+returns_so (Effect.Return o) none = (o, refl)
 returns_so e none = cc
 
 -- a machine that takes no answer takes none of those that are left
@@ -154,14 +127,14 @@ callee_stands d p a id q f x waits all free = started d p (with_callee p id q f 
 
 -- a step keeps the machines with their instances
 step_of : (d : Deployment) (p : PlainState) (a b : FinMap id_cmp Machine) (id : IntentId) (m : Machine) (e : Effect) → AllStand d p.made a → (h : IsReady d p id m) → m.effect ≡ e → waits_at p.made id h.instance e ≡ false → Follows d a b id m (next_by p.items h.instance e) → AllStand d (step_by p id h.instance e).made b
-step_of d p a b id m (effect.Read t k) all h is free goes = goes_so d p.made a b id h.instance m (answer.Value (value_at p (item_of h.instance t k))) all h.yet h.stands (ap wants_answer is) goes
-step_of d p a b id m (effect.Call f x) all h is free goes =
+step_of d p a b id m (Effect.Read t k) all h is free goes = goes_so d p.made a b id h.instance m (Answer.Value (value_at p (item_of h.instance t k))) all h.yet h.stands (ap wants_answer is) goes
+step_of d p a b id m (Effect.Call f x) all h is free goes =
     let q = h.instance in
     callee_stands d p b id q f x true (back_stand d p a b id m all h goes) free
-step_of d p a b id m (effect.Async f x) all h is free goes =
+step_of d p a b id m (Effect.Async f x) all h is free goes =
     let q = h.instance in
-    goes_so d (with_callee p id q f x false).made a b id q m answer.Done (callee_stands d p a id q f x false all free) h.yet h.stands (ap wants_answer is) goes
-step_of d p a b id m (effect.Return o) all h is free goes =
+    goes_so d (with_callee p id q f x false).made a b id q m Answer.Done (callee_stands d p a id q f x false all free) h.yet h.stands (ap wants_answer is) goes
+step_of d p a b id m (Effect.Return o) all h is free goes =
     let q = h.instance in
     let one = with_instance p id (ended q o) in
     subst (λ (r : PlainState). AllStand d r.made b) (sym (caller_told one q.from o))

@@ -1,29 +1,15 @@
 -- Move after move: what is to come of a transaction is the same before and after them.
-use Rattle.std.proofs.Common.{◌≡◌, inl, inr, ℕ, suc, zero, ◌+◌, ◌*◌, ◌≤◌, ◌<◌, ◌^◌, Bool, true, false, Option, Some, None, refl, ap, sym, ◌∙◌, arith, length, is_some}
-use Rattle.std.proofs.lemmas.Bool.{ltb-true}
-use Rattle.std.specs.Prelude.{◌⊎◌, ◌&&◌, ◌==◌, not, option_and_then, if◌then◌else◌, Ok}
-use Rattle.std.specs.FinMap as map
-use Rattle.std.specs.Ordering.{is_eq}
-use Rattle.beldi_value.specs.Id.{id_cmp, child_of, has_callees}
-use Rattle.beldi_value.specs.declared.id.IntentId.{IntentId}
-use Rattle.beldi_value.specs.declared.place.Place.{Place}
-use Rattle.beldi_value.specs.declared.place.TxId.{TxId}
-use Rattle.beldi_tree.specs.declared.deployment.Deployment.{Deployment}
-use Rattle.beldi_lang.specs.declared.effect.Answer.TheVariants as answer
-use Rattle.beldi_lang.specs.declared.effect.Effect.{Effect}
-use Rattle.beldi_lang.specs.declared.effect.Effect.TheVariants as effect
-use Rattle.beldi_plain.specs.Plain.{PlainState, Instance, effect_of, unless}
-use Rattle.beldi_plain.specs.Piece.{Going, enough, gives, at_instance, is_owner, moves_by, with_member, returns_to, ends_by, ends_on, stands_at, falls_by, try_on}
-use Rattle.beldi_executor.specs.Inside.{GoesOn, Moved, Led, Turned, Went, going, seen, can_move, is_stop, most, over_at}
-use Rattle.beldi_executor.specs.declared.draft.Actor.{Actor}
-use Rattle.beldi_executor.specs.declared.draft.Draft.{Draft}
+use Rattle.std.specs.Prelude.{Ok}
+use Rattle.beldi_plain.specs.Piece.{enough}
+use Rattle.beldi_executor.proofs.Names.{Actor, Bool, Deployment, Draft, Effect, GoesOn, Going, Instance, IntentId, Led, Moved, None, Option, Place, PlainState, Some, Turned, TxId, Went, ap, arith, at_instance, can_move, child_of, effect_of, ends_by, ends_on, falls_by, false, gives, going, has_callees, id_cmp, if◌then◌else◌, inl, inr, is_eq, is_owner, is_some, is_stop, length, ltb-true, most, moves_by, not, option_and_then, over_at, refl, returns_to, seen, stands_at, suc, sym, true, try_on, unless, with_member, zero, ℕ, ◌&&◌, ◌*◌, ◌+◌, ◌<◌, ◌==◌, ◌^◌, ◌∙◌, ◌≡◌, ◌≤◌, ◌⊎◌, Answer}
 use Rattle.beldi_executor.proofs.Lines.{its_effect, its_step}
+use Rattle.beldi_executor.proofs.Names.map
 
 -- ---- one step of the definition
 
 -- at a move
 ends_moved : (go : Going → Option PlainState) (t : TxId) (c : Bool) (p : PlainState) (id : IntentId) (q : Instance) (e : Effect) (g : Going) → moves_by t p id q e ≡ Some g → ends_by go t c p id q e ≡ go g
-ends_moved go t c p id q (effect.End b) g h = cc
+ends_moved go t c p id q (Effect.End b) g h = cc
 ends_moved go t c p id q e g h = ap (option_and_then go) h
 
 nothing : (b : Bool) (x : Option PlainState) → (if b && false then x else None) ≡ None
@@ -32,14 +18,14 @@ nothing false x = refl
 
 -- .. and where none is left
 ends_stuck : (go : Going → Option PlainState) (t : TxId) (c : Bool) (p : PlainState) (id : IntentId) (q : Instance) (e : Effect) → moves_by t p id q e ≡ None → ends_by go t c p id q e ≡ over_at t c p id q e
-ends_stuck go t c p id q (effect.End b) h = refl
-ends_stuck go t c p id q e h = ap (option_and_then go) h ∙ sym (nothing (is_owner t id) (Some (gives p id q answer.Done)))
+ends_stuck go t c p id q (Effect.End b) h = refl
+ends_stuck go t c p id q e h = ap (option_and_then go) h ∙ sym (nothing (is_owner t id) (Some (gives p id q Answer.Done)))
 
 no_move : (t : TxId) (p : PlainState) (id : IntentId) (q : Instance) (n : ℕ) (e : Effect) → n ≡ length q.answers → can_move t p.made id n e ≡ false → moves_by t p id q e ≡ None
-no_move t p id q n (effect.Read b k) s h = cc
-no_move t p id q n (effect.Write b k v) s h = cc
-no_move t p id q n (effect.CondWrite b k r o v) s h = cc
-no_move t p id q n (effect.Call f v) s h =
+no_move t p id q n (Effect.Read b k) s h = cc
+no_move t p id q n (Effect.Write b k v) s h = cc
+no_move t p id q n (Effect.CondWrite b k r o v) s h = cc
+no_move t p id q n (Effect.Call f v) s h =
     ap (λ n. if has_callees id then unless (is_some (map.get p.made (child_of id n))) (Some (with_member t p id q f v)) else None) (sym s)
     ∙ neither (has_callees id) (is_some (map.get p.made (child_of id n))) h
   where
@@ -47,7 +33,7 @@ no_move t p id q n (effect.Call f v) s h =
     neither true true h = refl
     neither true false h = cc
     neither false b h = refl
-no_move t p id q n (effect.Return o) s h = owner (is_owner t id) h
+no_move t p id q n (Effect.Return o) s h = owner (is_owner t id) h
   where
     owner : (b : Bool) → not b ≡ false → (if b then None else returns_to p id q o q.from) ≡ None
     owner true h = refl

@@ -9,6 +9,7 @@ mod Kept
 mod Leads
 mod Lines
 mod Made
+mod Names
 mod Returned
 mod Runs
 mod Touched

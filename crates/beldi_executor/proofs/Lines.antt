@@ -1,27 +1,7 @@
 -- Who goes on in a transaction, and who waits.
-use Rattle.std.proofs.Common.{◌≡◌, inl, inr, ◌<◌, Bool, true, false, is_some, List, [], ◌∷◌, length, Some, None, Result, Ok, Err, refl, ap, sym, ◌∙◌, subst, arith}
-use Rattle.std.specs.Prelude.{IfOk}
-use Rattle.std.specs.FinMap as map
-use Rattle.std.specs.Ordering.{is_eq}
-use Rattle.std.specs.declared.alloc.AllocError.{AllocError}
-use Rattle.beldi_value.specs.Id.{id_cmp, id_total, id_exact}
-use Rattle.beldi_value.specs.declared.id.IntentId.{IntentId}
-use Rattle.beldi_value.specs.declared.place.TxId.{TxId}
-use Rattle.beldi_tree.specs.declared.deployment.Deployment.{Deployment}
-use Rattle.beldi_lang.specs.declared.effect.Answer.{Answer}
-use Rattle.beldi_lang.specs.Machine.{resumed}
-use Rattle.beldi_lang.specs.Wants.{wants_answer}
-use Rattle.beldi_lang.proofs.Resumes.{at_effect, at_next}
-use Rattle.beldi_plain.specs.Plain.{PlainState, Instance, answered, effect_of}
-use Rattle.beldi_plain.specs.Piece.{gives}
-use Rattle.beldi_executor.specs.Executor.{at_one}
-use Rattle.beldi_executor.specs.Answers.{IsReady}
-use Rattle.beldi_executor.specs.Inside.{IsDraft, IsCallee, Acts, Line, GoesOn, Gave, after, going, seen, all_gone}
-use Rattle.beldi_executor.specs.declared.draft.Actor.{Actor}
-use Rattle.beldi_executor.specs.declared.draft.Draft.{Draft}
-use Rattle.beldi_executor.proofs.Finite.{apart, there, same_key}
-use Rattle.beldi_executor.proofs.Kept.{stands_there}
-use Rattle.beldi_executor.proofs.Drafts.{IsOne, same_id, same_instance, draft_answered, answered_gone}
+use Rattle.beldi_executor.proofs.Names.{Actor, Acts, AllocError, Answer, Bool, Deployment, Draft, Err, Gave, GoesOn, IfOk, Instance, IntentId, IsCallee, IsDraft, IsReady, Line, List, None, Ok, PlainState, Result, Some, TxId, [], after, all_gone, answered, ap, arith, at_effect, at_next, at_one, effect_of, false, gives, going, id_cmp, id_exact, id_total, inl, inr, is_eq, is_some, length, refl, resumed, seen, subst, sym, true, wants_answer, ◌<◌, ◌∙◌, ◌∷◌, ◌≡◌}
+use Rattle.beldi_executor.proofs.{Finite.apart, Finite.there, Finite.same_key, Kept.stands_there, Drafts.IsOne, Drafts.same_id, Drafts.same_instance, Drafts.draft_answered, Drafts.answered_gone}
+use Rattle.beldi_executor.proofs.Names.map
 
 -- who has fewer hops is another
 pub shorter : (i j : IntentId) → length i.hops < length j.hops → is_eq (id_cmp i j) ≡ false

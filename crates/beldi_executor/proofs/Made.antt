@@ -1,30 +1,7 @@
 -- The state after a step, as its parts make it.
-use Rattle.std.proofs.Common.{◌≡◌, ℕ, ◌<◌, ◌≤◌, Bool, true, false, [], ◌∷◌, ◌++◌, length, length-append, Option, Some, None, Result, Ok, Err, refl, ap, sym, ◌∙◌, subst, arith, is_some, cond}
-use Rattle.std.specs.Prelude.{is_none, OnOk, OnErr, option_map, if◌then◌else◌}
-use Rattle.std.proofs.lemmas.Bool.{ltb-true, ltb-false}
-use Rattle.std.specs.FinMap as map
-use Rattle.std.specs.FinMap.{FinMap, same_map, get-empty, get-remove}
-use Rattle.std.specs.Ordering.{is_eq}
-use Rattle.std.specs.declared.alloc.AllocError.{AllocError}
-use Rattle.beldi_value.specs.Id.{id_cmp, id_total, id_exact, child_of, has_callees}
-use Rattle.beldi_value.specs.declared.id.IntentId.{IntentId}
-use Rattle.beldi_value.specs.declared.value.Value.{Value}
-use Rattle.beldi_value.specs.declared.outcome.Outcome.{Outcome}
-use Rattle.beldi_value.specs.declared.place.Caller.{Caller}
-use Rattle.beldi_lang.specs.declared.effect.Effect.{Effect}
-use Rattle.beldi_lang.specs.declared.effect.Effect.TheVariants as effect
-use Rattle.beldi_lang.specs.declared.effect.Answer.{Answer}
-use Rattle.beldi_lang.specs.declared.effect.Answer.TheVariants as answer
-use Rattle.beldi_lang.specs.Callee.{answer_of}
-use Rattle.beldi_plain.specs.Operation.{OnItem, op_of}
-use Rattle.beldi_plain.specs.Plain.{PlainState, Instance, answered, ended, give, answer_caller, operated, with_instance, with_callee, new_instance, callee_of, calls_at, step_by, AllShort, answered_if}
-use Rattle.beldi_executor.specs.Executor.{IsActed, Made, answer_if, items_if, items_by, instance_by, answer_by, next_of, next_told, next_by, at_one, waiter}
-use Rattle.beldi_executor.specs.Answers.{bar_made}
-use Rattle.beldi_executor.specs.declared.next.Next.{Next}
-use Rattle.beldi_executor.specs.declared.next.Next.TheVariants as next
-use Rattle.beldi_plain.specs.Item.{item_cmp}
-use Rattle.beldi_plain.specs.declared.kind.Kind.TheVariants as kinds
+use Rattle.beldi_executor.proofs.Names.{AllShort, AllocError, Answer, Bool, Caller, Effect, Err, FinMap, Instance, IntentId, IsActed, Made, Next, None, Ok, OnErr, OnItem, OnOk, Option, Outcome, PlainState, Result, Some, Value, [], answer_by, answer_caller, answer_if, answer_of, answered, answered_if, ap, arith, at_one, bar_made, callee_of, calls_at, child_of, cond, ended, false, get-empty, get-remove, give, has_callees, id_cmp, id_exact, id_total, if◌then◌else◌, instance_by, is_eq, is_none, is_some, item_cmp, items_by, items_if, length, length-append, ltb-false, ltb-true, new_instance, next_by, next_of, next_told, op_of, operated, option_map, refl, same_map, step_by, subst, sym, true, waiter, with_callee, with_instance, ℕ, ◌++◌, ◌<◌, ◌∙◌, ◌∷◌, ◌≡◌, ◌≤◌, Kind}
 use Rattle.beldi_executor.proofs.Finite.{apart, there, same_key, same_set, set_removed}
+use Rattle.beldi_executor.proofs.Names.map
 
 pub none_of : {X : Type 0} (o : Option X) → is_some o ≡ false → o ≡ None
 none_of None h = refl
@@ -32,9 +9,9 @@ none_of (Some x) h = cc
 
 -- an effect that is neither a call nor a return
 abbrev pub acts : Effect → Bool
-acts (effect.Call f a) = false
-acts (effect.Async f a) = false
-acts (effect.Return o) = false
+acts (Effect.Call f a) = false
+acts (Effect.Async f a) = false
+acts (Effect.Return o) = false
 acts e = true
 
 -- ---- a read or an operation
@@ -163,15 +140,15 @@ no_callee made id n all none =
 
 -- a read or an operation on an item
 pub acts_so : (p : PlainState) (id : IntentId) (q : Instance) (e : Effect) → acts e ≡ true → map.get p.made id ≡ Some q → record { items = items_by p.items q e; made = map.insert p.made id (instance_by p.items q e) } ≡ step_by p id q e
-acts_so p id q (effect.Read t k) w here = refl
-acts_so p id q (effect.Call f a) w here = cc
-acts_so p id q (effect.Async f a) w here = cc
-acts_so p id q (effect.Return o) w here = cc
+acts_so p id q (Effect.Read t k) w here = refl
+acts_so p id q (Effect.Call f a) w here = cc
+acts_so p id q (Effect.Async f a) w here = cc
+acts_so p id q (Effect.Return o) w here = cc
 acts_so p id q e w here = operation_so p id q (op_of e) here
 
 next_so : (items : FinMap item_cmp Value) (q : Instance) (e : Effect) → acts e ≡ true → next_of (answer_by items q e) ≡ next_by items q e
-next_so items q (effect.Async f a) w = cc
-next_so items q (effect.Return o) w = cc
+next_so items q (Effect.Async f a) w = cc
+next_so items q (Effect.Return o) w = cc
 next_so items q e w = refl
 
 pub acted_so : (p r : PlainState) (id : IntentId) (q : Instance) (e : Effect) (x : Result Next AllocError) → acts e ≡ true → map.get p.made id ≡ Some q → IsActed p r id q e x → Made p r id q e x
@@ -179,18 +156,18 @@ acted_so p r id q e (Ok n) w here h = (h.0 ∙ acts_so p id q e w here, h.1 ∙ 
 acted_so p r id q e (Err z) w here h = h
 
 -- a call that is carried out has room for its callee
-pub room : (id : IntentId) → is_none (bar_made (if has_callees id then kinds.Change else kinds.Unbuilt)) ≡ true → length id.hops < 63
+pub room : (id : IntentId) → is_none (bar_made (if has_callees id then Kind.Change else Kind.Unbuilt)) ≡ true → length id.hops < 63
 room id built =
-    elim (has_callees id) as (λ b. has_callees id ≡ b → is_none (bar_made (if b then kinds.Change else kinds.Unbuilt)) ≡ true → length id.hops < 63) [
+    elim (has_callees id) as (λ b. has_callees id ≡ b → is_none (bar_made (if b then Kind.Change else Kind.Unbuilt)) ≡ true → length id.hops < 63) [
       | true ↦ λ e h. ltb-true (length id.hops) 63 e
       | false ↦ λ e h. cc
     ] refl built
 
 -- an effect that is none of the three acts
-pub acts_other : (e : Effect) → ((f : ℕ) (a : Value) → e ≡ effect.Call f a → ⊥) → ((f : ℕ) (a : Value) → e ≡ effect.Async f a → ⊥) → ((o : Outcome) → e ≡ effect.Return o → ⊥) → acts e ≡ true
-acts_other (effect.Call f a) c s r = absurd (c f a refl)
-acts_other (effect.Async f a) c s r = absurd (s f a refl)
-acts_other (effect.Return o) c s r = absurd (r o refl)
+pub acts_other : (e : Effect) → ((f : ℕ) (a : Value) → e ≡ Effect.Call f a → ⊥) → ((f : ℕ) (a : Value) → e ≡ Effect.Async f a → ⊥) → ((o : Outcome) → e ≡ Effect.Return o → ⊥) → acts e ≡ true
+acts_other (Effect.Call f a) c s r = absurd (c f a refl)
+acts_other (Effect.Async f a) c s r = absurd (s f a refl)
+acts_other (Effect.Return o) c s r = absurd (r o refl)
 acts_other e c s r = refl
 
 -- ---- a call that nobody waits for
@@ -207,12 +184,12 @@ not_own id n =
     ] refl
 
 -- its callee is made, and it is answered ..
-pub sends_so : (p r : PlainState) (id : IntentId) (q : Instance) (f : ℕ) (a : Value) (now : FinMap id_cmp Instance) → map.get p.made id ≡ Some q → r ≡ with_callee p id q f a false → now ≡ at_one r.made id (λ q. answered q answer.Done) (map.get r.made id) → record { items = r.items; made = now } ≡ step_by p id q (effect.Async f a)
+pub sends_so : (p r : PlainState) (id : IntentId) (q : Instance) (f : ℕ) (a : Value) (now : FinMap id_cmp Instance) → map.get p.made id ≡ Some q → r ≡ with_callee p id q f a false → now ≡ at_one r.made id (λ q. answered q Answer.Done) (map.get r.made id) → record { items = r.items; made = now } ≡ step_by p id q (Effect.Async f a)
 sends_so p r id q f a now here is does =
     let k = callee_of id q in
     let s = new_instance f a (Some (calls_at id q false)) in
-    let after : FinMap id_cmp Instance → Option Instance → FinMap id_cmp Instance = λ m. at_one m id (λ q. answered q answer.Done) in
-    let same : now ≡ (step_by p id q (effect.Async f a)).made =
+    let after : FinMap id_cmp Instance → Option Instance → FinMap id_cmp Instance = λ m. at_one m id (λ q. answered q Answer.Done) in
+    let same : now ≡ (step_by p id q (Effect.Async f a)).made =
     does ∙ ap (λ (r : PlainState). after r.made (map.get r.made id)) is ∙ ap (after (map.insert p.made k s)) (apart id_total p.made k id s (not_own id (length q.answers)) ∙ here) in
     λ i. record { items = (is i).items; made = same i }
 
@@ -226,7 +203,7 @@ unsent p r id q n f a now free step is does =
     λ i. record { items = (is i).items; made = same i }
 
 -- a return that is told to who waits
-pub tells_so : (p : PlainState) (id c : IntentId) (q found : Instance) (w : Option IntentId) (o ends : Outcome) (x y : Answer) (one two : FinMap id_cmp Instance) → map.get p.made id ≡ Some found → w ≡ waiter found.from → w ≡ Some c → ends ≡ o → x ≡ answer_of o → y ≡ answer_of o → one ≡ at_one p.made c (λ r. answered r x) (map.get p.made c) → two ≡ at_one one id (λ r. ended r ends) (map.get one id) → map.get p.made id ≡ Some q → Made p (record { items = p.items; made = two }) id q (effect.Return o) (Ok (next.Tells c y))
+pub tells_so : (p : PlainState) (id c : IntentId) (q found : Instance) (w : Option IntentId) (o ends : Outcome) (x y : Answer) (one two : FinMap id_cmp Instance) → map.get p.made id ≡ Some found → w ≡ waiter found.from → w ≡ Some c → ends ≡ o → x ≡ answer_of o → y ≡ answer_of o → one ≡ at_one p.made c (λ r. answered r x) (map.get p.made c) → two ≡ at_one one id (λ r. ended r ends) (map.get one id) → map.get p.made id ≡ Some q → Made p (record { items = p.items; made = two }) id q (Effect.Return o) (Ok (Next.Tells c y))
 tells_so p id c q found w o ends x y one two there waits is same first also answers ends_so here =
     let found_is : found ≡ q = let both = sym there ∙ here in cc in
     let told : waiter q.from ≡ Some c = ap (λ (r : Instance). waiter r.from) (sym found_is) ∙ sym waits ∙ is in (
@@ -234,5 +211,5 @@ tells_so p id c q found w o ends x y one two there waits is same first also answ
           (answers ∙ ap (λ a. at_one p.made c (λ r. answered r a) (map.get p.made c)) first)
           (ends_so ∙ ap (λ z. at_one one id (λ r. ended r z) (map.get one id)) same)
           ∙ sym (caller_told (with_instance p id (ended q o)) q.from o ∙ ap (λ w. tell (with_instance p id (ended q o)) w o) told),
-      ap (λ a. next.Tells c a) also ∙ sym (ap (λ w. next_told w o) told),
+      ap (λ a. Next.Tells c a) also ∙ sym (ap (λ w. next_told w o) told),
     )

@@ -1,26 +1,7 @@
 -- A return of the one at the front, whose caller is answered.
-use Rattle.std.proofs.Common.{◌≡◌, ◌<◌, Bool, true, false, cond, List, [], ◌∷◌, length, Option, Some, None, Result, Ok, Err, refl, ap, sym, ◌∙◌, subst}
-use Rattle.std.specs.Prelude.{not, if◌then◌else◌}
-use Rattle.std.specs.FinMap as map
-use Rattle.std.specs.FinMap.{get-insert, same_map}
-use Rattle.std.specs.Ordering.{is_eq}
-use Rattle.std.specs.declared.alloc.AllocError.{AllocError}
-use Rattle.beldi_value.specs.Id.{id_cmp, id_total, id_exact}
-use Rattle.beldi_value.specs.declared.id.IntentId.{IntentId}
-use Rattle.beldi_value.specs.declared.outcome.Outcome.{Outcome}
-use Rattle.beldi_value.specs.declared.place.TxId.{TxId}
-use Rattle.beldi_tree.specs.declared.deployment.Deployment.{Deployment}
-use Rattle.beldi_lang.specs.declared.effect.Effect.TheVariants as effect
-use Rattle.beldi_lang.specs.Callee.{answer_of}
-use Rattle.beldi_plain.specs.Plain.{PlainState, Instance, answered, ended, with_instance}
-use Rattle.beldi_plain.specs.Piece.{is_owner, moves_by, returns_to}
-use Rattle.beldi_executor.specs.Executor.{at_one}
-use Rattle.beldi_executor.specs.Inside.{IsCallee, Line, GoesOn, Gave, Moved, Left, seen, all_gone, can_move}
-use Rattle.beldi_executor.specs.declared.draft.Actor.{Actor}
-use Rattle.beldi_executor.specs.declared.draft.Draft.{Draft}
-use Rattle.beldi_executor.proofs.Finite.{apart, same_key}
-use Rattle.beldi_executor.proofs.Drafts.{Instances, same_id, same_instance, draft_member, member_gone, answered_gone}
-use Rattle.beldi_executor.proofs.Lines.{shorter, line_kept, line_one}
+use Rattle.beldi_executor.proofs.Names.{Actor, AllocError, Bool, Deployment, Draft, Err, Gave, GoesOn, Instance, IntentId, IsCallee, Left, Line, List, Moved, None, Ok, Option, Outcome, PlainState, Result, Some, TxId, [], all_gone, answer_of, answered, ap, at_one, can_move, cond, ended, false, get-insert, id_cmp, id_exact, id_total, if◌then◌else◌, is_eq, is_owner, length, moves_by, not, refl, returns_to, same_map, seen, subst, sym, true, with_instance, ◌<◌, ◌∙◌, ◌∷◌, ◌≡◌, Effect}
+use Rattle.beldi_executor.proofs.{Finite.apart, Finite.same_key, Drafts.Instances, Drafts.same_id, Drafts.same_instance, Drafts.draft_member, Drafts.member_gone, Drafts.answered_gone, Lines.shorter, Lines.line_kept, Lines.line_one}
+use Rattle.beldi_executor.proofs.Names.map
 
 not_false : (b : Bool) → not b ≡ true → b ≡ false
 not_false false h = refl
@@ -97,7 +78,7 @@ module _ (d : Deployment) (t : TxId) (p : PlainState) (q : Instance) (r m s : Pl
 -- the callee at the front ends
 module _ (d : Deployment) (t : TxId) (p : PlainState) (q : Instance) (r : PlainState) (h : Draft) (a w : Actor) (ws : List Actor) (o : Outcome)
     (g : GoesOn d t p q r h a)
-    (returns : a.machine.effect ≡ effect.Return o)
+    (returns : a.machine.effect ≡ Effect.Return o)
     (waits : h.waiting ≡ w ∷ ws) where
   abbrev popped : Draft
   popped = record h { waiting = ws }
@@ -149,7 +130,7 @@ module _ (d : Deployment) (t : TxId) (p : PlainState) (q : Instance) (r : PlainS
       by_give n i = give_one n i (map.get n.made i)
 
 -- who is not the owner is waited for
-pub awaited : (d : Deployment) (t : TxId) (p : PlainState) (q : Instance) (r : PlainState) (h : Draft) (a : Actor) (o : Outcome) → GoesOn d t p q r h a → a.machine.effect ≡ effect.Return o → h.waiting ≡ [] → can_move t r.made a.id a.machine.steps a.machine.effect ≡ true → ⊥
+pub awaited : (d : Deployment) (t : TxId) (p : PlainState) (q : Instance) (r : PlainState) (h : Draft) (a : Actor) (o : Outcome) → GoesOn d t p q r h a → a.machine.effect ≡ Effect.Return o → h.waiting ≡ [] → can_move t r.made a.id a.machine.steps a.machine.effect ≡ true → ⊥
 awaited d t p q r h a o g returns none can =
     let is : a.id ≡ t.intent = subst (Line d t r h.members a.id) none g.line in
     let other : is_owner t a.id ≡ false = not_false (is_owner t a.id) (ap (can_move t r.made a.id a.machine.steps) (sym returns) ∙ can) in

@@ -1,14 +1,6 @@
 -- The run of the first entries.
-use Rattle.std.proofs.Common.{◌≡◌, ℕ, suc, zero, ◌+◌, ◌<◌, List, [], ◌∷◌, ◌++◌, length, take, drop, Option, Some, None, Ok, Err, refl, ap, sym, ◌∙◌, add-one, arith}
-use Rattle.std.specs.Prelude.{slice_get, option_and_then}
-use Rattle.beldi_tree.specs.declared.deployment.Deployment.{Deployment}
-use Rattle.beldi_book.specs.declared.entry.Entry.{Entry}
-use Rattle.beldi_plain.specs.Plain.{PlainState}
 use Rattle.beldi_plain.specs.Entries.{after}
-use Rattle.beldi_plain.specs.Legal.{run_from}
-use Rattle.beldi_executor.specs.Answers.{Did, Ran, Began, bar_of}
-use Rattle.beldi_executor.specs.declared.plain.PlainErr.{PlainErr}
-use Rattle.beldi_executor.specs.declared.plain.PlainErr.TheVariants.{OutOfMemory, NotEnabled}
+use Rattle.beldi_executor.proofs.Names.{Began, Deployment, Did, Entry, Err, List, None, NotEnabled, Ok, Option, OutOfMemory, PlainErr, PlainState, Ran, Some, [], add-one, ap, arith, bar_of, drop, length, option_and_then, refl, run_from, slice_get, suc, sym, take, zero, ℕ, ◌++◌, ◌+◌, ◌<◌, ◌∙◌, ◌∷◌, ◌≡◌}
 
 split : (es : List Entry) (i : ℕ) (e : Entry) → slice_get es i ≡ Some e → (take i es ++ e ∷ drop (suc i) es ≡ es) × (take (suc i) es ≡ take i es ++ e ∷ [])
 split [] i e h = cc

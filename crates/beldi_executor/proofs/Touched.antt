@@ -1,47 +1,21 @@
 -- A read or an operation of the one at the front, in place and as it is seen.
-use Rattle.std.proofs.Common.{◌≡◌, ℕ, true, is_some, List, Some, Result, Ok, Err, refl, ap, sym, ◌∙◌, subst}
-use Rattle.std.specs.FinMap as map
-use Rattle.std.specs.FinMap.{FinMap}
-use Rattle.std.specs.declared.alloc.AllocError.{AllocError}
-use Rattle.beldi_value.specs.Id.{id_cmp}
-use Rattle.beldi_value.specs.declared.outcome.Outcome.{Outcome}
-use Rattle.beldi_value.specs.declared.value.Value.{Value}
-use Rattle.beldi_value.specs.declared.id.IntentId.{IntentId}
-use Rattle.beldi_value.specs.declared.place.TxId.{TxId}
-use Rattle.beldi_value.specs.declared.value.Value.{Value}
-use Rattle.beldi_tree.specs.declared.deployment.Deployment.{Deployment}
-use Rattle.beldi_lang.specs.declared.effect.Answer.{Answer}
-use Rattle.beldi_lang.specs.declared.effect.Effect.{Effect}
-use Rattle.beldi_lang.specs.declared.effect.Effect.TheVariants as effect
-use Rattle.beldi_lang.specs.Wants.{wants_answer}
-use Rattle.beldi_plain.specs.Item.{item_cmp}
-use Rattle.beldi_plain.specs.Operation.{op_of, touched}
-use Rattle.beldi_plain.specs.Plain.{PlainState, Instance, answered, step_by, answered_if}
-use Rattle.beldi_plain.specs.Piece.{gives, moves_by}
-use Rattle.beldi_executor.specs.Executor.{items_by, answer_by, instance_by}
-use Rattle.beldi_executor.specs.Undo.{MadeIn, IsUndone, puts, keeps, all_swept}
-use Rattle.beldi_executor.specs.Inside.{can_move, IsDraft, GoesOn, Gave, Moved, seen}
-use Rattle.beldi_executor.specs.declared.undo.Was.{Was}
-use Rattle.beldi_executor.specs.declared.draft.Actor.{Actor}
-use Rattle.beldi_executor.specs.declared.draft.Draft.{Draft}
-use Rattle.beldi_executor.proofs.Made.{acts, acts_so}
-use Rattle.beldi_executor.proofs.InPlace.{puts_undone, puts_seen, answer_seen}
-use Rattle.beldi_executor.proofs.Drafts.{same_instance, draft_kept}
-use Rattle.beldi_executor.proofs.Lines.{gave_seen, line_changed}
+use Rattle.beldi_executor.proofs.Names.{Actor, AllocError, Answer, Deployment, Draft, Effect, Err, FinMap, Gave, GoesOn, Instance, IntentId, IsDraft, IsUndone, List, MadeIn, Moved, Ok, Outcome, PlainState, Result, Some, TxId, Value, Was, all_swept, answer_by, answered, answered_if, ap, can_move, gives, id_cmp, instance_by, is_some, item_cmp, items_by, keeps, moves_by, op_of, puts, refl, seen, step_by, subst, sym, touched, true, wants_answer, ℕ, ◌∙◌, ◌≡◌}
+use Rattle.beldi_executor.proofs.{Made.acts, Made.acts_so, InPlace.puts_undone, InPlace.puts_seen, InPlace.answer_seen, Drafts.same_instance, Drafts.draft_kept, Lines.gave_seen, Lines.line_changed}
+use Rattle.beldi_executor.proofs.Names.map
 
 touched_acts : (e : Effect) → is_some (touched e) ≡ true → (acts e ≡ true) × (wants_answer e ≡ true)
-touched_acts (effect.Call f a) t = cc
-touched_acts (effect.Async f a) t = cc
-touched_acts (effect.Return o) t = cc
+touched_acts (Effect.Call f a) t = cc
+touched_acts (Effect.Async f a) t = cc
+touched_acts (Effect.Return o) t = cc
 touched_acts e t = (refl, refl)
 
 pub touched_wants : (e : Effect) → is_some (touched e) ≡ true → wants_answer e ≡ true
 touched_wants e t = (touched_acts e t).1
 
 touched_moves : (t : TxId) (p : PlainState) (id : IntentId) (q : Instance) (e : Effect) → is_some (touched e) ≡ true → moves_by t p id q e ≡ Some (record { state = step_by p id q e; front = id })
-touched_moves t p id q (effect.Read b k) h = refl
-touched_moves t p id q (effect.Write b k v) h = refl
-touched_moves t p id q (effect.CondWrite b k r o v) h = refl
+touched_moves t p id q (Effect.Read b k) h = refl
+touched_moves t p id q (Effect.Write b k v) h = refl
+touched_moves t p id q (Effect.CondWrite b k r o v) h = refl
 touched_moves t p id q e h = cc
 
 -- the step that is made in place is the one that is seen
@@ -90,10 +64,10 @@ module _ (d : Deployment) (t : TxId) (p : PlainState) (q : Instance) (r : PlainS
   touched_moved s (Err e) gave = gave
 
 -- what has a move, and is neither a call nor a return
-pub can_touch : (t : TxId) (made : FinMap id_cmp Instance) (id : IntentId) (n : ℕ) (e : Effect) → can_move t made id n e ≡ true → ((f : ℕ) (v : Value) → e ≡ effect.Call f v → ⊥) → ((o : Outcome) → e ≡ effect.Return o → ⊥) → is_some (touched e) ≡ true
-can_touch t made id n (effect.Read b k) can c r = refl
-can_touch t made id n (effect.Write b k v) can c r = refl
-can_touch t made id n (effect.CondWrite b k q o v) can c r = refl
-can_touch t made id n (effect.Call f v) can c r = absurd (c f v refl)
-can_touch t made id n (effect.Return o) can c r = absurd (r o refl)
+pub can_touch : (t : TxId) (made : FinMap id_cmp Instance) (id : IntentId) (n : ℕ) (e : Effect) → can_move t made id n e ≡ true → ((f : ℕ) (v : Value) → e ≡ Effect.Call f v → ⊥) → ((o : Outcome) → e ≡ Effect.Return o → ⊥) → is_some (touched e) ≡ true
+can_touch t made id n (Effect.Read b k) can c r = refl
+can_touch t made id n (Effect.Write b k v) can c r = refl
+can_touch t made id n (Effect.CondWrite b k q o v) can c r = refl
+can_touch t made id n (Effect.Call f v) can c r = absurd (c f v refl)
+can_touch t made id n (Effect.Return o) can c r = absurd (r o refl)
 can_touch t made id n e can c r = cc

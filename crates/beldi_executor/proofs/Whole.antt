@@ -1,30 +1,8 @@
 -- A transaction as a whole: from its begin, and what its call answers.
-use Rattle.std.proofs.Common.{◌≡◌, Bool, true, false, [], Option, Some, None, Ok, Err, refl, ap, sym, ◌∙◌, subst}
-use Rattle.std.specs.Prelude.{option_and_then, if◌then◌else◌}
-use Rattle.std.specs.FinMap as map
-use Rattle.beldi_value.specs.Id.{id_total}
-use Rattle.beldi_value.specs.declared.id.IntentId.{IntentId}
-use Rattle.beldi_value.specs.declared.place.Place.{Place}
-use Rattle.beldi_value.specs.declared.place.TxId.{TxId}
-use Rattle.beldi_tree.specs.declared.deployment.Deployment.{Deployment}
-use Rattle.beldi_lang.specs.declared.effect.Answer.TheVariants as answer
-use Rattle.beldi_lang.specs.declared.effect.Effect.TheVariants as effect
-use Rattle.beldi_lang.specs.declared.machine.Machine.{Machine}
-use Rattle.beldi_lang.specs.Wants.{wants_answer}
-use Rattle.beldi_plain.specs.Plain.{PlainState, Instance, with_instance}
-use Rattle.beldi_plain.specs.Piece.{Going, enough, opened, tx_begun, ends_on, try_on, with_answers, at_instance, is_holder}
-use Rattle.beldi_executor.specs.Answers.{IsReady, bar_no, bar_holder}
-use Rattle.beldi_executor.specs.Undo.{all_back}
-use Rattle.beldi_executor.specs.Inside.{IsDraft, Acts, Line, GoesOn, Comes, Pieced, Tried, after, seen, all_gone, no_end, try_of}
-use Rattle.beldi_executor.specs.declared.draft.Actor.{Actor}
-use Rattle.beldi_executor.specs.declared.draft.Draft.{Draft}
-use Rattle.beldi_executor.specs.declared.plain.Bar.{Bar}
-use Rattle.beldi_executor.specs.declared.plain.Bar.TheVariants.{NoPlace, NotOlder}
-use Rattle.beldi_executor.specs.declared.plain.PlainErr.{PlainErr}
-use Rattle.beldi_executor.specs.declared.plain.PlainErr.TheVariants.{OutOfMemory, NotEnabled}
-use Rattle.beldi_executor.proofs.Finite.{apart, there}
-use Rattle.beldi_executor.proofs.Drafts.{first_draft, same_id, same_instance, others_kept, answers_stay}
-use Rattle.beldi_executor.proofs.Lines.{acts_ready, ready_acts, its_step}
+use Rattle.beldi_plain.specs.Piece.{enough}
+use Rattle.beldi_executor.proofs.Names.{Actor, Acts, Bar, Bool, Comes, Deployment, Draft, Err, GoesOn, Going, Instance, IntentId, IsDraft, IsReady, Line, Machine, NoPlace, None, NotEnabled, NotOlder, Ok, Option, OutOfMemory, Pieced, Place, PlainErr, PlainState, Some, Tried, TxId, [], after, all_back, all_gone, ap, at_instance, bar_holder, bar_no, ends_on, false, id_total, if◌then◌else◌, is_holder, no_end, opened, option_and_then, refl, seen, subst, sym, true, try_of, try_on, tx_begun, wants_answer, with_answers, with_instance, ◌∙◌, ◌≡◌, Answer, Effect}
+use Rattle.beldi_executor.proofs.{Finite.apart, Finite.there, Drafts.first_draft, Drafts.same_id, Drafts.same_instance, Drafts.others_kept, Drafts.answers_stay, Lines.acts_ready, Lines.ready_acts, Lines.its_step}
+use Rattle.beldi_executor.proofs.Names.map
 
 -- who begins it
 abbrev pub owner_of : IntentId → Instance → Machine → Actor
@@ -36,11 +14,11 @@ draft_of a = record { tx = record { intent = a.id; begin = a.machine.steps; func
 -- the owner at the front and its draft, where the transaction begins
 pub record Opens (d : Deployment) (p : PlainState) (id : IntentId) (q : Instance) (a : Actor) (h : Draft) : Type 0 where
   pub goes : GoesOn d (tx_begun id q) p q p h a
-  pub begins : a.machine.effect ≡ effect.Begin
+  pub begins : a.machine.effect ≡ Effect.Begin
   pub here : map.get p.made a.id ≡ Some q
-  pub start : after p h a q answer.Done ≡ opened p id q
+  pub start : after p h a q Answer.Done ≡ opened p id q
 
-pub opens : {d : Deployment} {p : PlainState} {id : IntentId} {m : Machine} {a : Actor} {h : Draft} (q : Instance) → IsReady d p id m × (m.effect ≡ effect.Begin) → map.get p.made id ≡ Some q → a ≡ owner_of id q m → h ≡ draft_of a → Opens d p id q a h
+pub opens : {d : Deployment} {p : PlainState} {id : IntentId} {m : Machine} {a : Actor} {h : Draft} (q : Instance) → IsReady d p id m × (m.effect ≡ Effect.Begin) → map.get p.made id ≡ Some q → a ≡ owner_of id q m → h ≡ draft_of a → Opens d p id q a h
 opens {d} {p} {id} {m} {a} {h} q (ready, begins) here owner first =
     let t = tx_begun id q in
     let acts : Acts d p (owner_of id q m) = ready_acts d p (owner_of id q m) ready (ap wants_answer begins) (λ z is. ap (λ (i : Instance). i.func) (same_instance (map.get p.made id) q z here is)) in
@@ -50,7 +28,7 @@ opens {d} {p} {id} {m} {a} {h} q (ready, begins) here owner first =
       goes = record { draft = first_draft t p q h here draft; acts = acts; line = subst (λ (h : Draft). Line d t p h.members id h.waiting) (sym draft) refl };
       begins = begins;
       here = here;
-      start = ap (λ (k : Draft). after p k (owner_of id q m) q answer.Done) draft;
+      start = ap (λ (k : Draft). after p k (owner_of id q m) q Answer.Done) draft;
     })
 
 -- ---- what it comes to

@@ -1,27 +1,13 @@
 -- What the executor's calls answer.
 use Rattle.std.specs.Prelude.{◌≡◌, ℕ, zero, suc, Bool, true, false, List, ◌∷◌, ◌++◌, Option, Some, None, Result, Ok, Err, is_none}
 use Rattle.std.specs.FinMap as map
-use Rattle.beldi_value.specs.Id.{root_of}
-use Rattle.beldi_value.specs.declared.id.IntentId.{IntentId}
-use Rattle.beldi_value.specs.declared.outcome.Outcome.{Outcome}
+use Rattle.beldi_value.specs.{Id.root_of, declared.id.IntentId.IntentId, declared.outcome.Outcome.Outcome, declared.place.Place.Place}
 use Rattle.beldi_tree.specs.declared.deployment.Deployment.{Deployment}
-use Rattle.beldi_value.specs.declared.place.Place.{Place}
-use Rattle.beldi_lang.specs.declared.effect.Effect.{Effect}
-use Rattle.beldi_lang.specs.declared.effect.Effect.TheVariants as effect
-use Rattle.beldi_lang.specs.declared.machine.Machine.{Machine}
-use Rattle.beldi_book.specs.declared.entry.Entry.{Entry}
-use Rattle.beldi_book.specs.declared.entry.Entry.TheVariants.{Start, Read, Step, Tx, Try}
-use Rattle.beldi_plain.specs.Plain.{PlainState, Instance, effect_of, kind_of, is_waiting, step}
-use Rattle.beldi_plain.specs.Entries.{after}
-use Rattle.beldi_executor.specs.Executor.{StandsFor}
-use Rattle.beldi_plain.specs.Legal.{run_from}
-use Rattle.beldi_plain.specs.Piece.{enough, opened, tx_begun, ends_on, try_on, is_holder}
-use Rattle.beldi_plain.specs.declared.kind.Kind.{Kind}
-use Rattle.beldi_plain.specs.declared.kind.Kind.TheVariants as kinds
-use Rattle.beldi_executor.specs.declared.plain.Bar.{Bar}
+use Rattle.beldi_lang.specs.declared.{effect.Effect.Effect, machine.Machine.Machine}
+use Rattle.beldi_book.specs.declared.entry.Entry.{Entry, TheVariants.Start, TheVariants.Read, TheVariants.Step, TheVariants.Tx, TheVariants.Try}
+use Rattle.beldi_plain.specs.{Plain.PlainState, Plain.Instance, Plain.effect_of, Plain.kind_of, Plain.is_waiting, Plain.step, Entries.after, Legal.run_from, Piece.enough, Piece.opened, Piece.tx_begun, Piece.ends_on, Piece.try_on, Piece.is_holder, declared.kind.Kind.Kind}
 use Rattle.beldi_executor.specs.declared.plain.Bar.TheVariants.{AlreadyStarted, NotStarted, Over, Waiting, OtherEffect, NoEnd, NoPlace, NotOlder}
-use Rattle.beldi_executor.specs.declared.plain.PlainErr.{PlainErr}
-use Rattle.beldi_executor.specs.declared.plain.PlainErr.TheVariants.{OutOfMemory, NotEnabled}
+use Rattle.beldi_executor.specs.{Executor.StandsFor, declared.plain.Bar.Bar, declared.plain.PlainErr.PlainErr, declared.plain.PlainErr.TheVariants.OutOfMemory, declared.plain.PlainErr.TheVariants.NotEnabled}
 
 -- what bars a start: ticket 0, or that the root was made
 abbrev pub bar_start : ℕ → Option Instance → Option Bar
@@ -45,19 +31,19 @@ bar_step (Some q) w f = bar_open q.outcome (bar_waiting (w q) (f q))
 
 -- what bars an effect of this kind from being entered as a read, or else as a change
 abbrev pub bar_as : Bool → Kind → Option Bar
-bar_as true kinds.Read = None
-bar_as true kinds.Change = Some OtherEffect
-bar_as false kinds.Read = Some OtherEffect
-bar_as false kinds.Change = None
-bar_as b kinds.Inside = Some OtherEffect
-bar_as b kinds.Unbuilt = Some OtherEffect
+bar_as true Kind.Read = None
+bar_as true Kind.Change = Some OtherEffect
+bar_as false Kind.Read = Some OtherEffect
+bar_as false Kind.Change = None
+bar_as b Kind.Inside = Some OtherEffect
+bar_as b Kind.Unbuilt = Some OtherEffect
 
 -- what bars it from being made at all
 abbrev pub bar_made : Kind → Option Bar
-bar_made kinds.Read = None
-bar_made kinds.Change = None
-bar_made kinds.Inside = Some OtherEffect
-bar_made kinds.Unbuilt = Some OtherEffect
+bar_made Kind.Read = None
+bar_made Kind.Change = None
+bar_made Kind.Inside = Some OtherEffect
+bar_made Kind.Unbuilt = Some OtherEffect
 
 -- what bars a transaction that commits, at its begin: that it does not reach such an end
 abbrev pub bar_no : {X : Type 0} → Bar → Option X → Option Bar → Option Bar
@@ -65,7 +51,7 @@ bar_no b None c = Some b
 bar_no b (Some x) c = c
 
 abbrev pub bar_piece : Deployment → PlainState → IntentId → Instance → Effect → Option Bar
-bar_piece d p id q effect.Begin = bar_no NoEnd (ends_on d enough (tx_begun id q) true (opened p id q)) None
+bar_piece d p id q Effect.Begin = bar_no NoEnd (ends_on d enough (tx_begun id q) true (opened p id q)) None
 bar_piece d p id q e = Some OtherEffect
 
 -- .. and one that aborts: that it does not reach the place, or that its holder is none
@@ -74,7 +60,7 @@ bar_holder true = None
 bar_holder false = Some NotOlder
 
 abbrev pub bar_try : Deployment → PlainState → IntentId → Place → Option IntentId → Instance → Effect → Option Bar
-bar_try d p id a h q effect.Begin = bar_no NoPlace (try_on d enough (tx_begun id q) a h (opened p id q)) (bar_holder (is_holder p id h))
+bar_try d p id a h q Effect.Begin = bar_no NoPlace (try_on d enough (tx_begun id q) a h (opened p id q)) (bar_holder (is_holder p id h))
 bar_try d p id a h q e = Some OtherEffect
 
 abbrev pub bar_of : Deployment → PlainState → Entry → Option Bar

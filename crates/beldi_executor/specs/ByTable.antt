@@ -1,14 +1,8 @@
 -- The items table by table.
 use Rattle.std.specs.Prelude.{ℕ, List, Option, Some, None, map, flat_map, option_and_then, refl}
+use Rattle.std.specs.{FinMap.FinMap, FinMap.IsAntisymmetric, FinMap.nat_cmp-IsAntisymmetric, FinMap.slice_cmp-IsAntisymmetric, Coded.Coded, Coded.code_by, Coded.coded×, Coded.coded_ℕ, Ordering.nat_cmp, Ordering.ordering_then, Cmp.IsTotalOrder, Cmp.nat_cmp_total, Cmp.on_total, Cmp.then_total, Cmp.Lexicographic.slice_cmp, Cmp.Lexicographic.nat_list_cmp_total, declared.cmp.Ordering.Ordering}
 use Rattle.std.specs.FinMap as finite
-use Rattle.std.specs.FinMap.{FinMap, IsAntisymmetric, nat_cmp-IsAntisymmetric, slice_cmp-IsAntisymmetric}
-use Rattle.std.specs.Coded.{Coded, code_by, coded×, coded_ℕ}
-use Rattle.std.specs.Ordering.{nat_cmp, ordering_then}
-use Rattle.std.specs.Cmp.{IsTotalOrder, nat_cmp_total, on_total, then_total}
-use Rattle.std.specs.Cmp.Lexicographic.{slice_cmp, nat_list_cmp_total}
-use Rattle.std.specs.declared.cmp.Ordering.{Ordering}
-use Rattle.beldi_value.specs.Id.{then_both}
-use Rattle.beldi_value.specs.declared.value.Value.{Value}
+use Rattle.beldi_value.specs.{Id.then_both, declared.value.Value.Value}
 use Rattle.beldi_plain.specs.Item.{Item, item_cmp}
 use Rattle.beldi_executor.specs.declared.tables.TableId.{TableId}
 

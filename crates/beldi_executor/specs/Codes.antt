@@ -1,23 +1,16 @@
 -- Plain states as data.
 use Rattle.std.specs.Prelude.{ℕ, List, Option, refl}
-use Rattle.std.specs.Coded.{Coded, code_by, coded×, coded_ℕ, coded_list, coded_option}
+use Rattle.std.specs.{Coded.Coded, Coded.code_by, Coded.coded×, Coded.coded_ℕ, Coded.coded_list, Coded.coded_option, FinMap.FinMap}
 use Rattle.std.specs.FinMap as map
-use Rattle.std.specs.FinMap.{FinMap}
-use Rattle.beldi_value.specs.Id.{id_cmp, coded_id}
-use Rattle.beldi_value.specs.Injective.{coded_value}
+use Rattle.beldi_value.specs.{Id.id_cmp, Id.coded_id, Injective.coded_value, declared.place.Caller.Caller, declared.place.TxId.TxId, declared.value.Value.Value, declared.outcome.Outcome.Outcome}
 use Rattle.beldi_value.specs.contracts.outcome.Outcome as outcome
 use Rattle.beldi_value.specs.contracts.place.Caller as caller
 use Rattle.beldi_value.specs.contracts.place.TxId as transaction
-use Rattle.beldi_value.specs.declared.place.Caller.{Caller}
-use Rattle.beldi_value.specs.declared.place.TxId.{TxId}
-use Rattle.beldi_value.specs.declared.value.Value.{Value}
-use Rattle.beldi_value.specs.declared.outcome.Outcome.{Outcome}
-use Rattle.beldi_lang.specs.contracts.effect.Answer as answer
-use Rattle.beldi_lang.specs.declared.effect.Answer.{Answer}
-use Rattle.beldi_tree.specs.contracts.deployment.Deployment as deployment
 use Rattle.beldi_tree.specs.declared.deployment.Deployment.{Deployment}
-use Rattle.beldi_plain.specs.Item.{item_cmp, coded_item}
-use Rattle.beldi_plain.specs.Plain.{Instance, PlainState}
+use Rattle.beldi_tree.specs.contracts.deployment.Deployment as deployment
+use Rattle.beldi_lang.specs.declared.effect.Answer.{Answer}
+use Rattle.beldi_lang.specs.contracts.effect.Answer as answer
+use Rattle.beldi_plain.specs.{Item.item_cmp, Item.coded_item, Plain.Instance, Plain.PlainState}
 use Rattle.beldi_executor.specs.Executor.{Executor}
 
 abbrev pub coded_instance : Coded Instance

@@ -1,28 +1,13 @@
 -- What contracts see of the executor, and which machines it keeps.
 use Rattle.std.specs.Prelude.{◌≡◌, ◌⊎◌, ℕ, Bool, length, take, List, Option, Some, None, Result, Ok, Err, IsTrue, true, is_some, if◌then◌else◌}
+use Rattle.std.specs.{FinMap.FinMap, declared.alloc.AllocError.AllocError}
 use Rattle.std.specs.FinMap as map
-use Rattle.std.specs.FinMap.{FinMap}
-use Rattle.std.specs.declared.alloc.AllocError.{AllocError}
-use Rattle.beldi_value.specs.Id.{id_cmp}
-use Rattle.beldi_value.specs.declared.id.IntentId.{IntentId}
-use Rattle.beldi_value.specs.declared.value.Value.{Value}
-use Rattle.beldi_value.specs.declared.outcome.Outcome.{Outcome}
-use Rattle.beldi_value.specs.declared.place.Caller.{Caller}
-use Rattle.beldi_tree.specs.Bindings.{or_null}
-use Rattle.beldi_tree.specs.declared.deployment.Deployment.{Deployment}
-use Rattle.beldi_lang.specs.declared.effect.Answer.{Answer}
-use Rattle.beldi_lang.specs.declared.effect.Answer.TheVariants as answer
-use Rattle.beldi_lang.specs.declared.effect.Effect.{Effect}
-use Rattle.beldi_lang.specs.declared.effect.Effect.TheVariants as effect
-use Rattle.beldi_lang.specs.declared.machine.Machine.{Machine}
-use Rattle.beldi_lang.specs.Callee.{answer_of}
-use Rattle.beldi_lang.specs.Machine.{IsAt, resumed}
-use Rattle.beldi_lang.specs.Wants.{wants, wants_answer}
-use Rattle.beldi_plain.specs.Item.{Item, item_cmp}
+use Rattle.beldi_value.specs.{Id.id_cmp, declared.id.IntentId.IntentId, declared.value.Value.Value, declared.outcome.Outcome.Outcome, declared.place.Caller.Caller}
+use Rattle.beldi_tree.specs.{Bindings.or_null, declared.deployment.Deployment.Deployment}
+use Rattle.beldi_lang.specs.{declared.effect.Answer.Answer, declared.effect.Effect.Effect, declared.machine.Machine.Machine, Callee.answer_of, Machine.IsAt, Machine.resumed, Wants.wants, Wants.wants_answer}
 use Rattle.beldi_plain.specs.Operation.{Operation, OnItem, op_of, item_in, sets, set_if, answer_after}
-use Rattle.beldi_plain.specs.Plain.{PlainState, Instance, answered, item_of, step_by, answered_if}
+use Rattle.beldi_plain.specs.{Item.Item, Item.item_cmp, Plain.PlainState, Plain.Instance, Plain.answered, Plain.item_of, Plain.step_by, Plain.answered_if}
 use Rattle.beldi_executor.specs.declared.next.Next.{Next}
-use Rattle.beldi_executor.specs.declared.next.Next.TheVariants as next
 
 -- the deployment whose bodies are run, and the plain state
 pub record Executor : Type 0 where
@@ -59,7 +44,7 @@ answer_if items q (Some o) = Some (answer_on items (item_in q.func o) o.does)
 
 -- the answer to an effect that is answered at once
 abbrev pub answer_by : FinMap item_cmp Value → Instance → Effect → Option Answer
-answer_by items q (effect.Read t k) = Some (answer.Value (or_null (map.get items (item_of q t k))))
+answer_by items q (Effect.Read t k) = Some (Answer.Value (or_null (map.get items (item_of q t k))))
 answer_by items q e = answer_if items q (op_of e)
 
 abbrev pub instance_by : FinMap item_cmp Value → Instance → Effect → Instance
@@ -104,16 +89,16 @@ waiter (Some c) = if c.waits then Some c.place.intent else None
 -- ---- what a step leaves for the machines
 
 abbrev pub next_of : Option Answer → Next
-next_of None = next.Stays
-next_of (Some a) = next.Answered a
+next_of None = Next.Stays
+next_of (Some a) = Next.Answered a
 
 abbrev pub next_told : Option IntentId → Outcome → Next
-next_told None o = next.Ended
-next_told (Some c) o = next.Tells c (answer_of o)
+next_told None o = Next.Ended
+next_told (Some c) o = Next.Tells c (answer_of o)
 
 abbrev pub next_by : FinMap item_cmp Value → Instance → Effect → Next
-next_by items q (effect.Async f a) = next.Answered answer.Done
-next_by items q (effect.Return o) = next_told (waiter q.from) o
+next_by items q (Effect.Async f a) = Next.Answered Answer.Done
+next_by items q (Effect.Return o) = next_told (waiter q.from) o
 next_by items q e = next_of (answer_by items q e)
 
 -- a step has this number, where its effect is answered
@@ -140,7 +125,7 @@ Passes d a b id x = (b ≡ map.remove a id) ⊎ ((m : Machine) × (map.get a id 
 
 -- what becomes of the machines that are kept, where this one made a step
 abbrev pub Follows : Deployment → FinMap id_cmp Machine → FinMap id_cmp Machine → IntentId → Machine → Next → Type 0
-Follows d a b id m (next.Answered x) = IsKept a b id (resumed d m x)
-Follows d a b id m next.Stays = IsKept a b id m
-Follows d a b id m next.Ended = b ≡ map.remove a id
-Follows d a b id m (next.Tells c x) = Passes d (map.remove a id) b c x
+Follows d a b id m (Next.Answered x) = IsKept a b id (resumed d m x)
+Follows d a b id m Next.Stays = IsKept a b id m
+Follows d a b id m Next.Ended = b ≡ map.remove a id
+Follows d a b id m (Next.Tells c x) = Passes d (map.remove a id) b c x

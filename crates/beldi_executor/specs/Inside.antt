@@ -1,35 +1,13 @@
 -- A transaction under way: the state in place, and as the transaction sees it.
 use Rattle.std.specs.Prelude.{◌≡◌, ◌⊎◌, ◌≤◌, ◌<◌, ◌+◌, ◌==◌, ◌&&◌, ◌^◌, ℕ, suc, Bool, true, false, length, List, [], ◌∷◌, ◌++◌, Option, Some, None, is_some, not, option_and_then, Result, Ok, Err, if◌then◌else◌}
+use Rattle.std.specs.{FinMap.FinMap, Ordering.is_eq, declared.alloc.AllocError.AllocError}
 use Rattle.std.specs.FinMap as map
-use Rattle.std.specs.FinMap.{FinMap}
-use Rattle.std.specs.Ordering.{is_eq}
-use Rattle.std.specs.declared.alloc.AllocError.{AllocError}
-use Rattle.beldi_value.specs.Id.{id_cmp, child_of, has_callees}
-use Rattle.beldi_value.specs.declared.id.IntentId.{IntentId}
-use Rattle.beldi_value.specs.declared.outcome.Outcome.{Outcome}
-use Rattle.beldi_value.specs.declared.place.Caller.{Caller}
-use Rattle.beldi_value.specs.declared.place.Place.{Place}
-use Rattle.beldi_value.specs.declared.place.TxId.{TxId}
+use Rattle.beldi_value.specs.{Id.id_cmp, Id.child_of, Id.has_callees, declared.id.IntentId.IntentId, declared.outcome.Outcome.Outcome, declared.place.Caller.Caller, declared.place.Place.Place, declared.place.TxId.TxId}
 use Rattle.beldi_tree.specs.declared.deployment.Deployment.{Deployment}
-use Rattle.beldi_lang.specs.declared.effect.Answer.{Answer}
-use Rattle.beldi_lang.specs.declared.effect.Answer.TheVariants as answer
-use Rattle.beldi_lang.specs.declared.effect.Effect.{Effect}
-use Rattle.beldi_lang.specs.declared.effect.Effect.TheVariants as effect
-use Rattle.beldi_lang.specs.declared.machine.Machine.{Machine}
-use Rattle.beldi_lang.specs.Callee.{answer_of}
-use Rattle.beldi_lang.specs.Machine.{IsAt}
-use Rattle.beldi_lang.specs.Wants.{wants_answer}
+use Rattle.beldi_lang.specs.{declared.effect.Answer.Answer, declared.effect.Effect.Effect, declared.machine.Machine.Machine, Callee.answer_of, Machine.IsAt, Wants.wants_answer}
 use Rattle.beldi_plain.specs.Plain.{PlainState, Instance, with_instance, answered, ended, can_step, is_waiting, effect_of}
 use Rattle.beldi_plain.specs.Piece.{Going, enough, gives, opened, tx_begun, is_owner, is_same, moves_by, ends_on, try_on, is_holder, with_answers}
-use Rattle.beldi_executor.specs.Answers.{IsReady, IsFree, bar_step, bar_no, bar_holder}
-use Rattle.beldi_executor.specs.Undo.{IsUndone, all_swept}
-use Rattle.beldi_executor.specs.declared.undo.Was.{Was}
-use Rattle.beldi_executor.specs.declared.draft.Actor.{Actor}
-use Rattle.beldi_executor.specs.declared.draft.Draft.{Draft}
-use Rattle.beldi_executor.specs.declared.plain.Bar.{Bar}
-use Rattle.beldi_executor.specs.declared.plain.Bar.TheVariants.{OtherEffect, NoEnd, NoPlace}
-use Rattle.beldi_executor.specs.declared.plain.PlainErr.{PlainErr}
-use Rattle.beldi_executor.specs.declared.plain.PlainErr.TheVariants.{OutOfMemory, NotEnabled}
+use Rattle.beldi_executor.specs.{Answers.IsReady, Answers.IsFree, Answers.bar_step, Answers.bar_no, Answers.bar_holder, Undo.IsUndone, Undo.all_swept, declared.undo.Was.Was, declared.draft.Actor.Actor, declared.draft.Draft.Draft, declared.plain.Bar.Bar, declared.plain.Bar.TheVariants.OtherEffect, declared.plain.Bar.TheVariants.NoEnd, declared.plain.Bar.TheVariants.NoPlace, declared.plain.PlainErr.PlainErr, declared.plain.PlainErr.TheVariants.OutOfMemory, declared.plain.PlainErr.TheVariants.NotEnabled}
 
 -- ---- in place
 
@@ -111,11 +89,11 @@ Gave d t p q r h a y s (Err w) = IsDraft t p q s h
 
 -- whether the one at the front has a move, where its step has this number
 abbrev pub can_move : TxId → FinMap id_cmp Instance → IntentId → ℕ → Effect → Bool
-can_move t made id n (effect.Read b k) = true
-can_move t made id n (effect.Write b k v) = true
-can_move t made id n (effect.CondWrite b k r o v) = true
-can_move t made id n (effect.Call f v) = has_callees id && not (is_some (map.get made (child_of id n)))
-can_move t made id n (effect.Return o) = not (is_owner t id)
+can_move t made id n (Effect.Read b k) = true
+can_move t made id n (Effect.Write b k v) = true
+can_move t made id n (Effect.CondWrite b k r o v) = true
+can_move t made id n (Effect.Call f v) = has_callees id && not (is_some (map.get made (child_of id n)))
+can_move t made id n (Effect.Return o) = not (is_owner t id)
 can_move t made id n e = false
 
 -- it is made
@@ -165,11 +143,11 @@ WentOn d t p q stop g start r h (Err w) = IsDraft t p q r h
 
 -- the owner's end, with commit or without
 abbrev pub ends : Bool → Effect → Bool
-ends commit (effect.End b) = is_same commit b
+ends commit (Effect.End b) = is_same commit b
 ends commit e = false
 
 abbrev pub over_at : TxId → Bool → PlainState → IntentId → Instance → Effect → Option PlainState
-over_at t commit p id q e = if is_owner t id && ends commit e then Some (gives p id q answer.Done) else None
+over_at t commit p id q e = if is_owner t id && ends commit e then Some (gives p id q Answer.Done) else None
 
 abbrev pub no_end : Bool → Bar
 no_end true = NoEnd
@@ -208,7 +186,7 @@ Tried d p id q at h r (Err (NotEnabled b)) = (r ≡ p) × (tried d p id q at h �
 -- the machine of an instance that stands at the begin of a transaction
 pub record Begins (d : Deployment) (p : PlainState) (id : IntentId) (m : Machine) : Type 0 where
   pub free : IsFree d p id m
-  pub begins : m.effect ≡ effect.Begin
+  pub begins : m.effect ≡ Effect.Begin
 
 -- .. or there is none of this
 abbrev pub StandsAtBegin : Deployment → PlainState → IntentId → Result Machine PlainErr → Type 0
@@ -216,5 +194,5 @@ StandsAtBegin d p id (Ok m) = Begins d p id m
 StandsAtBegin d p id (Err OutOfMemory) = Unit {0}
 StandsAtBegin d p id (Err (NotEnabled b)) =
     (f : Instance → Effect → Option PlainState) (g : Instance → Effect → Option Bar)
-    → ((q : Instance) (e : Effect) → (e ≡ effect.Begin → ⊥) → (f q e ≡ None) × (g q e ≡ Some OtherEffect))
+    → ((q : Instance) (e : Effect) → (e ≡ Effect.Begin → ⊥) → (f q e ≡ None) × (g q e ≡ Some OtherEffect))
     → (can_step (map.get p.made id) (is_waiting d p id) (λ q. f q (effect_of d q)) ≡ None) × (bar_step (map.get p.made id) (is_waiting d p id) (λ q. g q (effect_of d q)) ≡ Some b)

@@ -1,18 +1,12 @@
 -- What a transaction does to the items in place: what it sets is there at once, null as a value too, and what was there is kept.
 use Rattle.std.specs.Prelude.{◌≡◌, ℕ, true, false, List, [], ◌∷◌, ◌++◌, Option, Some, None, is_some, Result, Ok, Err}
+use Rattle.std.specs.{FinMap.FinMap, declared.alloc.AllocError.AllocError}
 use Rattle.std.specs.FinMap as map
-use Rattle.std.specs.FinMap.{FinMap}
-use Rattle.std.specs.declared.alloc.AllocError.{AllocError}
 use Rattle.beldi_value.specs.declared.value.Value.{Value}
-use Rattle.beldi_value.specs.declared.value.Value.TheVariants as value
-use Rattle.beldi_lang.specs.declared.effect.Answer.{Answer}
-use Rattle.beldi_lang.specs.declared.effect.Effect.{Effect}
 use Rattle.beldi_tree.specs.Bindings.{or_null}
-use Rattle.beldi_plain.specs.Item.{Item, item_cmp}
-use Rattle.beldi_plain.specs.Operation.{OnItem, op_of, item_in, sets, touched}
-use Rattle.beldi_plain.specs.Plain.{Instance}
-use Rattle.beldi_executor.specs.Executor.{answer_by}
-use Rattle.beldi_executor.specs.declared.undo.Was.{Was}
+use Rattle.beldi_lang.specs.declared.effect.{Answer.Answer, Effect.Effect}
+use Rattle.beldi_plain.specs.{Item.Item, Item.item_cmp, Operation.OnItem, Operation.op_of, Operation.item_in, Operation.sets, Operation.touched, Plain.Instance}
+use Rattle.beldi_executor.specs.{Executor.answer_by, declared.undo.Was.Was}
 
 -- the values as they are in place
 abbrev pub Items : Type 0
@@ -76,7 +70,7 @@ pub record IsUndone (before m : Items) (ws : List Was) : Type 0 where
 -- ---- kept
 -- null is absent
 abbrev pub swept_if : Items → Item → Option Value → Items
-swept_if m x (Some value.Null) = map.remove m x
+swept_if m x (Some Value.Null) = map.remove m x
 swept_if m x o = m
 
 abbrev pub swept : Items → Item → Items

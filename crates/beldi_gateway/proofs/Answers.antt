@@ -1,15 +1,5 @@
 -- What the bytes that were gathered come to.
-use Rattle.std.proofs.Common.{◌≡◌, ◌≤◌, inl, inr, ℕ, nat_le, Bool, true, false, List, ◌++◌, length, take, drop, if◌then◌else◌, Option, Result, Ok, Err, refl, sym, ap, subst, ◌∙◌}
-use Rattle.std.proofs.lemmas.List.{take-append-le, drop-append-le}
-use Rattle.std.proofs.lemmas.Bool.{le-leb}
-use Rattle.httparse.specs.Spans.{span_bytes}
-use Rattle.beldi_gateway.specs.declared.plan.Plan.{Plan}
-use Rattle.beldi_gateway.specs.declared.scan.Scan.{Scan}
-use Rattle.beldi_gateway.specs.declared.response.Refusal.{Refusal}
-use Rattle.beldi_gateway.specs.declared.response.Refusal.TheVariants as why
-use Rattle.beldi_gateway.specs.Exchange.{Question, PlansHead, PlanLines, PlanOver, PlanAt, HeadComes, FewLines, HeadEnds, Exchanges, after_head, with_body}
-use Rattle.beldi_gateway.specs.Route.{path_of}
-use Rattle.beldi_gateway.specs.Scan.{start, scan_on}
+use Rattle.beldi_gateway.proofs.Names.{Bool, Err, Exchanges, FewLines, HeadComes, HeadEnds, List, Ok, Option, Plan, PlanAt, PlanLines, PlanOver, PlansHead, Question, Refusal, Result, Scan, after_head, ap, drop, drop-append-le, false, if◌then◌else◌, inl, inr, le-leb, length, nat_le, path_of, refl, scan_on, span_bytes, start, subst, sym, take, take-append-le, true, with_body, ℕ, ◌++◌, ◌∙◌, ◌≡◌, ◌≤◌}
 use Rattle.beldi_gateway.proofs.Scans.{scan_append, over_stays}
 
 -- within 16,384 bytes it is what the end of the head says
@@ -23,7 +13,7 @@ lines_refused funcs true head rest r (inl p) = inl (p.0, p.1, sym (ap (λ z. aft
 lines_refused funcs true head rest r (inr p) = inr (p.0, ap (λ z. Err z) p.1)
 lines_refused funcs false head rest r p = cc
 
-end_refused : (m : Bool) (r : Refusal) → ◌≡◌ {A = Result Plan Refusal} (Err r) (if m then Err why.HeadSize else Err why.Cut) → ◌≡◌ {A = Result Question Refusal} (Err r) (if m then Err why.HeadSize else Err why.Cut)
+end_refused : (m : Bool) (r : Refusal) → ◌≡◌ {A = Result Plan Refusal} (Err r) (if m then Err Refusal.HeadSize else Err Refusal.Cut) → ◌≡◌ {A = Result Question Refusal} (Err r) (if m then Err Refusal.HeadSize else Err Refusal.Cut)
 end_refused true r p = cc
 end_refused false r p = cc
 
@@ -47,7 +37,7 @@ lines_planned : (funcs : List ℕ → Option ℕ) (few : Bool) (head rest : List
 lines_planned funcs true head rest p h = head_planned funcs head rest p h
 lines_planned funcs false head rest p h = absurd cc
 
-not_planned : (m : Bool) (p : Plan) → ◌≡◌ {A = Result Plan Refusal} (Ok p) (if m then Err why.HeadSize else Err why.Cut) → ⊥
+not_planned : (m : Bool) (p : Plan) → ◌≡◌ {A = Result Plan Refusal} (Ok p) (if m then Err Refusal.HeadSize else Err Refusal.Cut) → ⊥
 not_planned true p e = cc
 not_planned false p e = cc
 

@@ -2,6 +2,7 @@ mod Answers
 mod Comes
 mod Cuts
 mod Moves
+mod Names
 mod Paths
 mod Replies
 mod Responses

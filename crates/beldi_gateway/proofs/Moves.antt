@@ -1,14 +1,5 @@
 -- What comes and goes on a connection, one thing after another.
-use Rattle.std.proofs.Common.{arith, ◌≡◌, ◌≤◌, ◌+◌, inr, true, false, ◌∷◌, ℕ, List, [], ◌++◌, length, take, drop, Option, None, Some, Ok, Err, refl, sym, ap, ◌∙◌, subst, append_assoc}
-use Rattle.std.proofs.lemmas.List.{take-append-drop, append-nil, length-append}
-use Rattle.beldi_outside.specs.declared.traits.Failed.{Failed}
-use Rattle.beldi_outside.specs.Outside.{Told}
-use Rattle.beldi_outside.specs.Connection.{Connection, Connections, ReadOpen, WriteOpen, LinkRead, LinkWrote, took, wrote, failed_once}
-use Rattle.beldi_outside.proofs.Told.{told_then, told_map, told_same}
-use Rattle.beldi_gateway.specs.Taking.{Went, WentOn, Moved, Moves, HasEnded, EndsAt, Lost, Gathers, HeadGathers}
-use Rattle.beldi_outside.proofs.Taking.{take_more}
-use Rattle.beldi_gateway.specs.declared.scan.Scan.{Scan}
-use Rattle.beldi_gateway.specs.Scan.{start, scan_on}
+use Rattle.beldi_gateway.proofs.Names.{Connection, Connections, EndsAt, Err, Failed, Gathers, HasEnded, HeadGathers, LinkRead, LinkWrote, List, Lost, Moved, Moves, None, Ok, Option, ReadOpen, Scan, Some, Told, Went, WentOn, WriteOpen, [], ap, append-nil, append_assoc, arith, drop, failed_once, false, inr, length, length-append, refl, scan_on, start, subst, sym, take, take-append-drop, take_more, told_map, told_same, told_then, took, true, wrote, ℕ, ◌++◌, ◌+◌, ◌∙◌, ◌∷◌, ◌≡◌, ◌≤◌}
 
 nothing : (a b : List ℕ) → a ≡ [] → b ≡ [] → a ++ b ≡ []
 nothing a b p q = ap (λ x. x ++ b) p ∙ q

@@ -1,11 +1,5 @@
 -- What a path finds.
-use Rattle.std.proofs.Common.{◌≡◌, ℕ, Bool, true, false, List, Option, Some, None, option_map, refl, sym, ap, subst, ◌∙◌, if◌then◌else◌, IsUtf8}
-use Rattle.std.specs.Str.{is_utf8}
-use Rattle.std.proofs.lemmas.Str.{IsUtf8-from_is_utf8, is_utf8-from_IsUtf8}
-use Rattle.matchit.specs.Router.{RouteOf}
-use Rattle.matchit.specs.Seek.{first}
-use Rattle.beldi_gateway.specs.declared.route.Endpoint.{Endpoint}
-use Rattle.beldi_gateway.specs.Route.{Routes, found_in}
+use Rattle.beldi_gateway.proofs.Names.{Bool, Endpoint, IsUtf8, IsUtf8-from_is_utf8, List, None, Option, RouteOf, Routes, Some, ap, false, first, found_in, if◌then◌else◌, is_utf8, is_utf8-from_IsUtf8, option_map, refl, subst, sym, true, ℕ, ◌∙◌, ◌≡◌}
 
 none_by : (u : Bool) (path : List ℕ) (found : Option Endpoint) → is_utf8 path ≡ u → ¬ (IsUtf8 path) → None ≡ (if u then found else None)
 none_by true path found e f = absurd (f (IsUtf8-from_is_utf8 path e))

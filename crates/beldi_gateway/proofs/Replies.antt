@@ -1,20 +1,6 @@
 -- What is answered to the bytes that were gathered.
-use Rattle.std.proofs.Common.{arith, ◌≡◌, ◌≤◌, inl, inr, ℕ, List, [], ◌++◌, length, take, drop, Option, Result, Ok, Err, refl, sym, subst}
-use Rattle.std.proofs.lemmas.List.{append-nil}
-use Rattle.httparse.specs.Spans.{span_bytes}
-use Rattle.beldi_outside.specs.Connection.{Connections}
-use Rattle.beldi_gateway.specs.declared.plan.Plan.{Plan}
-use Rattle.beldi_gateway.specs.declared.scan.Scan.{Scan}
-use Rattle.beldi_gateway.specs.declared.response.Refusal.{Refusal}
-use Rattle.beldi_gateway.specs.declared.response.Response.{Response}
-use Rattle.beldi_gateway.specs.declared.response.Response.TheVariants.{Refused}
-use Rattle.beldi_gateway.specs.Exchange.{PlanAt, Exchanges, with_body}
-use Rattle.beldi_gateway.specs.Route.{path_of}
-use Rattle.beldi_gateway.specs.Scan.{start, scan_on}
-use Rattle.beldi_gateway.specs.Serve.{AnswersTo, Keeps, Filled, FillsPlan, Replied}
-use Rattle.beldi_gateway.proofs.Answers.{planned, refused}
-use Rattle.beldi_gateway.proofs.Cuts.{plan_cut}
-use Rattle.beldi_gateway.proofs.Moves.{moves_none}
+use Rattle.beldi_gateway.proofs.Names.{AnswersTo, Connections, Err, Exchanges, Filled, FillsPlan, Keeps, List, Ok, Option, Plan, PlanAt, Refusal, Refused, Replied, Response, Result, Scan, [], append-nil, arith, drop, inl, inr, length, path_of, refl, scan_on, span_bytes, start, subst, sym, take, with_body, ℕ, ◌++◌, ◌≡◌, ◌≤◌}
+use Rattle.beldi_gateway.proofs.{Answers.planned, Answers.refused, Cuts.plan_cut, Moves.moves_none}
 
 module _ {D : Type 0} (funcs : List ℕ → Option ℕ) (keeps : Keeps D) where
   -- the answer where the bytes are refused, and where they are a plan

@@ -1,6 +1,6 @@
 -- The bytes of a response, one part after another.
-use Rattle.std.proofs.Common.{◌≡◌, ℕ, List, ◌++◌, codes, length, ap, ◌∙◌, Result, IfOk, subst}
-use Rattle.beldi_gateway.specs.Response.{composed, length_text, phrase_of, status_text}
+use Rattle.beldi_gateway.specs.Response.{composed}
+use Rattle.beldi_gateway.proofs.Names.{IfOk, List, Result, ap, codes, length, length_text, phrase_of, status_text, subst, ℕ, ◌++◌, ◌∙◌, ◌≡◌}
 
 pub compose_parts : (n : ℕ) (allow body first phrase size a b c d e : List ℕ) → first ≡ status_text n → phrase ≡ phrase_of n → size ≡ length_text (length body)
     → a ≡ first ++ phrase → b ≡ a ++ codes "\r\nContent-Type: application/json\r\n" → c ≡ b ++ allow → d ≡ c ++ size → e ≡ d ++ body → e ≡ composed n allow body

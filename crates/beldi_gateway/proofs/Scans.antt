@@ -1,8 +1,5 @@
 -- A head that is read in parts.
-use Rattle.std.proofs.Common.{◌∙◌, ap, drop, length, ◌≡◌, ℕ, Bool, true, false, List, [], ◌∷◌, ◌++◌, refl, sym, if◌then◌else◌}
-use Rattle.beldi_gateway.specs.declared.scan.Scan.{Scan}
-use Rattle.std.proofs.Math.Seq.{drop-append_seam}
-use Rattle.beldi_gateway.specs.Scan.{passed, scan_on, start}
+use Rattle.beldi_gateway.proofs.Names.{Bool, List, Scan, [], ap, drop, drop-append_seam, false, if◌then◌else◌, length, passed, refl, scan_on, start, sym, true, ℕ, ◌++◌, ◌∙◌, ◌∷◌, ◌≡◌}
 
 -- a head that is over stays so
 pub over_stays : (s : Scan) (ys : List ℕ) → s.over ≡ true → scan_on s ys ≡ s

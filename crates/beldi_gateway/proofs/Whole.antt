@@ -1,13 +1,5 @@
 -- One exchange, from its parts: what was gathered, what was answered, and what was written.
-use Rattle.std.proofs.Common.{arith, ◌≡◌, ◌<◌, ◌⊎◌, inl, inr, ℕ, Bool, true, false, List, [], ◌∷◌, ◌++◌, length, Option, Ok, refl, ap, subst}
-use Rattle.std.proofs.lemmas.List.{append-nil}
-use Rattle.beldi_outside.specs.Outside.{IsPrefixOf}
-use Rattle.beldi_outside.specs.Connection.{Connections}
-use Rattle.beldi_gateway.specs.declared.scan.Scan.{Scan}
-use Rattle.beldi_gateway.specs.declared.response.Response.{Response}
-use Rattle.beldi_gateway.specs.Response.{response_bytes, status_of}
-use Rattle.beldi_gateway.specs.Serve.{Keeps, Replied, Decided, Whole, Broken}
-use Rattle.beldi_gateway.specs.Taking.{Moves, EndsAt, Lost, HeadGathers}
+use Rattle.beldi_gateway.proofs.Names.{Bool, Broken, Connections, Decided, EndsAt, HeadGathers, IsPrefixOf, Keeps, List, Lost, Moves, Ok, Option, Replied, Response, Scan, Whole, [], ap, append-nil, arith, false, inl, inr, length, refl, response_bytes, status_of, subst, true, ℕ, ◌++◌, ◌<◌, ◌∷◌, ◌≡◌, ◌⊎◌}
 use Rattle.beldi_gateway.proofs.Moves.{moves_then, ends_then, ended_stays}
 
 -- the head is not over, and fewer bytes came than it may have: the connection ended

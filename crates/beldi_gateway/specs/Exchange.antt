@@ -1,25 +1,8 @@
 -- What the bytes of a connection come to: a refusal, or a question for the desk.
 use Rattle.std.specs.Prelude.{◌≡◌, ℕ, ◌≤◌, ◌⊎◌, ◌^◌, ◌-◌, nat_le, Bool, true, false, List, [], ◌∷◌, length, take, drop, map, bytes_eq, Option, Some, None, Result, Ok, Err, if◌then◌else◌}
-use Rattle.httparse.specs.Grammar.{RequestHead, ReadsRequest}
-use Rattle.httparse.specs.Spans.{IsWithin, span_bytes, name_and_value}
-use Rattle.beldi_value.specs.Datum.{Datum, null}
-use Rattle.beldi_value.specs.Number.{numeral_at}
-use Rattle.beldi_value.specs.Reading.{read_of}
-use Rattle.beldi_value.specs.declared.read.ValueErr.{ValueErr}
-use Rattle.beldi_gateway.specs.declared.scan.Scan.{Scan}
-use Rattle.beldi_gateway.specs.declared.framing.Framing.{Framing}
-use Rattle.beldi_gateway.specs.declared.framing.Length.{Length}
-use Rattle.beldi_gateway.specs.declared.framing.Length.TheVariants.{Absent, Given, Bad}
-use Rattle.beldi_gateway.specs.declared.plan.Parts.{Parts}
-use Rattle.beldi_gateway.specs.declared.plan.Plan.{Plan}
-use Rattle.beldi_gateway.specs.declared.plan.Want.{Want}
-use Rattle.beldi_gateway.specs.declared.route.Endpoint.{Endpoint}
-use Rattle.beldi_gateway.specs.declared.route.Endpoint.TheVariants.{Tickets, Call, Reply}
-use Rattle.beldi_gateway.specs.declared.response.Refusal.{Refusal}
-use Rattle.beldi_gateway.specs.declared.response.Refusal.TheVariants as why
-use Rattle.beldi_gateway.specs.Framing.{framed_by, plain}
-use Rattle.beldi_gateway.specs.Route.{endpoint_at, path_of, method_of, function_part, ticket_part}
-use Rattle.beldi_gateway.specs.Scan.{start, scan_on}
+use Rattle.httparse.specs.{Grammar.RequestHead, Grammar.ReadsRequest, Spans.IsWithin, Spans.span_bytes, Spans.name_and_value}
+use Rattle.beldi_value.specs.{Datum.Datum, Datum.null, Number.numeral_at, Reading.read_of, declared.read.ValueErr.ValueErr}
+use Rattle.beldi_gateway.specs.{declared.scan.Scan.Scan, declared.framing.Framing.Framing, declared.framing.Length.Length, declared.framing.Length.TheVariants.Absent, declared.framing.Length.TheVariants.Given, declared.framing.Length.TheVariants.Bad, declared.plan.Parts.Parts, declared.plan.Plan.Plan, declared.plan.Want.Want, declared.route.Endpoint.Endpoint, declared.route.Endpoint.TheVariants.Tickets, declared.route.Endpoint.TheVariants.Call, declared.route.Endpoint.TheVariants.Reply, declared.response.Refusal.Refusal, Framing.framed_by, Framing.plain, Route.endpoint_at, Route.path_of, Route.method_of, Route.function_part, Route.ticket_part, Scan.start, Scan.scan_on}
 
 -- what a desk is asked: for a ticket, to call a function with a ticket, for the reply to a ticket
 pub data Question : Type 0 where
@@ -35,21 +18,21 @@ pub record IsHead (head : List ℕ) (h : RequestHead) : Type 0 where
 -- the length of the body: no Transfer-Encoding, and at most 65,536 bytes
 abbrev pub sized : Length → Result ℕ Refusal
 sized Absent = Ok 0
-sized Bad = Err why.Length
-sized (Given n) = if nat_le n 65536 then Ok n else Err why.Size
+sized Bad = Err Refusal.Length
+sized (Given n) = if nat_le n 65536 then Ok n else Err Refusal.Size
 
 abbrev pub size_of : Framing → Result ℕ Refusal
-size_of f = if f.coded then Err why.Coding else sized f.length
+size_of f = if f.coded then Err Refusal.Coding else sized f.length
 
 abbrev pub with_size : Endpoint → Result ℕ Refusal → Result Want Refusal
 with_size e (Ok n) = Ok (record { endpoint = e; size = n })
 with_size e (Err r) = Err r
 
 abbrev pub want_at : Endpoint → List ℕ → Framing → Result Want Refusal
-want_at e method f = if bytes_eq method (method_of e) then with_size e (size_of f) else Err (why.Method e)
+want_at e method f = if bytes_eq method (method_of e) then with_size e (size_of f) else Err (Refusal.Method e)
 
 abbrev pub want_found : Option Endpoint → List ℕ → Framing → Result Want Refusal
-want_found None method f = Err why.Path
+want_found None method f = Err Refusal.Path
 want_found (Some e) method f = want_at e method f
 
 -- what a request with this method, this target and these fields wants: first the path, then the method, then the fields
@@ -75,14 +58,14 @@ abbrev pub ticket_at : List ℕ → Option ℕ
 ticket_at part = numeral_at (2 ^ 32 - 1) part
 
 abbrev pub reply_question : Option ℕ → Result Question Refusal
-reply_question None = Err why.Ticket
+reply_question None = Err Refusal.Ticket
 reply_question (Some t) = Ok (ask_reply t)
 
 -- the ticket, then the function, then the value
 abbrev pub call_question : Option ℕ → Option ℕ → Option Datum → Result Question Refusal
-call_question None f d = Err why.Ticket
-call_question (Some t) None d = Err why.Function
-call_question (Some t) (Some f) None = Err why.Value
+call_question None f d = Err Refusal.Ticket
+call_question (Some t) None d = Err Refusal.Function
+call_question (Some t) (Some f) None = Err Refusal.Value
 call_question (Some t) (Some f) (Some d) = Ok (ask_call t f d)
 
 abbrev pub question_of : (List ℕ → Option ℕ) → Endpoint → List ℕ → List ℕ → Result Question Refusal
@@ -92,7 +75,7 @@ question_of funcs Reply path body = reply_question (ticket_at (ticket_part Reply
 
 -- the body is what comes after the head, as long as it is to be
 abbrev pub with_body : (List ℕ → Option ℕ) → Want → List ℕ → List ℕ → Result Question Refusal
-with_body funcs w path rest = if nat_le w.size (length rest) then question_of funcs w.endpoint path (take w.size rest) else Err why.Cut
+with_body funcs w path rest = if nat_le w.size (length rest) then question_of funcs w.endpoint path (take w.size rest) else Err Refusal.Cut
 
 abbrev pub after_head : (List ℕ → Option ℕ) → Result Want Refusal → List ℕ → List ℕ → Result Question Refusal
 after_head funcs (Err r) path rest = Err r
@@ -102,16 +85,16 @@ after_head funcs (Ok w) path rest = with_body funcs w path rest
 abbrev pub HeadComes : (List ℕ → Option ℕ) → List ℕ → List ℕ → Result Question Refusal → Type 0
 HeadComes funcs head rest e =
     ((h : RequestHead) × IsHead head h × (e ≡ after_head funcs (wanted_by h) (path_of h.target) rest))
-    ⊎ (((h : RequestHead) → ¬ (IsHead head h)) × (e ≡ Err why.Head))
+    ⊎ (((h : RequestHead) → ¬ (IsHead head h)) × (e ≡ Err Refusal.Head))
 
 abbrev pub FewLines : (List ℕ → Option ℕ) → Bool → List ℕ → List ℕ → Result Question Refusal → Type 0
 FewLines funcs true head rest e = HeadComes funcs head rest e
-FewLines funcs false head rest e = e ≡ Err why.HeadSize
+FewLines funcs false head rest e = e ≡ Err Refusal.HeadSize
 
 -- the end of a head came within 16,384 bytes, or not
 abbrev pub HeadEnds : (List ℕ → Option ℕ) → Bool → Scan → List ℕ → Result Question Refusal → Type 0
 HeadEnds funcs true s bytes e = FewLines funcs (nat_le s.lines 65) (take s.size bytes) (drop s.size bytes) e
-HeadEnds funcs false s bytes e = e ≡ (if nat_le 16384 (length bytes) then Err why.HeadSize else Err why.Cut)
+HeadEnds funcs false s bytes e = e ≡ (if nat_le 16384 (length bytes) then Err Refusal.HeadSize else Err Refusal.Cut)
 
 -- what the bytes of a connection come to
 abbrev pub Exchanges : (List ℕ → Option ℕ) → List ℕ → Result Question Refusal → Type 0
@@ -133,15 +116,15 @@ HeadAt head (Some p) = (h : RequestHead) × IsHead head h × AreParts head p h
 -- a plan is what a head wants, and where its target is
 abbrev pub PlansHead : List ℕ → Result Plan Refusal → Type 0
 PlansHead head (Ok p) = (h : RequestHead) × IsHead head h × IsWithin (length head) p.target × (span_bytes head p.target ≡ h.target) × (wanted_by h ≡ Ok p.want)
-PlansHead head (Err r) = ((h : RequestHead) × IsHead head h × (wanted_by h ≡ Err r)) ⊎ (((h : RequestHead) → ¬ (IsHead head h)) × (r ≡ why.Head))
+PlansHead head (Err r) = ((h : RequestHead) × IsHead head h × (wanted_by h ≡ Err r)) ⊎ (((h : RequestHead) → ¬ (IsHead head h)) × (r ≡ Refusal.Head))
 
 abbrev pub PlanLines : Bool → List ℕ → Result Plan Refusal → Type 0
 PlanLines true head p = PlansHead head p
-PlanLines false head p = p ≡ Err why.HeadSize
+PlanLines false head p = p ≡ Err Refusal.HeadSize
 
 abbrev pub PlanOver : Bool → Scan → List ℕ → Result Plan Refusal → Type 0
 PlanOver true s bytes p = PlanLines (nat_le s.lines 65) (take s.size bytes) p
-PlanOver false s bytes p = p ≡ (if nat_le 16384 (length bytes) then Err why.HeadSize else Err why.Cut)
+PlanOver false s bytes p = p ≡ (if nat_le 16384 (length bytes) then Err Refusal.HeadSize else Err Refusal.Cut)
 
 -- the plan of the bytes that were gathered
 abbrev pub PlanAt : Scan → List ℕ → Result Plan Refusal → Type 0

@@ -2,9 +2,7 @@
 use Rattle.std.specs.Prelude.{ℕ, ◌^◌, ◌-◌, nat_le, Bool, true, false, List, [], ◌∷◌, length, map, codes, bytes_eq, Option, Some, None, if◌then◌else◌}
 use Rattle.std.specs.Char.{to_ascii_lowercase}
 use Rattle.beldi_value.specs.Number.{number_at}
-use Rattle.beldi_gateway.specs.declared.framing.Length.{Length}
-use Rattle.beldi_gateway.specs.declared.framing.Length.TheVariants.{Absent, Given, Bad}
-use Rattle.beldi_gateway.specs.declared.framing.Framing.{Framing}
+use Rattle.beldi_gateway.specs.declared.framing.{Length.Length, Length.TheVariants.Absent, Length.TheVariants.Given, Length.TheVariants.Bad, Framing.Framing}
 
 -- a name and a value
 abbrev pub Pair : Type 0

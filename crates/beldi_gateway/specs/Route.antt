@@ -1,15 +1,9 @@
 -- The routes, by what `matchit` makes of them, and the parts of their paths.
 use Rattle.std.specs.Prelude.{ℕ, List, [], drop, codes, Option, None, Some, option_map, if◌then◌else◌, Result, Ok, Err}
 use Rattle.std.specs.Str.{is_utf8}
-use Rattle.matchit.specs.Rows.{RowsOf}
-use Rattle.matchit.specs.Order.{placed}
-use Rattle.matchit.specs.Router.{RouteOf, route_from}
-use Rattle.matchit.specs.Route.{Scan, parse_route}
-use Rattle.matchit.specs.Seek.{first}
-use Rattle.matchit.specs.declared.error.InsertError.{InsertError}
+use Rattle.matchit.specs.{Rows.RowsOf, Order.placed, Router.RouteOf, Router.route_from, Route.Scan, Route.parse_route, Seek.first, declared.error.InsertError.InsertError}
 use Rattle.beldi_value.specs.Cut.{before, after}
-use Rattle.beldi_gateway.specs.declared.route.Endpoint.{Endpoint}
-use Rattle.beldi_gateway.specs.declared.route.Endpoint.TheVariants.{Tickets, Call, Reply}
+use Rattle.beldi_gateway.specs.declared.route.Endpoint.{Endpoint, TheVariants.Tickets, TheVariants.Call, TheVariants.Reply}
 
 abbrev pub Routes : Type 0
 Routes = RowsOf (RouteOf Endpoint)

@@ -1,8 +1,6 @@
 -- Where a head ends: with the first empty line that follows a line that is not empty. A line ends with a line feed, and a carriage return directly before it belongs to the end.
 use Rattle.std.specs.Prelude.{ℕ, ◌+◌, ◌==◌, nat_lt, false, if◌then◌else◌, List, [], ◌∷◌}
-use Rattle.beldi_gateway.specs.declared.scan.Line.{Line}
-use Rattle.beldi_gateway.specs.declared.scan.Line.TheVariants.{Blank, Return, Text}
-use Rattle.beldi_gateway.specs.declared.scan.Scan.{Scan}
+use Rattle.beldi_gateway.specs.declared.scan.{Line.Line, Line.TheVariants.Blank, Line.TheVariants.Return, Line.TheVariants.Text, Scan.Scan}
 
 -- before any byte
 abbrev pub start : Scan

@@ -1,18 +1,7 @@
 -- What one exchange takes, asks and writes.
 use Rattle.std.specs.Prelude.{◌≡◌, ℕ, ◌<◌, ◌≤◌, ◌⊎◌, false, List, [], ◌++◌, length, Option, Some, None, Result, Ok, Err}
-use Rattle.beldi_outside.specs.Outside.{IsPrefixOf}
-use Rattle.beldi_outside.specs.Connection.{Connections}
-use Rattle.beldi_gateway.specs.declared.response.Refusal.{Refusal}
-use Rattle.beldi_gateway.specs.declared.response.Refusal.TheVariants as why
-use Rattle.beldi_gateway.specs.declared.response.Response.{Response}
-use Rattle.beldi_gateway.specs.declared.response.Response.TheVariants.{Refused}
-use Rattle.beldi_gateway.specs.declared.serve.Served.{Served}
-use Rattle.beldi_gateway.specs.declared.serve.Served.TheVariants.{Status, Silent, Fault}
-use Rattle.beldi_gateway.specs.Exchange.{Question, Exchanges, with_body}
-use Rattle.beldi_gateway.specs.declared.plan.Want.{Want}
-use Rattle.beldi_gateway.specs.declared.scan.Scan.{Scan}
-use Rattle.beldi_gateway.specs.Response.{response_bytes, status_of}
-use Rattle.beldi_gateway.specs.Taking.{Moves, EndsAt, Gathers, Lost}
+use Rattle.beldi_outside.specs.{Outside.IsPrefixOf, Connection.Connections}
+use Rattle.beldi_gateway.specs.{declared.response.Refusal.Refusal, declared.response.Response.Response, declared.response.Response.TheVariants.Refused, declared.serve.Served.Served, declared.serve.Served.TheVariants.Status, declared.serve.Served.TheVariants.Silent, declared.serve.Served.TheVariants.Fault, Exchange.Question, Exchange.Exchanges, Exchange.with_body, declared.plan.Want.Want, declared.scan.Scan.Scan, Response.response_bytes, Response.status_of, Taking.Moves, Taking.EndsAt, Taking.Gathers, Taking.Lost}
 
 -- what a desk may say: the desk before, the question, what it says, and the desk after
 abbrev pub Keeps : Type 0 → Type 1
@@ -44,7 +33,7 @@ module _ {D : Type 0} (funcs : List ℕ → Option ℕ) (keeps : Keeps D) where
     pub took : List ℕ
     pub moves : Moves took [] a b
     pub answered : Answered keeps (with_body funcs want path (rest ++ took)) before x after
-    pub ends : with_body funcs want path (rest ++ took) ≡ Err why.Cut → EndsAt a b
+    pub ends : with_body funcs want path (rest ++ took) ≡ Err Refusal.Cut → EndsAt a b
 
   abbrev pub FillsPlan : {E : Type 0} → Want → List ℕ → List ℕ → D → D → Option Connections → Option Connections → Result Response E → Type 0
   FillsPlan want path rest before after a b (Ok x) = Filled want path rest before after a b x
@@ -57,7 +46,7 @@ module _ {D : Type 0} (funcs : List ℕ → Option ℕ) (keeps : Keeps D) where
     pub moves : Moves took [] a b
     pub exchange : Exchanges funcs (bytes ++ took) comes
     pub answered : Answered keeps comes before x after
-    pub ends : comes ≡ Err why.Cut → EndsAt a b ⊎ ((took ≡ []) × (scan.over ≡ false) × (length bytes < 16384))
+    pub ends : comes ≡ Err Refusal.Cut → EndsAt a b ⊎ ((took ≡ []) × (scan.over ≡ false) × (length bytes < 16384))
 
   abbrev pub AnswersTo : {E : Type 0} → Scan → List ℕ → D → D → Option Connections → Option Connections → Result Response E → Type 0
   AnswersTo scan bytes before after a b (Ok x) = Replied scan bytes before after a b x
@@ -67,7 +56,7 @@ module _ {D : Type 0} (funcs : List ℕ → Option ℕ) (keeps : Keeps D) where
   pub record Decided (before after : D) (a b : Option Connections) (took : List ℕ) (x : Response) : Type 0 where
     pub comes : Result Question Refusal
     pub exchange : Exchanges funcs took comes
-    pub ends : comes ≡ Err why.Cut → EndsAt a b
+    pub ends : comes ≡ Err Refusal.Cut → EndsAt a b
     pub answered : Answered keeps comes before x after
 
   -- a whole response was written

@@ -1,10 +1,7 @@
 -- What is taken from the open connection and written on it.
 use Rattle.std.specs.Prelude.{◌≡◌, ℕ, ◌+◌, ◌≤◌, ◌⊎◌, true, List, [], ◌++◌, length, Option, Some, None, Result, Ok, Err}
-use Rattle.beldi_outside.specs.Outside.{Told, IsPrefixOf}
-use Rattle.beldi_outside.specs.Connection.{Connection, Connections}
-use Rattle.beldi_gateway.specs.declared.gather.Stop.{Stop}
-use Rattle.beldi_gateway.specs.declared.scan.Scan.{Scan}
-use Rattle.beldi_gateway.specs.Scan.{start, scan_on}
+use Rattle.beldi_outside.specs.{Outside.Told, Outside.IsPrefixOf, Connection.Connection, Connection.Connections}
+use Rattle.beldi_gateway.specs.{declared.gather.Stop.Stop, declared.scan.Scan.Scan, Scan.start, Scan.scan_on}
 
 -- these bytes more were taken from a connection, and these written on it
 pub record Went (took wrote : List ℕ) (c d : Connection) : Type 0 where

@@ -1,4 +1,5 @@
 mod Looks
+mod Names
 mod Newest
 pub mod Right
 mod Skips

@@ -1,19 +1,6 @@
 -- What is read by a look at one row.
-use Rattle.std.proofs.Common.{◌≡◌, ℕ, Option, None, Some, Result, Ok, Err, refl, ap, ◌∙◌, subst}
-use Rattle.std.specs.Prelude.{IfOk, IsErrOf}
-use Rattle.std.specs.FinMap as map
-use Rattle.beldi_row.specs.Key.{RowKey}
-use Rattle.beldi_row.specs.declared.row.Row.{Row}
-use Rattle.beldi_row.specs.declared.act.Act.TheVariants.{Look}
-use Rattle.beldi_row.specs.declared.act.Said.{Said}
-use Rattle.beldi_row.specs.declared.table.TableErr.{TableErr}
-use Rattle.beldi_row.specs.Act.{act, tell_of}
-use Rattle.beldi_row.specs.Table.{Rows, TableState, Acted, ActedOn}
-use Rattle.beldi_row.proofs.Tells.{tells_map}
-use Rattle.beldi_row.proofs.Unchanged.{looked}
-use Rattle.beldi_host.specs.declared.survey.OpenErr.{OpenErr}
-use Rattle.beldi_host.specs.declared.survey.OpenErr.TheVariants.{Failed}
-use Rattle.beldi_host.specs.Survey.{Reads, told_row}
+use Rattle.beldi_host.proofs.Names.{Acted, ActedOn, Err, Failed, IfOk, IsErrOf, Look, None, Ok, OpenErr, Option, Reads, Result, Row, RowKey, Rows, Said, Some, TableErr, TableState, act, ap, looked, refl, subst, tell_of, tells_map, told_row, ℕ, ◌∙◌, ◌≡◌}
+use Rattle.beldi_host.proofs.Names.map
 
 row_told : (now : ℕ) (o : Option Row) → told_row (act Look now o).1 ≡ o
 row_told now None = refl

@@ -1,18 +1,6 @@
 -- The greatest ticket of the keys of a map.
-use Rattle.std.proofs.Common.{◌≡◌, ◌⊎◌, inl, inr, ℕ, ◌<◌, ◌≤◌, Bool, true, false, cond, List, [], ◌∷◌, Option, None, Some, refl, ap, sym, ◌∙◌, subst, arith}
-use borrow.Author.Tests.{ltb-true, ltb-false}
-use Rattle.std.specs.Prelude.{IsSome, max, nat_lt}
-use Rattle.std.specs.FinMap as map
-use Rattle.std.specs.FinMap.{get-entries}
-use Rattle.std.specs.FinMap.Entries.{find}
-use Rattle.std.specs.Ordering.{is_eq}
-use Rattle.std.proofs.lemmas.Cmp.{tied_itself}
-use Rattle.beldi_row.specs.Key.{RowKey, key_cmp, key_ticket}
-use Rattle.beldi_row.specs.KeyOrder.{key_total}
-use Rattle.beldi_row.specs.declared.row.Row.{Row}
-use Rattle.beldi_row.specs.Table.{Rows, Tells}
-use Rattle.beldi_row.proofs.Gets.{key_same}
-use Rattle.beldi_host.specs.Survey.{greatest, newest_of, IsNewest, NewestAt}
+use Rattle.beldi_host.proofs.Names.{Bool, IsNewest, IsSome, List, NewestAt, None, Option, Row, RowKey, Rows, Some, Tells, [], ap, arith, cond, false, find, get-entries, greatest, inl, inr, is_eq, key_cmp, key_same, key_ticket, key_total, ltb-false, ltb-true, max, nat_lt, newest_of, refl, subst, sym, tied_itself, true, ℕ, ◌<◌, ◌∙◌, ◌∷◌, ◌≡◌, ◌≤◌, ◌⊎◌}
+use Rattle.beldi_host.proofs.Names.map
 
 not_some : false ≡ true → ⊥
 not_some h = cc

@@ -1,49 +1,7 @@
 -- Why the calls of a host keep it and its rows right, and what they tell of the run of the book.
-use Rattle.std.proofs.Common.{◌≡◌, ℕ, ◌++◌, ◌&&◌, Bool, true, false, List, [], Option, None, Some, Result, Ok, Err, refl, ap, sym, ◌∙◌, subst, is_some, arith, if◌then◌else◌}
-use Rattle.std.specs.Prelude.{nat_lt, nat_le, OnOk, IfOk, IfSome, IsSome}
-use Rattle.std.specs.FinMap as map
-use Rattle.std.specs.FinMap.{len-entries, len-empty}
-use Rattle.std.specs.declared.alloc.AllocError.{AllocError}
-use Rattle.std.proofs.lemmas.Bool.Decides.{nat_tests}
-use Rattle.std.proofs.lemmas.List.{nil_from_length}
-use Rattle.beldi_value.specs.Id.{root_of}
-use Rattle.beldi_value.specs.declared.outcome.Outcome.{Outcome}
-use Rattle.beldi_tree.specs.declared.deployment.Deployment.{Deployment}
-use Rattle.beldi_row.specs.Key.{key_cmp}
-use Rattle.beldi_row.specs.declared.row.Body.{Body}
-use Rattle.beldi_row.specs.declared.row.Row.{Row}
 use Rattle.beldi_row.specs.declared.row.Row.TheVariants.{Intent}
-use Rattle.beldi_row.specs.Table.{Rows, TableState, Tells}
-use Rattle.beldi_plain.specs.Plain.{PlainState, reply_of, outcome_of}
-use Rattle.beldi_step.specs.declared.event.Event.{Event}
-use Rattle.beldi_step.specs.declared.event.Seen.{Seen}
-use Rattle.beldi_intent.specs.Intent.{root_key}
-use Rattle.beldi_step.specs.Host.{Core, first_core, Stepped, EventOn}
-use Rattle.beldi_step.proofs.Late.{expires}
-use Rattle.beldi_step.proofs.Steps.{over_rows}
-use Rattle.beldi_step.specs.Tables.{tables_text}
-use Rattle.beldi_laws.specs.Right.{Right}
-use Rattle.beldi_laws.proofs.Events.{begins, after_event, keeps_right, right_legal}
-use Rattle.beldi_laws.proofs.Standing.{same_run, right_stands}
-use Rattle.beldi_laws.proofs.Listing.{listing_plain}
-use Rattle.beldi_laws.proofs.Outside.{outcome_known}
-use Rattle.beldi_host.specs.Survey.{Reads, greatest, newest_of, outcome_seen, row_seen, is_unknown, reply_seen}
-use Rattle.beldi_host.specs.declared.survey.OpenErr.{OpenErr}
-use Rattle.beldi_host.specs.declared.survey.ReplySeen.{ReplySeen}
-use Rattle.beldi_host.specs.declared.survey.ReplySeen.TheVariants.{Unknown}
-use Rattle.beldi_laws.specs.Laws.{is_gone}
-use Rattle.beldi_known.specs.Stands.{Stands}
-use Rattle.beldi_laws.specs.OneAnswer.{OneAnswerPerStep, AnswersStay}
-use Rattle.beldi_laws.proofs.Moves.{seen_by}
-use Rattle.beldi_laws.proofs.OneAnswer.{one_answer, answers_stay}
-use Rattle.beldi_plain.specs.Legal.{IsLegal, run_of}
-use Rattle.beldi_plain.specs.Listing.{listing_of}
-use Rattle.beldi_row.proofs.Tells.{tells_map}
-use Rattle.beldi_host.specs.Right.{EndsLate, RowsStandFor, HasNoRows}
-use Rattle.beldi_plain.specs.Replies.{HasNoReply}
-use Rattle.beldi_host.specs.Said.{SaidOf}
-use Rattle.beldi_known.specs.Matches.{has_ended}
-use Rattle.beldi_known.specs.Rows.{IntentMatches, BodyMatches}
+use Rattle.beldi_host.proofs.Names.{AllocError, AnswersStay, Body, BodyMatches, Bool, Core, Deployment, EndsLate, Err, Event, EventOn, HasNoReply, HasNoRows, IfOk, IfSome, IntentMatches, IsLegal, IsSome, List, None, Ok, OnOk, OneAnswerPerStep, OpenErr, Option, Outcome, PlainState, Reads, ReplySeen, Result, Right, Row, Rows, RowsStandFor, SaidOf, Seen, Some, Stands, Stepped, TableState, Tells, Unknown, [], after_event, answers_stay, ap, arith, begins, expires, false, first_core, greatest, has_ended, if◌then◌else◌, is_gone, is_some, is_unknown, keeps_right, key_cmp, len-empty, len-entries, listing_of, listing_plain, nat_le, nat_lt, nat_tests, newest_of, nil_from_length, one_answer, outcome_known, outcome_of, outcome_seen, over_rows, refl, reply_of, reply_seen, right_legal, right_stands, root_key, root_of, row_seen, run_of, same_run, seen_by, subst, sym, tables_text, tells_map, true, ℕ, ◌&&◌, ◌++◌, ◌∙◌, ◌≡◌}
+use Rattle.beldi_host.proofs.Names.map
 
 -- ---- what is told
 if_told : {P Q : Rows → Type 0} (told : Option Rows) → ((m : Rows) → P m → Q m) → IfSome told P → IfSome told Q

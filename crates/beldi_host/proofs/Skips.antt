@@ -1,25 +1,7 @@
 -- Rows that have no line are skipped.
-use Rattle.std.proofs.Common.{◌≡◌, ℕ, ◌≤◌, ◌++◌, Bool, true, false, ◌&&◌, List, [], ◌∷◌, refl, ap, sym, ◌∙◌, subst, arith, if◌then◌else◌}
-use Rattle.std.specs.Prelude.{T, flat_map}
-use Rattle.std.specs.FinMap as map
-use Rattle.std.specs.FinMap.Entries.{below_all, is_sorted}
-use Rattle.std.specs.Ordering.{is_lt, is_le, nat_cmp, ordering_then, ordering_reverse}
-use Rattle.std.specs.declared.cmp.Ordering.{Ordering}
-use Rattle.std.specs.declared.cmp.Ordering.TheVariants.{Less, Equal, Greater}
-use Rattle.std.specs.Cmp.{nat_cmp_total}
-use Rattle.std.proofs.lemmas.Cmp.{tied_itself}
-use Rattle.std.proofs.lemmas.Map.Keys.{le_from_is_le, ge_from_not_lt}
-use Rattle.beldi_tree.specs.declared.deployment.Deployment.{Deployment}
-use Rattle.beldi_row.specs.Key.{RowKey, key_cmp, kind_cmp, rank_of}
-use Rattle.beldi_row.specs.KeyOrder.{key_total, key_exact}
-use Rattle.beldi_row.specs.declared.key.Kind.{Kind}
-use Rattle.beldi_row.specs.declared.key.Kind.TheVariants.{Intent, ReadLog, Invoke, Data, Shadow, Lockset}
-use Rattle.beldi_row.specs.declared.row.Row.{Row}
-use Rattle.beldi_row.specs.Table.{Rows}
-use Rattle.beldi_step.specs.Tables.{row_line, line_at}
-use Rattle.beldi_host.specs.Survey.{Past, last_rank}
+use Rattle.beldi_host.proofs.Names.{Bool, Data, Deployment, Equal, Greater, Intent, Invoke, Kind, Less, List, Lockset, Ordering, Past, ReadLog, Row, RowKey, Rows, Shadow, T, [], ap, arith, below_all, false, first, flat_map, ge_from_not_lt, if◌then◌else◌, is_le, is_lt, is_sorted, key_cmp, key_exact, key_total, kind_cmp, last_rank, le_from_is_le, less, line_at, nat_cmp, nat_cmp_total, ordering_reverse, ordering_then, rank_of, refl, row_line, second, subst, sym, test_true, tied_itself, true, ℕ, ◌&&◌, ◌++◌, ◌∙◌, ◌∷◌, ◌≡◌, ◌≤◌}
 use Rattle.beldi_host.proofs.Steps.{Listed, rest}
-use Rattle.beldi_core.proofs.Truths.{first, second, test_true, less}
+use Rattle.beldi_host.proofs.Names.map
 
 bare : (d : Deployment) (m : Rows) (home : ℕ) (kind : Kind) (r : Row) → (rank_of kind ≡ 3 → ⊥) → line_at d m home kind r ≡ []
 bare d m home (Intent a) r h = refl

@@ -1,32 +1,7 @@
 -- Reading all rows, one after another.
-use Rattle.std.proofs.Common.{◌≡◌, ℕ, zero, suc, ◌≤◌, ◌++◌, true, false, List, [], ◌∷◌, Option, None, Some, Ok, Err, refl, ap, sym, ◌∙◌, subst, arith, if◌then◌else◌, append_assoc, append-nil}
-use Rattle.std.specs.Prelude.{T, max, flat_map, Result, IfOk, IsErrOf}
-use Rattle.std.specs.FinMap as map
-use Rattle.std.specs.FinMap.Entries.{below_all, is_sorted}
-use Rattle.std.specs.Ordering.{is_lt, nat_cmp, ordering_then, ordering_reverse}
-use Rattle.std.specs.declared.cmp.Ordering.{Ordering}
-use Rattle.std.specs.declared.cmp.Ordering.TheVariants.{Less, Greater}
-use Rattle.std.proofs.lemmas.Cmp.{tied_itself}
-use Rattle.std.specs.Cmp.{nat_cmp_is}
-use Rattle.beldi_value.specs.declared.place.Owner.{Owner}
-use Rattle.beldi_value.specs.declared.place.Owner.TheVariants as owner
-use Rattle.beldi_value.specs.declared.value.Value.{Value}
-use Rattle.beldi_tree.specs.declared.deployment.Deployment.{Deployment}
-use Rattle.beldi_row.specs.Key.{RowKey, key_cmp, kind_cmp, key_ticket, ticket_of, least_key}
-use Rattle.beldi_row.specs.KeyOrder.{key_total}
-use Rattle.beldi_row.specs.declared.key.Kind.{Kind}
-use Rattle.beldi_row.specs.declared.key.Kind.TheVariants.{Intent, ReadLog, Invoke, Data, Shadow, Lockset}
-use Rattle.beldi_row.specs.declared.row.Row.{Row}
-use Rattle.beldi_row.specs.declared.row.Row.TheVariants.{Cell}
-use Rattle.beldi_row.specs.Table.{Rows, TableState, Tells, Rose, first_above, next_row}
-use Rattle.beldi_row.proofs.Tells.{tells_map}
-use Rattle.beldi_walk.proofs.Queries.{same_rows}
-use Rattle.beldi_step.specs.Tables.{row_line, line_at, is_committed, value_in, owned_value, value_line, shown_under, tables_text}
-use Rattle.beldi_core.proofs.Truths.{first, second, test_true, less}
-use Rattle.beldi_host.specs.declared.survey.OpenErr.{OpenErr}
-use Rattle.beldi_host.specs.declared.survey.OpenErr.TheVariants.{Failed}
-use Rattle.beldi_host.specs.declared.survey.Owned.{Owned}
-use Rattle.beldi_host.specs.Survey.{Reads, greatest, newest_of, next_key_of, cell_seen, seen_at, seen_of, next_seen_of, line_after, next_line_of}
+use Rattle.std.specs.Prelude.{Result}
+use Rattle.beldi_host.proofs.Names.{Cell, Data, Deployment, Err, Failed, Greater, IfOk, Intent, Invoke, IsErrOf, Kind, Less, List, Lockset, None, Ok, OpenErr, Option, Ordering, Owned, Owner, ReadLog, Reads, Rose, Row, RowKey, Rows, Shadow, Some, T, TableState, Tells, Value, [], ap, append-nil, append_assoc, arith, below_all, cell_seen, false, first, first_above, flat_map, greatest, if◌then◌else◌, is_committed, is_lt, is_sorted, key_cmp, key_ticket, key_total, kind_cmp, least_key, less, line_after, line_at, max, nat_cmp, nat_cmp_is, newest_of, next_key_of, next_line_of, next_row, next_seen_of, ordering_reverse, ordering_then, owned_value, refl, row_line, same_rows, second, seen_at, seen_of, shown_under, subst, suc, sym, tables_text, tells_map, test_true, ticket_of, tied_itself, true, value_in, value_line, zero, ℕ, ◌++◌, ◌∙◌, ◌∷◌, ◌≡◌, ◌≤◌}
+use Rattle.beldi_host.proofs.Names.map
 
 abbrev Entry : Type 0
 Entry = RowKey × Row
@@ -147,8 +122,8 @@ newest_last t k m h next =
 -- ---- the line of a row, in two steps
 cell_whole : (d : Deployment) (m : Rows) (text : List ℕ) (f t : ℕ) (k : List ℕ) (o : Option Owner) (v : Value) → line_after d m f (Data t k 0) (cell_seen d text f t k o v) ≡ text ++ value_line d f t k (shown_under m f t k o v)
 cell_whole d m text f t k None v = refl
-cell_whole d m text f t k (Some (owner.Intent i)) v = refl
-cell_whole d m text f t k (Some (owner.Tx x)) v = refl
+cell_whole d m text f t k (Some (Owner.Intent i)) v = refl
+cell_whole d m text f t k (Some (Owner.Tx x)) v = refl
 
 line_whole : (d : Deployment) (m : Rows) (text : List ℕ) (f : ℕ) (k : Kind) (r : Row) → line_after d m f k (seen_at d text f k r) ≡ text ++ line_at d m f k r
 line_whole d m text f (Data t k zero) (Cell c) = cell_whole d m text f t k c.owner c.value

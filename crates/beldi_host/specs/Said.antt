@@ -3,8 +3,7 @@ use Rattle.std.specs.Prelude.{ℕ, List}
 use Rattle.beldi_tree.specs.declared.deployment.Deployment.{Deployment}
 use Rattle.beldi_book.specs.declared.entry.Entry.{Entry}
 use Rattle.beldi_plain.specs.Replies.{HasNoReply, HasReply}
-use Rattle.beldi_host.specs.declared.survey.ReplySeen.{ReplySeen}
-use Rattle.beldi_host.specs.declared.survey.ReplySeen.TheVariants.{Unknown, Gone, Waiting, Reply}
+use Rattle.beldi_host.specs.declared.survey.ReplySeen.{ReplySeen, TheVariants.Unknown, TheVariants.Gone, TheVariants.Waiting, TheVariants.Reply}
 
 -- what is said of a reply is so in the run of the book; the row of a ticket that was issued is never absent
 abbrev pub SaidOf : Deployment → List Entry → ℕ → ReplySeen → Type 0

@@ -1,28 +1,14 @@
 -- Calls that read the rows of a table, one after another, and change none.
 use Rattle.std.specs.Prelude.{◌≡◌, ◌⊎◌, ℕ, zero, ◌≤◌, ◌==◌, ◌||◌, max, IsSome, nat_lt, Bool, true, false, ◌++◌, List, [], ◌∷◌, Option, Some, None, Result, IfOk, OnOk, IsErrOf, if◌then◌else◌}
-use Rattle.std.specs.FinMap as map
 use Rattle.std.specs.Ordering.{is_lt}
-use Rattle.beldi_value.specs.declared.outcome.Outcome.{Outcome}
-use Rattle.beldi_value.specs.declared.place.Owner.{Owner}
-use Rattle.beldi_value.specs.declared.place.Owner.TheVariants.{Tx}
-use Rattle.beldi_value.specs.declared.value.Value.{Value}
+use Rattle.std.specs.FinMap as map
+use Rattle.beldi_value.specs.declared.{outcome.Outcome.Outcome, place.Owner.Owner, place.Owner.TheVariants.Tx, value.Value.Value}
 use Rattle.beldi_tree.specs.declared.deployment.Deployment.{Deployment}
-use Rattle.beldi_row.specs.Key.{RowKey, key_cmp, key_ticket, rank_of}
-use Rattle.beldi_row.specs.declared.key.Kind.{Kind}
-use Rattle.beldi_row.specs.declared.key.Kind.TheVariants.{Data, Shadow, Lockset}
-use Rattle.beldi_row.specs.declared.row.Row.{Row}
-use Rattle.beldi_row.specs.declared.row.Row.TheVariants.{Intent, Cell}
-use Rattle.beldi_row.specs.Act.{Tell, here}
-use Rattle.beldi_row.specs.Table.{Rows, TableState, Tells, Rose}
+use Rattle.beldi_row.specs.{Key.RowKey, Key.key_cmp, Key.key_ticket, Key.rank_of, declared.key.Kind.Kind, declared.key.Kind.TheVariants.Data, declared.key.Kind.TheVariants.Shadow, declared.key.Kind.TheVariants.Lockset, declared.row.Row.Row, declared.row.Row.TheVariants.Intent, declared.row.Row.TheVariants.Cell, Act.Tell, Act.here, Table.Rows, Table.TableState, Table.Tells, Table.Rose}
 use Rattle.beldi_daal.specs.Cell.{shadow_key}
 use Rattle.beldi_intent.specs.Intent.{root_key}
-use Rattle.beldi_step.specs.Host.{Core, first_core}
-use Rattle.beldi_step.specs.Tables.{row_line, value_line, decision_key, owned_value}
-use Rattle.beldi_host.specs.declared.survey.OpenErr.{OpenErr}
-use Rattle.beldi_host.specs.declared.survey.Owned.{Owned}
-use Rattle.beldi_host.specs.declared.survey.OpenErr.TheVariants.{Failed}
-use Rattle.beldi_host.specs.declared.survey.ReplySeen.{ReplySeen}
-use Rattle.beldi_host.specs.declared.survey.ReplySeen.TheVariants.{Unknown, Gone, Waiting, Reply}
+use Rattle.beldi_step.specs.{Host.Core, Host.first_core, Tables.row_line, Tables.value_line, Tables.decision_key, Tables.owned_value}
+use Rattle.beldi_host.specs.declared.survey.{OpenErr.OpenErr, Owned.Owned, OpenErr.TheVariants.Failed, ReplySeen.ReplySeen, ReplySeen.TheVariants.Unknown, ReplySeen.TheVariants.Gone, ReplySeen.TheVariants.Waiting, ReplySeen.TheVariants.Reply}
 
 -- the rows are as before, and an answer is right of them
 pub record Reads {X : Type 0} (P : Rows → X → Type 0) (old new : TableState) (result : Result X OpenErr) : Type 0 where

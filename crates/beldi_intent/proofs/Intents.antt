@@ -1,23 +1,7 @@
 -- Intents are put once, and stay.
-use Rattle.std.proofs.Common.{◌≡◌, ℕ, ◌==◌, ◌&&◌, Bool, true, false, Option, None, Some, refl, sym, ◌∙◌, subst, if◌then◌else◌}
-use Rattle.std.specs.Option.{option_map}
-use Rattle.std.specs.FinMap as map
-use Rattle.beldi_value.specs.Same.{same_value}
-use Rattle.beldi_value.specs.declared.outcome.Outcome.{Outcome}
-use Rattle.beldi_value.specs.declared.value.Value.{Value}
-use Rattle.beldi_row.specs.Key.{RowKey}
-use Rattle.beldi_row.specs.declared.row.Body.{Body}
-use Rattle.beldi_row.specs.declared.row.IntentRow.{IntentRow}
-use Rattle.beldi_row.specs.declared.row.Row.{Row}
-use Rattle.beldi_row.specs.declared.row.Row.TheVariants as rows
 use Rattle.beldi_row.specs.declared.act.Act.{Act}
-use Rattle.beldi_row.specs.declared.act.Act.TheVariants.{Look, Issue, Bind, Register, End, Stamp}
-use Rattle.beldi_row.specs.Act.{act, bind_to, end_with, stamp_with, finish_at, outcome_tell, other}
-use Rattle.beldi_row.specs.Table.{Rows, set_row}
-use Rattle.beldi_row.proofs.Unchanged.{unchanged, looked}
-use Rattle.beldi_walk.specs.Query.{said}
-use Rattle.beldi_walk.proofs.Promises.{promised, at_each}
-use Rattle.beldi_intent.specs.Intent.{intent_key, root_key, issue_asks, bind_asks, register_asks, look_asks, end_asks, stamp_asks, is_added, binding_of, intent_of, put_of, intent_in, read_as, IssuedOn, RegisteredOn, bound_by, bound_before, BoundBy, BoundOn, EndedBy, EndedOn, StampedBy, StampedOn, GoesOn, IntentGoesOn, RootsArePutOnce, CalleesArePutOnce, IntentsAreTold, BodiesAreSetOnce, OutcomesAreSetOnce, FinishesAreSetOnce, IntentsStay}
+use Rattle.beldi_intent.proofs.Names.{Bind, BodiesAreSetOnce, Body, Bool, BoundBy, BoundOn, CalleesArePutOnce, End, EndedBy, EndedOn, FinishesAreSetOnce, GoesOn, IntentGoesOn, IntentRow, IntentsAreTold, IntentsStay, Issue, IssuedOn, Look, None, Option, Outcome, OutcomesAreSetOnce, Register, RegisteredOn, RootsArePutOnce, Row, RowKey, Rows, Some, Stamp, StampedBy, StampedOn, Value, act, at_each, bind_asks, bind_to, binding_of, bound_before, bound_by, end_asks, end_with, false, finish_at, if◌then◌else◌, intent_in, intent_key, intent_of, is_added, issue_asks, look_asks, looked, option_map, other, outcome_tell, promised, put_of, read_as, refl, register_asks, root_key, said, same_value, set_row, stamp_asks, stamp_with, subst, sym, true, unchanged, ℕ, ◌&&◌, ◌==◌, ◌∙◌, ◌≡◌}
+use Rattle.beldi_intent.proofs.Names.map
 
 -- ---- an intent is told
 told_row : (now : ℕ) (o : Option Row) → intent_of (said (act Look now o).1) ≡ option_map (λ w. read_as (intent_in (Some w))) o
@@ -50,33 +34,33 @@ module _ (k : RowKey) (m : Rows) (now : ℕ) where
   registered b None there = (refl, refl)
   registered b (Some r) there = (same (Some r) there, refl)
 
-  bound_row : (f : ℕ) (a : Value) (i : IntentRow) (b : Option Body) → map.get m k ≡ Some (rows.Intent i)
-      → BoundBy f a i b k m (set_row m k (Some (rows.Intent (bind_to f a i b).0))) (binding_of (said (bind_to f a i b).1))
+  bound_row : (f : ℕ) (a : Value) (i : IntentRow) (b : Option Body) → map.get m k ≡ Some (Row.Intent i)
+      → BoundBy f a i b k m (set_row m k (Some (Row.Intent (bind_to f a i b).0))) (binding_of (said (bind_to f a i b).1))
   bound_row f a i None there = (refl, refl)
-  bound_row f a i (Some b) there = (same (Some (rows.Intent i)) there, bound_so f a b i.outcome)
+  bound_row f a i (Some b) there = (same (Some (Row.Intent i)) there, bound_so f a b i.outcome)
 
   bound : (f : ℕ) (a : Value) (o : Option Row) → map.get m k ≡ o → BoundOn f a k (intent_in o) m (set_row m k (act (Bind f a) now o).0) (binding_of (said (act (Bind f a) now o).1))
   bound f a None there = (same None there, refl)
-  bound f a (Some (rows.Intent i)) there = bound_row f a i i.body there
+  bound f a (Some (Row.Intent i)) there = bound_row f a i i.body there
   bound f a (Some r) there = (same (Some r) there, refl)
 
-  ended_row : (o : Outcome) (stamp : Bool) (i : IntentRow) (p : Option Outcome) → map.get m k ≡ Some (rows.Intent i)
-      → EndedBy o stamp now i p k m (set_row m k (Some (rows.Intent (end_with o stamp now i p).0))) (put_of (said (end_with o stamp now i p).1))
+  ended_row : (o : Outcome) (stamp : Bool) (i : IntentRow) (p : Option Outcome) → map.get m k ≡ Some (Row.Intent i)
+      → EndedBy o stamp now i p k m (set_row m k (Some (Row.Intent (end_with o stamp now i p).0))) (put_of (said (end_with o stamp now i p).1))
   ended_row o stamp i None there = (refl, refl)
-  ended_row o stamp i (Some p) there = (same (Some (rows.Intent i)) there, refl)
+  ended_row o stamp i (Some p) there = (same (Some (Row.Intent i)) there, refl)
 
   ended : (o : Outcome) (stamp : Bool) (r : Option Row) → map.get m k ≡ r → EndedOn o stamp now k (intent_in r) m (set_row m k (act (End o stamp) now r).0) (put_of (said (act (End o stamp) now r).1))
   ended o stamp None there = (same None there, refl)
-  ended o stamp (Some (rows.Intent i)) there = ended_row o stamp i i.outcome there
+  ended o stamp (Some (Row.Intent i)) there = ended_row o stamp i i.outcome there
   ended o stamp (Some r) there = (same (Some r) there, refl)
 
-  stamped_row : (i : IntentRow) (t : Option ℕ) → map.get m k ≡ Some (rows.Intent i) → StampedBy now i t k m (set_row m k (Some (rows.Intent (stamp_with now i t).0))) (put_of (said (stamp_with now i t).1))
+  stamped_row : (i : IntentRow) (t : Option ℕ) → map.get m k ≡ Some (Row.Intent i) → StampedBy now i t k m (set_row m k (Some (Row.Intent (stamp_with now i t).0))) (put_of (said (stamp_with now i t).1))
   stamped_row i None there = (refl, refl)
-  stamped_row i (Some t) there = (same (Some (rows.Intent i)) there, refl)
+  stamped_row i (Some t) there = (same (Some (Row.Intent i)) there, refl)
 
   stamped : (r : Option Row) → map.get m k ≡ r → StampedOn now k (intent_in r) m (set_row m k (act Stamp now r).0) (put_of (said (act Stamp now r).1))
   stamped None there = (same None there, refl)
-  stamped (Some (rows.Intent i)) there = stamped_row i i.finish there
+  stamped (Some (Row.Intent i)) there = stamped_row i i.finish there
   stamped (Some r) there = (same (Some r) there, refl)
 
 pub roots_put : RootsArePutOnce
@@ -115,17 +99,17 @@ stamp_goes : (now : ℕ) (i : IntentRow) (f : Option ℕ) → i.finish ≡ f →
 stamp_goes now i None none = record { issued = refl; body = λ b is. is; outcome = λ o is. is; finish = λ t is. let clash = sym none ∙ is in cc }
 stamp_goes now i (Some f) is = as_was i
 
-act_goes : (a : Act) (now : ℕ) (i : IntentRow) → (j : IntentRow) × (intent_in (act a now (Some (rows.Intent i))).0 ≡ Some j) × GoesOn i j
+act_goes : (a : Act) (now : ℕ) (i : IntentRow) → (j : IntentRow) × (intent_in (act a now (Some (Row.Intent i))).0 ≡ Some j) × GoesOn i j
 act_goes (Bind f v) now i = ((bind_to f v i i.body).0, refl, bind_goes f v i i.body refl)
 act_goes (End o s) now i = ((end_with o s now i i.outcome).0, refl, end_goes o s now i i.outcome refl)
 act_goes Stamp now i = ((stamp_with now i i.finish).0, refl, stamp_goes now i i.finish refl)
 act_goes a now i = (i, refl, as_was i)
 
-inside : (i j : IntentRow) → intent_in (Some (rows.Intent i)) ≡ Some j → i ≡ j
+inside : (i j : IntentRow) → intent_in (Some (Row.Intent i)) ≡ Some j → i ≡ j
 inside i j is = cc
 
 goes_from : (a : Act) (now : ℕ) (r : Option Row) → IntentGoesOn r (act a now r).0
-goes_from a now (Some (rows.Intent i)) j is = subst (λ o. (l : IntentRow) × (intent_in (act a now (Some (rows.Intent i))).0 ≡ Some l) × GoesOn o l) (inside i j is) (act_goes a now i)
+goes_from a now (Some (Row.Intent i)) j is = subst (λ o. (l : IntentRow) × (intent_in (act a now (Some (Row.Intent i))).0 ≡ Some l) × GoesOn o l) (inside i j is) (act_goes a now i)
 goes_from a now None j is = cc
 goes_from a now (Some r) j is = cc
 

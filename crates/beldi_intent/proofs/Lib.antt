@@ -1,1 +1,2 @@
 pub mod Intents
+mod Names

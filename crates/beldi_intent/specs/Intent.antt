@@ -2,28 +2,11 @@
 use Rattle.std.specs.Prelude.{◌≡◌, ℕ, ◌==◌, ◌&&◌, ◌||◌, Bool, true, false, is_some, Option, Some, None, if◌then◌else◌}
 use Rattle.std.specs.Option.{option_map}
 use Rattle.std.specs.FinMap as map
-use Rattle.beldi_value.specs.Id.{home_of, root_of}
-use Rattle.beldi_value.specs.Same.{same_value}
-use Rattle.beldi_value.specs.declared.id.IntentId.{IntentId}
-use Rattle.beldi_value.specs.declared.outcome.Outcome.{Outcome}
-use Rattle.beldi_value.specs.declared.value.Value.{Value}
-use Rattle.beldi_row.specs.Key.{RowKey}
-use Rattle.beldi_row.specs.declared.key.Kind.TheVariants.{Intent}
-use Rattle.beldi_row.specs.declared.row.Body.{Body}
-use Rattle.beldi_row.specs.declared.row.IntentRow.{IntentRow}
-use Rattle.beldi_row.specs.declared.row.Row.{Row}
-use Rattle.beldi_row.specs.declared.row.Row.TheVariants as rows
-use Rattle.beldi_row.specs.declared.act.Act.TheVariants.{Look, Issue, Bind, Register, End, Stamp}
+use Rattle.beldi_value.specs.{Id.home_of, Id.root_of, Same.same_value, declared.id.IntentId.IntentId, declared.outcome.Outcome.Outcome, declared.value.Value.Value}
 use Rattle.beldi_row.specs.Act.{here, added, bound, running, other, ended, already, did, finish_at}
-use Rattle.beldi_row.specs.Table.{Rows, set_row}
-use Rattle.beldi_walk.specs.declared.query.Query.{Query}
-use Rattle.beldi_walk.specs.declared.query.Query.TheVariants.{Act}
-use Rattle.beldi_walk.specs.Query.{Told, said, rows_after}
-use Rattle.beldi_walk.specs.Walk.{Promises}
-use Rattle.beldi_intent.specs.declared.intent.Binding.{Binding}
-use Rattle.beldi_intent.specs.declared.intent.Binding.TheVariants as binding
-use Rattle.beldi_intent.specs.declared.intent.Put.{Put}
-use Rattle.beldi_intent.specs.declared.intent.Put.TheVariants as put
+use Rattle.beldi_row.specs.{Key.RowKey, declared.key.Kind.TheVariants.Intent, declared.row.Body.Body, declared.row.IntentRow.IntentRow, declared.row.Row.Row, declared.act.Act.TheVariants.Look, declared.act.Act.TheVariants.Issue, declared.act.Act.TheVariants.Bind, declared.act.Act.TheVariants.Register, declared.act.Act.TheVariants.End, declared.act.Act.TheVariants.Stamp, Table.Rows, Table.set_row}
+use Rattle.beldi_walk.specs.{declared.query.Query.Query, declared.query.Query.TheVariants.Act, Query.Told, Query.said, Query.rows_after, Walk.Promises}
+use Rattle.beldi_intent.specs.declared.intent.{Binding.Binding, Put.Put}
 
 -- the row of an intent: a root's stands in the host's home, a callee's in its function's
 abbrev pub intent_key : IntentId → ℕ → RowKey
@@ -62,20 +45,20 @@ is_did (said did) = true
 is_did t = false
 
 abbrev pub put_of : Told → Put
-put_of (said did) = put.Did
-put_of (said already) = put.Already
-put_of t = put.Gone
+put_of (said did) = Put.Did
+put_of (said already) = Put.Already
+put_of t = Put.Gone
 
 abbrev pub binding_of : Told → Binding
-binding_of (said bound) = binding.Bound
-binding_of (said running) = binding.Running
-binding_of (said (other b)) = binding.Other b.func b.args
-binding_of (said (ended o)) = binding.Ended o
-binding_of t = binding.Gone
+binding_of (said bound) = Binding.Bound
+binding_of (said running) = Binding.Running
+binding_of (said (other b)) = Binding.Other b.func b.args
+binding_of (said (ended o)) = Binding.Ended o
+binding_of t = Binding.Gone
 
 -- the intent that a row is, if it is one
 abbrev pub intent_in : Option Row → Option IntentRow
-intent_in (Some (rows.Intent i)) = Some i
+intent_in (Some (Row.Intent i)) = Some i
 intent_in r = None
 
 -- an intent that was issued at this moment, and has this to do
@@ -106,13 +89,13 @@ body_in func (Some b) = if b.func == func then Some b else None
 
 -- that of an intent that has not ended
 abbrev pub body_told : ℕ → Told → Option Body
-body_told func (said (here (rows.Intent i))) = body_in func (open_body i)
+body_told func (said (here (Row.Intent i))) = body_in func (open_body i)
 body_told func t = None
 
 -- ---- what the calls promise
 -- the row is set to this intent
 abbrev pub SetTo : IntentRow → RowKey → Rows → Rows → Type 0
-SetTo i k m n = n ≡ set_row m k (Some (rows.Intent i))
+SetTo i k m n = n ≡ set_row m k (Some (Row.Intent i))
 
 -- `issue` adds a row without a body where none was; where one was, all rows stay
 abbrev pub IssuedOn : ℕ → RowKey → Option Row → Rows → Rows → Bool → Type 0
@@ -138,33 +121,33 @@ IntentsAreTold = (id : IntentId) (func now : ℕ) →
 
 -- what binding comes to where a body is there, by whether it is the same
 abbrev pub bound_by : Bool → Body → Option Outcome → Binding
-bound_by false b o = binding.Other b.func b.args
-bound_by true b None = binding.Running
-bound_by true b (Some o) = binding.Ended o
+bound_by false b o = Binding.Other b.func b.args
+bound_by true b None = Binding.Running
+bound_by true b (Some o) = Binding.Ended o
 
 abbrev pub bound_before : ℕ → Value → Body → Option Outcome → Binding
 bound_before f a b o = bound_by ((b.func == f) && same_value b.args a) b o
 
 abbrev pub BoundBy : ℕ → Value → IntentRow → Option Body → RowKey → Rows → Rows → Binding → Type 0
-BoundBy f a i None k m n x = SetTo (record i { body = Some (record { func = f; args = a; tx = None; from = None }) }) k m n × (x ≡ binding.Bound)
+BoundBy f a i None k m n x = SetTo (record i { body = Some (record { func = f; args = a; tx = None; from = None }) }) k m n × (x ≡ Binding.Bound)
 BoundBy f a i (Some b) k m n x = (n ≡ m) × (x ≡ bound_before f a b i.outcome)
 
 -- `bind` sets the body of an intent that has none; where it has one, or there is no intent, all rows stay
 abbrev pub BoundOn : ℕ → Value → RowKey → Option IntentRow → Rows → Rows → Binding → Type 0
-BoundOn f a k None m n x = (n ≡ m) × (x ≡ binding.Gone)
+BoundOn f a k None m n x = (n ≡ m) × (x ≡ Binding.Gone)
 BoundOn f a k (Some i) m n x = BoundBy f a i i.body k m n x
 
 abbrev pub BodiesAreSetOnce : Type 0
 BodiesAreSetOnce = (t f : ℕ) (a : Value) (now : ℕ) → Promises (bind_asks t f a) now binding_of (λ m. BoundOn f a (root_key t) (intent_in (map.get m (root_key t))) m)
 
 abbrev pub EndedBy : Outcome → Bool → ℕ → IntentRow → Option Outcome → RowKey → Rows → Rows → Put → Type 0
-EndedBy o stamp now i None k m n x = SetTo (record i { outcome = Some o; finish = finish_at stamp now i.finish }) k m n × (x ≡ put.Did)
-EndedBy o stamp now i (Some p) k m n x = (n ≡ m) × (x ≡ put.Already)
+EndedBy o stamp now i None k m n x = SetTo (record i { outcome = Some o; finish = finish_at stamp now i.finish }) k m n × (x ≡ Put.Did)
+EndedBy o stamp now i (Some p) k m n x = (n ≡ m) × (x ≡ Put.Already)
 
 -- `end` sets the outcome of an intent that has none, and with a stamp the finish that it has not; where it has an outcome, or
 -- there is no intent, all rows stay
 abbrev pub EndedOn : Outcome → Bool → ℕ → RowKey → Option IntentRow → Rows → Rows → Put → Type 0
-EndedOn o stamp now k None m n x = (n ≡ m) × (x ≡ put.Gone)
+EndedOn o stamp now k None m n x = (n ≡ m) × (x ≡ Put.Gone)
 EndedOn o stamp now k (Some i) m n x = EndedBy o stamp now i i.outcome k m n x
 
 abbrev pub OutcomesAreSetOnce : Type 0
@@ -172,12 +155,12 @@ OutcomesAreSetOnce = (id : IntentId) (func : ℕ) (o : Outcome) (stamp : Bool) (
     Promises (end_asks id func o stamp) now put_of (λ m. EndedOn o stamp now k (intent_in (map.get m k)) m)
 
 abbrev pub StampedBy : ℕ → IntentRow → Option ℕ → RowKey → Rows → Rows → Put → Type 0
-StampedBy now i None k m n x = SetTo (record i { finish = Some now }) k m n × (x ≡ put.Did)
-StampedBy now i (Some t) k m n x = (n ≡ m) × (x ≡ put.Already)
+StampedBy now i None k m n x = SetTo (record i { finish = Some now }) k m n × (x ≡ Put.Did)
+StampedBy now i (Some t) k m n x = (n ≡ m) × (x ≡ Put.Already)
 
 -- `stamp` sets the finish of an intent that has none; where it has one, or there is no intent, all rows stay
 abbrev pub StampedOn : ℕ → RowKey → Option IntentRow → Rows → Rows → Put → Type 0
-StampedOn now k None m n x = (n ≡ m) × (x ≡ put.Gone)
+StampedOn now k None m n x = (n ≡ m) × (x ≡ Put.Gone)
 StampedOn now k (Some i) m n x = StampedBy now i i.finish k m n x
 
 abbrev pub FinishesAreSetOnce : Type 0

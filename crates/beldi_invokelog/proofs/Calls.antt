@@ -1,18 +1,9 @@
 -- Calls are put once, and stay.
-use Rattle.std.proofs.Common.{◌≡◌, ℕ, Bool, true, false, Option, None, Some, refl, sym, ◌∙◌, subst, is_some}
 use Rattle.std.specs.FinMap as map
+use Rattle.std.proofs.Common.{◌≡◌, ℕ, Bool, true, false, Option, None, Some, refl, sym, ◌∙◌, subst, is_some}
 use Rattle.beldi_value.specs.declared.outcome.Outcome.{Outcome}
-use Rattle.beldi_row.specs.Key.{RowKey}
-use Rattle.beldi_row.specs.declared.row.InvokeRow.{InvokeRow}
-use Rattle.beldi_row.specs.declared.row.Row.{Row}
-use Rattle.beldi_row.specs.declared.row.Row.TheVariants as rows
-use Rattle.beldi_row.specs.declared.act.Act.{Act}
-use Rattle.beldi_row.specs.declared.act.Act.TheVariants.{Look, OpenInvoke, CallBack, NoteRegistered}
-use Rattle.beldi_row.specs.Act.{act, call_back_to, register_to}
-use Rattle.beldi_row.specs.Table.{Rows, set_row}
-use Rattle.beldi_row.proofs.Unchanged.{unchanged, looked}
-use Rattle.beldi_walk.specs.Query.{said}
-use Rattle.beldi_walk.proofs.Promises.{promised, at_each}
+use Rattle.beldi_row.{specs.Key.RowKey, specs.declared.row.InvokeRow.InvokeRow, specs.declared.row.Row.Row, specs.declared.act.Act.Act, specs.declared.act.Act.TheVariants.Look, specs.declared.act.Act.TheVariants.OpenInvoke, specs.declared.act.Act.TheVariants.CallBack, specs.declared.act.Act.TheVariants.NoteRegistered, specs.Act.act, specs.Act.call_back_to, specs.Act.register_to, specs.Table.Rows, specs.Table.set_row, proofs.Unchanged.unchanged, proofs.Unchanged.looked}
+use Rattle.beldi_walk.{specs.Query.said, proofs.Promises.promised, proofs.Promises.at_each}
 use Rattle.beldi_invokelog.specs.InvokeLog.{invoke_key, call_in, call_at, result_in, open_asks, result_asks, back_asks, registered_asks, invoked_of, result_of, back_of, OpenedOn, SetBy, SetOn, GoesOn, CallGoesOn, CallsArePutOnce, ResultsAreTold, ResultsAreSetOnce, RegistrationsAreSetOnce, CallsStay}
 
 -- ---- a call is opened
@@ -37,24 +28,24 @@ module _ (k : RowKey) (m : Rows) (now : ℕ) where
   same : (r : Row) → map.get m k ≡ Some r → set_row m k (Some r) ≡ m
   same r there = unchanged m k (Some r) (sym there)
 
-  back_row : (o : Outcome) (i : InvokeRow) (p : Option Outcome) → map.get m k ≡ Some (rows.Invoke i)
-      → SetBy (is_some p) (record i { result = Some o }) k m (set_row m k (Some (rows.Invoke (call_back_to o i p).0))) (back_of (said (call_back_to o i p).1))
+  back_row : (o : Outcome) (i : InvokeRow) (p : Option Outcome) → map.get m k ≡ Some (Row.Invoke i)
+      → SetBy (is_some p) (record i { result = Some o }) k m (set_row m k (Some (Row.Invoke (call_back_to o i p).0))) (back_of (said (call_back_to o i p).1))
   back_row o i None there = (refl, refl)
-  back_row o i (Some p) there = (same (rows.Invoke i) there, refl)
+  back_row o i (Some p) there = (same (Row.Invoke i) there, refl)
 
   back_at : (o : Outcome) (r : Option Row) → map.get m k ≡ r → SetOn (λ i. is_some i.result) (λ i. record i { result = Some o }) k (call_in r) m (set_row m k (act (CallBack o) now r).0) (back_of (said (act (CallBack o) now r).1))
   back_at o None there = (unchanged m k None (sym there), refl)
-  back_at o (Some (rows.Invoke i)) there = back_row o i i.result there
+  back_at o (Some (Row.Invoke i)) there = back_row o i i.result there
   back_at o (Some r) there = (same r there, refl)
 
-  mark_row : (i : InvokeRow) (b : Bool) → map.get m k ≡ Some (rows.Invoke i)
-      → SetBy b (record i { registered = true }) k m (set_row m k (Some (rows.Invoke (register_to i b).0))) (back_of (said (register_to i b).1))
+  mark_row : (i : InvokeRow) (b : Bool) → map.get m k ≡ Some (Row.Invoke i)
+      → SetBy b (record i { registered = true }) k m (set_row m k (Some (Row.Invoke (register_to i b).0))) (back_of (said (register_to i b).1))
   mark_row i false there = (refl, refl)
-  mark_row i true there = (same (rows.Invoke i) there, refl)
+  mark_row i true there = (same (Row.Invoke i) there, refl)
 
   mark_at : (r : Option Row) → map.get m k ≡ r → SetOn (λ i. i.registered) (λ i. record i { registered = true }) k (call_in r) m (set_row m k (act NoteRegistered now r).0) (back_of (said (act NoteRegistered now r).1))
   mark_at None there = (unchanged m k None (sym there), refl)
-  mark_at (Some (rows.Invoke i)) there = mark_row i i.registered there
+  mark_at (Some (Row.Invoke i)) there = mark_row i i.registered there
   mark_at (Some r) there = (same r there, refl)
 
 pub results_set : ResultsAreSetOnce
@@ -75,16 +66,16 @@ mark_goes : (i : InvokeRow) (b : Bool) → i.registered ≡ b → GoesOn i (regi
 mark_goes i false is = record { func = refl; result = λ o was. was; registered = λ was. refl }
 mark_goes i true is = as_was i
 
-act_goes : (a : Act) (now : ℕ) (i : InvokeRow) → (j : InvokeRow) × (call_in (act a now (Some (rows.Invoke i))).0 ≡ Some j) × GoesOn i j
+act_goes : (a : Act) (now : ℕ) (i : InvokeRow) → (j : InvokeRow) × (call_in (act a now (Some (Row.Invoke i))).0 ≡ Some j) × GoesOn i j
 act_goes (CallBack o) now i = ((call_back_to o i i.result).0, refl, back_goes o i i.result refl)
 act_goes NoteRegistered now i = ((register_to i i.registered).0, refl, mark_goes i i.registered refl)
 act_goes a now i = (i, refl, as_was i)
 
-inside : (i j : InvokeRow) → call_in (Some (rows.Invoke i)) ≡ Some j → i ≡ j
+inside : (i j : InvokeRow) → call_in (Some (Row.Invoke i)) ≡ Some j → i ≡ j
 inside i j is = cc
 
 goes_from : (a : Act) (now : ℕ) (r : Option Row) → CallGoesOn r (act a now r).0
-goes_from a now (Some (rows.Invoke i)) j is = subst (λ o. (l : InvokeRow) × (call_in (act a now (Some (rows.Invoke i))).0 ≡ Some l) × GoesOn o l) (inside i j is) (act_goes a now i)
+goes_from a now (Some (Row.Invoke i)) j is = subst (λ o. (l : InvokeRow) × (call_in (act a now (Some (Row.Invoke i))).0 ≡ Some l) × GoesOn o l) (inside i j is) (act_goes a now i)
 goes_from a now None j is = cc
 goes_from a now (Some r) j is = cc
 

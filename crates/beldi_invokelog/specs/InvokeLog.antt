@@ -1,23 +1,10 @@
 -- The calls that were made, by their places.
 use Rattle.std.specs.Prelude.{◌≡◌, ℕ, Bool, true, false, is_some, Option, Some, None}
 use Rattle.std.specs.FinMap as map
-use Rattle.beldi_value.specs.declared.outcome.Outcome.{Outcome}
-use Rattle.beldi_value.specs.declared.place.Place.{Place}
-use Rattle.beldi_row.specs.Key.{RowKey}
-use Rattle.beldi_row.specs.declared.key.Kind.TheVariants.{Invoke}
-use Rattle.beldi_row.specs.declared.row.InvokeRow.{InvokeRow}
-use Rattle.beldi_row.specs.declared.row.Row.{Row}
-use Rattle.beldi_row.specs.declared.row.Row.TheVariants as rows
-use Rattle.beldi_row.specs.declared.act.Act.TheVariants.{Look, OpenInvoke, CallBack, NoteRegistered}
-use Rattle.beldi_row.specs.Act.{here, added, already, did}
-use Rattle.beldi_row.specs.Table.{Rows, set_row}
-use Rattle.beldi_walk.specs.declared.query.Query.{Query}
-use Rattle.beldi_walk.specs.declared.query.Query.TheVariants.{Act}
-use Rattle.beldi_walk.specs.Query.{Told, said, rows_after}
-use Rattle.beldi_walk.specs.Walk.{Promises}
-use Rattle.beldi_invokelog.specs.declared.invoke_log.Invoked.{Invoked}
-use Rattle.beldi_invokelog.specs.declared.invoke_log.Back.{Back}
-use Rattle.beldi_invokelog.specs.declared.invoke_log.Back.TheVariants as back
+use Rattle.beldi_value.specs.declared.{outcome.Outcome.Outcome, place.Place.Place}
+use Rattle.beldi_row.specs.{Key.RowKey, declared.key.Kind.TheVariants.Invoke, declared.row.InvokeRow.InvokeRow, declared.row.Row.Row, declared.act.Act.TheVariants.Look, declared.act.Act.TheVariants.OpenInvoke, declared.act.Act.TheVariants.CallBack, declared.act.Act.TheVariants.NoteRegistered, Act.here, Act.added, Act.already, Act.did, Table.Rows, Table.set_row}
+use Rattle.beldi_walk.specs.{declared.query.Query.Query, declared.query.Query.TheVariants.Act, Query.Told, Query.said, Query.rows_after, Walk.Promises}
+use Rattle.beldi_invokelog.specs.declared.invoke_log.{Invoked.Invoked, Back.Back}
 
 -- the row of the call that a function makes at a place
 abbrev pub invoke_key : ℕ → Place → RowKey
@@ -25,7 +12,7 @@ invoke_key home place = record { home = home; kind = Invoke place }
 
 -- the call that a row is; a row of another kind is none
 abbrev pub call_in : Option Row → Option InvokeRow
-call_in (Some (rows.Invoke i)) = Some i
+call_in (Some (Row.Invoke i)) = Some i
 call_in r = None
 
 abbrev pub call_at : Rows → RowKey → Option InvokeRow
@@ -74,14 +61,14 @@ result_of (said (here r)) = result_in (call_in (Some r))
 result_of t = None
 
 abbrev pub back_of : Told → Back
-back_of (said did) = back.Set
-back_of (said already) = back.AlreadySet
-back_of t = back.Absent
+back_of (said did) = Back.Set
+back_of (said already) = Back.AlreadySet
+back_of t = Back.Absent
 
 -- ---- what the calls promise
 -- where no row was, the call is put, without a result; where one was, it is told, and all rows stay
 abbrev pub OpenedOn : ℕ → RowKey → Option Row → Rows → Rows → Invoked → Type 0
-OpenedOn func k None m n r = (n ≡ set_row m k (Some (rows.Invoke (opened func)))) × (r ≡ invoked true (Some (opened func)))
+OpenedOn func k None m n r = (n ≡ set_row m k (Some (Row.Invoke (opened func)))) × (r ≡ invoked true (Some (opened func)))
 OpenedOn func k (Some w) m n r = (n ≡ m) × (r ≡ invoked false (call_in (Some w)))
 
 abbrev pub CallsArePutOnce : Type 0
@@ -95,12 +82,12 @@ ResultsAreTold = (home : ℕ) (at : Place) (now : ℕ) →
 
 -- what is set once, by whether the call has it: it is set where the call has it not; where it has, all rows stay
 abbrev pub SetBy : Bool → InvokeRow → RowKey → Rows → Rows → Back → Type 0
-SetBy false j k m n b = (n ≡ set_row m k (Some (rows.Invoke j))) × (b ≡ back.Set)
-SetBy true j k m n b = (n ≡ m) × (b ≡ back.AlreadySet)
+SetBy false j k m n b = (n ≡ set_row m k (Some (Row.Invoke j))) × (b ≡ Back.Set)
+SetBy true j k m n b = (n ≡ m) × (b ≡ Back.AlreadySet)
 
 -- .. and where there is no call, too
 abbrev pub SetOn : (InvokeRow → Bool) → (InvokeRow → InvokeRow) → RowKey → Option InvokeRow → Rows → Rows → Back → Type 0
-SetOn has set k None m n b = (n ≡ m) × (b ≡ back.Absent)
+SetOn has set k None m n b = (n ≡ m) × (b ≡ Back.Absent)
 SetOn has set k (Some i) m n b = SetBy (has i) (set i) k m n b
 
 abbrev pub ResultsAreSetOnce : Type 0

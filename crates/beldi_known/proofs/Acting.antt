@@ -1,28 +1,11 @@
 -- Each act inside an open transaction, among all others: what shadows show is kept, and what is known stays beside the plain state.
-use Rattle.beldi_known.proofs.Names.{AllGot, AllShow, Answer, Bool, CallsGo, Cause, DeathsGo, Deployment, Effect, FirstRowsGo, Goes, Got, Instance, IntentId, IsAnswer, IsFront, IsIn, IsSound, Item, Items, Known, Line, List, LockedOut, Move, None, OnItem, OpenTx, Option, Outcome, PlainState, ReadsGo, Rel, ReturnsGo, Row, RowKey, Rows, RowsGo, Sane, ShadowShows, Shadows, Shows, Some, TestsGo, Tx, TxId, Txs, Value, WritesGo, aborted, and_right, answer_by, answer_inside, answer_of, ap, at_once, begins, callee_in, callee_of, calls_at, child_of, child_same, cond, content_in, did, effect_of, elsewhere, end_of, ended, ended_by, equal, false, fell, got_before, got_by, has_callees, head_key, id_cmp, id_total, if◌then◌else◌, inl, inr, is_aborted, is_edge, is_eq, is_item, is_on, is_some, is_writing, item_cmp, item_in, item_of, item_total, items_after, items_by, length, log_key, made_set, moved, new_member, none_by, not_own, not_owner, op_of, or_null, or_old, or_own, passes, place_of, plain, plain_set, refl, same_some, set_row, sets, shadow_key, shadow_of, subst, sym, test_on, tested, tied_itself, touched, true, tx_begun, tx_by, tx_end, tx_now, txs_after, txs_by, value_at, value_in, write, write_on, writes_on, writing_at, ℕ, ◌&&◌, ◌∙◌, ◌≡◌, ◌⊎◌, false_from_ne_true, or_right, eq_by_cmp_equiv}
-use Rattle.beldi_known.proofs.Names.answer
-use Rattle.beldi_known.proofs.Names.effect
+use Rattle.beldi_plain.specs.Piece.{is_owner}
+use Rattle.beldi_known.proofs.Names.{AllGot, AllShow, Answer, Bool, CallsGo, Cause, DeathsGo, Deployment, Effect, FirstRowsGo, Goes, Got, Instance, IntentId, IsAnswer, IsFront, IsIn, IsSound, Item, Items, Known, Line, List, LockedOut, Move, None, OnItem, OpenTx, Option, Outcome, PlainState, ReadsGo, Rel, ReturnsGo, Row, RowKey, Rows, RowsGo, Sane, ShadowShows, Shadows, Shows, Some, TestsGo, Tx, TxId, Txs, Value, WritesGo, aborted, and_right, answer_by, answer_inside, answer_of, ap, at_once, begins, callee_in, callee_of, calls_at, child_of, child_same, cond, content_in, did, effect_of, elsewhere, end_of, ended, ended_by, eq_by_cmp_equiv, equal, false, false_from_ne_true, fell, got_before, got_by, has_callees, head_key, id_cmp, id_total, if◌then◌else◌, inl, inr, is_aborted, is_edge, is_eq, is_item, is_on, is_some, is_writing, item_cmp, item_in, item_of, item_total, items_after, items_by, length, log_key, made_set, moved, new_member, none_by, not_own, not_owner, op_of, or_null, or_old, or_own, or_right, passes, place_of, plain, plain_set, refl, same_some, set_row, sets, shadow_key, shadow_of, subst, sym, test_on, tested, tied_itself, touched, true, tx_begun, tx_by, tx_end, tx_now, txs_after, txs_by, value_at, value_in, write, write_on, writes_on, writing_at, ℕ, ◌&&◌, ◌∙◌, ◌≡◌, ◌⊎◌}
+use Rattle.beldi_known.proofs.Lines.{alone, alone_callee, called_in, front_in_tx, front_is, in_tx, known_line, member_is, owner_outside, set_cases, owner_alone}
+use Rattle.beldi_known.proofs.Shadows.{more_writes, writing_more, of_row, there_value, others_rows, row_set, got_answered, got_passed, got_still, got_set, shadows_rows}
+use Rattle.beldi_known.proofs.{Acts.is_shadow, Answers.true_false, AtOnce.origin_stays, Frame.at_once_same, Frame.moved_one, FrameAt.known_set, Callers.caller_in, Callers.waits_for, Lists.elsewhere as row_elsewhere, Locks.tx_self, Owns.not_ended, Owns.seen, Owns.unwritten, Steps.GoesOn, Steps.goes_answered, Steps.goes_called, Steps.goes_returned, Told.write_parts, Told.test_parts, Behind.death_of, Cases.by_cases, Operations.kept_or}
 use Rattle.beldi_known.proofs.Names.map
 use Rattle.beldi_known.proofs.Names.operation
-use Rattle.beldi_known.proofs.Names.rows
-use Rattle.beldi_known.proofs.Names.value
-use Rattle.beldi_plain.specs.Piece.{is_owner}
-use Rattle.beldi_known.proofs.Acts.{is_shadow}
-use Rattle.beldi_known.proofs.Answers.{true_false}
-use Rattle.beldi_known.proofs.AtOnce.{origin_stays}
-use Rattle.beldi_known.proofs.Frame.{at_once_same, moved_one}
-use Rattle.beldi_known.proofs.FrameAt.{known_set}
-use Rattle.beldi_known.proofs.Callers.{caller_in, waits_for}
-use Rattle.beldi_known.proofs.Lines.{alone, alone_callee, called_in, front_in_tx, front_is, in_tx, known_line, member_is, owner_outside, set_cases, owner_alone}
-use Rattle.beldi_known.proofs.Lists.{elsewhere as row_elsewhere}
-use Rattle.beldi_known.proofs.Locks.{tx_self}
-use Rattle.beldi_known.proofs.Owns.{not_ended, seen, unwritten}
-use Rattle.beldi_known.proofs.Shadows.{more_writes, writing_more, of_row, there_value, others_rows, row_set, got_answered, got_passed, got_still, got_set, shadows_rows}
-use Rattle.beldi_known.proofs.Steps.{GoesOn, goes_answered, goes_called, goes_returned}
-use Rattle.beldi_known.proofs.Told.{write_parts, test_parts}
-use Rattle.beldi_known.proofs.Behind.{death_of}
-use Rattle.beldi_known.proofs.Cases.{by_cases}
-use Rattle.beldi_known.proofs.Operations.{kept_or}
 
 -- all other transactions that are open
 abbrev Others : Deployment → PlainState → IntentId → (TxId → Type 0) → Type 0
@@ -118,7 +101,7 @@ module _ (d : Deployment) (m : Rows) (p : PlainState) (known : Known) (locked : 
     }
 
   -- ---- who can step
-  module _ (id : IntentId) (k : Instance) (is : map.get known id ≡ Some k) (inside : tx_now d id k ≡ Some (tx_begun o q)) (none : k.outcome ≡ None) (free : (f : ℕ) (v : Value) → effect_of d k ≡ effect.Call f v → map.get known (callee_of id k) ≡ None) where
+  module _ (id : IntentId) (k : Instance) (is : map.get known id ≡ Some k) (inside : tx_now d id k ≡ Some (tx_begun o q)) (none : k.outcome ≡ None) (free : (f : ℕ) (v : Value) → effect_of d k ≡ Effect.Call f v → map.get known (callee_of id k) ≡ None) where
     id_in : IsIn (tx_begun o q) id
     id_in = in_tx d p known h.plain_sane o q made b tx h.sane id k is inside
 
@@ -145,8 +128,8 @@ module _ (d : Deployment) (m : Rows) (p : PlainState) (known : Known) (locked : 
         (λ n. (moved_one d id k a).ends n ∙ quiet (effect_of d k) (length k.answers) (txs_after d k k.answers) n edge ∙ ap (ended_by d n) (sym there)) (role_of id k (moved d id k a) id_in is (moved_one d id k a).within)
       where
         quiet : (e : Effect) (n : ℕ) (s : Txs) (i : ℕ) → is_edge e ≡ false → (txs_by n e s).ends i ≡ s.ends i
-        quiet effect.Begin n s i g = cc
-        quiet (effect.End c) n s i g = cc
+        quiet Effect.Begin n s i g = cc
+        quiet (Effect.End c) n s i g = cc
         quiet e n s i g = refl
 
     module _ (unlocked : IntentId → Bool) (out : LockedOut locked unlocked id) where
@@ -162,14 +145,14 @@ module _ (d : Deployment) (m : Rows) (p : PlainState) (known : Known) (locked : 
           (got_answered d n known locked got unlocked id k a out is lives)
 
 -- ---- an operation
-front_apart : (e : Effect) (w : ℕ × List ℕ) → touched e ≡ Some w → (is_edge e ≡ false) × ((f : ℕ) (v : Value) → e ≡ effect.Call f v → ⊥) × ((u : Outcome) → e ≡ effect.Return u → ⊥)
-front_apart (effect.Read t k) w h = (refl, λ f v e. cc, λ u e. cc)
-front_apart (effect.Write t k v) w h = (refl, λ f v e. cc, λ u e. cc)
-front_apart (effect.CondWrite t k r u v) w h = (refl, λ f v e. cc, λ u e. cc)
+front_apart : (e : Effect) (w : ℕ × List ℕ) → touched e ≡ Some w → (is_edge e ≡ false) × ((f : ℕ) (v : Value) → e ≡ Effect.Call f v → ⊥) × ((u : Outcome) → e ≡ Effect.Return u → ⊥)
+front_apart (Effect.Read t k) w h = (refl, λ f v e. cc, λ u e. cc)
+front_apart (Effect.Write t k v) w h = (refl, λ f v e. cc, λ u e. cc)
+front_apart (Effect.CondWrite t k r u v) w h = (refl, λ f v e. cc, λ u e. cc)
 front_apart e w h = cc
 
 -- one that returns not has no outcome
-open_still : (d : Deployment) (known : Known) → Sane d known → (id : IntentId) (k : Instance) → map.get known id ≡ Some k → ((u : Outcome) → effect_of d k ≡ effect.Return u → ⊥) → k.outcome ≡ None
+open_still : (d : Deployment) (known : Known) → Sane d known → (id : IntentId) (k : Instance) → map.get known id ≡ Some k → ((u : Outcome) → effect_of d k ≡ Effect.Return u → ⊥) → k.outcome ≡ None
 open_still d known sane id k is other = none_by k.outcome (λ u e. other u ((sane.each id k is).over u e))
 
 module _ (d : Deployment) (m : Rows) (p : PlainState) (known : Known) (locked : IntentId → Bool) (h : IsSound d m p known locked) (o : IntentId) (q : Instance) (made : map.get p.made o ≡ Some q) (b : begins d q ≡ true)
@@ -180,13 +163,13 @@ module _ (d : Deployment) (m : Rows) (p : PlainState) (known : Known) (locked : 
   abbrev s : TxId
   s = tx_begun o q
 
-  apart : (is_edge (effect_of d k) ≡ false) × ((f : ℕ) (v : Value) → effect_of d k ≡ effect.Call f v → ⊥) × ((u : Outcome) → effect_of d k ≡ effect.Return u → ⊥)
+  apart : (is_edge (effect_of d k) ≡ false) × ((f : ℕ) (v : Value) → effect_of d k ≡ Effect.Call f v → ⊥) × ((u : Outcome) → effect_of d k ≡ Effect.Return u → ⊥)
   apart = front_apart (effect_of d k) (t, y) f.touch
 
   none : k.outcome ≡ None
   none = open_still d known h.sane id k f.made apart.2
 
-  free : (f : ℕ) (v : Value) → effect_of d k ≡ effect.Call f v → map.get known (callee_of id k) ≡ None
+  free : (f : ℕ) (v : Value) → effect_of d k ≡ Effect.Call f v → map.get known (callee_of id k) ≡ None
   free g v e = absurd (apart.1 g v e)
 
   abbrev going : Items
@@ -214,21 +197,21 @@ module _ (d : Deployment) (m : Rows) (p : PlainState) (known : Known) (locked : 
     got_stays = got_still d m set_other known known locked locked h.shadows.got (λ u z there. sym (ap is_some (others_stay u z)) ∙ there) (λ u z j e. e)
 
     module _ (unlocked : IntentId → Bool) (out : LockedOut locked unlocked id) where
-      read_goes : (v : Value) → effect_of d k ≡ effect.Read t y → value_in (map.get m (shadow_key (tx_begun o q) (item_of k t y))) (value_at p (item_of k t y)) ≡ v → Goes d (set_row m key row) p (map.insert known id (moved d id k (answer.Value v))) unlocked
+      read_goes : (v : Value) → effect_of d k ≡ Effect.Read t y → value_in (map.get m (shadow_key (tx_begun o q) (item_of k t y))) (value_at p (item_of k t y)) ≡ v → Goes d (set_row m key row) p (map.insert known id (moved d id k (Answer.Value v))) unlocked
       read_goes v wants is =
           let off = λ (z : Item). ap (λ e. locked id && writes_on z k.func e) wants ∙ and_right (locked id) false refl in
           let seen = sym (sees d m p known locked h o q made b id k f.made f.inside none free x (off x)) ∙ is in
-          answered_goes d m p known locked h o q made b id k f.made f.inside none free unlocked out set_other (answer.Value v) (items_by going k (effect_of d k) plain) apart.0 (λ l. refl) (λ u z other. others_stay u z) got_stays
-          (goes_on d m p known locked h o q made b id k f.made f.inside none free (answer.Value v) plain (ap (answer_inside going k.func) wants ∙ ap (λ w. Some (answer.Value w)) seen))
+          answered_goes d m p known locked h o q made b id k f.made f.inside none free unlocked out set_other (Answer.Value v) (items_by going k (effect_of d k) plain) apart.0 (λ l. refl) (λ u z other. others_stay u z) got_stays
+          (goes_on d m p known locked h o q made b id k f.made f.inside none free (Answer.Value v) plain (ap (answer_inside going k.func) wants ∙ ap (λ w. Some (Answer.Value w)) seen))
           (λ z. subst (λ e. ShadowShows false (map.get set_other (shadow_key s z)) (or_null (map.get (items_by going k e plain) z))) (sym wants)
           (subst (λ r. ShadowShows false r (or_null (map.get going z))) (sym (others_stay s z)) (shown z (off z))))
 
-      death_goes : (c : Cause) → locked id ≡ false → IsAnswer (place_of id (length k.answers)) (Some (tx_begun o q)) (effect_of d k) (answer.Aborted c) → Goes d (set_row m key row) p (map.insert known id (moved d id k (answer.Aborted c))) unlocked
+      death_goes : (c : Cause) → locked id ≡ false → IsAnswer (place_of id (length k.answers)) (Some (tx_begun o q)) (effect_of d k) (Answer.Aborted c) → Goes d (set_row m key row) p (map.insert known id (moved d id k (Answer.Aborted c))) unlocked
       death_goes c was fits =
           let w = death_of (place_of id (length k.answers)) (tx_begun o q) (effect_of d k) c (ap is_some f.touch) fits in
-          answered_goes d m p known locked h o q made b id k f.made f.inside none free unlocked out set_other (answer.Aborted c) going apart.0 (λ l. absurd (true_false (sym l ∙ was))) (λ u z other. others_stay u z) got_stays
-          (goes_on d m p known locked h o q made b id k f.made f.inside none free (answer.Aborted c) (fell (Some w.holder))
-          (ap (λ z. if z then Some (aborted id k (Some w.holder)) else None) (ap is_some f.touch) ∙ ap (λ z. Some (answer.Aborted z)) (sym w.cause)))
+          answered_goes d m p known locked h o q made b id k f.made f.inside none free unlocked out set_other (Answer.Aborted c) going apart.0 (λ l. absurd (true_false (sym l ∙ was))) (λ u z other. others_stay u z) got_stays
+          (goes_on d m p known locked h o q made b id k f.made f.inside none free (Answer.Aborted c) (fell (Some w.holder))
+          (ap (λ z. if z then Some (aborted id k (Some w.holder)) else None) (ap is_some f.touch) ∙ ap (λ z. Some (Answer.Aborted z)) (sym w.cause)))
           (λ z. subst (λ r. ShadowShows false r (or_null (map.get going z))) (sym (others_stay s z)) (shown z (ap (λ u. u && writes_on z k.func (effect_of d k)) was)))
 
   -- a row of its shadow
@@ -271,43 +254,43 @@ module _ (d : Deployment) (m : Rows) (p : PlainState) (known : Known) (locked : 
           (λ z other. subst (ShadowShows false (map.get m (shadow_key s z))) (sym (value z ∙ ap (λ c. cond c (or_old (sets w.does (or_null (map.get going (item_in k.func w)))) (or_null (map.get going (item_in k.func w)))) (or_null (map.get going z)))
           (ap (λ i. is_eq (item_cmp z i)) (sym same) ∙ (eq_by_cmp_equiv item_total).symm z x ∙ other))) (shown z (ap (λ u. locked id && u) (off z other) ∙ and_right (locked id) false refl))))
 
-      write_goes : (v : Value) → effect_of d k ≡ effect.Write t y v → write_on (place_of id (length k.answers)) (Tx (tx_begun o q)) v (shadow_of m (tx_begun o q) (item_of k t y)) ≡ (content_in row, did)
-          → Goes d (set_row m (shadow_key (tx_begun o q) (item_of k t y)) row) p (map.insert known id (moved d id k answer.Done)) unlocked
-      write_goes v wants acts = set_goes (record { table = t; key = y; does = write v }) answer.Done refl (ap op_of wants) (ap (answer_inside going k.func) wants) refl
+      write_goes : (v : Value) → effect_of d k ≡ Effect.Write t y v → write_on (place_of id (length k.answers)) (Tx (tx_begun o q)) v (shadow_of m (tx_begun o q) (item_of k t y)) ≡ (content_in row, did)
+          → Goes d (set_row m (shadow_key (tx_begun o q) (item_of k t y)) row) p (map.insert known id (moved d id k Answer.Done)) unlocked
+      write_goes v wants acts = set_goes (record { table = t; key = y; does = write v }) Answer.Done refl (ap op_of wants) (ap (answer_inside going k.func) wants) refl
           (ap (λ c. c.value) (write_parts (place_of id (length k.answers)) (Tx s) v (shadow_of m s x) (content_in row) acts).1) (λ z other. ap (writes_on z k.func) wants ∙ other)
 
-      test_goes : (u : Rel) (w v : Value) (c : Bool) → effect_of d k ≡ effect.CondWrite t y u w v → is_some (map.get m (shadow_key (tx_begun o q) (item_of k t y))) ≡ true
-          → test_on (place_of id (length k.answers)) (Tx (tx_begun o q)) u w v (shadow_of m (tx_begun o q) (item_of k t y)) ≡ (content_in row, tested c) → Goes d (set_row m (shadow_key (tx_begun o q) (item_of k t y)) row) p (map.insert known id (moved d id k (answer.Value (value.Bool c)))) unlocked
+      test_goes : (u : Rel) (w v : Value) (c : Bool) → effect_of d k ≡ Effect.CondWrite t y u w v → is_some (map.get m (shadow_key (tx_begun o q) (item_of k t y))) ≡ true
+          → test_on (place_of id (length k.answers)) (Tx (tx_begun o q)) u w v (shadow_of m (tx_begun o q) (item_of k t y)) ≡ (content_in row, tested c) → Goes d (set_row m (shadow_key (tx_begun o q) (item_of k t y)) row) p (map.insert known id (moved d id k (Answer.Value (Value.Bool c)))) unlocked
       test_goes u w v c wants there acts =
           let parts = test_parts (place_of id (length k.answers)) (Tx s) u w v (shadow_of m s x) (content_in row) c acts in
           let off = λ (z : Item). ap (λ e. writes_on z k.func e) wants in
           let seen : (shadow_of m s x).value ≡ or_null (map.get going x) = there_value (map.get m (shadow_key s x)) (or_null (map.get going x)) (shown x (ap (λ e. locked id && e) (off x) ∙ and_right (locked id) false refl)) there in
-          set_goes (record { table = t; key = y; does = operation.cond u w v }) (answer.Value (value.Bool c)) refl (ap op_of wants)
-          (ap (answer_inside going k.func) wants ∙ ap (λ z. Some (answer.Value (value.Bool (passes z u w)))) (sym seen) ∙ ap (λ z. Some (answer.Value (value.Bool z))) parts.2) refl
+          set_goes (record { table = t; key = y; does = operation.cond u w v }) (Answer.Value (Value.Bool c)) refl (ap op_of wants)
+          (ap (answer_inside going k.func) wants ∙ ap (λ z. Some (Answer.Value (Value.Bool (passes z u w)))) (sym seen) ∙ ap (λ z. Some (Answer.Value (Value.Bool z))) parts.2) refl
           (ap (λ c. c.value) parts.1 ∙ sym (kept_or (passes (shadow_of m s x).value u w) v (shadow_of m s x).value) ∙ ap (λ z. or_old (if passes z u w then Some v else None) z) seen) (λ z other. off z)
 
 -- ---- the laws
 pub reads_go : ReadsGo
 reads_go d m p known locked after id k s t y v h f out wants is =
-    read_goes d m p known locked h.sound s.intent h.owner h.made h.begun id k t y (subst (λ z. IsFront d known id k z t y) h.is f) (log_key k.func (place_of id (length k.answers))) (Some (rows.ReadLog v)) refl after out v wants
+    read_goes d m p known locked h.sound s.intent h.owner h.made h.begun id k t y (subst (λ z. IsFront d known id k z t y) h.is f) (log_key k.func (place_of id (length k.answers))) (Some (Row.ReadLog v)) refl after out v wants
     (ap (λ z. value_in (map.get m (shadow_key z (item_of k t y))) (value_at p (item_of k t y))) (sym h.is) ∙ is)
 
 pub deaths_go : DeathsGo
 deaths_go d m p known locked after id k s t y r c h f out was fits =
     death_goes d m p known locked h.sound s.intent h.owner h.made h.begun id k t y (subst (λ z. IsFront d known id k z t y) h.is f) (head_key (item_of k t y)) r refl after out c was
-    (subst (λ z. IsAnswer (place_of id (length k.answers)) (Some z) (effect_of d k) (answer.Aborted c)) h.is fits)
+    (subst (λ z. IsAnswer (place_of id (length k.answers)) (Some z) (effect_of d k) (Answer.Aborted c)) h.is fits)
 
 pub writes_go : WritesGo
 writes_go d m p known locked after id k s t y v r h f out was wants acts =
     let x = item_of k t y in
-    subst (λ z. Goes d (set_row m (shadow_key z x) r) p (map.insert known id (moved d id k answer.Done)) after) (sym h.is)
+    subst (λ z. Goes d (set_row m (shadow_key z x) r) p (map.insert known id (moved d id k Answer.Done)) after) (sym h.is)
     (write_goes d m p known locked h.sound s.intent h.owner h.made h.begun id k t y (subst (λ z. IsFront d known id k z t y) h.is f) r after out was v wants
     (subst (λ z. write_on (place_of id (length k.answers)) (Tx z) v (shadow_of m z x) ≡ (content_in r, did)) h.is acts))
 
 pub tests_go : TestsGo
 tests_go d m p known locked after id k s t y u w v c r h f out was wants there acts =
     let x = item_of k t y in
-    subst (λ z. Goes d (set_row m (shadow_key z x) r) p (map.insert known id (moved d id k (answer.Value (value.Bool c)))) after) (sym h.is)
+    subst (λ z. Goes d (set_row m (shadow_key z x) r) p (map.insert known id (moved d id k (Answer.Value (Value.Bool c)))) after) (sym h.is)
     (test_goes d m p known locked h.sound s.intent h.owner h.made h.begun id k t y (subst (λ z. IsFront d known id k z t y) h.is f) r after out was u w v c wants
     (ap (λ z. is_some (map.get m (shadow_key z x))) (sym h.is) ∙ there) (subst (λ z. test_on (place_of id (length k.answers)) (Tx z) u w v (shadow_of m z x) ≡ (content_in r, tested c)) h.is acts))
 
@@ -330,11 +313,11 @@ module _ (d : Deployment) (m n : Rows) (p : PlainState) (known : Known) (locked 
   there_still u x there = sym (ap is_some (rows_stay u x)) ∙ there
 
   -- a callee is made
-  call_goes : (id : IntentId) (k : Instance) (f : ℕ) (v : Value) → map.get known id ≡ Some k → tx_now d id k ≡ Some (tx_begun o q) → effect_of d k ≡ effect.Call f v → has_callees id ≡ true → map.get known (callee_of id k) ≡ None
+  call_goes : (id : IntentId) (k : Instance) (f : ℕ) (v : Value) → map.get known id ≡ Some k → tx_now d id k ≡ Some (tx_begun o q) → effect_of d k ≡ Effect.Call f v → has_callees id ≡ true → map.get known (callee_of id k) ≡ None
       → Goes d n p (map.insert known (callee_of id k) (at_once d (callee_of id k) (new_member (tx_begun o q) f v (calls_at id k true)))) locked
   call_goes id k f v is inside call short gone =
       let none = open_still d known h.sane id k is (λ u e. let clash = sym call ∙ e in cc) in
-      let free = λ (g : ℕ) (w : Value) (e : effect_of d k ≡ effect.Call g w). gone in
+      let free = λ (g : ℕ) (w : Value) (e : effect_of d k ≡ Effect.Call g w). gone in
       let c = callee_of id k in
       let new = new_member (tx_begun o q) f v (calls_at id k true) in
       let z = at_once d c new in
@@ -354,19 +337,19 @@ module _ (d : Deployment) (m n : Rows) (p : PlainState) (known : Known) (locked 
       (λ e. let clash = sym e ∙ ap (got_by d u x c (locked c)) gone in cc) (λ j other e. e) j))
 
   -- a callee gives its outcome back
-  return_goes : (id : IntentId) (i j : Instance) (c : ℕ) (u : Outcome) → map.get known id ≡ Some i → map.get known (child_of id c) ≡ Some j → j.within ≡ Some (tx_begun o q) → j.outcome ≡ None → effect_of d j ≡ effect.Return u
+  return_goes : (id : IntentId) (i j : Instance) (c : ℕ) (u : Outcome) → map.get known id ≡ Some i → map.get known (child_of id c) ≡ Some j → j.within ≡ Some (tx_begun o q) → j.outcome ≡ None → effect_of d j ≡ Effect.Return u
       → Goes d n p (map.insert (map.insert known (child_of id c) (ended j u)) id (moved d id i (answer_of u))) locked
   return_goes id i j c u is called within none returns =
       let t = tx_begun o q in
       let e = child_of id c in
       let e_in = called_in d p known h.plain_sane o q made b own_tx h.sane e j called within in
       let inside : tx_now d e j ≡ Some t = ap (λ w. or_own w (tx_by e j.func (length j.answers) (effect_of d j) (txs_after d j j.answers).begun)) within in
-      let free = λ (g : ℕ) (w : Value) (x : effect_of d j ≡ effect.Call g w). absurd (let clash = sym returns ∙ x in cc) in
+      let free = λ (g : ℕ) (w : Value) (x : effect_of d j ≡ Effect.Call g w). absurd (let clash = sym returns ∙ x in cc) in
       let at = front d m p known locked h o q made b e j called inside none free in
       let w = waits_for d known h.sane t e j (caller_in d known h.sane t e j called within) within none in
       let same = child_same id w.caller c (length w.waiter.answers) w.is_callee in
       let waiter : w.waiter ≡ i = same_some (sym w.made ∙ ap (map.get known) (sym same.0) ∙ is) in
-      let call : effect_of d i ≡ effect.Call j.func j.args = ap (effect_of d) (sym waiter) ∙ w.stands in
+      let call : effect_of d i ≡ Effect.Call j.func j.args = ap (effect_of d) (sym waiter) ∙ w.stands in
       let owner_in : IsIn t id = in_tx d p known h.plain_sane o q made b own_tx h.sane id i is ((λ x. tx_now d (same.0 x) (sym waiter x)) ∙ sym w.within ∙ within) in
       let over = ended j u in
       let f = map.insert known e over in

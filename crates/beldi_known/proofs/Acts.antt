@@ -1,28 +1,19 @@
 -- What the acts at the front leave: rows that match.
 use Rattle.beldi_known.proofs.Names.{Answer, AnswersOne, Bool, CellMatches, Content, Deployment, Instance, IntentId, Item, ItemMatches, Kind, Known, List, LockedOut, Matches, None, Note, Option, Place, Row, RowKey, RowMatches, Rows, ShadowMatches, Some, Tx, TxId, TxsMatch, Value, [], and_from, and_parts, ap, asks_lock, begins_at, cond, content_in, content_of, effect_of, eq_by_cmp_equiv, eqb-true, false, false_from_ne_true, head_key, id_cmp, id_same, is_aborted, is_eq, is_item, item_cmp, item_same, item_total, key_cmp, key_same, key_self, length, lock_in, lockset_key, log_key, note_at, other_owner, owed_read, place_of, refl, row_added, row_got, set_row, shadow_by, shadow_key, shadow_of, subst, sym, tied_itself, touched, true, tx_eq, tx_now, txs_after, with_note, ℕ, ◌&&◌, ◌++◌, ◌==◌, ◌∙◌, ◌∷◌, ◌≡◌}
-use Rattle.beldi_known.proofs.Names.answer
-use Rattle.beldi_known.proofs.Names.kinds
+use Rattle.beldi_known.proofs.Fronts.{read_elsewhere, row_by, locksets_answered, items_answered, txs_answered, item_died, item_kept, txs_died, shadow_kept, shadow_noted}
+use Rattle.beldi_known.proofs.{Answers.true_false, Rows.head_order, Rows.keys_at, Rows.keys_set, Rows.set_here, Rows.set_others, FrameAt.read_none, FrameAt.read_here, Locks.lock_taken, Locks.lock_kept, Locks.txs_taken, Locks.txs_kept, Locks.tx_same, Locks.tx_self, Cases.by_cases}
 use Rattle.beldi_known.proofs.Names.map
-use Rattle.beldi_known.proofs.Names.notes
-use Rattle.beldi_known.proofs.Names.rows
-use Rattle.beldi_known.proofs.Answers.{true_false}
-use Rattle.beldi_known.proofs.Rows.{head_order, keys_at, keys_set, set_here, set_others}
-use Rattle.beldi_known.proofs.FrameAt.{read_none, read_here}
-use Rattle.beldi_known.proofs.Fronts.{read_elsewhere}
-use Rattle.beldi_known.proofs.Locks.{lock_taken, lock_kept, txs_taken, txs_kept, tx_same, tx_self}
-use Rattle.beldi_known.proofs.Fronts.{row_by, locksets_answered, items_answered, txs_answered, item_died, item_kept, txs_died, shadow_kept, shadow_noted}
-use Rattle.beldi_known.proofs.Cases.{by_cases}
 
 -- ---- keys of two kinds are apart: by a test that tells the kinds, and no order
 pub kinds_apart : (f : Kind → Bool) (k l : RowKey) → f k.kind ≡ true → f l.kind ≡ false → is_eq (key_cmp k l) ≡ false
 kinds_apart f k l h g = false_from_ne_true (is_eq (key_cmp k l)) (λ e. true_false (sym h ∙ ap (λ (z : RowKey). f z.kind) (key_same k l e) ∙ g))
 
 abbrev pub is_data : Kind → Bool
-is_data (kinds.Data t k n) = true
+is_data (Kind.Data t k n) = true
 is_data k = false
 
 abbrev pub is_shadow : Kind → Bool
-is_shadow (kinds.Shadow s t k n) = true
+is_shadow (Kind.Shadow s t k n) = true
 is_shadow k = false
 
 module _ (m : Rows) (k : RowKey) (v : Option Row) where
@@ -40,8 +31,8 @@ shadow_here m v t x = ap content_in (row_got m (shadow_key t x) (shadow_key t x)
 
 -- ---- rows that match, after one was set that is no cell's
 abbrev pub is_cell : Kind → Bool
-is_cell (kinds.Data t k n) = true
-is_cell (kinds.Shadow s t k n) = true
+is_cell (Kind.Data t k n) = true
+is_cell (Kind.Shadow s t k n) = true
 is_cell k = false
 
 module _ (d : Deployment) (known : Known) (locked : IntentId → Bool) (m : Rows) where
@@ -84,11 +75,11 @@ module _ (d : Deployment) (known : Known) (locked : IntentId → Bool) (m : Rows
 
 -- shadows with one key are one
 abbrev tx_of : Kind → TxId
-tx_of (kinds.Shadow t z k n) = t
+tx_of (Kind.Shadow t z k n) = t
 tx_of k = record { intent = record { ticket = 0; hops = [] }; begin = 0; func = 0 }
 
 abbrev item_at : ℕ → Kind → Item
-item_at home (kinds.Shadow t z k n) = record { func = home; table = z; key = k }
+item_at home (Kind.Shadow t z k n) = record { func = home; table = z; key = k }
 item_at home k = record { func = home; table = 0; key = [] }
 
 pub shadow_same : (s t : TxId) (x y : Item) → shadow_key s x ≡ shadow_key t y → (s ≡ t) × (x ≡ y)
@@ -104,7 +95,7 @@ module _ (d : Deployment) (known : Known) (locked : IntentId → Bool) (id : Int
   place = place_of id (length q.answers)
 
   pub lock_did : (m : Rows) (v : Option Row) → CellMatches 0 v → note_at (content_of m item).notes place ≡ None → other_owner (Tx s) (content_of m item).owner ≡ None
-      → content_in v ≡ record { value = (content_of m item).value; owner = Some (Tx s); notes = (content_of m item).notes ++ (place, notes.Got) ∷ [] }
+      → content_in v ≡ record { value = (content_of m item).value; owner = Some (Tx s); notes = (content_of m item).notes ++ (place, Note.Got) ∷ [] }
       → Matches d m known locked → Matches d (set_row m (head_key item) v) known (lock_in locked id)
   lock_did m v fits none free same h = head_set d known (lock_in locked id) m item v _ same fits h.keys (lock_taken d known locked id q is unlocked s inside o touch (content_of m item) none free (h.items item))
       (λ x other. lock_kept d known locked id q is unlocked s inside o touch x (content_of m x) other (h.items x)) h.shadows
@@ -113,7 +104,7 @@ module _ (d : Deployment) (known : Known) (locked : IntentId → Bool) (id : Int
 -- ---- an answer to an operation inside
 module _ (d : Deployment) (known : Known) (locked unlocked : IntentId → Bool) (id : IntentId) (q r : Instance) (a : Answer) (is : map.get known id ≡ Some q) (one : AnswersOne d id q a r) (out : LockedOut locked unlocked id)
     (s : TxId) (inside : tx_now d id q ≡ Some s) (o : ℕ × List ℕ) (touch : touched (effect_of d q) ≡ Some o) (m : Rows)
-    (has_lockset : map.get m (lockset_key id s.begin (record { func = q.func; table = o.0; key = o.1 })) ≡ Some rows.Lockset) (h : Matches d m known locked) where
+    (has_lockset : map.get m (lockset_key id s.begin (record { func = q.func; table = o.0; key = o.1 })) ≡ Some Row.Lockset) (h : Matches d m known locked) where
   abbrev own : Item
   own = record { func = q.func; table = o.0; key = o.1 }
 
@@ -124,22 +115,22 @@ module _ (d : Deployment) (known : Known) (locked unlocked : IntentId → Bool) 
   after = map.insert known id r
 
   -- the lockset row that it owes is the one that it has
-  there : (b : ℕ) (x : Item) (j : IntentId) → (is_eq (id_cmp j id) && asks_lock b x q.func (tx_now d id q) (effect_of d q)) ≡ true → map.get m (lockset_key j b x) ≡ Some rows.Lockset
+  there : (b : ℕ) (x : Item) (j : IntentId) → (is_eq (id_cmp j id) && asks_lock b x q.func (tx_now d id q) (effect_of d q)) ≡ true → map.get m (lockset_key j b x) ≡ Some Row.Lockset
   there b x j g =
       let e = and_parts (is_eq (id_cmp j id)) (asks_lock b x q.func (tx_now d id q) (effect_of d q)) g in
       let f = and_parts (s.begin == b) (is_eq (item_cmp own x)) (sym (ap (λ z. begins_at b z && is_item x q.func (touched (effect_of d q))) inside ∙ ap (λ z. (s.begin == b) && is_item x q.func z) touch) ∙ e.1) in
       ap (map.get m) (λ i. lockset_key (id_same j id e.0 i) (sym (eqb-true s.begin b f.0) i) (sym (item_same own x f.1) i)) ∙ has_lockset
 
   -- all other rows
-  row_answered : (k : RowKey) → ((b : Place) → k.kind ≡ kinds.ReadLog b → owed_read d after k.home b ≡ owed_read d known k.home b) → RowMatches d known k.home k.kind (map.get m k) → RowMatches d after k.home k.kind (map.get m k)
+  row_answered : (k : RowKey) → ((b : Place) → k.kind ≡ Kind.ReadLog b → owed_read d after k.home b ≡ owed_read d known k.home b) → RowMatches d known k.home k.kind (map.get m k) → RowMatches d after k.home k.kind (map.get m k)
   row_answered k same = row_by d known locked unlocked id q r a is one out k.home k.kind (map.get m k) same (λ j b t z e.
       locksets_answered d known locked unlocked id q r a is one out s inside o touch b (record { func = k.home; table = t; key = z }) j (map.get m k) (λ g. ap (λ y. map.get m (record { home = k.home; kind = y })) e ∙ there b (record { func = k.home; table = t; key = z }) j g))
 
   -- PutRead Added: a read is answered, its lock being ahead
   pub read_answered : (v : Value) → row_added (length q.answers) (txs_after d q q.answers).begun (effect_of d q) a ≡ Some (length q.answers, v) → locked id ≡ true → is_aborted a ≡ false
-      → ((t : TxId) (x : Item) → shadow_by t x q.func (tx_now d id q) (effect_of d q) a ≡ None) → Matches d (set_row m (log_key q.func here) (Some (rows.ReadLog v))) after unlocked
+      → ((t : TxId) (x : Item) → shadow_by t x q.func (tx_now d id q) (effect_of d q) a ≡ None) → Matches d (set_row m (log_key q.func here) (Some (Row.ReadLog v))) after unlocked
   read_answered v added was lives no_note = let k = log_key q.func here in
-      log_set d after unlocked m k (Some (rows.ReadLog v)) refl (subst (λ z. z ≡ Some v) (sym (read_here d known id q r a is one (length q.answers) v added)) refl)
+      log_set d after unlocked m k (Some (Row.ReadLog v)) refl (subst (λ z. z ≡ Some v) (sym (read_here d known id q r a is one (length q.answers) v added)) refl)
       (λ l other. row_answered l (λ b kind. read_elsewhere d known locked unlocked id q r a is one out (length q.answers) v added l.home b (subst (λ (z : Kind). is_eq (key_cmp (record { home = l.home; kind = z }) k) ≡ false) kind other)) (h.keys l))
       (λ x. items_answered d known locked unlocked id q r a is one out s inside o touch was lives x (content_of m x) (h.items x)) (λ t x. shadow_kept d known locked unlocked id q r a is one out t x (shadow_of m t x) (no_note t x) (h.shadows t x))
       (λ x. txs_answered d known locked unlocked id q r a is one out s inside o touch was lives x (content_of m x).owner (h.txs x))
@@ -164,8 +155,8 @@ module _ (d : Deployment) (known : Known) (locked unlocked : IntentId → Bool) 
           (shadow_kept d known locked unlocked id q r a is one out t x (shadow_of m t x) (apart t x g) (h.shadows t x))
 
   -- LockCell Died
-  pub lock_died : (v : Option Row) (holder : IntentId) → CellMatches 0 v → row_added (length q.answers) (txs_after d q q.answers).begun (effect_of d q) a ≡ None → a ≡ answer.Aborted (record { place = here; holder = Some holder }) → locked id ≡ false
-      → ((t : TxId) (x : Item) → shadow_by t x q.func (tx_now d id q) (effect_of d q) a ≡ None) → note_at (content_of m own).notes here ≡ None → content_in v ≡ with_note (content_of m own) here (notes.Died holder)
+  pub lock_died : (v : Option Row) (holder : IntentId) → CellMatches 0 v → row_added (length q.answers) (txs_after d q q.answers).begun (effect_of d q) a ≡ None → a ≡ Answer.Aborted (record { place = here; holder = Some holder }) → locked id ≡ false
+      → ((t : TxId) (x : Item) → shadow_by t x q.func (tx_now d id q) (effect_of d q) a ≡ None) → note_at (content_of m own).notes here ≡ None → content_in v ≡ with_note (content_of m own) here (Note.Died holder)
       → Matches d (set_row m (head_key own) v) after unlocked
   lock_died v holder fits added dies was no_note none same = head_set d after unlocked m own v _ same fits (λ l. row_answered l (λ b kind. read_none d known id q r a is one added l.home b) (h.keys l))
       (item_died d known locked unlocked id q r a is one out s inside o touch holder dies was (content_of m own) none (h.items own)) (λ x other. item_kept d known locked unlocked id q r a is one out s inside o touch holder dies was x (content_of m x) other (h.items x))

@@ -1,9 +1,8 @@
 -- A lock that is ahead is that of an instance which stands at an operation inside: move by move, and whose it is not.
 use Rattle.beldi_known.proofs.Names.{Bool, Deployment, Instance, IntentId, IsFront, Known, List, LockedAt, LockedAtEnds, LockedIf, LockedOut, None, SaneInstance, Some, TxId, ap, effect_of, false, false_from_ne_true, id_cmp, id_same, if◌then◌else◌, is_eq, is_some, lock_in, none_by, subst, sym, touched, true, tx_now, ℕ, ◌∙◌, ◌≡◌}
-use Rattle.beldi_known.proofs.Names.map
-use Rattle.beldi_known.proofs.FrameAt.{known_set}
+use Rattle.beldi_known.proofs.{FrameAt.known_set, Cases.by_cases}
 pub use Rattle.beldi_known.proofs.FrameAt.{none_out}
-use Rattle.beldi_known.proofs.Cases.{by_cases}
+use Rattle.beldi_known.proofs.Names.map
 
 module _ (d : Deployment) (known : Known) (locked : IntentId → Bool) (h : LockedAtEnds d known locked) where
   -- an instance was set whose lock is ahead no more

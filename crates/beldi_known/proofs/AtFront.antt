@@ -1,10 +1,7 @@
 -- At the front nothing of the next step is there, but a lock that is ahead.
-use Rattle.beldi_known.proofs.Names.{Bool, Deployment, Instance, IntentId, Item, Known, LogMatches, Matches, None, Option, Place, Rows, Some, TxId, ahead_by, ap, arith, at_step, commit_in, content_of, decision_by, effect_after, effect_of, eq-eqb, false, fits, if◌then◌else◌, is_item, is_mark, last_step, length, log_key, note_at, note_by, note_or, owed_note, owed_shadow, owed_value, place_of, read_at, refl, row_at, shadow_by, shadow_of, slice_get, subst, take, touched, true, tx_after, tx_now, txs_after, value_for, value_or, ℕ, ◌<◌, ◌==◌, ◌∙◌, ◌≡◌}
+use Rattle.beldi_known.proofs.Names.{Bool, Deployment, Instance, IntentId, Item, Known, LogMatches, Matches, None, Option, Place, Rows, Some, TxId, ahead_by, ap, arith, at_step, commit_in, content_of, decision_by, effect_after, effect_of, eq-eqb, false, fits, if◌then◌else◌, is_item, is_mark, last_step, length, log_key, note_at, note_by, note_or, owed_note, owed_shadow, owed_value, place_of, read_at, refl, row_at, shadow_by, shadow_of, slice_get, subst, take, touched, true, tx_after, tx_now, txs_after, value_for, value_or, ℕ, ◌<◌, ◌==◌, ◌∙◌, ◌≡◌, Note}
+use Rattle.beldi_known.proofs.{Frame.step_next, Frame.begins, Behind.no_log, FrameAt.no_mark_at, FrameAt.none_ahead}
 use Rattle.beldi_known.proofs.Names.map
-use Rattle.beldi_known.proofs.Names.notes
-use Rattle.beldi_known.proofs.Frame.{step_next, begins}
-use Rattle.beldi_known.proofs.Behind.{no_log}
-use Rattle.beldi_known.proofs.FrameAt.{no_mark_at, none_ahead}
 
 module _ (d : Deployment) (m : Rows) (known : Known) (locked : IntentId → Bool) (h : Matches d m known locked) (id : IntentId) (q : Instance) (is : map.get known id ≡ Some q) where
   abbrev n : ℕ
@@ -46,5 +43,5 @@ module _ (d : Deployment) (m : Rows) (known : Known) (locked : IntentId → Bool
     no_note x out = note_is_ahead x ∙ ap (ahead_by x q.func (tx_now d id q) (effect_of d q)) out ∙ none_ahead x q.func (tx_now d id q) (effect_of d q)
 
     -- a further run at the front finds the lock
-    pub lock_is_there : (x : Item) (s : TxId) → tx_now d id q ≡ Some s → is_item x q.func (touched (effect_of d q)) ≡ true → locked id ≡ true → note_at (content_of m x).notes p ≡ Some notes.Got
-    lock_is_there x s inside on was = note_is_ahead x ∙ ap (ahead_by x q.func (tx_now d id q) (effect_of d q)) was ∙ ap (λ t. ahead_by x q.func t (effect_of d q) true) inside ∙ ap (λ b. if b then Some notes.Got else None) on
+    pub lock_is_there : (x : Item) (s : TxId) → tx_now d id q ≡ Some s → is_item x q.func (touched (effect_of d q)) ≡ true → locked id ≡ true → note_at (content_of m x).notes p ≡ Some Note.Got
+    lock_is_there x s inside on was = note_is_ahead x ∙ ap (ahead_by x q.func (tx_now d id q) (effect_of d q)) was ∙ ap (λ t. ahead_by x q.func t (effect_of d q) true) inside ∙ ap (λ b. if b then Some Note.Got else None) on

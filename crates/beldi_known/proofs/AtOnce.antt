@@ -1,14 +1,11 @@
 -- What takes no turn: two steps are enough.
 use Rattle.beldi_known.proofs.Names.{Answer, Closed, Deployment, Effect, Instance, IntentId, None, Option, Some, [], answer_at_once, answered, answered_if, ap, at_once, effect_of, inl, inr, is_some, length, once, once_if, place_of, refl, subst, sym, ℕ, ◌++◌, ◌∙◌, ◌∷◌, ◌≡◌, ◌⊎◌}
-use Rattle.beldi_known.proofs.Names.answer
-use Rattle.beldi_known.proofs.Names.effect
-use Rattle.beldi_known.proofs.Begins.{begins_once, aborts_once}
-use Rattle.beldi_known.proofs.Frame.{at_once_by, at_once_is, at_once_same}
+use Rattle.beldi_known.proofs.{Begins.begins_once, Begins.aborts_once, Frame.at_once_by, Frame.at_once_is, Frame.at_once_same}
 
 -- no other effect has an answer without a turn
-pub none_of : (id : IntentId) (n : ℕ) (e : Effect) → (e ≡ effect.Begin ⊎ e ≡ effect.Abort → ⊥) → answer_at_once id n e ≡ None
-none_of id n effect.Begin h = absurd (h (inl refl))
-none_of id n effect.Abort h = absurd (h (inr refl))
+pub none_of : (id : IntentId) (n : ℕ) (e : Effect) → (e ≡ Effect.Begin ⊎ e ≡ Effect.Abort → ⊥) → answer_at_once id n e ≡ None
+none_of id n Effect.Begin h = absurd (h (inl refl))
+none_of id n Effect.Abort h = absurd (h (inr refl))
 none_of id n e h = refl
 
 module _ (d : Deployment) (id : IntentId) where
@@ -31,13 +28,13 @@ module _ (d : Deployment) (id : IntentId) where
   no_third : (q : Instance) (a b : Answer) → next q ≡ Some a → next (answered q a) ≡ Some b → next (answered (answered q a) b) ≡ None
   no_third q a b is more = by_first (at_once_is id (length q.answers) (effect_of d q) a is) (at_once_is id (length (answered q a).answers) (effect_of d (answered q a)) b more)
     where
-      by_first : (effect_of d q ≡ effect.Begin) ⊎ ((effect_of d q ≡ effect.Abort) × (a ≡ answer.Aborted (record { place = place_of id (length q.answers); holder = None })))
-          → (effect_of d (answered q a) ≡ effect.Begin) ⊎ ((effect_of d (answered q a) ≡ effect.Abort) × (b ≡ answer.Aborted (record { place = place_of id (length (answered q a).answers); holder = None }))) → next (answered (answered q a) b) ≡ None
+      by_first : (effect_of d q ≡ Effect.Begin) ⊎ ((effect_of d q ≡ Effect.Abort) × (a ≡ Answer.Aborted (record { place = place_of id (length q.answers); holder = None })))
+          → (effect_of d (answered q a) ≡ Effect.Begin) ⊎ ((effect_of d (answered q a) ≡ Effect.Abort) × (b ≡ Answer.Aborted (record { place = place_of id (length (answered q a).answers); holder = None }))) → next (answered (answered q a) b) ≡ None
       by_first (inl e) (inl f) = absurd (begins_once d q.func q.args (is_some q.within) q.answers a e f)
       by_first (inl e) (inr f) = none_of id (length (answered (answered q a) b).answers) (effect_of d (answered (answered q a) b)) (λ g. aborts_once d q.func q.args (is_some q.within) (q.answers ++ a ∷ []) (record { place = place_of id (length (answered q a).answers); holder = None }) f.0
-          (subst (λ c. effect_of d (answered (answered q a) c) ≡ effect.Begin ⊎ effect_of d (answered (answered q a) c) ≡ effect.Abort) f.1 g))
+          (subst (λ c. effect_of d (answered (answered q a) c) ≡ Effect.Begin ⊎ effect_of d (answered (answered q a) c) ≡ Effect.Abort) f.1 g))
       by_first (inr e) f = absurd (aborts_once d q.func q.args (is_some q.within) q.answers (record { place = place_of id (length q.answers); holder = None }) e.0
-          (subst (λ c. effect_of d (answered q c) ≡ effect.Begin ⊎ effect_of d (answered q c) ≡ effect.Abort) e.1 (elim f [ inl g ↦ inl g | inr g ↦ inr g.0 ])))
+          (subst (λ c. effect_of d (answered q c) ≡ Effect.Begin ⊎ effect_of d (answered q c) ≡ Effect.Abort) e.1 (elim f [ inl g ↦ inl g | inr g ↦ inr g.0 ])))
 
   pub closed_at_once : (q : Instance) → Closed d id (at_once d id q)
   closed_at_once q none = by_first (next q) refl

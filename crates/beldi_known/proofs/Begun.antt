@@ -1,13 +1,8 @@
 -- A transaction that got an item, or that somebody was called in, was begun: its owner is known, and went past its Begin. One of who can
 -- step is open still, so its decision is not there.
 use Rattle.beldi_known.proofs.Names.{Bool, Deployment, Got, Instance, IntentId, Item, Known, Matches, None, Rows, Sane, Some, Tx, TxId, Value, ap, arith, decision_key, effect_of, false, got_by, if◌then◌else◌, is_begin, is_committed, listed_under, log_key, place_of, shadow_key, subst, sym, true, tx_now, value_in, ◌∙◌, ◌≡◌}
+use Rattle.beldi_known.proofs.{AtFront.no_decision, Callers.all_called, Callers.begun_before, Participants.open_owner, ReadLists.IsBegun, ReadLists.got_since, ReadLists.member_tx, Answers.true_false, Cases.by_option}
 use Rattle.beldi_known.proofs.Names.map
-use Rattle.beldi_known.proofs.AtFront.{no_decision}
-use Rattle.beldi_known.proofs.Callers.{all_called, begun_before}
-use Rattle.beldi_known.proofs.Participants.{open_owner}
-use Rattle.beldi_known.proofs.ReadLists.{IsBegun, got_since, member_tx}
-use Rattle.beldi_known.proofs.Answers.{true_false}
-use Rattle.beldi_known.proofs.Cases.{by_option}
 
 module _ (d : Deployment) (known : Known) (h : Sane d known) where
   -- a transaction that somebody was called in was begun

@@ -1,18 +1,8 @@
 -- A run whose answers are not all that are known finds what is owed: nothing changes, and it gets the known answer.
-use Rattle.beldi_known.proofs.Names.{Answer, Bool, Cause, Content, Deployment, Effect, Instance, IntentId, IsAnswer, IsDeath, Item, Known, List, LocksetMatches, LogMatches, Matches, None, Note, Option, Place, Rel, Row, Rows, SaneInstance, Some, Told, Tx, TxId, Value, [], ahead_by, along, along_append, answered_note, ap, append_assoc, arith, asks_lock, at_step, begins_at, commit_in, content_of, decision_by, effect_after, effect_before, effect_of, end_of, ended_stays, eq-eqb, eqb-true, false, false_from_ne_true, if◌then◌else◌, is_at, is_eq, is_item, is_mark, is_some, is_tx, item_total, last_step, length, length-append, lock_answer, lock_note, lock_on, lock_or, lockset_ahead, lockset_key, log_key, none_by, note_at, note_by, note_of, note_or, noted_or, or_left, or_right, other_owner, owed_lockset, owed_note, owed_shadow, owed_value, place_of, put_lockset, read_at, refl, row_at, shadow_by, shadow_of, slice_get, subst, sym, take, tied_itself, touched, true, tx_after, tx_now, txs_after, txs_by, txs_pushed, value_for, value_or, write_op, ℕ, ◌&&◌, ◌++◌, ◌<◌, ◌==◌, ◌||◌, ◌∙◌, ◌∷◌, ◌≡◌, OnItem, item_in, write, same_some}
-use Rattle.beldi_known.proofs.Names.answer
-use Rattle.beldi_known.proofs.Names.effect
+use Rattle.beldi_known.{specs.Acts.noted, proofs.Answers.take_front, proofs.Answers.get_next, proofs.Answers.true_false, proofs.Frame.begins, proofs.FrameAt.or_none, proofs.FrameAt.no_mark_at, proofs.Locks.tx_self}
+use Rattle.beldi_known.proofs.Names.{Answer, Bool, Cause, Content, Deployment, Effect, Instance, IntentId, IsAnswer, IsDeath, Item, Known, List, LocksetMatches, LogMatches, Matches, None, Note, OnItem, Option, Place, Rel, Row, Rows, SaneInstance, Some, Told, Tx, TxId, Value, [], ahead_by, along, along_append, answered_note, ap, append_assoc, arith, asks_lock, at_step, begins_at, commit_in, content_of, decision_by, effect_after, effect_before, effect_of, end_of, ended_stays, eq-eqb, eqb-true, false, false_from_ne_true, if◌then◌else◌, is_at, is_eq, is_item, is_mark, is_some, is_tx, item_in, item_total, last_step, length, length-append, lock_answer, lock_note, lock_on, lock_or, lockset_ahead, lockset_key, log_key, none_by, note_at, note_by, note_of, note_or, noted_by, noted_or, or_left, or_right, other_owner, owed_lockset, owed_note, owed_shadow, owed_value, place_of, put_lockset, read_at, refl, row_at, same_some, shadow_by, shadow_of, slice_get, subst, sym, take, tied_itself, touched, true, tx_after, tx_now, txs_after, txs_by, txs_pushed, value_for, value_or, write, write_op, ℕ, ◌&&◌, ◌++◌, ◌<◌, ◌==◌, ◌||◌, ◌∙◌, ◌∷◌, ◌≡◌}
 use Rattle.beldi_known.proofs.Names.map
-use Rattle.beldi_known.proofs.Names.notes
-use Rattle.beldi_known.proofs.Names.rows
-use Rattle.beldi_known.proofs.Names.value
-use Rattle.beldi_known.specs.Acts.{noted}
-use Rattle.beldi_known.specs.Owed.{noted as noted_by}
 use Rattle.beldi_known.proofs.Names.operation
-use Rattle.beldi_known.proofs.Answers.{take_front, get_next, true_false}
-use Rattle.beldi_known.proofs.Frame.{begins}
-use Rattle.beldi_known.proofs.FrameAt.{or_none, no_mark_at}
-use Rattle.beldi_known.proofs.Locks.{tx_self}
 
 -- ---- what is known of the step of a run that is behind
 -- a fold that only gathers has what was so at a step
@@ -58,14 +48,14 @@ module _ (d : Deployment) (id : IntentId) (q : Instance) (given : List Answer) (
   lockset_there b x h = ap (λ ts. along (λ us c r. r || asks_lock b x q.func (tx_after d id q us) (effect_after d q us)) [] ts false) (sym run_answers) ∙ gathers (λ ts c. asks_lock b x q.func (tx_after d id q ts) (effect_after d q ts)) given a rest h
 
   -- at a read no Begin ended, so the row is the value's
-  not_begun : (m : ℕ) → (effect_before d q m ≡ effect.Begin → ⊥) → end_of d q m ≡ None
+  not_begun : (m : ℕ) → (effect_before d q m ≡ Effect.Begin → ⊥) → end_of d q m ≡ None
   not_begun m apart = none_by (end_of d q m) (λ z h. apart ((begins d q q.answers).ended m z h))
 
-  pub row_there : (b : ℕ) (k : List ℕ) → e ≡ effect.Read b k → row_at d q n ≡ value_for e a
+  pub row_there : (b : ℕ) (k : List ℕ) → e ≡ Effect.Read b k → row_at d q n ≡ value_for e a
   row_there b k is = ap (λ o. value_or (decision_by o) (read_at d q n)) (not_begun n (λ g. let h = sym is ∙ ap (effect_after d q) (sym front) ∙ g in cc)) ∙ stepped (λ ts c. value_for (effect_after d q ts) c)
 
   -- at an End the decision is there, at the step of its Begin
-  pub decision_there : (b : ℕ) (c : Bool) → e ≡ effect.End c → (txs_after d q given).begun ≡ Some b → row_at d q b ≡ Some (value.Bool c)
+  pub decision_there : (b : ℕ) (c : Bool) → e ≡ Effect.End c → (txs_after d q given).begun ≡ Some b → row_at d q b ≡ Some (Value.Bool c)
   decision_there b c is begun = ap (λ o. value_or (decision_by o) (read_at d q b)) (ended_stays d q (given ++ a ∷ []) rest b (n, c) (append_assoc given (a ∷ []) rest ∙ run_answers) (
       ap (λ s. s.ends b) (txs_pushed d q given a) ∙ ap (λ z. (txs_by n z (txs_after d q given)).ends b) is ∙ ap (λ o. if is_at b o then Some (n, c) else (txs_after d q given).ends b) begun ∙ ap (λ z. if z then Some (n, c) else (txs_after d q given).ends b) (eq-eqb b b refl)))
 
@@ -73,14 +63,14 @@ module _ (d : Deployment) (id : IntentId) (q : Instance) (given : List Answer) (
 item_self : (x : Item) → is_item x x.func (Some (x.table, x.key)) ≡ true
 item_self x = ap is_eq (tied_itself item_total x)
 
-pub log_there : (r : Option Row) (w : Value) → LogMatches r (Some w) → r ≡ Some (rows.ReadLog w)
+pub log_there : (r : Option Row) (w : Value) → LogMatches r (Some w) → r ≡ Some (Row.ReadLog w)
 log_there None w h = cc
-log_there (Some (rows.ReadLog v)) w h = let k : w ≡ v = cc in ap (λ z. Some (rows.ReadLog z)) (sym k)
+log_there (Some (Row.ReadLog v)) w h = let k : w ≡ v = cc in ap (λ z. Some (Row.ReadLog z)) (sym k)
 log_there (Some r) w h = absurd h
 
 pub no_log : (r : Option Row) → LogMatches r None → r ≡ None
 no_log None h = refl
-no_log (Some (rows.ReadLog v)) h = cc
+no_log (Some (Row.ReadLog v)) h = cc
 no_log (Some r) h = absurd h
 
 pub lockset_present : (r : Option Row) (ahead : Bool) → LocksetMatches r true ahead → put_lockset r ≡ (r, false)
@@ -92,7 +82,7 @@ noted_there c p w r h = ap (λ o. noted_or c o r) h
 
 -- ---- the answer to an operation inside, and the note of its lock
 abbrev pub death_in : Answer → Option Answer
-death_in (answer.Aborted c) = Some (answer.Aborted c)
+death_in (Answer.Aborted c) = Some (Answer.Aborted c)
 death_in a = None
 
 pub record LockTold (p : Place) (a : Answer) : Type 0 where
@@ -101,17 +91,17 @@ pub record LockTold (p : Place) (a : Answer) : Type 0 where
   pub says : lock_answer p (noted note) ≡ death_in a
 
 -- an operation inside is aborted by a death at its place
-pub death_of : (p : Place) (s : TxId) (e : Effect) (c : Cause) → is_some (touched e) ≡ true → IsAnswer p (Some s) e (answer.Aborted c) → IsDeath p s c
-death_of p s (effect.Read b k) c touch h = h
-death_of p s (effect.Write b k v) c touch h = h
-death_of p s (effect.CondWrite b k r u v) c touch h = h
+pub death_of : (p : Place) (s : TxId) (e : Effect) (c : Cause) → is_some (touched e) ≡ true → IsAnswer p (Some s) e (Answer.Aborted c) → IsDeath p s c
+death_of p s (Effect.Read b k) c touch h = h
+death_of p s (Effect.Write b k v) c touch h = h
+death_of p s (Effect.CondWrite b k r u v) c touch h = h
 death_of p s e c touch h = cc
 
 lock_told : (p : Place) (s : TxId) (e : Effect) (a : Answer) → is_some (touched e) ≡ true → IsAnswer p (Some s) e a → LockTold p a
-lock_told p s e (answer.Aborted c) touch h =
+lock_told p s e (Answer.Aborted c) touch h =
     let g = death_of p s e c touch h in
-    record { note = notes.Died g.holder; is = ap (λ z. lock_note (answer.Aborted z)) g.cause; says = ap (λ z. Some (answer.Aborted z)) (sym g.cause) }
-lock_told p s e a touch h = record { note = notes.Got; is = refl; says = refl }
+    record { note = Note.Died g.holder; is = ap (λ z. lock_note (Answer.Aborted z)) g.cause; says = ap (λ z. Some (Answer.Aborted z)) (sym g.cause) }
+lock_told p s e a touch h = record { note = Note.Got; is = refl; says = refl }
 
 -- ---- the acts of a run that is behind
 module _ (d : Deployment) (m : Rows) (known : Known) (locked : IntentId → Bool) (h : Matches d m known locked) (id : IntentId) (q : Instance) (is : map.get known id ≡ Some q) (sane : SaneInstance d id q)
@@ -136,16 +126,16 @@ module _ (d : Deployment) (m : Rows) (known : Known) (locked : IntentId → Bool
   log_match : LogMatches (map.get m (log_key q.func p)) (row_at d q (length given))
   log_match = subst (LogMatches (map.get m (log_key q.func p))) (ap (λ o. owed_value d q.func (length given) o) is ∙ ap (λ b. if b then row_at d q (length given) else None) (eq-eqb q.func q.func refl)) (h.keys (log_key q.func p))
 
-  pub behind_looks : (b : ℕ) (k : List ℕ) (w : Value) → wanted ≡ effect.Read b k → a ≡ answer.Value w → map.get m (log_key q.func p) ≡ Some (rows.ReadLog w)
-  behind_looks b k w wants same = log_there (map.get m (log_key q.func p)) w (subst (LogMatches (map.get m (log_key q.func p))) (row_there d id q given a rest run_answers b k wants ∙ ap (λ z. value_for z a) wants ∙ ap (value_for (effect.Read b k)) same) log_match)
+  pub behind_looks : (b : ℕ) (k : List ℕ) (w : Value) → wanted ≡ Effect.Read b k → a ≡ Answer.Value w → map.get m (log_key q.func p) ≡ Some (Row.ReadLog w)
+  behind_looks b k w wants same = log_there (map.get m (log_key q.func p)) w (subst (LogMatches (map.get m (log_key q.func p))) (row_there d id q given a rest run_answers b k wants ∙ ap (λ z. value_for z a) wants ∙ ap (value_for (Effect.Read b k)) same) log_match)
 
   -- .. none where it died
-  pub behind_looks_dead : (b : ℕ) (k : List ℕ) (c : Cause) → wanted ≡ effect.Read b k → a ≡ answer.Aborted c → map.get m (log_key q.func p) ≡ None
-  behind_looks_dead b k c wants same = no_log (map.get m (log_key q.func p)) (subst (LogMatches (map.get m (log_key q.func p))) (row_there d id q given a rest run_answers b k wants ∙ ap (λ z. value_for z a) wants ∙ ap (value_for (effect.Read b k)) same) log_match)
+  pub behind_looks_dead : (b : ℕ) (k : List ℕ) (c : Cause) → wanted ≡ Effect.Read b k → a ≡ Answer.Aborted c → map.get m (log_key q.func p) ≡ None
+  behind_looks_dead b k c wants same = no_log (map.get m (log_key q.func p)) (subst (LogMatches (map.get m (log_key q.func p))) (row_there d id q given a rest run_answers b k wants ∙ ap (λ z. value_for z a) wants ∙ ap (value_for (Effect.Read b k)) same) log_match)
 
   -- an End: the decision row is there with its commit
-  pub behind_decided : (b : ℕ) (c : Bool) → wanted ≡ effect.End c → (txs_after d q given).begun ≡ Some b → map.get m (log_key q.func (place_of id b)) ≡ Some (rows.ReadLog (value.Bool c))
-  behind_decided b c wants begun = log_there (map.get m (log_key q.func (place_of id b))) (value.Bool c)
+  pub behind_decided : (b : ℕ) (c : Bool) → wanted ≡ Effect.End c → (txs_after d q given).begun ≡ Some b → map.get m (log_key q.func (place_of id b)) ≡ Some (Row.ReadLog (Value.Bool c))
+  behind_decided b c wants begun = log_there (map.get m (log_key q.func (place_of id b))) (Value.Bool c)
       (subst (LogMatches (map.get m (log_key q.func (place_of id b)))) (ap (λ o. owed_value d q.func b o) is ∙ ap (λ z. if z then row_at d q b else None) (eq-eqb q.func q.func refl) ∙ decision_there d id q given a rest run_answers b c wants begun) (h.keys (log_key q.func (place_of id b))))
 
   -- an item has the note of the answer
@@ -164,7 +154,7 @@ module _ (d : Deployment) (m : Rows) (known : Known) (locked : IntentId → Bool
     no_end_here = by_effect wanted touch
       where
         by_effect : (e : Effect) → touched e ≡ Some o → commit_in e ≡ None
-        by_effect (effect.End c) g = cc
+        by_effect (Effect.End c) g = cc
         by_effect e g = refl
 
     -- its lockset row is there
@@ -195,9 +185,9 @@ module _ (d : Deployment) (m : Rows) (known : Known) (locked : IntentId → Bool
         ∙ ap (λ z. if is_eq z then noted_by w.does a else None) (tied_itself item_total (item_in q.func w))
 
     -- the walk of its shadow is told the note of the known answer
-    pub behind_writes : (b : ℕ) (k : List ℕ) (v : Value) (r : Content × Told) → wanted ≡ effect.Write b k v → a ≡ answer.Done → noted_or (shadow_of m s x) (note_at (shadow_of m s x).notes p) r ≡ (shadow_of m s x, noted notes.Wrote)
-    behind_writes b k v r wants same = noted_there (shadow_of m s x) p notes.Wrote r (shadow_match ∙ own_note (record { table = b; key = k; does = write v }) (ap write_op wants) (ap touched (sym wants) ∙ touch) ∙ ap (noted_by (write v)) same)
+    pub behind_writes : (b : ℕ) (k : List ℕ) (v : Value) (r : Content × Told) → wanted ≡ Effect.Write b k v → a ≡ Answer.Done → noted_or (shadow_of m s x) (note_at (shadow_of m s x).notes p) r ≡ (shadow_of m s x, noted Note.Wrote)
+    behind_writes b k v r wants same = noted_there (shadow_of m s x) p Note.Wrote r (shadow_match ∙ own_note (record { table = b; key = k; does = write v }) (ap write_op wants) (ap touched (sym wants) ∙ touch) ∙ ap (noted_by (write v)) same)
 
-    pub behind_tests : (b : ℕ) (k : List ℕ) (u : Rel) (y v : Value) (t : Bool) (r : Content × Told) → wanted ≡ effect.CondWrite b k u y v → a ≡ answer.Value (value.Bool t)
-        → noted_or (shadow_of m s x) (note_at (shadow_of m s x).notes p) r ≡ (shadow_of m s x, noted (notes.Cond t))
-    behind_tests b k u y v t r wants same = noted_there (shadow_of m s x) p (notes.Cond t) r (shadow_match ∙ own_note (record { table = b; key = k; does = operation.cond u y v }) (ap write_op wants) (ap touched (sym wants) ∙ touch) ∙ ap (noted_by (operation.cond u y v)) same)
+    pub behind_tests : (b : ℕ) (k : List ℕ) (u : Rel) (y v : Value) (t : Bool) (r : Content × Told) → wanted ≡ Effect.CondWrite b k u y v → a ≡ Answer.Value (Value.Bool t)
+        → noted_or (shadow_of m s x) (note_at (shadow_of m s x).notes p) r ≡ (shadow_of m s x, noted (Note.Cond t))
+    behind_tests b k u y v t r wants same = noted_there (shadow_of m s x) p (Note.Cond t) r (shadow_match ∙ own_note (record { table = b; key = k; does = operation.cond u y v }) (ap write_op wants) (ap touched (sym wants) ∙ touch) ∙ ap (noted_by (operation.cond u y v)) same)

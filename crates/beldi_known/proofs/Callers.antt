@@ -1,9 +1,7 @@
 -- Who called an instance; and what holds of all that were called in a transaction, by who called them.
-use Rattle.beldi_known.proofs.Names.{Bool, CalledBy, Deployment, Instance, IntentId, IsBelow, IsCalled, Known, None, Option, Sane, Some, TxId, Waited, [], answer_given, answer_of, ap, append_assoc, arith, call_of, child_of, effect_before, false, fits_at, inl, inr, is_begin, last_hop, length, length-take-le, longer, option_map, or_own, refl, root_of, slice_get, subst, suc, sym, take, true, tx_at, tx_by, txs_after, waited_by, within_by, zero, ℕ, ◌++◌, ◌<◌, ◌∙◌, ◌∷◌, ◌≡◌, ◌≤◌, ◌⊎◌}
-use Rattle.beldi_known.proofs.Names.effect
+use Rattle.beldi_known.proofs.Names.{Bool, CalledBy, Deployment, Instance, IntentId, IsBelow, IsCalled, Known, None, Option, Sane, Some, TxId, Waited, [], answer_given, answer_of, ap, append_assoc, arith, call_of, child_of, effect_before, false, fits_at, inl, inr, is_begin, last_hop, length, length-take-le, longer, option_map, or_own, refl, root_of, slice_get, subst, suc, sym, take, true, tx_at, tx_by, txs_after, waited_by, within_by, zero, ℕ, ◌++◌, ◌<◌, ◌∙◌, ◌∷◌, ◌≡◌, ◌≤◌, ◌⊎◌, Effect}
+use Rattle.beldi_known.proofs.{OwnTx.Own, OwnTx.own_by, Cases.by_option}
 use Rattle.beldi_known.proofs.Names.map
-use Rattle.beldi_known.proofs.OwnTx.{Own, own_by}
-use Rattle.beldi_known.proofs.Cases.{by_option}
 
 -- who is known by an id of a callee was called there
 pub called_in : (d : Deployment) (known : Known) → Sane d known → (id : IntentId) (n : ℕ) (j : Instance) → map.get known (child_of id n) ≡ Some j → (q : Instance) × (map.get known id ≡ Some q) × IsCalled d id q n j
@@ -38,7 +36,7 @@ pub record CallerOf (d : Deployment) (known : Known) (s : TxId) (i : IntentId) (
   pub waiter : Instance
   pub made : map.get known caller ≡ Some waiter
   pub here : step ≤ length waiter.answers
-  pub call : effect_before d waiter step ≡ effect.Call z.func z.args
+  pub call : effect_before d waiter step ≡ Effect.Call z.func z.args
   pub within : tx_at d caller waiter step ≡ Some s
   pub answered : slice_get waiter.answers step ≡ option_map answer_of z.outcome
   pub from : z.from ≡ Some (record { place = record { intent = caller; step = step }; func = waiter.func; waits = true })

@@ -1,13 +1,8 @@
 -- Instances that are made and that end, over what is known: a call is opened, and its callee gives its outcome back.
-use Rattle.beldi_known.proofs.Names.{Bool, CallMatches, CalleeMatches, Caller, Deployment, Instance, IntentId, IntentMatches, InvokeRow, Item, Kind, Known, Matches, None, Option, Outcome, Place, Row, RowKey, Rows, Some, TxId, Value, ahead_note, and_right, answered_note, ap, at_once, begins_at, called_by, callee_of, calls_at, child_of, child_same, effect_of, elsewhere, ended, eq-eqb, eqb-true, false, has_ended, has_no_hops, here, if◌then◌else◌, invoke_key, is_decided, is_eq, is_item, is_none, is_open, is_some, is_waited, key_cmp, last_step, length, new_instance, no_root, note_or, owed_call, place_of, refl, result_of, same_some, set_row, subst, sym, touched, true, tx_now, ℕ, ◌&&◌, ◌==◌, ◌||◌, ◌∙◌, ◌≡◌, false_from_ne_true, OwesSame}
-use Rattle.beldi_known.proofs.Names.effect
-use Rattle.beldi_known.proofs.Names.map
-use Rattle.beldi_known.proofs.Names.rows
-use Rattle.beldi_known.proofs.Frame.{at_once_same}
-use Rattle.beldi_known.proofs.FrameAt.{not_ahead, or_none}
+use Rattle.beldi_known.proofs.Names.{Bool, CallMatches, CalleeMatches, Caller, Deployment, Instance, IntentId, IntentMatches, InvokeRow, Item, Kind, Known, Matches, None, Option, Outcome, OwesSame, Place, Row, RowKey, Rows, Some, TxId, Value, ahead_note, and_right, answered_note, ap, at_once, begins_at, called_by, callee_of, calls_at, child_of, child_same, effect_of, elsewhere, ended, eq-eqb, eqb-true, false, false_from_ne_true, has_ended, has_no_hops, here, if◌then◌else◌, invoke_key, is_decided, is_eq, is_item, is_none, is_open, is_some, is_waited, key_cmp, last_step, length, new_instance, no_root, note_or, owed_call, place_of, refl, result_of, same_some, set_row, subst, sym, touched, true, tx_now, ℕ, ◌&&◌, ◌==◌, ◌||◌, ◌∙◌, ◌≡◌, Effect}
 use Rattle.beldi_known.proofs.Instances.{callee_on, callee_new, calls_moved, no_callee, no_own_callee, not_home, return_keeps_row, same_caller, same_key}
-use Rattle.beldi_known.proofs.Sets.{OwesStill, instance_set}
-use Rattle.beldi_known.proofs.Cases.{if_same}
+use Rattle.beldi_known.proofs.{Frame.at_once_same, FrameAt.not_ahead, FrameAt.or_none, Sets.OwesStill, Sets.instance_set, Cases.if_same}
+use Rattle.beldi_known.proofs.Names.map
 
 -- ---- what is made owes nothing
 pub new_owes : (d : Deployment) (known : Known) (id : IntentId) (f : ℕ) (v : Value) (c : Option Caller) (t : Option TxId) → OwesStill d known id None (record (new_instance f v c) { within = t })
@@ -46,7 +41,7 @@ made_owes d known id f v c t =
     still_then d known id None q (at_once d id q) (new_owes d known id f v c t) (at_once_same d id q)
 
 -- an instance that returns owes what it owed
-pub ended_owes : (d : Deployment) (known : Known) (id : IntentId) (q : Instance) (o u : Outcome) → effect_of d q ≡ effect.Return u → OwesStill d known id (Some q) (ended q o)
+pub ended_owes : (d : Deployment) (known : Known) (id : IntentId) (q : Instance) (o u : Outcome) → effect_of d q ≡ Effect.Return u → OwesStill d known id (Some q) (ended q o)
 ended_owes d known id q o u returns = record {
   values = λ f n. refl;
   notes = λ x n. refl;
@@ -99,15 +94,15 @@ module _ (d : Deployment) (known : Known) (locked : IntentId → Bool) (id : Int
       let hops = no_root id (length i.answers) in
       subst (λ b. IntentMatches (has_ended d known) b home r (Some s)) (sym hops) (callee_new (has_ended d known) home r s none (subst (CalleeMatches (has_ended d known) home r) new (subst (λ b. IntentMatches (has_ended d known) b home r (map.get known callee)) hops g)))
 
-  pub call_opened : (m : Rows) (r : InvokeRow) → r.func ≡ s.func → r.result ≡ None → Matches d m known locked → Matches d (set_row m key (Some (rows.Invoke r))) after locked
-  call_opened m r func empty h = instance_set d known locked callee s unlocked (subst (λ o. OwesStill d known callee o s) (sym new) owes) m key (Some (rows.Invoke r)) refl
+  pub call_opened : (m : Rows) (r : InvokeRow) → r.func ≡ s.func → r.result ≡ None → Matches d m known locked → Matches d (set_row m key (Some (Row.Invoke r))) after locked
+  call_opened m r func empty h = instance_set d known locked callee s unlocked (subst (λ o. OwesStill d known callee o s) (sym new) owes) m key (Some (Row.Invoke r)) refl
       (owed_here ∙ sym (λ k. Some (func k, empty k)))
       (λ l other e g. own_row l.home (map.get m l) g)
       (λ l b other e. calls_moved known callee s l.home b (as_caller l.home b) (as_callee l.home b (subst (λ (z : Kind). is_eq (key_cmp (record { home = l.home; kind = z }) key) ≡ false) e other))) h
 
 -- ---- a callee that its caller waits for gives its outcome back, to the row of the call
 module _ (d : Deployment) (known : Known) (locked : IntentId → Bool) (id : IntentId) (i j : Instance) (n : ℕ) (o u : Outcome) (is : map.get known id ≡ Some i) (made : map.get known (child_of id n) ≡ Some j)
-    (open_still : j.outcome ≡ None) (waited : is_waited j.from ≡ true) (returns : effect_of d j ≡ effect.Return u) (out : locked (child_of id n) ≡ false) where
+    (open_still : j.outcome ≡ None) (waited : is_waited j.from ≡ true) (returns : effect_of d j ≡ Effect.Return u) (out : locked (child_of id n) ≡ false) where
   abbrev child : IntentId
   child = child_of id n
 
@@ -141,8 +136,8 @@ module _ (d : Deployment) (known : Known) (locked : IntentId → Bool) (id : Int
       (callee_on (has_ended d known) home r j (ended j o) (return_keeps_row j o waited open_still) (subst (CalleeMatches (has_ended d known) home r) made (subst (λ b. IntentMatches (has_ended d known) b home r (map.get known child)) hops g)))
 
   -- its caller is answered then, which owes the rows nothing more (`call_answered`)
-  pub given_back : (m : Rows) (r : InvokeRow) → map.get m row_key ≡ Some (rows.Invoke r) → Matches d m known locked → Matches d (set_row m row_key (Some (rows.Invoke (record r { result = Some o })))) given locked
-  given_back m r at h = instance_set d known locked child (ended j o) out (subst (λ z. OwesStill d known child z (ended j o)) (sym made) (ended_owes d known child j o u returns)) m row_key (Some (rows.Invoke (record r { result = Some o }))) refl
+  pub given_back : (m : Rows) (r : InvokeRow) → map.get m row_key ≡ Some (Row.Invoke r) → Matches d m known locked → Matches d (set_row m row_key (Some (Row.Invoke (record r { result = Some o })))) given locked
+  given_back m r at h = instance_set d known locked child (ended j o) out (subst (λ z. OwesStill d known child z (ended j o)) (sym made) (ended_owes d known child j o u returns)) m row_key (Some (Row.Invoke (record r { result = Some o }))) refl
       (owed_now ∙ ap (λ c. Some (c, Some o)) (sym func))
       (λ l other e g. callee_row l.home (map.get m l) g)
       (λ l b other e. calls_moved known child (ended j o) l.home b (callers_row l.home b) (other_callers l.home b (subst (λ (z : Kind). is_eq (key_cmp (record { home = l.home; kind = z }) row_key) ≡ false) e other))) h

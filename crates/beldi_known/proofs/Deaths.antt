@@ -1,10 +1,6 @@
 -- Who lets an operation inside die is older than its transaction.
-use Rattle.beldi_known.proofs.Names.{Bool, Content, Deployment, Instance, Intent, IntentId, IsDeath, IsFront, Item, ItemMatches, Known, List, None, Option, Owner, Place, Sane, Some, Told, Tx, TxId, age_of, ap, died, either, false, held, id_eq, id_self, if◌then◌else◌, is_older, is_owner, lock_on, lock_or, none_by, note_at, other_owner, owner_eq, refl, sym, touched, true, with_note, ℕ, ◌∙◌, ◌≡◌}
-use Rattle.beldi_known.proofs.Names.notes
-use Rattle.beldi_known.proofs.Locks.{tx_self}
-use Rattle.beldi_known.proofs.Participants.{owner_holds_none}
-use Rattle.beldi_known.proofs.Told.{past_note}
-use Rattle.beldi_known.proofs.Cases.{by_cases}
+use Rattle.beldi_known.proofs.Names.{Bool, Content, Deployment, Instance, Intent, IntentId, IsDeath, IsFront, Item, ItemMatches, Known, List, None, Option, Owner, Place, Sane, Some, Told, Tx, TxId, age_of, ap, died, either, false, held, id_eq, id_self, if◌then◌else◌, is_older, is_owner, lock_on, lock_or, none_by, note_at, other_owner, owner_eq, refl, sym, touched, true, with_note, ℕ, ◌∙◌, ◌≡◌, Note}
+use Rattle.beldi_known.proofs.{Locks.tx_self, Participants.owner_holds_none, Told.past_note, Cases.by_cases}
 
 -- it owns the item, and is not younger
 record Stops (t : TxId) (was : Option Owner) (holder : IntentId) : Type 0 where
@@ -19,7 +15,7 @@ stops p t c x holder h =
     let k = past_note c x (note_at c.notes p) (lock_or p t c (other_owner (Tx t) c.owner)) (died holder) h (λ m e. cc) in
     by_owner c.owner k.1
   where
-    by_age : (o : Owner) → owner_eq o (Tx t) ≡ false → (b : Bool) → is_older t.intent (age_of o) ≡ b → ◌≡◌ {A = Content × Told} (if b then (c, held o) else (with_note c p (notes.Died (age_of o)), died (age_of o))) (x, died holder) → Stops t (Some o) holder
+    by_age : (o : Owner) → owner_eq o (Tx t) ≡ false → (b : Bool) → is_older t.intent (age_of o) ≡ b → ◌≡◌ {A = Content × Told} (if b then (c, held o) else (with_note c p (Note.Died (age_of o)), died (age_of o))) (x, died holder) → Stops t (Some o) holder
     by_age o other true e g = let clash = ap (λ z. z.1) g in cc
     by_age o other false e g = let told = ap (λ z. z.1) g in let same : age_of o ≡ holder = cc in record { owner = o; owns = refl; other = other; old = e; age = same }
 

@@ -1,36 +1,16 @@
 -- The decision of an open transaction is its entry in the plain state, and all items are listed as that leaves them.
-use Rattle.beldi_known.proofs.Names.{AbortsAreTries, AllPlain, AllShow, AllSound, Answer, AtEnd, Bool, Cause, Commits, CommitsArePieces, Content, Deployment, FellAt, Goes, Going, HoldersInsideAreMade, InLine, Instance, IntentId, IsAbort, IsBelow, IsCommit, IsIn, IsKept, IsSound, Item, Kind, Known, List, LogMatches, Matches, Move, None, Older, OpenTx, Option, Owner, Place, PlainState, Row, Rows, Runs, ShadowShows, Shows, Some, TouchedIn, Tx, TxId, Txs, Value, [], after_sane, answered, ap, arith, at_once, begins, content_in, content_of, decision_by, decision_key, effect_of, end_of, ended_by, eq-eqb, eqb-true, false, fell, gives, goes_on, head_key, here, id_cmp, id_total, if◌then◌else◌, inl, inr, is_at, is_committed, is_eq, is_holder, is_older, is_some, is_there, is_writing, key_same, last_answer, length, length-append, line_opened, listed, listed_under, log_key, opened, others, owed_read, owed_value, pieces_are_moves, place_of, places_come_once, read_at, refl, row_at, same_some, set_row, shadow_key, slice_get, stands_there, stays, subst, sym, tied_itself, true, tx_after, tx_at, tx_begun, txs_after, txs_by, txs_pushed, value_at, value_in, value_or, with_instance, writes_on, writing_at, ℕ, ◌&&◌, ◌++◌, ◌==◌, ◌∙◌, ◌∷◌, ◌≡◌, ◌≤◌, ◌⊎◌, false_from_ne_true, tx_eq, ReleasesList, LeadsTo}
-use Rattle.beldi_known.proofs.Names.answer
-use Rattle.beldi_known.proofs.Names.effect
-use Rattle.beldi_known.proofs.Names.entry
-use Rattle.beldi_known.proofs.Names.kinds
+use Rattle.beldi_known.proofs.Names.{AbortsAreTries, AllPlain, AllShow, AllSound, Answer, AtEnd, Bool, Cause, Commits, CommitsArePieces, Content, Deployment, FallsSo, FellAt, Goes, Going, HoldersInsideAreMade, InLine, Instance, IntentId, IsAbort, IsBelow, IsCommit, IsIn, IsKept, IsSound, Item, Kind, Known, LeadsTo, List, LogMatches, Matches, Move, None, Older, OpenTx, Option, Owner, Place, PlainState, ReleasesList, Row, Rows, Runs, ShadowShows, Shows, Some, TouchedIn, Tx, TxId, Txs, Value, [], after_sane, answered, ap, arith, at_once, begins, content_in, content_of, decision_by, decision_key, effect_of, end_of, ended_by, eq-eqb, eqb-true, false, false_from_ne_true, fell, gives, goes_on, head_key, here, id_cmp, id_total, if◌then◌else◌, inl, inr, is_at, is_committed, is_eq, is_holder, is_older, is_some, is_there, is_writing, key_same, last_answer, length, length-append, line_opened, listed, listed_under, log_key, opened, others, owed_read, owed_value, pieces_are_moves, place_of, places_come_once, read_at, refl, row_at, same_some, set_row, shadow_key, slice_get, stands_there, stays, subst, sym, tied_itself, true, tx_after, tx_at, tx_begun, tx_eq, txs_after, txs_by, txs_pushed, value_at, value_in, value_or, with_instance, writes_on, writing_at, ℕ, ◌&&◌, ◌++◌, ◌==◌, ◌∙◌, ◌∷◌, ◌≡◌, ◌≤◌, ◌⊎◌, Effect, Entry}
+use Rattle.beldi_known.proofs.Acts.{by_item, content_apart, content_here, kinds_apart, is_data, is_shadow, turned}
+use Rattle.beldi_known.proofs.Outsides.{at_once_opens, at_once_stays, below_apart, fresh_next, goes_one, got_next, known_none_after, plain_none_after, set_next, shows_beside}
+use Rattle.beldi_known.proofs.Owns.{fall, got_owned, older, own, seen, touched_owned, unowned_kept}
+use Rattle.beldi_known.proofs.{Answers.true_false, Answers.take_front, Answers.get_next, AtFront.no_decision, Falls.Fell, Falls.cause_of, Falls.later_is, Frame.moved_one, FrameAt.known_set, Callers.called_below, Lines.OwnerNow, Lines.front_is, Lines.member, Lines.outside, Lists.elsewhere, Lists.lists_same, Lists.is_log as is_row_log, Lists.lists_owned, Members.in_or_out, NoTx.IsOutside, NoTx.begins_parts, Unaborted.owner_lives, Rows.set_here, Rows.set_others, Cases.by_cases, Locks.tx_same, Locks.tx_self}
 use Rattle.beldi_known.proofs.Names.laws
 use Rattle.beldi_known.proofs.Names.map
 use Rattle.beldi_known.proofs.Names.plain
-use Rattle.beldi_known.proofs.Names.rows
-use Rattle.beldi_known.proofs.Names.value
-use Rattle.beldi_known.proofs.Acts.{by_item, content_apart, content_here, kinds_apart, is_data, is_shadow, turned}
-use Rattle.beldi_known.proofs.Answers.{true_false, take_front, get_next}
-use Rattle.beldi_known.proofs.AtFront.{no_decision}
-use Rattle.beldi_known.proofs.Falls.{Fell, cause_of, later_is}
-use Rattle.beldi_known.proofs.Frame.{moved_one}
-use Rattle.beldi_known.proofs.FrameAt.{known_set}
-use Rattle.beldi_known.proofs.Callers.{called_below}
-use Rattle.beldi_plain.specs.Moves.{FallsSo}
-use Rattle.beldi_known.proofs.Lines.{OwnerNow, front_is, member, outside}
-use Rattle.beldi_known.proofs.Lists.{elsewhere, lists_same, is_log as is_row_log, lists_owned}
-use Rattle.beldi_known.proofs.Members.{in_or_out}
-use Rattle.beldi_known.proofs.NoTx.{IsOutside, begins_parts}
-use Rattle.beldi_known.proofs.Outsides.{at_once_opens, at_once_stays, below_apart, fresh_next, goes_one, got_next, known_none_after, plain_none_after, set_next, shows_beside}
-use Rattle.beldi_known.proofs.Owns.{fall, got_owned, older, own, seen, touched_owned, unowned_kept}
-use Rattle.beldi_known.proofs.Unaborted.{owner_lives}
-use Rattle.beldi_known.proofs.Rows.{set_here, set_others}
-use Rattle.beldi_known.proofs.Cases.{by_cases}
-use Rattle.beldi_known.proofs.Locks.{tx_same, tx_self}
 
 -- ---- the key of a decision is that of its transaction
 place_in : Kind → Place
-place_in (kinds.ReadLog a) = a
+place_in (Kind.ReadLog a) = a
 place_in k = record { intent = record { ticket = 0; hops = [] }; step = 0 }
 
 decision_same : (s t : TxId) → decision_key s ≡ decision_key t → s ≡ t
@@ -45,7 +25,7 @@ tx_in t o = t
 -- ---- what is listed
 module _ (m : Rows) (s : TxId) (undecided : map.get m (decision_key s) ≡ None) (c : Bool) where
   abbrev decided : Rows
-  decided = set_row m (decision_key s) (Some (rows.ReadLog (value.Bool c)))
+  decided = set_row m (decision_key s) (Some (Row.ReadLog (Value.Bool c)))
 
   -- of an item that it owns, by its decision; and of others as before
   abbrev Lists : Item → Type 0
@@ -56,10 +36,10 @@ module _ (m : Rows) (s : TxId) (undecided : map.get m (decision_key s) ≡ None)
   decision_lists x = by_owner (content_of m x).owner refl
     where
       same : content_of decided x ≡ content_of m x
-      same = content_apart m (decision_key s) (Some (rows.ReadLog (value.Bool c))) x (kinds_apart is_data (head_key x) (decision_key s) refl refl)
+      same = content_apart m (decision_key s) (Some (Row.ReadLog (Value.Bool c))) x (kinds_apart is_data (head_key x) (decision_key s) refl refl)
 
       shadow : (t : TxId) → map.get decided (shadow_key t x) ≡ map.get m (shadow_key t x)
-      shadow t = elsewhere m (decision_key s) (Some (rows.ReadLog (value.Bool c))) is_shadow (shadow_key t x) refl refl
+      shadow t = elsewhere m (decision_key s) (Some (Row.ReadLog (Value.Bool c))) is_shadow (shadow_key t x) refl refl
 
       now : listed decided x ≡ listed_under decided x (content_of m x).owner (content_of m x).value
       now = ap (λ (z : Content). listed_under decided x z.owner z.value) same
@@ -70,11 +50,11 @@ module _ (m : Rows) (s : TxId) (undecided : map.get m (decision_key s) ≡ None)
       mine : (content_of m x).owner ≡ Some (Tx s) → listed decided x ≡ (if c then value_in (map.get m (shadow_key s x)) (listed m x) else listed m x)
       mine is =
           let was : listed m x ≡ w = ap (λ o. listed_under m x o w) is ∙ ap (λ r. if is_committed r then value_in (map.get m (shadow_key s x)) w else w) undecided in
-          now ∙ ap (λ o. listed_under decided x o w) is ∙ (λ i. if is_committed (set_here m (decision_key s) (Some (rows.ReadLog (value.Bool c))) i) then value_in (shadow s i) w else w) ∙ ap (λ z. if c then value_in (map.get m (shadow_key s x)) z else z) (sym was)
+          now ∙ ap (λ o. listed_under decided x o w) is ∙ (λ i. if is_committed (set_here m (decision_key s) (Some (Row.ReadLog (Value.Bool c))) i) then value_in (shadow s i) w else w) ∙ ap (λ z. if c then value_in (map.get m (shadow_key s x)) z else z) (sym was)
 
       others : ((content_of m x).owner ≡ Some (Tx s) → ⊥) → listed decided x ≡ listed m x
       others away = lists_owned m decided x (ap (λ (z : Content). z.owner) same) (ap (λ (z : Content). z.value) same) (λ t v is i.
-          if is_committed (set_others m (decision_key s) (Some (rows.ReadLog (value.Bool c))) (decision_key t) (false_from_ne_true _ (λ e. away (is ∙ ap (λ z. Some (Tx z)) (decision_same t s (key_same (decision_key t) (decision_key s) e))))) i) then value_in (shadow t i) v else v)
+          if is_committed (set_others m (decision_key s) (Some (Row.ReadLog (Value.Bool c))) (decision_key t) (false_from_ne_true _ (λ e. away (is ∙ ap (λ z. Some (Tx z)) (decision_same t s (key_same (decision_key t) (decision_key s) e))))) i) then value_in (shadow t i) v else v)
 
       apart : ((content_of m x).owner ≡ Some (Tx s) → ⊥) → Lists x
       apart away = inr (away, others away)
@@ -88,7 +68,7 @@ intent_in j (Some (Tx t)) = t.intent
 intent_in j o = j
 
 -- ---- an open transaction whose owner is at its End
-module _ (d : Deployment) (m : Rows) (p : PlainState) (known : Known) (locked : IntentId → Bool) (h : IsSound d m p known locked) (id : IntentId) (q k : Instance) (made : map.get p.made id ≡ Some q) (b : begins d q ≡ true) (is : map.get known id ≡ Some k) (unlocked : locked id ≡ false) (c : Bool) (ends : effect_of d k ≡ effect.End c) where
+module _ (d : Deployment) (m : Rows) (p : PlainState) (known : Known) (locked : IntentId → Bool) (h : IsSound d m p known locked) (id : IntentId) (q k : Instance) (made : map.get p.made id ≡ Some q) (b : begins d q ≡ true) (is : map.get known id ≡ Some k) (unlocked : locked id ≡ false) (c : Bool) (ends : effect_of d k ≡ Effect.End c) where
   abbrev t : TxId
   t = tx_begun id q
 
@@ -96,7 +76,7 @@ module _ (d : Deployment) (m : Rows) (p : PlainState) (known : Known) (locked : 
   tx = (h.shadows.shows id q made b).tx
 
   abbrev done : Instance
-  done = answered k answer.Done
+  done = answered k Answer.Done
 
   abbrev n : Rows
   n = laws.decided m t c
@@ -114,7 +94,7 @@ module _ (d : Deployment) (m : Rows) (p : PlainState) (known : Known) (locked : 
   undecided = ap (λ f. map.get m (log_key f (place_of id (length q.answers)))) (sym now.func) ∙ no_decision d m known locked h.matches id k is (length q.answers) now.begun
 
   same_shadows : (u : TxId) (x : Item) → map.get n (shadow_key u x) ≡ map.get m (shadow_key u x)
-  same_shadows u x = elsewhere m (decision_key t) (Some (rows.ReadLog (value.Bool c))) is_shadow (shadow_key u x) refl refl
+  same_shadows u x = elsewhere m (decision_key t) (Some (Row.ReadLog (Value.Bool c))) is_shadow (shadow_key u x) refl refl
 
   -- nobody else can step
   front : tx.going.front ≡ id
@@ -127,7 +107,7 @@ module _ (d : Deployment) (m : Rows) (p : PlainState) (known : Known) (locked : 
   off x = (λ i. writing_at d locked x (front i) (at_front i)) ∙ ap (λ l. l && writes_on x k.func (effect_of d k)) unlocked
 
   out : IsOutside d done done.answers
-  out = (now.within ∙ outside d p known h.plain_sane id q made b tx, ap (λ (s : Txs). s.begun) (txs_pushed d k k.answers answer.Done) ∙ ap (λ e. (txs_by (length k.answers) e (txs_after d k k.answers)).begun) ends)
+  out = (now.within ∙ outside d p known h.plain_sane id q made b tx, ap (λ (s : Txs). s.begun) (txs_pushed d k k.answers Answer.Done) ∙ ap (λ e. (txs_by (length k.answers) e (txs_after d k k.answers)).begun) ends)
 
   runs : Runs d p id q tx.moves tx.going
   runs = record { made = made; open_still = (begins_parts d q b).0; begins = (begins_parts d q b).1; leads = tx.leads }
@@ -141,12 +121,12 @@ module _ (d : Deployment) (m : Rows) (p : PlainState) (known : Known) (locked : 
 
   -- who is not in it is as in the plain state
   outs : (j : IntentId) → (IsIn (tx_begun id q) j → ⊥) → map.get tx.going.state.made j ≡ map.get p.made j
-  outs j away = others d t (opened p id q) tx.moves tx.going at_start tx.leads j away ∙ stays p.made id j (answered q answer.Done) (λ same. away (inl (sym same)))
+  outs j away = others d t (opened p id q) tx.moves tx.going at_start tx.leads j away ∙ stays p.made id j (answered q Answer.Done) (λ same. away (inl (sym same)))
 
   -- ---- with commit
   module _ (yes : c ≡ true) where
-    committed : effect_of d k ≡ effect.End true
-    committed = ends ∙ ap effect.End yes
+    committed : effect_of d k ≡ Effect.End true
+    committed = ends ∙ ap Effect.End yes
 
     plainly : AllPlain tx.moves
     plainly = elim (fall d p known h.sane h.plain_sane id q made b tx) [
@@ -160,13 +140,13 @@ module _ (d : Deployment) (m : Rows) (p : PlainState) (known : Known) (locked : 
     ]
 
     abbrev state : PlainState
-    state = gives tx.going.state id k answer.Done
+    state = gives tx.going.state id k Answer.Done
 
     abbrev commits : Commits d p id state
     commits = record { instance = q; moves = tx.moves; last = tx.going; runs = runs; plainly = plainly; ends = record { owner = front; stands = record { instance = k; made = at_front; effect = committed } }; is = refl }
 
     legal : plain.Sane d state
-    legal = after_sane d p (entry.Tx id) state (pieces_are_moves.committed d p id state commits) h.plain_sane
+    legal = after_sane d p (Entry.Tx id) state (pieces_are_moves.committed d p id state commits) h.plain_sane
 
     few : (f : map.FinMap id_cmp Instance) (j : IntentId) (z : Instance) → map.get f j ≡ Some z → (y : Instance) → map.get f j ≡ Some y → length y.answers ≤ length z.answers
     few f j z there y same = let l = ap (λ (w : Instance). length w.answers) (same_some (sym same ∙ there)) in omega (arith, l)
@@ -178,10 +158,10 @@ module _ (d : Deployment) (m : Rows) (p : PlainState) (known : Known) (locked : 
         let below = λ (i : IntentId) (w : IsBelow u i). stays known id i (at_once d id done) (below_apart u i w) ∙ known_none_after d known h.sane u less i w
         ∙ sym (plain_none_after d state legal u (few state.made id done (here tx.going.state.made id done)) i w) in
         let o = at_once_opens d state more id done e (here known id (at_once d id done)) below in
-        record { tx = o; shadows = λ x. subst (λ r. ShadowShows (is_writing d locked x o.going) r (value_at o.going.state x)) (sym (same_shadows u x ∙ fresh_next d m p known locked h.shadows h.beside h.sane h.matches h.plain_sane id k is answer.Done out x)) tt }
+        record { tx = o; shadows = λ x. subst (λ r. ShadowShows (is_writing d locked x o.going) r (value_at o.going.state x)) (sym (same_shadows u x ∙ fresh_next d m p known locked h.shadows h.beside h.sane h.matches h.plain_sane id k is Answer.Done out x)) tt }
       where
         less : (y : Instance) → map.get known id ≡ Some y → length y.answers ≤ length done.answers
-        less y same = let l = ap (λ (w : Instance). length w.answers) (same_some (sym same ∙ is)) in let r = length-append k.answers (answer.Done ∷ []) in omega (arith, l, r)
+        less y same = let l = ap (λ (w : Instance). length w.answers) (same_some (sym same ∙ is)) in let r = length-append k.answers (Answer.Done ∷ []) in omega (arith, l, r)
 
     -- those of others
     other_shows : (j : IntentId) (z : Instance) → is_eq (id_cmp j id) ≡ false → map.get tx.going.state.made j ≡ Some z → begins d z ≡ true → Shows d n state more locked j z
@@ -236,7 +216,7 @@ module _ (d : Deployment) (m : Rows) (p : PlainState) (known : Known) (locked : 
         (λ j other none now. still j none (sym (stays known id j (at_once d id done) (differ j other)) ∙ now)) j
       where
         ends_now : (e : ℕ) (z : ℕ) → end_of d (at_once d id done) e ≡ Some (z, true) → (e ≡ (tx_begun id q).begin) ⊎ (end_of d k e ≡ Some (z, true))
-        ends_now e z g = by_test (is_at e (txs_after d k k.answers).begun) refl (sym ((moved_one d id k answer.Done).ends e ∙ ap (λ x. (txs_by (length k.answers) x (txs_after d k k.answers)).ends e) ends) ∙ g)
+        ends_now e z g = by_test (is_at e (txs_after d k k.answers).begun) refl (sym ((moved_one d id k Answer.Done).ends e ∙ ap (λ x. (txs_by (length k.answers) x (txs_after d k k.answers)).ends e) ends) ∙ g)
           where
             by_test : (u : Bool) → is_at e (txs_after d k k.answers).begun ≡ u → (if u then Some (length k.answers, c) else end_of d k e) ≡ Some (z, true) → (e ≡ (tx_begun id q).begin) ⊎ (end_of d k e ≡ Some (z, true))
             by_test true at g = inl (eqb-true e (length q.answers) (sym (ap (is_at e) now.begun) ∙ at))
@@ -277,21 +257,21 @@ module _ (d : Deployment) (m : Rows) (p : PlainState) (known : Known) (locked : 
       lists = commit_lists values;
       goes = record {
         beside = record { same = same; begun = λ j z there e. (shows j z there e).tx; kept = kept };
-        shadows = record { shows = shows; got = got_next d m known locked h.shadows.got n same_shadows id k is unlocked answer.Done };
+        shadows = record { shows = shows; got = got_next d m known locked h.shadows.got n same_shadows id k is unlocked Answer.Done };
       };
     }
 
   -- ---- without commit
   module _ (no : c ≡ false) (holders : HoldersInsideAreMade d p known) where
-    ended_so : effect_of d k ≡ effect.End false
-    ended_so = ends ∙ ap effect.End no
+    ended_so : effect_of d k ≡ Effect.End false
+    ended_so = ends ∙ ap Effect.End no
 
     abbrev kept_so : PlainState
     kept_so = with_instance p id done
 
     goes : Goes d n kept_so more locked
     goes = goes_one d m p known locked h.shadows h.beside id done
-        (set_next d m p known locked h.shadows h.beside h.sane h.matches h.plain_sane id k is answer.Done out (λ e. let clash = sym ended_so ∙ e in cc)) n same_shadows (got_next d m known locked h.shadows.got n same_shadows id k is unlocked answer.Done)
+        (set_next d m p known locked h.shadows h.beside h.sane h.matches h.plain_sane id k is Answer.Done out (λ e. let clash = sym ended_so ∙ e in cc)) n same_shadows (got_next d m known locked h.shadows.got n same_shadows id k is unlocked Answer.Done)
 
     abort_lists : (x : Item) → listed n x ≡ listed m x
     abort_lists x = elim (decision_lists m t undecided c x) [
@@ -342,8 +322,8 @@ module _ (d : Deployment) (m : Rows) (p : PlainState) (known : Known) (locked : 
     by_fault plainly = try_at None tx.moves tx.going k at_front tx.leads plainly refl [] refl refl (λ x on. on)
         (by_last (last_answer k.answers) (λ e. owner_lives d p h.plain_sane id q made tx.moves tx.going at_start plainly tx.leads k (sym (tx.whole id (inl refl)) ∙ is) e))
       where
-        by_last : (o : Option Answer) → ((e : Cause) → o ≡ Some (answer.Aborted e) → ⊥) → FellAt id (length k.answers) o (place_of tx.going.front (length k.answers)) None
-        by_last (Some (answer.Aborted e)) none = absurd (none e refl)
+        by_last : (o : Option Answer) → ((e : Cause) → o ≡ Some (Answer.Aborted e) → ⊥) → FellAt id (length k.answers) o (place_of tx.going.front (length k.answers)) None
+        by_last (Some (Answer.Aborted e)) none = absurd (none e refl)
         by_last o none = (ap (λ i. place_of i (length k.answers)) front, refl)
 
     -- or something was aborted
@@ -358,7 +338,7 @@ module _ (d : Deployment) (m : Rows) (p : PlainState) (known : Known) (locked : 
         touched_more s (w ∷ ms) x (inr on) = inr (on.0, on.1, touched_more on.0 ms x on.2)
 
         -- the owner was told so last
-        told : last_answer k.answers ≡ Some (answer.Aborted (cause_of d t q (own d p known h.sane h.plain_sane id q made b tx) refl f.there.front f.faller f.holder))
+        told : last_answer k.answers ≡ Some (Answer.Aborted (cause_of d t q (own d p known h.sane h.plain_sane id q made b tx) refl f.there.front f.faller f.holder))
         told =
             let same : f.up.instance ≡ k = same_some (sym f.up.made ∙ at_front) in
             elim f.up.rises [
@@ -376,7 +356,7 @@ module _ (d : Deployment) (m : Rows) (p : PlainState) (known : Known) (locked : 
         by_holder (Some u) e =
             let z = f.faller in
             let y = f.told.instance in
-            let a = answer.Aborted (record { place = place_of f.there.front (length z.answers); holder = f.holder }) in
+            let a = Answer.Aborted (record { place = place_of f.there.front (length z.answers); holder = f.holder }) in
             let later = later_is z y a f.told.grown in
             let step : slice_get y.answers (length z.answers) ≡ Some a = ap (λ (w : Instance). slice_get w.answers (length z.answers)) later ∙ get_next z.answers f.told.grown.later a in
             let inside : is_some (tx_at d f.there.front y (length z.answers)) ≡ true =
@@ -393,12 +373,12 @@ module _ (d : Deployment) (m : Rows) (p : PlainState) (known : Known) (locked : 
 -- what is known to be open is the piece, where it commits
 pub commits_are_pieces : CommitsArePieces
 commits_are_pieces d m p known locked s k o is ends unlocked values =
-    subst (λ z. IsCommit d m (laws.decided m z true) p (map.insert known z.intent (goes_on d z.intent k answer.Done)) locked z) (sym o.is) (piece d m p known locked o.sound s.intent o.owner k o.made o.begun is unlocked true ends refl values)
+    subst (λ z. IsCommit d m (laws.decided m z true) p (map.insert known z.intent (goes_on d z.intent k Answer.Done)) locked z) (sym o.is) (piece d m p known locked o.sound s.intent o.owner k o.made o.begun is unlocked true ends refl values)
 
 -- .. and the try, where it does not
 pub aborts_are_tries : AbortsAreTries
 aborts_are_tries d m p known locked s k o is ends unlocked holders =
-    subst (λ z. IsAbort d m (laws.decided m z false) p (map.insert known z.intent (goes_on d z.intent k answer.Done)) locked z k) (sym o.is) (try_made d m p known locked o.sound s.intent o.owner k o.made o.begun is unlocked false ends refl holders)
+    subst (λ z. IsAbort d m (laws.decided m z false) p (map.insert known z.intent (goes_on d z.intent k Answer.Done)) locked z k) (sym o.is) (try_made d m p known locked o.sound s.intent o.owner k o.made o.begun is unlocked false ends refl holders)
 
 -- ---- a release: the value that it leaves is the one that was listed
 pub release_lists : ReleasesList
@@ -410,10 +390,10 @@ release_lists m x s v owned free value y = let n : Rows = set_row m (head_key x)
 pub decision_row : (d : Deployment) (m : Rows) (known : Known) (locked : IntentId → Bool) → Matches d m known locked → (s : TxId) (k : Instance) (n : ℕ) (c : Bool) → map.get known s.intent ≡ Some k → k.func ≡ s.func → end_of d k s.begin ≡ Some (n, c) → is_committed (map.get m (decision_key s)) ≡ c
 decision_row d m known locked matches s k n c is func ends = by_row (map.get m (decision_key s)) (subst (LogMatches (map.get m (decision_key s))) owed (matches.keys (decision_key s)))
   where
-    owed : owed_read d known s.func (place_of s.intent s.begin) ≡ Some (value.Bool c)
+    owed : owed_read d known s.func (place_of s.intent s.begin) ≡ Some (Value.Bool c)
     owed = ap (owed_value d s.func s.begin) is ∙ ap (λ b. if b then row_at d k s.begin else None) (ap (λ f. f == s.func) func ∙ eq-eqb s.func s.func refl) ∙ ap (λ o. value_or (decision_by o) (read_at d k s.begin)) ends
 
-    by_row : (r : Option Row) → LogMatches r (Some (value.Bool c)) → is_committed r ≡ c
+    by_row : (r : Option Row) → LogMatches r (Some (Value.Bool c)) → is_committed r ≡ c
     by_row None h = cc
-    by_row (Some (rows.ReadLog v)) h = ap (λ w. is_committed (Some (rows.ReadLog w))) (sym (same_some h))
+    by_row (Some (Row.ReadLog v)) h = ap (λ w. is_committed (Some (Row.ReadLog w))) (sym (same_some h))
     by_row (Some r) h = absurd h

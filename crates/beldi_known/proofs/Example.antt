@@ -1,11 +1,7 @@
 -- The tables at a body with a transaction: they compute.
-use Rattle.beldi_known.proofs.Names.{Answer, Deployment, Instance, IntentId, Item, TxId, at_once, commands_of, effect_of, end_of, got_by, lockset_of, null, owed_note, owed_shadow, read, return, root_of, row_at, text, transaction, tx_now}
-use Rattle.beldi_known.proofs.Names.answer
-use Rattle.beldi_known.proofs.Names.effect
-use Rattle.beldi_known.proofs.Names.notes
-use Rattle.beldi_known.proofs.Names.value
 use Rattle.std.specs.Prelude.{◌≡◌, true, false, List, [], ◌∷◌, Some, None, refl}
 use Rattle.beldi_tree.specs.Command.{write}
+use Rattle.beldi_known.proofs.Names.{Answer, Deployment, Instance, IntentId, Item, TxId, at_once, commands_of, effect_of, end_of, got_by, lockset_of, null, owed_note, owed_shadow, read, return, root_of, row_at, text, transaction, tx_now, Effect, Note, Value}
 
 -- function f(x) { table t; transaction { read v = t[""]; write t[""] = null; } aborted { } return null; }
 abbrev deployment : Deployment
@@ -31,28 +27,28 @@ abbrev tx : TxId
 tx = record { intent = id; begin = 0; func = 1 }
 
 abbrev so_far : List Answer → Instance
-so_far xs = record { func = 1; args = value.Null; from = None; within = None; answers = xs; outcome = None }
+so_far xs = record { func = 1; args = Value.Null; from = None; within = None; answers = xs; outcome = None }
 
 abbrev begun : Instance
-begun = so_far (answer.Done ∷ [])
+begun = so_far (Answer.Done ∷ [])
 
 abbrev at_end : Instance
-at_end = so_far (answer.Done ∷ answer.Value value.Null ∷ answer.Done ∷ [])
+at_end = so_far (Answer.Done ∷ Answer.Value Value.Null ∷ Answer.Done ∷ [])
 
 abbrev committed : Instance
-committed = so_far (answer.Done ∷ answer.Value value.Null ∷ answer.Done ∷ answer.Done ∷ [])
+committed = so_far (Answer.Done ∷ Answer.Value Value.Null ∷ Answer.Done ∷ Answer.Done ∷ [])
 
-begins : (effect_of deployment (so_far []) ≡ effect.Begin) × (at_once deployment id (so_far []) ≡ begun)
+begins : (effect_of deployment (so_far []) ≡ Effect.Begin) × (at_once deployment id (so_far []) ≡ begun)
 begins = (refl, refl)
 
-reads : (effect_of deployment begun ≡ effect.Read 0 []) × (owed_note deployment item id true 1 (Some begun) ≡ Some notes.Got)
+reads : (effect_of deployment begun ≡ Effect.Read 0 []) × (owed_note deployment item id true 1 (Some begun) ≡ Some Note.Got)
 reads = (refl, refl)
 
 is_inside : (tx_now deployment id at_end ≡ Some tx) × (row_at deployment at_end 0 ≡ None)
 is_inside = (refl, refl)
 
 -- what it owes once it has committed: its rows, the notes of its write and of its lock, and what it has got
-owes : (row_at deployment committed 0 ≡ Some (value.Bool true)) × (row_at deployment committed 1 ≡ Some value.Null) × (owed_shadow deployment tx item id 2 (Some committed) ≡ Some notes.Wrote) × (owed_note deployment item id false 2 (Some committed) ≡ Some notes.Got)
+owes : (row_at deployment committed 0 ≡ Some (Value.Bool true)) × (row_at deployment committed 1 ≡ Some Value.Null) × (owed_shadow deployment tx item id 2 (Some committed) ≡ Some Note.Wrote) × (owed_note deployment item id false 2 (Some committed) ≡ Some Note.Got)
 owes = (refl, refl, refl, refl)
 
 got : (lockset_of deployment 0 item id committed ≡ true) × (got_by deployment tx item id false (Some committed) ≡ true)

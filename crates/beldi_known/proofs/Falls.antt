@@ -1,16 +1,10 @@
 -- An open transaction falls at most once: until then its moves are plain steps, and from then on it goes up, to the End without commit
 -- of its owner. What its moves touched it got, and what they wrote has a shadow.
-use Rattle.beldi_known.proofs.Names.{AllPlain, AllSound, Answer, Answers, Bool, Cause, Deployment, Effect, FinMap, Going, GoingSane, Grown, GrownAt, Instance, IntentId, IsAnswer, IsIn, Item, Items, Line, List, Move, MoveIs, None, Option, Outcome, SaneInstance, SaneWith, Some, TouchedIn, TxId, Value, WrittenIn, [], aborted, all_in, answer_inside, answer_of, answered, answered_plainly, answers, ap, append-nil, append_assoc, calls, dies_at, effect_after, effect_of, ended, false, fell, going_moved, here, id_cmp, id_total, if◌then◌else◌, inl, inr, is_edge, is_eq, is_older, is_plainly, is_some, last_answer, length, line_moved, line_tx, move_is, mover, moves_grow, next, place_of, plain, plainly_edge, refl, returned, returns, same_some, sane_in, subst, sym, tied_itself, top, touched, touched_at, touched_item, true, tx_after, tx_now, written_at, written_on, ℕ, ◌++◌, ◌∙◌, ◌∷◌, ◌≡◌, ◌⊎◌}
-use Rattle.beldi_known.proofs.Names.answer
-use Rattle.beldi_known.proofs.Names.effect
-use Rattle.beldi_known.proofs.Names.map
-use Rattle.beldi_known.proofs.Names.outcome
-use Rattle.beldi_plain.specs.Moves.{moved, Leads}
-use Rattle.beldi_plain.specs.Piece.{is_owner}
+use Rattle.beldi_plain.specs.{Moves.moved, Moves.Leads, Piece.is_owner}
 use Rattle.beldi_order.proofs.Goes.{IsSound}
-use Rattle.beldi_known.proofs.Answers.{take_front, get_next}
-use Rattle.beldi_known.proofs.Phases.{abort_ends, abort_returns}
-use Rattle.beldi_known.proofs.Behind.{death_of}
+use Rattle.beldi_known.proofs.Names.{AllPlain, AllSound, Answer, Answers, Bool, Cause, Deployment, Effect, FinMap, Going, GoingSane, Grown, GrownAt, Instance, IntentId, IsAnswer, IsIn, Item, Items, Line, List, Move, MoveIs, None, Option, Outcome, SaneInstance, SaneWith, Some, TouchedIn, TxId, Value, WrittenIn, [], aborted, all_in, answer_inside, answer_of, answered, answered_plainly, answers, ap, append-nil, append_assoc, calls, dies_at, effect_after, effect_of, ended, false, fell, going_moved, here, id_cmp, id_total, if◌then◌else◌, inl, inr, is_edge, is_eq, is_older, is_plainly, is_some, last_answer, length, line_moved, line_tx, move_is, mover, moves_grow, next, place_of, plain, plainly_edge, refl, returned, returns, same_some, sane_in, subst, sym, tied_itself, top, touched, touched_at, touched_item, true, tx_after, tx_now, written_at, written_on, ℕ, ◌++◌, ◌∙◌, ◌∷◌, ◌≡◌, ◌⊎◌}
+use Rattle.beldi_known.proofs.{Answers.take_front, Answers.get_next, Phases.abort_ends, Phases.abort_returns, Behind.death_of}
+use Rattle.beldi_known.proofs.Names.map
 
 -- ---- what an instance is later, by what it was before an answer
 abbrev pub later_by : Instance → Answer → List Answer → Option Outcome → Instance
@@ -40,7 +34,7 @@ last_is (x ∷ y ∷ ys) a = last_is (y ∷ ys) a
 module _ (d : Deployment) (t : TxId) where
   -- ---- upwards: the owner was told so, and is at its End without commit, or who can step returns it
   abbrev pub Rises : Cause → IntentId → Instance → Type 0
-  Rises c i z = ((i ≡ t.intent) × (effect_of d z ≡ effect.End false) × (last_answer z.answers ≡ Some (answer.Aborted c))) ⊎ (effect_of d z ≡ effect.Return (outcome.Aborted c))
+  Rises c i z = ((i ≡ t.intent) × (effect_of d z ≡ Effect.End false) × (last_answer z.answers ≡ Some (Answer.Aborted c))) ⊎ (effect_of d z ≡ Effect.Return (Outcome.Aborted c))
 
   pub record Up (c : Cause) (s : Going) : Type 0 where
     pub instance : Instance
@@ -52,10 +46,10 @@ module _ (d : Deployment) (t : TxId) where
 
   -- who is answered by an abort goes up
   up_at : (f : FinMap id_cmp Instance) → SaneWith d (Some t) f → (i : IntentId) (z : Instance) → Line d t f i → map.get f i ≡ Some z → (c : Cause) → is_edge (effect_of d z) ≡ false
-      → IsAnswer (place_of i (length z.answers)) (tx_now d i z) (effect_of d z) (answer.Aborted c) → Rises c i (answered z (answer.Aborted c))
+      → IsAnswer (place_of i (length z.answers)) (tx_now d i z) (effect_of d z) (Answer.Aborted c) → Rises c i (answered z (Answer.Aborted c))
   up_at f sane i z (top _ h) made c edge fits =
       let begun = (sane_in d (Some t) f sane i z made).begun ∙ ap (λ b. if b then Some t.begin else None) (ap (is_owner t) h.own ∙ ap is_eq (tied_itself id_total t.intent)) in
-      inl (h.own, abort_ends d z z.answers c (ap is_some begun) (λ b e. let clash = sym edge ∙ ap is_edge e in cc), last_is z.answers (answer.Aborted c))
+      inl (h.own, abort_ends d z z.answers c (ap is_some begun) (λ b e. let clash = sym edge ∙ ap is_edge e in cc), last_is z.answers (Answer.Aborted c))
   up_at f sane i z (next k _ l h) made c edge fits =
       let within : z.within ≡ Some t = ap (λ (x : Instance). x.within) (same_some (sym made ∙ h.made)) ∙ h.within in
       inr (abort_returns d i z (inner_sane f sane i z made) c fits t within)
@@ -76,9 +70,9 @@ module _ (d : Deployment) (t : TxId) (q : Instance) (outside : q.within ≡ None
       by_kind (returns e) (inl o) = let clash = sym e.returns ∙ o.1 in cc
       by_kind (returns e) (inr o) =
           let w = returned d t m s r z up.made h.line e in
-          let same : e.outcome ≡ outcome.Aborted c = let both = sym e.returns ∙ o in cc in
+          let same : e.outcome ≡ Outcome.Aborted c = let both = sym e.returns ∙ o in cc in
           let y = w.member.waiter in
-          let a = answer.Aborted c in
+          let a = Answer.Aborted c in
           let is : r ≡ record { state = record { items = s.state.items; made = map.insert (map.insert s.state.made s.front (ended z e.outcome)) w.caller (answered y a) }; front = w.caller } =
           w.is ∙ ap (λ b. record { state = record { items = s.state.items; made = map.insert (map.insert s.state.made s.front (ended z e.outcome)) w.caller (answered y b) }; front = w.caller }) (ap answer_of same) in (
             e.plainly,
@@ -178,11 +172,11 @@ module _ (d : Deployment) (t : TxId) (q : Instance) (outside : q.within ≡ None
       by_kind z made (answers a) =
           let edge = plainly_edge (effect_of d z) (answered_plainly s.front s.state.items z (effect_of d z) (fell o) a.answer a.gives_it) in
           let c = cause_of s.front z o in
-          let y = answered z (answer.Aborted c) in
-          let same : a.answer ≡ answer.Aborted c = by_dies z (dies_at o (effect_of d z)) a.answer a.gives_it in
+          let y = answered z (Answer.Aborted c) in
+          let same : a.answer ≡ Answer.Aborted c = by_dies z (dies_at o (effect_of d z)) a.answer a.gives_it in
           let front : r.front ≡ s.front = ap (λ (x : Going). x.front) a.is in
           let there : map.get r.state.made s.front ≡ Some y = ap (λ (x : Going). map.get x.state.made s.front) a.is ∙ here s.state.made s.front (answered z a.answer) ∙ ap (λ b. Some (answered z b)) same in
-          let fits = answered_fits d s.front z y (answer.Aborted c) (grown_itself y) (inner_sane d t r.state.made after.sane s.front y there) in
+          let fits = answered_fits d s.front z y (Answer.Aborted c) (grown_itself y) (inner_sane d t r.state.made after.sane s.front y there) in
           record {
             faller = z;
             made = made;
@@ -250,7 +244,7 @@ module _ (d : Deployment) (t : TxId) (q : Instance) (outside : q.within ≡ None
     pub plainly : answer_inside items before.func (effect_of d before) ≡ Some given
     pub item : on before (effect_of d before) ≡ Some x
 
-  module _ (on : Instance → Effect → Option Item) (no_call : (z : Instance) (f : ℕ) (v : Value) → on z (effect.Call f v) ≡ None) (no_return : (z : Instance) (o : Outcome) → on z (effect.Return o) ≡ None) where
+  module _ (on : Instance → Effect → Option Item) (no_call : (z : Instance) (f : ℕ) (v : Value) → on z (Effect.Call f v) ≡ None) (no_return : (z : Instance) (o : Outcome) → on z (Effect.Return o) ≡ None) where
     made_on : (s r l : Going) (ms : List Move) (x : Item) → GoingSane d t q s → moved d t plain s ≡ Some r → Leads d t r ms l → ((z : Instance) → map.get s.state.made s.front ≡ Some z → on z (effect_of d z) ≡ Some x) → MadeOn on x l
     made_on s r l ms x h step leads is = let z = mover d t plain s r step in by_kind z.0 z.1 (move_is d t plain s z.0 r z.1 step)
       where

@@ -1,10 +1,6 @@
 -- What an instance owes after one answer more, and after what takes no turn.
-use Rattle.beldi_known.proofs.Names.{Answer, AnswersOne, Bool, Deployment, Effect, Instance, IntentId, Item, List, None, Option, Outcome, Some, TxId, Txs, [], along_pushed, answer_at_once, answered, answered_if, ap, append-nil, append_assoc, arith, asks_lock, at_once, at_step, commit_in, decision_by, effect_after, effect_of, end_of, eqb-true, false, fits, fits_at, got_before, held_if, held_pushed, holds, if◌then◌else◌, is_aborted, is_at, is_item, is_on, is_some, is_tx, length, lock_note, lockset_of, moved, not, note_by, note_of, once, once_if, op_of, place_of, put, read_at, refl, row_added, row_at, shadow_by, slice_get, subst, sym, take, take-append-le, take-append_seam, touched, true, tx_after, tx_now, txs_after, txs_by, txs_pushed, value_for, value_or, write_op, ℕ, ◌&&◌, ◌++◌, ◌<◌, ◌==◌, ◌||◌, ◌∙◌, ◌∷◌, ◌≡◌, Owes, OwesSame, Body, Value, Note, inl, inr, ◌⊎◌}
-use Rattle.beldi_known.proofs.Names.answer
-use Rattle.beldi_known.proofs.Names.effect
-use Rattle.beldi_known.proofs.Names.value
-use Rattle.beldi_known.proofs.Answers.{pushed_at, none_at_end}
-use Rattle.beldi_known.proofs.Cases.{if_is, if_same, by_cases, by_option}
+use Rattle.beldi_known.proofs.Names.{Answer, AnswersOne, Body, Bool, Deployment, Effect, Instance, IntentId, Item, List, None, Note, Option, Outcome, Owes, OwesSame, Some, TxId, Txs, Value, [], along_pushed, answer_at_once, answered, answered_if, ap, append-nil, append_assoc, arith, asks_lock, at_once, at_step, commit_in, decision_by, effect_after, effect_of, end_of, eqb-true, false, fits, fits_at, got_before, held_if, held_pushed, holds, if◌then◌else◌, inl, inr, is_aborted, is_at, is_item, is_on, is_some, is_tx, length, lock_note, lockset_of, moved, not, note_by, note_of, once, once_if, op_of, place_of, put, read_at, refl, row_added, row_at, shadow_by, slice_get, subst, sym, take, take-append-le, take-append_seam, touched, true, tx_after, tx_now, txs_after, txs_by, txs_pushed, value_for, value_or, write_op, ℕ, ◌&&◌, ◌++◌, ◌<◌, ◌==◌, ◌||◌, ◌∙◌, ◌∷◌, ◌≡◌, ◌⊎◌}
+use Rattle.beldi_known.proofs.{Answers.pushed_at, Answers.none_at_end, Cases.if_is, Cases.if_same, Cases.by_cases, Cases.by_option}
 
 -- ---- folds and steps, with an answer more
 pub step_pushed : {X : Type 0} (f : List Answer → Answer → Option X) (xs : List Answer) (a : Answer) (n : ℕ) → at_step f (take n (xs ++ a ∷ [])) (slice_get (xs ++ a ∷ []) n) ≡ (if n == length xs then f xs a else at_step f (take n xs) (slice_get xs n))
@@ -20,28 +16,28 @@ step_same f xs a n none = step_pushed f xs a n ∙ if_is (n == length xs) (λ e.
 
 -- ---- what is open or ended is a Begin
 pub record Begins (d : Deployment) (q : Instance) (given : List Answer) (s : Txs) : Type 0 where
-  pub begun : (b : ℕ) → s.begun ≡ Some b → effect_after d q (take b given) ≡ effect.Begin
-  pub ended : (b : ℕ) (z : ℕ × Bool) → s.ends b ≡ Some z → effect_after d q (take b given) ≡ effect.Begin
+  pub begun : (b : ℕ) → s.begun ≡ Some b → effect_after d q (take b given) ≡ Effect.Begin
+  pub ended : (b : ℕ) (z : ℕ × Bool) → s.ends b ≡ Some z → effect_after d q (take b given) ≡ Effect.Begin
 
 module _ (d : Deployment) (q : Instance) where
   module _ (given : List Answer) (a : Answer) (h : Begins d q given (txs_after d q given)) where
     abbrev before : Txs
     before = txs_after d q given
 
-    same_front : (b : ℕ) → b < length given → effect_after d q (take b given) ≡ effect.Begin → effect_after d q (take b (given ++ a ∷ [])) ≡ effect.Begin
+    same_front : (b : ℕ) → b < length given → effect_after d q (take b given) ≡ Effect.Begin → effect_after d q (take b (given ++ a ∷ [])) ≡ Effect.Begin
     same_front b g is = ap (effect_after d q) (take-append-le b given (a ∷ []) (omega (arith, g))) ∙ is
 
     kept_begins : Begins d q (given ++ a ∷ []) before
     kept_begins = let f = fits_at d q given in record { begun = λ b g. same_front b (f.before b g) (h.begun b g); ended = λ b z g. same_front b (f.below b z g) (h.ended b z g) }
 
     begins_by : (e : Effect) → effect_after d q given ≡ e → Begins d q (given ++ a ∷ []) (txs_by (length given) e before)
-    begins_by effect.Begin is = record {
-      begun = λ b g. let k : length given ≡ b = cc in subst (λ m. effect_after d q (take m (given ++ a ∷ [])) ≡ effect.Begin) k (ap (effect_after d q) (take-append_seam given (a ∷ [])) ∙ is);
+    begins_by Effect.Begin is = record {
+      begun = λ b g. let k : length given ≡ b = cc in subst (λ m. effect_after d q (take m (given ++ a ∷ [])) ≡ Effect.Begin) k (ap (effect_after d q) (take-append_seam given (a ∷ [])) ∙ is);
       ended = kept_begins.ended;
     }
-    begins_by (effect.End c) is = record { begun = λ b g. cc; ended = λ b z g. by_open b z before.begun refl g }
+    begins_by (Effect.End c) is = record { begun = λ b g. cc; ended = λ b z g. by_open b z before.begun refl g }
       where
-        by_open : (b : ℕ) (z : ℕ × Bool) (o : Option ℕ) → before.begun ≡ o → (if is_at b o then Some (length given, c) else before.ends b) ≡ Some z → effect_after d q (take b (given ++ a ∷ [])) ≡ effect.Begin
+        by_open : (b : ℕ) (z : ℕ × Bool) (o : Option ℕ) → before.begun ≡ o → (if is_at b o then Some (length given, c) else before.ends b) ≡ Some z → effect_after d q (take b (given ++ a ∷ [])) ≡ Effect.Begin
         by_open b z None so g = kept_begins.ended b z g
         by_open b z (Some m) so g = by_cases (b == m) (λ e. kept_begins.begun b (so ∙ sym (ap Some (eqb-true b m e)))) (λ e. kept_begins.ended b z (sym (ap (λ t. if t then Some (length given, c) else before.ends b) e) ∙ g))
     begins_by e is = kept_begins
@@ -75,22 +71,22 @@ module _ (d : Deployment) (id : IntentId) (q : Instance) (a : Answer) where
 
   -- by the effect
   rows_by : (e : Effect) → effect_of d q ≡ e → (m : ℕ) → value_or (decision_by ((txs_by n e s).ends m)) (read_at d (answered q a) m) ≡ put (row_added n s.begun e a) m (row_at d q m)
-  rows_by (effect.Read t k) is m = by_answer a refl
+  rows_by (Effect.Read t k) is m = by_answer a refl
     where
-      quiet : value_for (effect.Read t k) a ≡ None → value_or (decision_by (s.ends m)) (read_at d (answered q a) m) ≡ row_at d q m
+      quiet : value_for (Effect.Read t k) a ≡ None → value_or (decision_by (s.ends m)) (read_at d (answered q a) m) ≡ row_at d q m
       quiet none = ap (value_or (decision_by (s.ends m))) (read_same (ap (λ e. value_for e a) is ∙ none) m)
 
-      by_answer : (b : Answer) → a ≡ b → value_or (decision_by (s.ends m)) (read_at d (answered q a) m) ≡ put (row_added n s.begun (effect.Read t k) b) m (row_at d q m)
-      by_answer (answer.Value v) same = ap (value_or (decision_by (s.ends m))) (read_more m) ∙ by_cases (m == n)
+      by_answer : (b : Answer) → a ≡ b → value_or (decision_by (s.ends m)) (read_at d (answered q a) m) ≡ put (row_added n s.begun (Effect.Read t k) b) m (row_at d q m)
+      by_answer (Answer.Value v) same = ap (value_or (decision_by (s.ends m))) (read_more m) ∙ by_cases (m == n)
           (λ e. (λ i. value_or (decision_by ((fits d q).fresh m (let k = eqb-true m n e in omega (arith, k)) i)) (if e i then value_for (is i) (same i) else read_at d q m)) ∙ sym (ap (λ c. if c then Some v else row_at d q m) e))
           (λ e. ap (λ c. value_or (decision_by (s.ends m)) (if c then value_for (effect_of d q) a else read_at d q m)) e ∙ sym (ap (λ c. if c then Some v else row_at d q m) e))
-      by_answer b same = quiet (ap (value_for (effect.Read t k)) same)
-  rows_by (effect.End c) is m = ap (value_or (decision_by (if is_at m s.begun then Some (n, c) else s.ends m))) (read_same (ap (λ e. value_for e a) is) m) ∙ by_begun s.begun
+      by_answer b same = quiet (ap (value_for (Effect.Read t k)) same)
+  rows_by (Effect.End c) is m = ap (value_or (decision_by (if is_at m s.begun then Some (n, c) else s.ends m))) (read_same (ap (λ e. value_for e a) is) m) ∙ by_begun s.begun
     where
-      by_begun : (o : Option ℕ) → value_or (decision_by (if is_at m o then Some (n, c) else s.ends m)) (read_at d q m) ≡ put (row_added n o (effect.End c) a) m (row_at d q m)
+      by_begun : (o : Option ℕ) → value_or (decision_by (if is_at m o then Some (n, c) else s.ends m)) (read_at d q m) ≡ put (row_added n o (Effect.End c) a) m (row_at d q m)
       by_begun None = refl
-      by_begun (Some b) = elim (m == b) as (λ t. value_or (decision_by (if t then Some (n, c) else s.ends m)) (read_at d q m) ≡ (if t then Some (value.Bool c) else row_at d q m)) [ true ↦ refl | false ↦ refl ]
-  rows_by effect.Begin is m = ap (value_or (decision_by (s.ends m))) (read_same (ap (λ e. value_for e a) is) m)
+      by_begun (Some b) = elim (m == b) as (λ t. value_or (decision_by (if t then Some (n, c) else s.ends m)) (read_at d q m) ≡ (if t then Some (Value.Bool c) else row_at d q m)) [ true ↦ refl | false ↦ refl ]
+  rows_by Effect.Begin is m = ap (value_or (decision_by (s.ends m))) (read_same (ap (λ e. value_for e a) is) m)
   rows_by e is m = ap (value_or (decision_by (s.ends m))) (read_same (ap (λ e. value_for e a) is) m)
 
   pub answers_one : AnswersOne d id q a (answered q a)
@@ -171,9 +167,9 @@ quiet_same d id q a e is op touch writes row ends none =
     no_on t x = ap (λ b. b && not (is_aborted a)) (and_no (is_tx t (tx_now d id q)) _ (ap (is_item x q.func) (ap touched is ∙ touch)))
 
 -- .. and so is what takes no turn: that of a Begin, or of an Abort
-pub at_once_is : (id : IntentId) (n : ℕ) (e : Effect) (a : Answer) → answer_at_once id n e ≡ Some a → (e ≡ effect.Begin) ⊎ ((e ≡ effect.Abort) × (a ≡ answer.Aborted (record { place = place_of id n; holder = None })))
-at_once_is id n effect.Begin a h = inl refl
-at_once_is id n effect.Abort a h = let same : answer.Aborted (record { place = place_of id n; holder = None }) ≡ a = cc in inr (refl, sym same)
+pub at_once_is : (id : IntentId) (n : ℕ) (e : Effect) (a : Answer) → answer_at_once id n e ≡ Some a → (e ≡ Effect.Begin) ⊎ ((e ≡ Effect.Abort) × (a ≡ Answer.Aborted (record { place = place_of id n; holder = None })))
+at_once_is id n Effect.Begin a h = inl refl
+at_once_is id n Effect.Abort a h = let same : Answer.Aborted (record { place = place_of id n; holder = None }) ≡ a = cc in inr (refl, sym same)
 at_once_is id n e a h = cc
 
 -- it keeps what each of its answers keeps
@@ -189,8 +185,8 @@ pub at_once_same : (d : Deployment) (id : IntentId) (q : Instance) → OwesSame 
 at_once_same d id q = at_once_by d id (OwesSame d id q) (λ r a none is g. owes_then d id r (answered r a) g (by_effect r a (effect_of d r) refl is)) q (same_itself d id q)
   where
     by_effect : (r : Instance) (a : Answer) (e : Effect) → effect_of d r ≡ e → answer_at_once id (length r.answers) e ≡ Some a → OwesSame d id r (answered r a)
-    by_effect r a effect.Begin is g = quiet_same d id r a effect.Begin is refl refl refl refl (λ b. refl) refl
-    by_effect r a effect.Abort is g = quiet_same d id r a effect.Abort is refl refl refl refl (λ b. refl) refl
+    by_effect r a Effect.Begin is g = quiet_same d id r a Effect.Begin is refl refl refl refl (λ b. refl) refl
+    by_effect r a Effect.Abort is g = quiet_same d id r a Effect.Abort is refl refl refl refl (λ b. refl) refl
     by_effect r a e is g = cc
 
 -- ---- an answer, and then what takes no turn

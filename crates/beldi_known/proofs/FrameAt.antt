@@ -1,11 +1,7 @@
 -- What is owed at each key, after an instance was answered: it changes at that place alone.
-use Rattle.beldi_known.proofs.Names.{Answer, AnswersOne, Body, Bool, Deployment, Instance, IntentId, Item, Known, LockedOut, None, Note, Option, Place, Some, TxId, Value, ahead_by, ahead_note, answered_note, ap, asks_lock, called_by, child_of, cond, effect_after, effect_of, eq-eqb, eqb-true, false, get-insert, got_before, got_by, held_if, holds, id_cmp, id_same, id_total, if◌then◌else◌, is_aborted, is_eq, is_on, is_waited, length, not, note_by, note_or, op_of, owed_call, owed_lockset, owed_note, owed_read, owed_shadow, owed_value, place_eq, place_of, place_same, place_self, put, refl, row_added, row_at, shadow_by, subst, sym, tied_itself, true, tx_after, tx_now, txs_after, ℕ, ◌&&◌, ◌==◌, ◌||◌, ◌∙◌, ◌≡◌, LocksetMatches, ItemMatches, TxsMatch, Row, Content, Owner, is_mark, tx_end, arith, lockset_ahead, last_step, ended_at, is_decided, is_some, false_from_ne_true, and_right, Effect, ◌<◌, is_open, is_none, begins_at, is_item, touched}
+use Rattle.beldi_known.proofs.Names.{Answer, AnswersOne, Body, Bool, Content, Deployment, Effect, Instance, IntentId, Item, ItemMatches, Known, LockedOut, LocksetMatches, None, Note, Option, Owner, Place, Row, Some, TxId, TxsMatch, Value, ahead_by, ahead_note, and_right, answered_note, ap, arith, asks_lock, begins_at, called_by, child_of, cond, effect_after, effect_of, ended_at, eq-eqb, eqb-true, false, false_from_ne_true, get-insert, got_before, got_by, held_if, holds, id_cmp, id_same, id_total, if◌then◌else◌, is_aborted, is_decided, is_eq, is_item, is_mark, is_none, is_on, is_open, is_some, is_waited, last_step, length, lockset_ahead, not, note_by, note_or, op_of, owed_call, owed_lockset, owed_note, owed_read, owed_shadow, owed_value, place_eq, place_of, place_same, place_self, put, refl, row_added, row_at, shadow_by, subst, sym, tied_itself, touched, true, tx_after, tx_end, tx_now, txs_after, ℕ, ◌&&◌, ◌<◌, ◌==◌, ◌||◌, ◌∙◌, ◌≡◌}
+use Rattle.beldi_known.proofs.{Instances.calls_moved, Instances.same_caller, Instances.same_callee, Answers.true_false, Frame.step_next, Cases.by_cases, Cases.if_is, Cases.if_same}
 use Rattle.beldi_known.proofs.Names.map
-use Rattle.beldi_known.proofs.Names.rows
-use Rattle.beldi_known.proofs.Instances.{calls_moved, same_caller, same_callee}
-use Rattle.beldi_known.proofs.Answers.{true_false}
-use Rattle.beldi_known.proofs.Frame.{step_next}
-use Rattle.beldi_known.proofs.Cases.{by_cases, if_is, if_same}
 
 pub known_set : (known : Known) (id : IntentId) (r : Instance) (P : IntentId → Option Instance → Type 0) → P id (Some r) → ((j : IntentId) → is_eq (id_cmp j id) ≡ false → P j (map.get known j)) → (j : IntentId) → P j (map.get (map.insert known id r) j)
 known_set known id r P here others j = subst (P j) (sym (get-insert id_total known id r j)) (elim (is_eq (id_cmp j id)) as (λ b. is_eq (id_cmp j id) ≡ b → P j (cond b (Some r) (map.get known j))) [
@@ -29,10 +25,10 @@ module _ (d : Deployment) (known after : Known) (locked unlocked : IntentId → 
 
   -- a lockset row
   pub lockset_by : (b : ℕ) (j : IntentId) (row : Option Row) → (row ≡ None → owed_lockset d b x j (map.get known j) ≡ false → owed_lockset d b x j (map.get after j) ≡ false)
-      → (row ≡ Some rows.Lockset → (owed_lockset d b x j (map.get known j) || lockset_ahead d known b x j (map.get known j)) ≡ true → (owed_lockset d b x j (map.get after j) || lockset_ahead d after b x j (map.get after j)) ≡ true)
+      → (row ≡ Some Row.Lockset → (owed_lockset d b x j (map.get known j) || lockset_ahead d known b x j (map.get known j)) ≡ true → (owed_lockset d b x j (map.get after j) || lockset_ahead d after b x j (map.get after j)) ≡ true)
       → LocksetMatches row (owed_lockset d b x j (map.get known j)) (lockset_ahead d known b x j (map.get known j)) → LocksetMatches row (owed_lockset d b x j (map.get after j)) (lockset_ahead d after b x j (map.get after j))
   lockset_by b j None none there h = none refl h
-  lockset_by b j (Some rows.Lockset) none there h = there refl h
+  lockset_by b j (Some Row.Lockset) none there h = there refl h
   lockset_by b j (Some r) none there h = h
 
   -- who owns it, where what is open was open

@@ -1,31 +1,23 @@
 -- The acts at the front that answer an operation inside, or die, or decide.
-use Rattle.beldi_known.proofs.Names.{Answer, AnswersOne, Bool, Content, Deployment, Effect, Instance, Intent, IntentId, IntentMatches, Item, ItemMatches, Known, List, LockedOut, LocksetMatches, None, Note, Option, Owner, Place, Row, ShadowMatches, Some, TxId, Txs, TxsMatch, Value, [], ahead_by, and_right, ap, asks_lock, commit_in, effect_after, effect_of, ended_at, ended_by, ends_kept, eq-eqb, eqb-true, false, fits, has_ended, has_no_hops, held_if, holds, id_cmp, if◌then◌else◌, is_aborted, is_decided, is_eq, is_item, is_mark, is_none, is_open, is_some, item_cmp, item_total, key_cmp, key_self, last_step, length, lock_note, lockset_ahead, log_key, not, note_at, note_by, note_or, note_pushed, op_of, owed_lockset, owed_note, owed_read, owed_shadow, owed_value, place_eq, place_of, place_same, refl, row_added, row_at, shadow_by, subst, sym, tied_itself, touched, true, tx_after, tx_end, tx_now, txs_after, txs_by, with_note, ℕ, ◌&&◌, ◌++◌, ◌==◌, ◌||◌, ◌∙◌, ◌∷◌, ◌≡◌, CallMatches, LogMatches, RowMatches, Kind, false_from_ne_true, arith}
-use Rattle.beldi_known.proofs.Names.answer
-use Rattle.beldi_known.proofs.Names.effect
-use Rattle.beldi_known.proofs.Names.kinds
-use Rattle.beldi_known.proofs.Names.map
-use Rattle.beldi_known.proofs.Names.notes
-use Rattle.beldi_known.proofs.Names.rows
-use Rattle.beldi_known.proofs.Answers.{true_false}
-use Rattle.beldi_known.proofs.Instances.{EndMore, intent_stays, intent_same}
-use Rattle.beldi_known.proofs.Frame.{step_next, or_false}
+use Rattle.beldi_known.proofs.Names.{Answer, AnswersOne, Bool, CallMatches, Content, Deployment, Effect, Instance, Intent, IntentId, IntentMatches, Item, ItemMatches, Kind, Known, List, LockedOut, LocksetMatches, LogMatches, None, Note, Option, Owner, Place, Row, RowMatches, ShadowMatches, Some, TxId, Txs, TxsMatch, Value, [], ahead_by, and_right, ap, arith, asks_lock, commit_in, effect_after, effect_of, ended_at, ended_by, ends_kept, eq-eqb, eqb-true, false, false_from_ne_true, fits, has_ended, has_no_hops, held_if, holds, id_cmp, if◌then◌else◌, is_aborted, is_decided, is_eq, is_item, is_mark, is_none, is_open, is_some, item_cmp, item_total, key_cmp, key_self, last_step, length, lock_note, lockset_ahead, log_key, not, note_at, note_by, note_or, note_pushed, op_of, owed_lockset, owed_note, owed_read, owed_shadow, owed_value, place_eq, place_of, place_same, refl, row_added, row_at, shadow_by, subst, sym, tied_itself, touched, true, tx_after, tx_end, tx_now, txs_after, txs_by, with_note, ℕ, ◌&&◌, ◌++◌, ◌==◌, ◌||◌, ◌∙◌, ◌∷◌, ◌≡◌}
 use Rattle.beldi_known.proofs.FrameAt.{known_set, no_place, read_one, shadow_one, lockset_one, holds_one, note_one, got_same, or_no, calls_same, item_alike, txs_alike, lockset_by, decided_alike, mark_alike, ahead_alike}
-use Rattle.beldi_known.proofs.Cases.{if_is, if_same, by_option}
+use Rattle.beldi_known.proofs.{Answers.true_false, Instances.EndMore, Instances.intent_stays, Instances.intent_same, Frame.step_next, Frame.or_false, Cases.if_is, Cases.if_same, Cases.by_option}
+use Rattle.beldi_known.proofs.Names.map
 
 -- ---- effects that end no transaction
 quiet_ends : (e : Effect) (n : ℕ) (s : Txs) (b : ℕ) → commit_in e ≡ None → (txs_by n e s).ends b ≡ s.ends b
-quiet_ends (effect.End c) n s b h = cc
+quiet_ends (Effect.End c) n s b h = cc
 quiet_ends e n s b h = refl
 
 op_quiet : (e : Effect) (o : ℕ × List ℕ) → touched e ≡ Some o → commit_in e ≡ None
-op_quiet (effect.End c) o h = cc
+op_quiet (Effect.End c) o h = cc
 op_quiet e o h = refl
 
 -- an operation inside moves no lock of an intent
 op_holds : (x : Item) (f : ℕ) (e : Effect) (o : ℕ × List ℕ) (b : Bool) → touched e ≡ Some o → held_if x f (op_of e) b ≡ b
-op_holds x f (effect.Read t k) o b h = refl
-op_holds x f (effect.Write t k v) o b h = if_same (is_eq (item_cmp (record { func = f; table = t; key = k }) x)) b
-op_holds x f (effect.CondWrite t k r u v) o b h = if_same (is_eq (item_cmp (record { func = f; table = t; key = k }) x)) b
+op_holds x f (Effect.Read t k) o b h = refl
+op_holds x f (Effect.Write t k v) o b h = if_same (is_eq (item_cmp (record { func = f; table = t; key = k }) x)) b
+op_holds x f (Effect.CondWrite t k r u v) o b h = if_same (is_eq (item_cmp (record { func = f; table = t; key = k }) x)) b
 op_holds x f e o b h = cc
 
 module _ (d : Deployment) (known : Known) (locked unlocked : IntentId → Bool) (id : IntentId) (q r : Instance) (a : Answer) (is : map.get known id ≡ Some q) (h : AnswersOne d id q a r) (out : LockedOut locked unlocked id) where
@@ -72,12 +64,12 @@ module _ (d : Deployment) (known : Known) (locked unlocked : IntentId → Bool) 
       (λ g. intent_same (has_ended d known) (has_no_hops id.hops) home row q r h.body (sym h.outcome) (subst (IntentMatches (has_ended d known) (has_no_hops id.hops) home row) is g)) (λ j other g. g) j g)
 
   -- and all other rows match, where those of reads do and lockset rows
-  pub row_by : (home : ℕ) (kind : Kind) (row : Option Row) → ((b : Place) → kind ≡ kinds.ReadLog b → owed_read d after home b ≡ owed_read d known home b)
-      → ((j : IntentId) (b t : ℕ) (k : List ℕ) → kind ≡ kinds.Lockset j b t k → RowMatches d known home (kinds.Lockset j b t k) row → RowMatches d after home (kinds.Lockset j b t k) row) → RowMatches d known home kind row → RowMatches d after home kind row
-  row_by home (kinds.Intent j) row reads locksets g = intents_same home j row g
-  row_by home (kinds.ReadLog b) row reads locksets g = subst (LogMatches row) (sym (reads b refl)) g
-  row_by home (kinds.Invoke b) row reads locksets g = subst (CallMatches row) (sym (calls_same d known id q r a is h home b)) g
-  row_by home (kinds.Lockset j b t k) row reads locksets g = locksets j b t k refl g
+  pub row_by : (home : ℕ) (kind : Kind) (row : Option Row) → ((b : Place) → kind ≡ Kind.ReadLog b → owed_read d after home b ≡ owed_read d known home b)
+      → ((j : IntentId) (b t : ℕ) (k : List ℕ) → kind ≡ Kind.Lockset j b t k → RowMatches d known home (Kind.Lockset j b t k) row → RowMatches d after home (Kind.Lockset j b t k) row) → RowMatches d known home kind row → RowMatches d after home kind row
+  row_by home (Kind.Intent j) row reads locksets g = intents_same home j row g
+  row_by home (Kind.ReadLog b) row reads locksets g = subst (LogMatches row) (sym (reads b refl)) g
+  row_by home (Kind.Invoke b) row reads locksets g = subst (CallMatches row) (sym (calls_same d known id q r a is h home b)) g
+  row_by home (Kind.Lockset j b t k) row reads locksets g = locksets j b t k refl g
   row_by home kind row reads locksets g = g
 
   module _ (quiet : commit_in (effect_of d q) ≡ None) where
@@ -126,27 +118,27 @@ module _ (d : Deployment) (known : Known) (locked unlocked : IntentId → Bool) 
     note_is x = ap (λ t. note_by x q.func t (effect_of d q) a) inside ∙ ap (λ z. if is_item x q.func z then lock_note a else None) touch
 
     -- what is owed there before, by whether the lock is ahead
-    owed_was : (x : Item) → owed_note d x id (locked id) n (map.get known id) ≡ (if locked id then (if is_eq (item_cmp item x) then Some notes.Got else None) else None)
+    owed_was : (x : Item) → owed_note d x id (locked id) n (map.get known id) ≡ (if locked id then (if is_eq (item_cmp item x) then Some Note.Got else None) else None)
     owed_was x = ap (owed_note d x id (locked id) n) is ∙ ap (λ z. note_or z (if n == n then ahead_by x q.func (tx_now d id q) (effect_of d q) (locked id) else None)) (step_next (λ ts c. note_by x q.func (tx_after d id q ts) (effect_after d q ts) c) q.answers)
         ∙ ap (λ b. note_or None (if b then ahead_by x q.func (tx_now d id q) (effect_of d q) (locked id) else None)) (eq-eqb n n refl)
-        ∙ ap (λ t. ahead_by x q.func t (effect_of d q) (locked id)) inside ∙ elim (locked id) as (λ b. ahead_by x q.func (Some s) (effect_of d q) b ≡ (if b then (if is_eq (item_cmp item x) then Some notes.Got else None) else None)) [
-          | true ↦ ap (λ z. if is_item x q.func z then Some notes.Got else None) touch
+        ∙ ap (λ t. ahead_by x q.func t (effect_of d q) (locked id)) inside ∙ elim (locked id) as (λ b. ahead_by x q.func (Some s) (effect_of d q) b ≡ (if b then (if is_eq (item_cmp item x) then Some Note.Got else None) else None)) [
+          | true ↦ ap (λ z. if is_item x q.func z then Some Note.Got else None) touch
           | false ↦ refl
         ]
 
     -- ---- it is answered, its lock being ahead: no plain item owes more
     module _ (was : locked id ≡ true) (lives : is_aborted a ≡ false) where
-      got_note : lock_note a ≡ Some notes.Got
+      got_note : lock_note a ≡ Some Note.Got
       got_note = by_answer a lives
         where
-          by_answer : (b : Answer) → is_aborted b ≡ false → lock_note b ≡ Some notes.Got
-          by_answer (answer.Aborted c) g = cc
+          by_answer : (b : Answer) → is_aborted b ≡ false → lock_note b ≡ Some Note.Got
+          by_answer (Answer.Aborted c) g = cc
           by_answer b g = refl
 
       pub notes_same : (x : Item) (b : Place) → owed_note d x b.intent (unlocked b.intent) b.step (map.get after b.intent) ≡ owed_note d x b.intent (locked b.intent) b.step (map.get known b.intent)
       notes_same x b = note_one d known id q r a is h locked unlocked out x b ∙ if_is (place_eq p b)
           (λ e. subst (λ (z : Place). note_by x q.func (tx_now d id q) (effect_of d q) a ≡ owed_note d x z.intent (locked z.intent) z.step (map.get known z.intent)) (place_same p b e)
-          (note_is x ∙ ap (λ z. if is_eq (item_cmp item x) then z else None) got_note ∙ sym (owed_was x ∙ ap (λ z. if z then (if is_eq (item_cmp item x) then Some notes.Got else None) else None) was))) (λ e. refl)
+          (note_is x ∙ ap (λ z. if is_eq (item_cmp item x) then z else None) got_note ∙ sym (owed_was x ∙ ap (λ z. if z then (if is_eq (item_cmp item x) then Some Note.Got else None) else None) was))) (λ e. refl)
 
       pub items_answered : (x : Item) (c : Content) → ItemMatches d known locked x c → ItemMatches d after unlocked x c
       items_answered x = item_alike d known after locked unlocked x (held_same x) unmarked (notes_same x)
@@ -155,14 +147,14 @@ module _ (d : Deployment) (known : Known) (locked unlocked : IntentId → Bool) 
       txs_answered = txs_same (was ∙ ap not (sym lives))
 
     -- ---- it dies: the item owes the death, and no transaction has got more or less
-    module _ (holder : IntentId) (dies : a ≡ answer.Aborted (record { place = p; holder = Some holder })) (was : locked id ≡ false) where
-      death_note : lock_note a ≡ Some (notes.Died holder)
+    module _ (holder : IntentId) (dies : a ≡ Answer.Aborted (record { place = p; holder = Some holder })) (was : locked id ≡ false) where
+      death_note : lock_note a ≡ Some (Note.Died holder)
       death_note = ap lock_note dies
 
-      pub item_died : (c : Content) → note_at c.notes p ≡ None → ItemMatches d known locked item c → ItemMatches d after unlocked item (with_note c p (notes.Died holder))
+      pub item_died : (c : Content) → note_at c.notes p ≡ None → ItemMatches d known locked item c → ItemMatches d after unlocked item (with_note c p (Note.Died holder))
       item_died c none g = record {
         owner = λ j. g.owner j ∙ sym (held_same item j);
-        notes = λ b apart. note_pushed c.notes p b (notes.Died holder) none
+        notes = λ b apart. note_pushed c.notes p b (Note.Died holder) none
             ∙ ap (λ z. if place_eq p b then z else note_at c.notes b) (sym (note_is item ∙ ap (λ z. if is_eq z then lock_note a else None) (tied_itself item_total item) ∙ death_note))
             ∙ ap (λ z. if place_eq p b then note_by item q.func (tx_now d id q) (effect_of d q) a else z) (g.notes b (unmarked b apart))
             ∙ sym (note_one d known id q r a is h locked unlocked out item b);
@@ -171,13 +163,13 @@ module _ (d : Deployment) (known : Known) (locked unlocked : IntentId → Bool) 
       pub item_kept : (x : Item) (c : Content) → is_eq (item_cmp item x) ≡ false → ItemMatches d known locked x c → ItemMatches d after unlocked x c
       item_kept x c other = item_alike d known after locked unlocked x (held_same x) unmarked (λ b. note_one d known id q r a is h locked unlocked out x b ∙ if_is (place_eq p b)
           (λ e. subst (λ (z : Place). note_by x q.func (tx_now d id q) (effect_of d q) a ≡ owed_note d x z.intent (locked z.intent) z.step (map.get known z.intent)) (place_same p b e)
-          (note_is x ∙ ap (λ z. if z then lock_note a else None) other ∙ sym (owed_was x ∙ ap (λ z. if z then (if is_eq (item_cmp item x) then Some notes.Got else None) else None) was))) (λ e. refl)) c
+          (note_is x ∙ ap (λ z. if z then lock_note a else None) other ∙ sym (owed_was x ∙ ap (λ z. if z then (if is_eq (item_cmp item x) then Some Note.Got else None) else None) was))) (λ e. refl)) c
 
       pub txs_died : (x : Item) (c : Option Owner) → TxsMatch d known locked x c → TxsMatch d after unlocked x c
       txs_died = txs_same (was ∙ ap (λ z. not (is_aborted z)) (sym dies))
 
     -- ---- lockset rows: its own is there, so it may be owed
-    pub locksets_answered : (b : ℕ) (x : Item) (j : IntentId) (row : Option Row) → ((is_eq (id_cmp j id) && asks_lock b x q.func (tx_now d id q) (effect_of d q)) ≡ true → row ≡ Some rows.Lockset)
+    pub locksets_answered : (b : ℕ) (x : Item) (j : IntentId) (row : Option Row) → ((is_eq (id_cmp j id) && asks_lock b x q.func (tx_now d id q) (effect_of d q)) ≡ true → row ≡ Some Row.Lockset)
         → LocksetMatches row (owed_lockset d b x j (map.get known j)) (lockset_ahead d known b x j (map.get known j)) → LocksetMatches row (owed_lockset d b x j (map.get after j)) (lockset_ahead d after b x j (map.get after j))
     locksets_answered b x j row there = lockset_by d known after locked unlocked x b j row
         (λ at g. lockset_one d known id q r a is h b x j ∙ ap (λ z. z || (is_eq (id_cmp j id) && asks_lock b x q.func (tx_now d id q) (effect_of d q))) g ∙ false_from_ne_true _ (λ e. let clash = sym at ∙ there e in cc))

@@ -1,10 +1,6 @@
 -- What is known stays sane with an answer, and a run that is behind stays so with what takes no turn.
 use Rattle.beldi_known.proofs.Names.{Answer, Closed, Deployment, Effect, Instance, IntentId, IsAnswer, List, None, Option, Prefix, SaneInstance, Some, TxId, [], and_once, answer_at_once, answered, ap, append-nil, append_assoc, effect_after, effect_of, length, moved, once, place_of, refl, run_on, run_once, same_some, slice_get, subst, sym, take, tx_after, tx_now, went_pushed, ℕ, ◌++◌, ◌∙◌, ◌∷◌, ◌≡◌}
-use Rattle.beldi_known.proofs.Names.answer
-use Rattle.beldi_known.proofs.Names.effect
-use Rattle.beldi_known.proofs.Answers.{take_front, get_next}
-use Rattle.beldi_known.proofs.Cases.{by_option}
-use Rattle.beldi_known.proofs.Frame.{once_by}
+use Rattle.beldi_known.proofs.{Answers.take_front, Answers.get_next, Cases.by_option, Frame.once_by}
 
 -- ---- an answer more
 pub sane_pushed : (d : Deployment) (id : IntentId) (q : Instance) (a : Answer) → q.outcome ≡ None → IsAnswer (place_of id (length q.answers)) (tx_now d id q) (effect_of d q) a → SaneInstance d id q → SaneInstance d id (answered q a)
@@ -12,8 +8,8 @@ sane_pushed d id q a none is h = record { past = went_pushed d id q a is h.past;
 
 -- what takes no turn is answered so
 at_once_fits : (id : IntentId) (n : ℕ) (t : Option TxId) (e : Effect) (a : Answer) → answer_at_once id n e ≡ Some a → IsAnswer (place_of id n) t e a
-at_once_fits id n t effect.Begin a h = let same : answer.Done ≡ a = cc in subst (IsAnswer (place_of id n) t effect.Begin) same tt
-at_once_fits id n t effect.Abort a h = let same : answer.Aborted (record { place = place_of id n; holder = None }) ≡ a = cc in subst (IsAnswer (place_of id n) t effect.Abort) same refl
+at_once_fits id n t Effect.Begin a h = let same : Answer.Done ≡ a = cc in subst (IsAnswer (place_of id n) t Effect.Begin) same tt
+at_once_fits id n t Effect.Abort a h = let same : Answer.Aborted (record { place = place_of id n; holder = None }) ≡ a = cc in subst (IsAnswer (place_of id n) t Effect.Abort) same refl
 at_once_fits id n t e a h = cc
 
 pub sane_once : (d : Deployment) (id : IntentId) (q : Instance) → SaneInstance d id q → SaneInstance d id (once d id q)
@@ -38,10 +34,10 @@ once_goes d id q = once_by d id (GoesOn q) (λ r a none is g. goes_then q r (ans
 module _ (d : Deployment) (id : IntentId) (q : Instance) (closed : Closed d id q) (sane : SaneInstance d id q) where
   -- an answer that takes no turn is the only one to its effect
   only_one : (t : Option TxId) (n : ℕ) (e : Effect) (a b : Answer) → answer_at_once id n e ≡ Some a → IsAnswer (place_of id n) t e b → b ≡ a
-  only_one t n effect.Begin a answer.Done h g = same_some h
-  only_one t n effect.Begin a b h g = absurd g
-  only_one t n effect.Abort a (answer.Aborted c) h g = ap answer.Aborted g ∙ same_some h
-  only_one t n effect.Abort a b h g = absurd g
+  only_one t n Effect.Begin a Answer.Done h g = same_some h
+  only_one t n Effect.Begin a b h g = absurd g
+  only_one t n Effect.Abort a (Answer.Aborted c) h g = ap Answer.Aborted g ∙ same_some h
+  only_one t n Effect.Abort a b h g = absurd g
   only_one t n e a b h g = cc
 
   none_now : answer_at_once id (length q.answers) (effect_of d q) ≡ None

@@ -1,17 +1,8 @@
 -- The front acts of operations inside, by their effects; and a release.
-use Rattle.beldi_known.proofs.Names.{Answer, Bool, CellMatches, Content, Deployment, Effect, Instance, Intent, IntentId, Item, ItemMatches, Known, List, LockedOut, Matches, None, Note, Option, Place, Rel, Row, RowMatches, Rows, Some, Tx, TxId, TxsMatch, Value, [], ap, begins_at, cond, content_in, content_of, effect_of, eq-eqb, false, head_key, if◌then◌else◌, is_eq, is_item, is_mark, is_none, is_open, is_owner, is_some, is_tx, item_cmp, item_total, key_cmp, key_same, length, lockset_ahead, lockset_key, log_key, moved, not, note_at, note_of, note_pushed, or_right, owed_lockset, place_eq, place_of, place_same, refl, row_added, row_got, set_row, shadow_by, shadow_key, shadow_of, subst, sym, tied_itself, touched, true, tx_end, tx_eq, tx_now, txs_after, with_note, write_op, ℕ, ◌&&◌, ◌++◌, ◌==◌, ◌∙◌, ◌∷◌, ◌≡◌, arith}
-use Rattle.beldi_known.proofs.Names.answer
-use Rattle.beldi_known.proofs.Names.effect
-use Rattle.beldi_known.proofs.Names.map
-use Rattle.beldi_known.proofs.Names.notes
-use Rattle.beldi_known.proofs.Names.rows
-use Rattle.beldi_known.proofs.Names.value
-use Rattle.beldi_known.proofs.Answers.{true_false}
-use Rattle.beldi_known.proofs.Rows.{keys_set}
-use Rattle.beldi_known.proofs.Frame.{moved_one, no_shadow}
-use Rattle.beldi_known.proofs.Locks.{tx_self}
+use Rattle.beldi_known.proofs.Names.{Answer, Bool, CellMatches, Content, Deployment, Effect, Instance, Intent, IntentId, Item, ItemMatches, Known, List, LockedOut, Matches, None, Note, Option, Place, Rel, Row, RowMatches, Rows, Some, Tx, TxId, TxsMatch, Value, [], ap, arith, begins_at, cond, content_in, content_of, effect_of, eq-eqb, false, head_key, if◌then◌else◌, is_eq, is_item, is_mark, is_none, is_open, is_owner, is_some, is_tx, item_cmp, item_total, key_cmp, key_same, length, lockset_ahead, lockset_key, log_key, moved, not, note_at, note_of, note_pushed, or_right, owed_lockset, place_eq, place_of, place_same, refl, row_added, row_got, set_row, shadow_by, shadow_key, shadow_of, subst, sym, tied_itself, touched, true, tx_end, tx_eq, tx_now, txs_after, with_note, write_op, ℕ, ◌&&◌, ◌++◌, ◌==◌, ◌∙◌, ◌∷◌, ◌≡◌}
 use Rattle.beldi_known.proofs.Acts.{read_answered, write_answered, lock_died, kinds_apart, is_data, content_apart, shadow_apart, log_set, head_set}
-use Rattle.beldi_known.proofs.Cases.{if_is, if_same, by_cases}
+use Rattle.beldi_known.proofs.{Answers.true_false, Rows.keys_set, Frame.moved_one, Frame.no_shadow, Locks.tx_self, Cases.if_is, Cases.if_same, Cases.by_cases}
+use Rattle.beldi_known.proofs.Names.map
 
 module _ (d : Deployment) (known : Known) (locked unlocked : IntentId → Bool) (id : IntentId) (q : Instance) (is : map.get known id ≡ Some q) (out : LockedOut locked unlocked id)
     (s : TxId) (inside : tx_now d id q ≡ Some s) (m : Rows) (h : Matches d m known locked) (t : ℕ) (k : List ℕ) where
@@ -22,14 +13,14 @@ module _ (d : Deployment) (known : Known) (locked unlocked : IntentId → Bool) 
   place = place_of id (length q.answers)
 
   abbrev HasLockset : Type 0
-  HasLockset = map.get m (lockset_key id s.begin item) ≡ Some rows.Lockset
+  HasLockset = map.get m (lockset_key id s.begin item) ≡ Some Row.Lockset
 
   -- a read
-  pub read_inside : (v : Value) → effect_of d q ≡ effect.Read t k → HasLockset → locked id ≡ true
-      → Matches d (set_row m (log_key q.func place) (Some (rows.ReadLog v))) (map.insert known id (moved d id q (answer.Value v))) unlocked
-  read_inside v wants lockset was = read_answered d known locked unlocked id q (moved d id q (answer.Value v)) (answer.Value v) is (moved_one d id q (answer.Value v)) out s inside (t, k) (ap touched wants) m lockset h
-      v (ap (λ e. row_added (length q.answers) (txs_after d q q.answers).begun e (answer.Value v)) wants) was refl
-      (λ u x. ap (λ e. shadow_by u x q.func (tx_now d id q) e (answer.Value v)) wants ∙ no_shadow u x q.func (tx_now d id q) (effect.Read t k) (answer.Value v) refl)
+  pub read_inside : (v : Value) → effect_of d q ≡ Effect.Read t k → HasLockset → locked id ≡ true
+      → Matches d (set_row m (log_key q.func place) (Some (Row.ReadLog v))) (map.insert known id (moved d id q (Answer.Value v))) unlocked
+  read_inside v wants lockset was = read_answered d known locked unlocked id q (moved d id q (Answer.Value v)) (Answer.Value v) is (moved_one d id q (Answer.Value v)) out s inside (t, k) (ap touched wants) m lockset h
+      v (ap (λ e. row_added (length q.answers) (txs_after d q q.answers).begun e (Answer.Value v)) wants) was refl
+      (λ u x. ap (λ e. shadow_by u x q.func (tx_now d id q) e (Answer.Value v)) wants ∙ no_shadow u x q.func (tx_now d id q) (Effect.Read t k) (Answer.Value v) refl)
 
   -- a write of the shadow's row, plain or tested
   noted : (e : Effect) (a : Answer) (w : Note) → effect_of d q ≡ e → note_of item q.func (write_op e) a ≡ Some w → shadow_by s item q.func (tx_now d id q) (effect_of d q) a ≡ Some w
@@ -42,52 +33,52 @@ module _ (d : Deployment) (known : Known) (locked unlocked : IntentId → Bool) 
       by_tests : (b c : Bool) (m : Option Note) → (b && c) ≡ false → (if b then (if c then m else None) else None) ≡ None
       by_tests b c m g = grind arith
 
-  pub write_inside : (v : Value) (r : Option Row) → effect_of d q ≡ effect.Write t k v → HasLockset → locked id ≡ true → CellMatches 0 r → note_at (shadow_of m s item).notes place ≡ None
-      → content_in r ≡ record { value = v; owner = (shadow_of m s item).owner; notes = (shadow_of m s item).notes ++ (place, notes.Wrote) ∷ [] }
-      → Matches d (set_row m (shadow_key s item) r) (map.insert known id (moved d id q answer.Done)) unlocked
-  write_inside v r wants lockset was fits none same = write_answered d known locked unlocked id q (moved d id q answer.Done) answer.Done is (moved_one d id q answer.Done) out s inside (t, k) (ap touched wants) m lockset h
-      r notes.Wrote fits (ap (λ e. row_added (length q.answers) (txs_after d q q.answers).begun e answer.Done) wants) was refl
-      (noted (effect.Write t k v) answer.Done notes.Wrote wants (ap (λ b. if is_eq b then Some notes.Wrote else None) (tied_itself item_total item)))
-      (apart (effect.Write t k v) answer.Done (Some notes.Wrote) wants (λ x. refl)) none v same
+  pub write_inside : (v : Value) (r : Option Row) → effect_of d q ≡ Effect.Write t k v → HasLockset → locked id ≡ true → CellMatches 0 r → note_at (shadow_of m s item).notes place ≡ None
+      → content_in r ≡ record { value = v; owner = (shadow_of m s item).owner; notes = (shadow_of m s item).notes ++ (place, Note.Wrote) ∷ [] }
+      → Matches d (set_row m (shadow_key s item) r) (map.insert known id (moved d id q Answer.Done)) unlocked
+  write_inside v r wants lockset was fits none same = write_answered d known locked unlocked id q (moved d id q Answer.Done) Answer.Done is (moved_one d id q Answer.Done) out s inside (t, k) (ap touched wants) m lockset h
+      r Note.Wrote fits (ap (λ e. row_added (length q.answers) (txs_after d q q.answers).begun e Answer.Done) wants) was refl
+      (noted (Effect.Write t k v) Answer.Done Note.Wrote wants (ap (λ b. if is_eq b then Some Note.Wrote else None) (tied_itself item_total item)))
+      (apart (Effect.Write t k v) Answer.Done (Some Note.Wrote) wants (λ x. refl)) none v same
 
-  pub test_inside : (u : Rel) (y v : Value) (r : Option Row) (b : Bool) → effect_of d q ≡ effect.CondWrite t k u y v → HasLockset → locked id ≡ true → CellMatches 0 r → note_at (shadow_of m s item).notes place ≡ None
-      → (w : Value) → content_in r ≡ record { value = w; owner = (shadow_of m s item).owner; notes = (shadow_of m s item).notes ++ (place, notes.Cond b) ∷ [] }
-      → Matches d (set_row m (shadow_key s item) r) (map.insert known id (moved d id q (answer.Value (value.Bool b)))) unlocked
-  test_inside u y v r b wants lockset was fits none w same = let a = answer.Value (value.Bool b) in
+  pub test_inside : (u : Rel) (y v : Value) (r : Option Row) (b : Bool) → effect_of d q ≡ Effect.CondWrite t k u y v → HasLockset → locked id ≡ true → CellMatches 0 r → note_at (shadow_of m s item).notes place ≡ None
+      → (w : Value) → content_in r ≡ record { value = w; owner = (shadow_of m s item).owner; notes = (shadow_of m s item).notes ++ (place, Note.Cond b) ∷ [] }
+      → Matches d (set_row m (shadow_key s item) r) (map.insert known id (moved d id q (Answer.Value (Value.Bool b)))) unlocked
+  test_inside u y v r b wants lockset was fits none w same = let a = Answer.Value (Value.Bool b) in
       write_answered d known locked unlocked id q (moved d id q a) a is (moved_one d id q a) out s inside (t, k) (ap touched wants) m lockset h
-      r (notes.Cond b) fits (ap (λ e. row_added (length q.answers) (txs_after d q q.answers).begun e a) wants) was refl
-      (noted (effect.CondWrite t k u y v) a (notes.Cond b) wants (ap (λ c. if is_eq c then Some (notes.Cond b) else None) (tied_itself item_total item)))
-      (apart (effect.CondWrite t k u y v) a (Some (notes.Cond b)) wants (λ x. refl)) none w same
+      r (Note.Cond b) fits (ap (λ e. row_added (length q.answers) (txs_after d q q.answers).begun e a) wants) was refl
+      (noted (Effect.CondWrite t k u y v) a (Note.Cond b) wants (ap (λ c. if is_eq c then Some (Note.Cond b) else None) (tied_itself item_total item)))
+      (apart (Effect.CondWrite t k u y v) a (Some (Note.Cond b)) wants (λ x. refl)) none w same
 
   -- a death, of any of them
   pub dies_inside : (holder : IntentId) (r : Option Row) → touched (effect_of d q) ≡ Some (t, k) → HasLockset → locked id ≡ false → CellMatches 0 r → note_at (content_of m item).notes place ≡ None
-      → content_in r ≡ with_note (content_of m item) place (notes.Died holder)
-      → Matches d (set_row m (head_key item) r) (map.insert known id (moved d id q (answer.Aborted (record { place = place; holder = Some holder })))) unlocked
-  dies_inside holder r touch lockset was fits none same = let a = answer.Aborted (record { place = place; holder = Some holder }) in
+      → content_in r ≡ with_note (content_of m item) place (Note.Died holder)
+      → Matches d (set_row m (head_key item) r) (map.insert known id (moved d id q (Answer.Aborted (record { place = place; holder = Some holder })))) unlocked
+  dies_inside holder r touch lockset was fits none same = let a = Answer.Aborted (record { place = place; holder = Some holder }) in
       lock_died d known locked unlocked id q (moved d id q a) a is (moved_one d id q a) out s inside (t, k) touch m lockset h
       r holder fits (no_row (effect_of d q) touch) refl was (λ u x. by_effect u x (effect_of d q) touch) none same
     where
       none_both : (b c : Bool) → ◌≡◌ {A = Option Note} (if b then (if c then None else None) else None) None
       none_both b c = ap (λ o. if b then o else None) (if_same c None) ∙ if_same b None
 
-      no_row : (e : Effect) → touched e ≡ Some (t, k) → row_added (length q.answers) (txs_after d q q.answers).begun e (answer.Aborted (record { place = place; holder = Some holder })) ≡ None
-      no_row (effect.Read t k) g = refl
-      no_row (effect.End c) g = cc
-      no_row e g = elim (txs_after d q q.answers).begun as (λ o. row_added (length q.answers) o e (answer.Aborted (record { place = place; holder = Some holder })) ≡ None) [ None ↦ refl | Some b ↦ refl ]
+      no_row : (e : Effect) → touched e ≡ Some (t, k) → row_added (length q.answers) (txs_after d q q.answers).begun e (Answer.Aborted (record { place = place; holder = Some holder })) ≡ None
+      no_row (Effect.Read t k) g = refl
+      no_row (Effect.End c) g = cc
+      no_row e g = elim (txs_after d q q.answers).begun as (λ o. row_added (length q.answers) o e (Answer.Aborted (record { place = place; holder = Some holder })) ≡ None) [ None ↦ refl | Some b ↦ refl ]
 
-      by_effect : (u : TxId) (x : Item) (e : Effect) → touched e ≡ Some (t, k) → shadow_by u x q.func (tx_now d id q) e (answer.Aborted (record { place = place; holder = Some holder })) ≡ None
-      by_effect u x (effect.Read b y) g = no_shadow u x q.func (tx_now d id q) (effect.Read b y) (answer.Aborted (record { place = place; holder = Some holder })) refl
-      by_effect u x (effect.Write b y v) g = none_both (is_tx u (tx_now d id q)) (is_eq (item_cmp (record { func = q.func; table = b; key = y }) x))
-      by_effect u x (effect.CondWrite b y w o v) g = none_both (is_tx u (tx_now d id q)) (is_eq (item_cmp (record { func = q.func; table = b; key = y }) x))
+      by_effect : (u : TxId) (x : Item) (e : Effect) → touched e ≡ Some (t, k) → shadow_by u x q.func (tx_now d id q) e (Answer.Aborted (record { place = place; holder = Some holder })) ≡ None
+      by_effect u x (Effect.Read b y) g = no_shadow u x q.func (tx_now d id q) (Effect.Read b y) (Answer.Aborted (record { place = place; holder = Some holder })) refl
+      by_effect u x (Effect.Write b y v) g = none_both (is_tx u (tx_now d id q)) (is_eq (item_cmp (record { func = q.func; table = b; key = y }) x))
+      by_effect u x (Effect.CondWrite b y w o v) g = none_both (is_tx u (tx_now d id q)) (is_eq (item_cmp (record { func = q.func; table = b; key = y }) x))
       by_effect u x e g = cc
 
 -- ---- a release: the item's owner goes, and a note at a mark comes
 module _ (d : Deployment) (known : Known) (locked : IntentId → Bool) (x : Item) (c : Content) (s : TxId) (owned : c.owner ≡ Some (Tx s)) (z : ℕ × Bool) (decided : tx_end d known s ≡ Some z) where
   pub item_released : (p : Place) (v : Value) → is_mark d known p.step (map.get known p.intent) ≡ true → note_at c.notes p ≡ None → ItemMatches d known locked x c
-      → ItemMatches d known locked x (record { value = v; owner = None; notes = c.notes ++ (p, notes.Freed) ∷ [] })
+      → ItemMatches d known locked x (record { value = v; owner = None; notes = c.notes ++ (p, Note.Freed) ∷ [] })
   item_released p v mark none h = record {
     owner = λ j. sym (ap (λ o. is_owner o (Intent j)) owned) ∙ h.owner j;
-    notes = λ a apart. note_pushed c.notes p a notes.Freed none ∙ if_is (place_eq p a) (λ e. absurd (true_false (sym mark ∙ ap (λ (y : Place). is_mark d known y.step (map.get known y.intent)) (place_same p a e) ∙ apart))) (λ e. h.notes a apart);
+    notes = λ a apart. note_pushed c.notes p a Note.Freed none ∙ if_is (place_eq p a) (λ e. absurd (true_false (sym mark ∙ ap (λ (y : Place). is_mark d known y.step (map.get known y.intent)) (place_same p a e) ∙ apart))) (λ e. h.notes a apart);
   }
 
   pub txs_released : TxsMatch d known locked x c.owner → TxsMatch d known locked x None
@@ -98,7 +89,7 @@ module _ (d : Deployment) (known : Known) (locked : IntentId → Bool) (x : Item
 
 -- .. and the rows
 pub released : (d : Deployment) (m : Rows) (known : Known) (locked : IntentId → Bool) (x : Item) (s : TxId) (z : ℕ × Bool) (p : Place) (w : Value) (v : Option Row) → (content_of m x).owner ≡ Some (Tx s) → tx_end d known s ≡ Some z → is_mark d known p.step (map.get known p.intent) ≡ true
-    → note_at (content_of m x).notes p ≡ None → CellMatches 0 v → content_in v ≡ record { value = w; owner = None; notes = (content_of m x).notes ++ (p, notes.Freed) ∷ [] } → Matches d m known locked → Matches d (set_row m (head_key x) v) known locked
+    → note_at (content_of m x).notes p ≡ None → CellMatches 0 v → content_in v ≡ record { value = w; owner = None; notes = (content_of m x).notes ++ (p, Note.Freed) ∷ [] } → Matches d m known locked → Matches d (set_row m (head_key x) v) known locked
 released d m known locked x s z p w v owned decided mark none fits same h = head_set d known locked m x v _ same fits h.keys (item_released d known locked x (content_of m x) s owned z decided p w mark none (h.items x)) (λ y other. h.items y) h.shadows
     (txs_released d known locked x (content_of m x) s owned z decided (h.txs x)) (λ y other. h.txs y)
 
@@ -106,9 +97,9 @@ released d m known locked x s z p w v owned decided mark none fits same h = head
 module _ (d : Deployment) (known : Known) (locked : IntentId → Bool) (m : Rows) (h : Matches d m known locked) where
   -- a lockset row, ahead of its answer
   pub lockset_put : (id : IntentId) (q : Instance) (s : TxId) (o : ℕ × List ℕ) → map.get known id ≡ Some q → q.outcome ≡ None → tx_now d id q ≡ Some s → tx_end d known s ≡ None → touched (effect_of d q) ≡ Some o
-      → Matches d (set_row m (lockset_key id s.begin (record { func = q.func; table = o.0; key = o.1 })) (Some rows.Lockset)) known locked
+      → Matches d (set_row m (lockset_key id s.begin (record { func = q.func; table = o.0; key = o.1 })) (Some Row.Lockset)) known locked
   lockset_put id q s o is none inside open_still touch = let x : Item = record { func = q.func; table = o.0; key = o.1 } in
-      log_set d known locked m (lockset_key id s.begin x) (Some rows.Lockset) refl (or_right (owed_lockset d s.begin x id (map.get known id)) (lockset_ahead d known s.begin x id (map.get known id)) ahead) (λ l other. h.keys l) h.items h.shadows h.txs
+      log_set d known locked m (lockset_key id s.begin x) (Some Row.Lockset) refl (or_right (owed_lockset d s.begin x id (map.get known id)) (lockset_ahead d known s.begin x id (map.get known id)) ahead) (λ l other. h.keys l) h.items h.shadows h.txs
     where
       ahead : lockset_ahead d known s.begin (record { func = q.func; table = o.0; key = o.1 }) id (map.get known id) ≡ true
       ahead = ap (lockset_ahead d known s.begin (record { func = q.func; table = o.0; key = o.1 }) id) is

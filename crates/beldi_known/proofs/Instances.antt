@@ -1,8 +1,7 @@
 -- The rows of an intent, and of the calls to it and from it, as its instance goes on.
 use Rattle.beldi_known.proofs.Names.{Body, BodyMatches, Bool, CalleeBodyMatches, CalleeMatches, FinMap, FinishMatches, Instance, IntentId, IntentMatches, IntentRow, IsBodyOf, None, Option, Outcome, OutcomeMatches, Place, RootMatches, Row, Some, TxId, [], ap, arith, body_of, called_by, child_of, ended, false, id_cmp, if◌then◌else◌, invoke_key, is_eq, is_waited, key_cmp, key_self, length, length-append, made_set, refl, result_of, same_some, subst, sym, true, tx_in, ℕ, ◌==◌, ◌∙◌, ◌∷◌, ◌≡◌}
-use Rattle.beldi_known.proofs.Names.map
-use Rattle.beldi_known.proofs.Names.rows
 use Rattle.beldi_known.proofs.Answers.{true_false}
+use Rattle.beldi_known.proofs.Names.map
 
 -- one that is there has a body only of an instance that was made
 pub record IsRowOf (r : IntentRow) (i : Option Instance) : Type 0 where
@@ -29,11 +28,11 @@ callee_outcome : (home : ℕ) (b : Option Body) (o : Option Outcome) (i : Option
 callee_outcome home None o i h c u q is some made = absurd h
 callee_outcome home (Some b) o i h c u q is some made = ap (λ z. z.outcome) (same_some (sym made ∙ h.0.made)) ∙ outcome_kept (is_waited b.from) o h.0.instance.outcome h.2 u some
 
-root_row : (b : Bool) (r : IntentRow) (i : Option Instance) → RootMatches b (Some (rows.Intent r)) i → IsRowOf r i
+root_row : (b : Bool) (r : IntentRow) (i : Option Instance) → RootMatches b (Some (Row.Intent r)) i → IsRowOf r i
 root_row true r i h = record { body = root_body r.body r.outcome i h.body; outcome = root_outcome r.body r.outcome i h.body }
 root_row false r i h = cc
 
-pub row_of : (ended : TxId → Bool) (b : Bool) (home : ℕ) (r : IntentRow) (i : Option Instance) → IntentMatches ended b home (Some (rows.Intent r)) i → IsRowOf r i
+pub row_of : (ended : TxId → Bool) (b : Bool) (home : ℕ) (r : IntentRow) (i : Option Instance) → IntentMatches ended b home (Some (Row.Intent r)) i → IsRowOf r i
 row_of ended true home r i h = root_row (home == 0) r i h
 row_of ended false home r i h = record { body = callee_body home r.body r.outcome i h.body; outcome = callee_outcome home r.body r.outcome i h.body }
 
@@ -48,7 +47,7 @@ module _ (before after : TxId → Bool) (more : EndMore before after) where
 
   callee_stays : (home : ℕ) (r : Option Row) (i : Option Instance) → CalleeMatches before home r i → CalleeMatches after home r i
   callee_stays home None i h = h
-  callee_stays home (Some (rows.Intent r)) i h = record { finishes = finish_stays (tx_in r.body) r.finish r.outcome h.finishes; body = h.body }
+  callee_stays home (Some (Row.Intent r)) i h = record { finishes = finish_stays (tx_in r.body) r.finish r.outcome h.finishes; body = h.body }
   callee_stays home (Some r) i h = absurd h
 
   pub intent_stays : (b : Bool) (home : ℕ) (r : Option Row) (i : Option Instance) → IntentMatches before b home r i → IntentMatches after b home r i
@@ -98,12 +97,12 @@ callee_on ended home None q s keeps h = record {
       let was_idle : is_waited q.from ≡ false = ap (λ y. is_waited y.from) keeps.body ∙ ap (λ y. is_waited y.from) same ∙ idle in
       ap (λ y. y.outcome) (sym same) ∙ keeps.open_still was_idle (h.open_still q refl was_func was_idle);
 }
-callee_on ended home (Some (rows.Intent i)) q s keeps h = record { finishes = h.finishes; body = callee_goes home i.body i.outcome q s keeps h.body }
+callee_on ended home (Some (Row.Intent i)) q s keeps h = record { finishes = h.finishes; body = callee_goes home i.body i.outcome q s keeps h.body }
 callee_on ended home (Some r) q s keeps h = absurd h
 
 roots_same : (b : Bool) (r : Option Row) (q s : Instance) → body_of q ≡ body_of s → q.outcome ≡ s.outcome → RootMatches b r (Some q) → RootMatches b r (Some s)
 roots_same true None q s body same h = cc
-roots_same true (Some (rows.Intent i)) q s body same h = record { bare = h.bare; finishes = h.finishes; body = root_same i.body i.outcome q s body same h.body }
+roots_same true (Some (Row.Intent i)) q s body same h = record { bare = h.bare; finishes = h.finishes; body = root_same i.body i.outcome q s body same h.body }
 roots_same true (Some r) q s body same h = absurd h
 roots_same false r q s body same h = h
 
@@ -115,9 +114,9 @@ intent_same ended false home r q s body same h = callee_on ended home r q s (sam
 -- an intent that was not made has no row with hops
 pub callee_new : (ended : TxId → Bool) (home : ℕ) (r : Option Row) (s : Instance) → s.outcome ≡ None → CalleeMatches ended home r None → CalleeMatches ended home r (Some s)
 callee_new ended home None s none h = record { open_still = λ q is func idle. ap (λ z. z.outcome) (sym (same_some is)) ∙ none }
-callee_new ended home (Some (rows.Intent i)) s none h = no_body i.body h.body
+callee_new ended home (Some (Row.Intent i)) s none h = no_body i.body h.body
   where
-    no_body : (b : Option Body) → CalleeBodyMatches home b i.outcome None → CalleeMatches ended home (Some (rows.Intent i)) (Some s)
+    no_body : (b : Option Body) → CalleeBodyMatches home b i.outcome None → CalleeMatches ended home (Some (Row.Intent i)) (Some s)
     no_body None g = absurd g
     no_body (Some b) g = let clash = g.0.made in cc
 callee_new ended home (Some r) s none h = absurd h

@@ -1,19 +1,12 @@
 -- The row of an intent, over what is known: its instance is made, or ends, or only the row is set.
-use Rattle.beldi_known.proofs.Names.{Body, BodyMatches, Bool, CalleeBodyMatches, CalleeMatches, Deployment, EndsRow, FinishMatches, Instance, IntentId, IntentMatches, IntentRow, IsCalleeRow, IsRootRow, Known, Matches, None, Option, Outcome, OutcomeMatches, Place, RootMatches, Row, RowKey, Rows, Some, Value, ap, at_once, body_of, called_by, child_of, effect_of, elsewhere, ended, eq-eqb, eqb-true, false, get_set, has_ended, has_no_hops, id_exact, id_total, if◌then◌else◌, is_eq, is_some, is_waited, key_cmp, key_self, new_instance, no_root, owed_call, refl, same_some, set_row, subst, sym, true, tx_in, ℕ, ◌==◌, ◌∙◌, ◌≡◌}
-use Rattle.beldi_known.proofs.Names.effect
-use Rattle.beldi_known.proofs.Names.kinds
-use Rattle.beldi_known.proofs.Names.map
-use Rattle.beldi_known.proofs.Names.rows
-use Rattle.beldi_known.proofs.Answers.{true_false}
+use Rattle.beldi_known.proofs.Names.{Body, BodyMatches, Bool, CalleeBodyMatches, CalleeMatches, Deployment, EndsRow, FinishMatches, Instance, IntentId, IntentMatches, IntentRow, IsCalleeRow, IsRootRow, Known, Matches, None, Option, Outcome, OutcomeMatches, Place, RootMatches, Row, RowKey, Rows, Some, Value, ap, at_once, body_of, called_by, child_of, effect_of, elsewhere, ended, eq-eqb, eqb-true, false, get_set, has_ended, has_no_hops, id_exact, id_total, if◌then◌else◌, is_eq, is_some, is_waited, key_cmp, key_self, new_instance, no_root, owed_call, refl, same_some, set_row, subst, sym, true, tx_in, ℕ, ◌==◌, ◌∙◌, ◌≡◌, Effect, Kind}
 use Rattle.beldi_known.proofs.Instances.{body_stays, intent_stays, calls_moved, same_caller, same_callee, no_callee, no_own_callee}
-use Rattle.beldi_known.proofs.Sets.{OwesStill, ended_more, instance_set, row_put}
-use Rattle.beldi_known.proofs.Calls.{ended_owes, made_owes}
-use Rattle.beldi_known.proofs.Frame.{at_once_same}
-use Rattle.beldi_known.proofs.Cases.{by_cases}
+use Rattle.beldi_known.proofs.{Answers.true_false, Sets.OwesStill, Sets.ended_more, Sets.instance_set, Sets.row_put, Calls.ended_owes, Calls.made_owes, Frame.at_once_same, Cases.by_cases}
+use Rattle.beldi_known.proofs.Names.map
 
 -- the key of an intent's row in a home
 abbrev pub own_key : ℕ → IntentId → RowKey
-own_key home id = record { home = home; kind = kinds.Intent id }
+own_key home id = record { home = home; kind = Kind.Intent id }
 
 -- ---- an instance was set with its row in this home, and matches those in others still
 module _ (d : Deployment) (known : Known) (locked : IntentId → Bool) (id : IntentId) (s : Instance) (unlocked : locked id ≡ false) (owes : OwesStill d known id (map.get known id) s) where
@@ -22,10 +15,10 @@ module _ (d : Deployment) (known : Known) (locked : IntentId → Bool) (id : Int
 
   module _ (home : ℕ) (others : (f : ℕ) (r : Option Row) → (f == home) ≡ false → IntentMatches (has_ended d known) (has_no_hops id.hops) f r (map.get known id) → IntentMatches (has_ended d known) (has_no_hops id.hops) f r (Some s))
       (calls : (f : ℕ) (b : Place) → owed_call after f b ≡ owed_call known f b) where
-    pub own_set : (m : Rows) (r : IntentRow) → IntentMatches (has_ended d known) (has_no_hops id.hops) home (Some (rows.Intent r)) (Some s) → Matches d m known locked → Matches d (set_row m (own_key home id) (Some (rows.Intent r))) after locked
-    own_set m r fits h = instance_set d known locked id s unlocked owes m (own_key home id) (Some (rows.Intent r)) refl
-        (intent_stays (has_ended d known) (has_ended d after) (ended_more d known locked id s unlocked owes) (has_no_hops id.hops) home (Some (rows.Intent r)) (map.get after id)
-        (subst (IntentMatches (has_ended d known) (has_no_hops id.hops) home (Some (rows.Intent r))) (sym (get_set id_total id_exact known id s)) fits))
+    pub own_set : (m : Rows) (r : IntentRow) → IntentMatches (has_ended d known) (has_no_hops id.hops) home (Some (Row.Intent r)) (Some s) → Matches d m known locked → Matches d (set_row m (own_key home id) (Some (Row.Intent r))) after locked
+    own_set m r fits h = instance_set d known locked id s unlocked owes m (own_key home id) (Some (Row.Intent r)) refl
+        (intent_stays (has_ended d known) (has_ended d after) (ended_more d known locked id s unlocked owes) (has_no_hops id.hops) home (Some (Row.Intent r)) (map.get after id)
+        (subst (IntentMatches (has_ended d known) (has_no_hops id.hops) home (Some (Row.Intent r))) (sym (get_set id_total id_exact known id s)) fits))
         (λ l other e g. by_cases (l.home == home)
         (λ at. absurd (true_false (sym (key_self (own_key home id)) ∙ (λ i. is_eq (key_cmp (record { home = sym (eqb-true l.home home at) i; kind = sym e i }) (own_key home id))) ∙ other)))
         (λ away. others l.home (map.get m l) away g))
@@ -33,8 +26,8 @@ module _ (d : Deployment) (known : Known) (locked : IntentId → Bool) (id : Int
 
   -- a root: its row stands in the host's home, and it is nobody's callee
   pub root_set : has_no_hops id.hops ≡ true → ((f : ℕ) (b : Place) → b.intent ≡ id → called_by f (Some s) (map.get after (child_of b.intent b.step)) ≡ called_by f (map.get known id) (map.get after (child_of b.intent b.step)))
-      → (m : Rows) (r : IntentRow) → IsRootRow r (Some s) → Matches d m known locked → Matches d (set_row m (own_key 0 id) (Some (rows.Intent r))) after locked
-  root_set root calls m r fits h = own_set 0 others kept m r (subst (λ b. IntentMatches (has_ended d known) b 0 (Some (rows.Intent r)) (Some s)) (sym root) fits) h
+      → (m : Rows) (r : IntentRow) → IsRootRow r (Some s) → Matches d m known locked → Matches d (set_row m (own_key 0 id) (Some (Row.Intent r))) after locked
+  root_set root calls m r fits h = own_set 0 others kept m r (subst (λ b. IntentMatches (has_ended d known) b 0 (Some (Row.Intent r)) (Some s)) (sym root) fits) h
     where
       kept : (f : ℕ) (b : Place) → owed_call after f b ≡ owed_call known f b
       kept f b = calls_moved known id s f b (calls f b) (λ e. absurd (true_false (sym root ∙ ap (λ z. has_no_hops z.hops) (sym e) ∙ no_root b.intent b.step)))
@@ -61,7 +54,7 @@ module _ (d : Deployment) (known : Known) (locked : IntentId → Bool) (id : Int
   root_body None u g = cc
   root_body (Some b) u g = (body_stays b q (ended q o) refl g.0, refl)
 
-  pub root_ended : has_no_hops id.hops ≡ true → (m : Rows) (r s : IntentRow) → EndsRow r s o → map.get m (own_key 0 id) ≡ Some (rows.Intent r) → Matches d m known locked → Matches d (set_row m (own_key 0 id) (Some (rows.Intent s))) over locked
+  pub root_ended : has_no_hops id.hops ≡ true → (m : Rows) (r s : IntentRow) → EndsRow r s o → map.get m (own_key 0 id) ≡ Some (Row.Intent r) → Matches d m known locked → Matches d (set_row m (own_key 0 id) (Some (Row.Intent s))) over locked
   root_ended root m r s e at h = root_set d known locked id (ended q o) unlocked owes root (λ f b same. as_caller f b) m s (record {
     bare = λ none. absurd (no_body (r.body) (sym e.body ∙ none) was.body);
     finishes = finishes_too r s o e;
@@ -78,7 +71,7 @@ module _ (d : Deployment) (known : Known) (locked : IntentId → Bool) (id : Int
   -- in another home a callee has no row
   others : (f : ℕ) (w : Option Row) → (f == q.func) ≡ false → CalleeMatches (has_ended d known) f w (Some q) → CalleeMatches (has_ended d known) f w (Some (ended q o))
   others f None off g = record { open_still = λ z at func away. absurd (true_false (sym (eq-eqb f q.func (sym func ∙ ap (λ y. y.func) (sym (same_some at)))) ∙ off)) }
-  others f (Some (rows.Intent j)) off g = absurd (no_body j.body g.body)
+  others f (Some (Row.Intent j)) off g = absurd (no_body j.body g.body)
     where
       no_body : (b : Option Body) → CalleeBodyMatches f b j.outcome (Some q) → ⊥
       no_body None y = y
@@ -95,10 +88,10 @@ module _ (d : Deployment) (known : Known) (locked : IntentId → Bool) (id : Int
   outside None u g = absurd g
   outside (Some b) u g = ap (λ z. z.tx) (g.0.body ∙ ap body_of (same_some (sym g.0.made))) ∙ own
 
-  pub callee_ended : has_no_hops id.hops ≡ false → (m : Rows) (r s : IntentRow) → EndsRow r s o → map.get m (own_key q.func id) ≡ Some (rows.Intent r) → Matches d m known locked → Matches d (set_row m (own_key q.func id) (Some (rows.Intent s))) over locked
+  pub callee_ended : has_no_hops id.hops ≡ false → (m : Rows) (r s : IntentRow) → EndsRow r s o → map.get m (own_key q.func id) ≡ Some (Row.Intent r) → Matches d m known locked → Matches d (set_row m (own_key q.func id) (Some (Row.Intent s))) over locked
   callee_ended hops m r s e at h = own_set d known locked id (ended q o) unlocked owes q.func
       (λ f w off g. subst (λ b. IntentMatches (has_ended d known) b f w (Some (ended q o))) (sym hops) (others f w off (subst (CalleeMatches (has_ended d known) f w) is (subst (λ b. IntentMatches (has_ended d known) b f w (map.get known id)) hops g)))) kept m s
-      (subst (λ b. IntentMatches (has_ended d known) b q.func (Some (rows.Intent s)) (Some (ended q o))) (sym hops) (record {
+      (subst (λ b. IntentMatches (has_ended d known) b q.func (Some (Row.Intent s)) (Some (ended q o))) (sym hops) (record {
         finishes = subst (λ w. FinishMatches (has_ended d known) w s.finish s.outcome) (sym (ap tx_in e.body ∙ outside r.body r.outcome was.body)) (finishes_too r s o e);
         body = subst (λ b. CalleeBodyMatches q.func b s.outcome (Some (ended q o))) (sym e.body) (subst (λ u. CalleeBodyMatches q.func r.body u (Some (ended q o))) (sym e.outcome) (callee_body r.body r.outcome was.body));
       })) h
@@ -107,22 +100,22 @@ module _ (d : Deployment) (known : Known) (locked : IntentId → Bool) (id : Int
       was = subst (IsCalleeRow (has_ended d known) q.func r) is (subst (λ w. CalleeMatches (has_ended d known) q.func w (map.get known id)) at (subst (λ b. IntentMatches (has_ended d known) b q.func (map.get m (own_key q.func id)) (map.get known id)) hops (h.keys (own_key q.func id))))
 
 -- ---- a callee's row was set, and nothing more is known
-pub callee_put : (d : Deployment) (known : Known) (locked : IntentId → Bool) (m : Rows) (id : IntentId) (home : ℕ) (r : IntentRow) → has_no_hops id.hops ≡ false → IsCalleeRow (has_ended d known) home r (map.get known id) → Matches d m known locked → Matches d (set_row m (own_key home id) (Some (rows.Intent r))) known locked
-callee_put d known locked m id home r hops fits h = row_put d known locked m (own_key home id) (Some (rows.Intent r)) refl (subst (λ b. IntentMatches (has_ended d known) b home (Some (rows.Intent r)) (map.get known id)) (sym hops) fits) h
+pub callee_put : (d : Deployment) (known : Known) (locked : IntentId → Bool) (m : Rows) (id : IntentId) (home : ℕ) (r : IntentRow) → has_no_hops id.hops ≡ false → IsCalleeRow (has_ended d known) home r (map.get known id) → Matches d m known locked → Matches d (set_row m (own_key home id) (Some (Row.Intent r))) known locked
+callee_put d known locked m id home r hops fits h = row_put d known locked m (own_key home id) (Some (Row.Intent r)) refl (subst (λ b. IntentMatches (has_ended d known) b home (Some (Row.Intent r)) (map.get known id)) (sym hops) fits) h
 
 -- ---- who nobody waits for ends with its row: a root's in the host's home, a callee's in that of its function
-pub intent_ended : (d : Deployment) (known : Known) (locked : IntentId → Bool) (id : IntentId) (q : Instance) (o : Outcome) → map.get known id ≡ Some q → locked id ≡ false → effect_of d q ≡ effect.Return o → is_waited q.from ≡ false → q.within ≡ None → (m : Rows) (r s : IntentRow) → EndsRow r s o
-    → let key : RowKey = own_key (if has_no_hops id.hops then 0 else q.func) id in map.get m key ≡ Some (rows.Intent r) → Matches d m known locked → Matches d (set_row m key (Some (rows.Intent s))) (map.insert known id (ended q o)) locked
+pub intent_ended : (d : Deployment) (known : Known) (locked : IntentId → Bool) (id : IntentId) (q : Instance) (o : Outcome) → map.get known id ≡ Some q → locked id ≡ false → effect_of d q ≡ Effect.Return o → is_waited q.from ≡ false → q.within ≡ None → (m : Rows) (r s : IntentRow) → EndsRow r s o
+    → let key : RowKey = own_key (if has_no_hops id.hops then 0 else q.func) id in map.get m key ≡ Some (Row.Intent r) → Matches d m known locked → Matches d (set_row m key (Some (Row.Intent s))) (map.insert known id (ended q o)) locked
 intent_ended d known locked id q o is unlocked returns idle own m r s ends at h =
     let owes : OwesStill d known id (map.get known id) (ended q o) = subst (λ z. OwesStill d known id z (ended q o)) (sym is) (ended_owes d known id q o o returns) in
-    elim (has_no_hops id.hops) as (λ b. has_no_hops id.hops ≡ b → map.get m (own_key (if b then 0 else q.func) id) ≡ Some (rows.Intent r) → Matches d (set_row m (own_key (if b then 0 else q.func) id) (Some (rows.Intent s))) (map.insert known id (ended q o)) locked) [
+    elim (has_no_hops id.hops) as (λ b. has_no_hops id.hops ≡ b → map.get m (own_key (if b then 0 else q.func) id) ≡ Some (Row.Intent r) → Matches d (set_row m (own_key (if b then 0 else q.func) id) (Some (Row.Intent s))) (map.insert known id (ended q o)) locked) [
       | true ↦ λ root there. root_ended d known locked id q o is unlocked owes idle own root m r s ends there h
       | false ↦ λ hops there. callee_ended d known locked id q o is unlocked owes idle own hops m r s ends there h
     ] refl at
 
 -- ---- a root is made as its body is bound
 pub root_bound : (d : Deployment) (known : Known) (locked : IntentId → Bool) (id : IntentId) (f : ℕ) (v : Value) → map.get known id ≡ None → has_no_hops id.hops ≡ true → ((n : ℕ) → map.get known (child_of id n) ≡ None) → locked id ≡ false → (m : Rows) (r : IntentRow)
-    → r.body ≡ Some (body_of (new_instance f v None)) → r.outcome ≡ None → r.finish ≡ None → Matches d m known locked → Matches d (set_row m (own_key 0 id) (Some (rows.Intent r))) (map.insert known id (at_once d id (new_instance f v None))) locked
+    → r.body ≡ Some (body_of (new_instance f v None)) → r.outcome ≡ None → r.finish ≡ None → Matches d m known locked → Matches d (set_row m (own_key 0 id) (Some (Row.Intent r))) (map.insert known id (at_once d id (new_instance f v None))) locked
 root_bound d known locked id f v new root childless unlocked m r body none unfinished h =
     let s = at_once d id (new_instance f v None) in
     let same = at_once_same d id (new_instance f v None) in

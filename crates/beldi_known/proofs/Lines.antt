@@ -1,18 +1,11 @@
 -- Who is in an open transaction: its owner, and all that were called in it. Of those that have no outcome one can step, and each other
 -- waits for the next.
+use Rattle.std.specs.Prelude.{is_some}
+use Rattle.beldi_plain.specs.{Moves.moved, Moves.Leads, Piece.is_owner}
 use Rattle.beldi_known.proofs.Names.{Answer, Answers, Beside, Bool, Calls, Deployment, Effect, FinMap, Going, InLine, Instance, IntentId, IsBelow, IsIn, Known, Line, List, Move, MoveIs, None, OpenTx, OpensAreOpen, PlainState, Returns, Sane, SaneWith, Some, TxId, Txs, Value, [], all_in, answer_at_once, answer_of, answered, answered_plainly, answers, ap, append-nil, append_assoc, arith, begins, begun_pushed, callee_of, calls, calls_at, child_of, child_same, cond, effect_of, ended, equal, false, get-insert, id_cmp, id_total, in_line, inl, inr, is_begin, is_edge, is_eq, last_hop, length, length-append, line_alike, line_moved, line_opened, long, longer, move_is, mover, new_member, next, none_below, not_longer, opened, or_own, outside_of, plainly_edge, refl, returned, returns, same_some, sane_with, subst, sym, tied_itself, top, true, tx_begun, tx_by, tx_now, txs_after, txs_by, txs_pushed, ℕ, ◌++◌, ◌<◌, ◌∙◌, ◌∷◌, ◌≡◌, ◌⊎◌}
-use Rattle.beldi_known.proofs.Names.answer
-use Rattle.beldi_known.proofs.Names.effect
+use Rattle.beldi_known.proofs.{NoTx.begins_parts, Callers.called_below, OwnTx.own_intent, Participants.IsOpenOwner, Participants.open_owner, Cases.by_option, Cases.by_cases}
 use Rattle.beldi_known.proofs.Names.map
 use Rattle.beldi_known.proofs.Names.plain
-use Rattle.std.specs.Prelude.{is_some}
-use Rattle.beldi_plain.specs.Moves.{moved, Leads}
-use Rattle.beldi_plain.specs.Piece.{is_owner}
-use Rattle.beldi_known.proofs.NoTx.{begins_parts}
-use Rattle.beldi_known.proofs.Callers.{called_below}
-use Rattle.beldi_known.proofs.OwnTx.{own_intent}
-use Rattle.beldi_known.proofs.Participants.{IsOpenOwner, open_owner}
-use Rattle.beldi_known.proofs.Cases.{by_option, by_cases}
 
 -- ---- ids
 -- an id, or one that was called below it
@@ -150,7 +143,7 @@ record Waits (d : Deployment) (f : FinMap id_cmp Instance) (i : IntentId) : Type
   made : map.get f i ≡ Some instance
   func : ℕ
   args : Value
-  call : effect_of d instance ≡ effect.Call func args
+  call : effect_of d instance ≡ Effect.Call func args
   callee : is_some (map.get f (callee_of i instance)) ≡ true
 
 module _ (d : Deployment) (t : TxId) (f : FinMap id_cmp Instance) where
@@ -201,7 +194,7 @@ module _ (d : Deployment) (p : PlainState) (known : Known) (sane : plain.Sane d 
 
   -- at first there is its owner alone
   at_first : Members d (tx_begun id q) q (opened p id q)
-  at_first i z is_in has = elim (set_cases p.made id i (answered q answer.Done) z has) [
+  at_first i z is_in has = elim (set_cases p.made id i (answered q Answer.Done) z has) [
     | inl same ↦ subst (Member d this q id i) same.1 (record {
       owner = λ own. record {
         func = refl;
@@ -209,7 +202,7 @@ module _ (d : Deployment) (p : PlainState) (known : Known) (sane : plain.Sane d 
         from = refl;
         within = refl;
         open_still = refl;
-        begun = ap (λ (s : Txs). s.begun) (txs_pushed d q q.answers answer.Done) ∙ ap (λ e. (txs_by (length q.answers) e (txs_after d q q.answers)).begun) (begins_parts d q b).1;
+        begun = ap (λ (s : Txs). s.begun) (txs_pushed d q q.answers Answer.Done) ∙ ap (λ e. (txs_by (length q.answers) e (txs_after d q q.answers)).begun) (begins_parts d q b).1;
       };
       below = λ h. let clash = sym made ∙ ap (map.get p.made) (sym same.0) ∙ none_below d p.made good id q i made h in cc;
       above = λ none. subst (Above i) same.0 (above_self i);
@@ -235,7 +228,7 @@ module _ (d : Deployment) (p : PlainState) (known : Known) (sane : plain.Sane d 
   owner_outside z is = ((member id z (inl refl) is).owner refl).within ∙ outside
 
   -- who can step: it has no outcome, and waits for nobody
-  pub front_is : (i : IntentId) (z : Instance) → IsIn (tx_begun id q) i → map.get known i ≡ Some z → z.outcome ≡ None → ((f : ℕ) (v : Value) → effect_of d z ≡ effect.Call f v → map.get known (callee_of i z) ≡ None) → tx.going.front ≡ i
+  pub front_is : (i : IntentId) (z : Instance) → IsIn (tx_begun id q) i → map.get known i ≡ Some z → z.outcome ≡ None → ((f : ℕ) (v : Value) → effect_of d z ≡ Effect.Call f v → map.get known (callee_of i z) ≡ None) → tx.going.front ≡ i
   front_is i z is_in is none free = elim (last_or_waits d this known tx.going.front known_line i ((member i z is_in is).above none) is_in) [
     | inl same ↦ sym same
     | inr w ↦
@@ -294,7 +287,7 @@ module _ (d : Deployment) (p : PlainState) (known : Known) (plain_sane : plain.S
   plain_owner i z is none now = by_owner (open_owner d known sane i z s is none (no_begin (effect_of d z) (sane.closed i z is none)) now)
     where
       no_begin : (e : Effect) → answer_at_once i (length z.answers) e ≡ None → is_begin e ≡ false
-      no_begin effect.Begin h = cc
+      no_begin Effect.Begin h = cc
       no_begin e h = refl
 
 pub opens_are_open : OpensAreOpen

@@ -1,14 +1,11 @@
 -- What is listed stays where a transaction that is open takes a lock, or writes its shadow.
-use Rattle.beldi_known.proofs.Names.{Bool, Content, Intent, Item, Kind, None, Option, Owner, Row, RowKey, Rows, Some, Tx, TxId, Value, ap, cond, content_in, content_of, decision_key, false, head_key, if◌then◌else◌, is_committed, is_eq, key_cmp, key_same, listed, listed_under, not, other_owner, refl, row_got, set_row, shadow_key, subst, sym, true, value_in, ◌∙◌, ◌≡◌, item_cmp}
-use Rattle.beldi_known.proofs.Names.kinds
-use Rattle.beldi_known.proofs.Names.map
-use Rattle.beldi_known.proofs.Locks.{owned_is}
+use Rattle.beldi_known.proofs.Names.{Bool, Content, Intent, Item, Kind, None, Option, Owner, Row, RowKey, Rows, Some, Tx, TxId, Value, ap, cond, content_in, content_of, decision_key, false, head_key, if◌then◌else◌, is_committed, is_eq, item_cmp, key_cmp, key_same, listed, listed_under, not, other_owner, refl, row_got, set_row, shadow_key, subst, sym, true, value_in, ◌∙◌, ◌≡◌}
 use Rattle.beldi_known.proofs.Acts.{kinds_apart, is_data, is_shadow, content_apart, content_here, by_item, turned, shadow_same}
-use Rattle.beldi_known.proofs.Sets.{is_log as is_row_log}
-use Rattle.beldi_known.proofs.Cases.{by_cases}
+use Rattle.beldi_known.proofs.{Locks.owned_is, Sets.is_log as is_row_log, Cases.by_cases}
+use Rattle.beldi_known.proofs.Names.map
 
 abbrev pub is_log : Kind → Bool
-is_log (kinds.ReadLog a) = true
+is_log (Kind.ReadLog a) = true
 is_log k = false
 
 -- a row that was set at a key of another kind

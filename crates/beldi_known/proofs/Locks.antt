@@ -1,10 +1,7 @@
 -- The lock of an operation inside, at the front: it is taken, or the operation dies.
-use Rattle.beldi_known.proofs.Names.{Bool, Content, Deployment, Got, Instance, Intent, IntentId, Item, ItemMatches, Known, List, None, Option, Owner, Place, Some, Tx, TxId, TxsMatch, [], ahead_by, and_from, and_parts, and_right, answered_note, ap, effect_after, effect_of, eq-eqb, eqb-true, false, got_before, got_by, id_cmp, id_eq, id_same, id_total, if◌then◌else◌, is_eq, is_item, is_on, is_owner, is_tx, item_cmp, item_total, length, lock_in, note_at, note_by, note_or, note_pushed, or_left, or_right, other_owner, owed_note, place_eq, place_of, place_same, place_self, refl, subst, sym, tied_itself, touched, true, tx_after, tx_eq, tx_now, ℕ, ◌&&◌, ◌++◌, ◌==◌, ◌||◌, ◌∙◌, ◌∷◌, ◌≡◌, ahead_note}
+use Rattle.beldi_known.proofs.Names.{Bool, Content, Deployment, Got, Instance, Intent, IntentId, Item, ItemMatches, Known, List, None, Option, Owner, Place, Some, Tx, TxId, TxsMatch, [], ahead_by, ahead_note, and_from, and_parts, and_right, answered_note, ap, effect_after, effect_of, eq-eqb, eqb-true, false, got_before, got_by, id_cmp, id_eq, id_same, id_total, if◌then◌else◌, is_eq, is_item, is_on, is_owner, is_tx, item_cmp, item_total, length, lock_in, note_at, note_by, note_or, note_pushed, or_left, or_right, other_owner, owed_note, place_eq, place_of, place_same, place_self, refl, subst, sym, tied_itself, touched, true, tx_after, tx_eq, tx_now, ℕ, ◌&&◌, ◌++◌, ◌==◌, ◌||◌, ◌∙◌, ◌∷◌, ◌≡◌, Note}
+use Rattle.beldi_known.proofs.{Frame.step_next, FrameAt.one_place, FrameAt.not_ahead, FrameAt.or_no, FrameAt.or_none, FrameAt.known_same, Cases.by_cases, Cases.if_is}
 use Rattle.beldi_known.proofs.Names.map
-use Rattle.beldi_known.proofs.Names.notes
-use Rattle.beldi_known.proofs.Frame.{step_next}
-use Rattle.beldi_known.proofs.FrameAt.{one_place, not_ahead, or_no, or_none, known_same}
-use Rattle.beldi_known.proofs.Cases.{by_cases, if_is}
 
 -- ---- small facts
 pub tx_self : (s : TxId) → tx_eq s s ≡ true
@@ -61,19 +58,19 @@ module _ (d : Deployment) (known : Known) (locked : IntentId → Bool) (id : Int
   abbrev taken : IntentId → Bool
   taken = lock_in locked id
 
-  ahead_more : (x : Item) (m : ℕ) → owed_note d x id (taken id) m (Some q) ≡ (if m == n then (if is_item x q.func (touched (effect_of d q)) then Some notes.Got else None) else owed_note d x id (locked id) m (Some q))
+  ahead_more : (x : Item) (m : ℕ) → owed_note d x id (taken id) m (Some q) ≡ (if m == n then (if is_item x q.func (touched (effect_of d q)) then Some Note.Got else None) else owed_note d x id (locked id) m (Some q))
   ahead_more x m =
       ap (λ b. owed_note d x id b m (Some q)) (lock_here locked id)
       ∙ ap (λ t. note_or (answered_note d x id m q) (if m == n then ahead_by x q.func t (effect_of d q) true else None)) inside
       ∙ sym (if_is (m == n)
-      (λ e. sym (ap (λ b. note_or (answered_note d x id m q) (if b then (if is_item x q.func (touched (effect_of d q)) then Some notes.Got else None) else None)) e
-      ∙ ap (λ z. note_or z (if is_item x q.func (touched (effect_of d q)) then Some notes.Got else None)) (subst (λ k. answered_note d x id k q ≡ None) (sym (eqb-true m n e)) (step_next (λ ts a. note_by x q.func (tx_after d id q ts) (effect_after d q ts) a) q.answers))))
-      (λ e. ap (λ b. note_or (answered_note d x id m q) (if b then ahead_by x q.func (tx_now d id q) (effect_of d q) (locked id) else None)) e ∙ sym (ap (λ b. note_or (answered_note d x id m q) (if b then (if is_item x q.func (touched (effect_of d q)) then Some notes.Got else None) else None)) e)))
+      (λ e. sym (ap (λ b. note_or (answered_note d x id m q) (if b then (if is_item x q.func (touched (effect_of d q)) then Some Note.Got else None) else None)) e
+      ∙ ap (λ z. note_or z (if is_item x q.func (touched (effect_of d q)) then Some Note.Got else None)) (subst (λ k. answered_note d x id k q ≡ None) (sym (eqb-true m n e)) (step_next (λ ts a. note_by x q.func (tx_after d id q ts) (effect_after d q ts) a) q.answers))))
+      (λ e. ap (λ b. note_or (answered_note d x id m q) (if b then ahead_by x q.func (tx_now d id q) (effect_of d q) (locked id) else None)) e ∙ sym (ap (λ b. note_or (answered_note d x id m q) (if b then (if is_item x q.func (touched (effect_of d q)) then Some Note.Got else None) else None)) e)))
 
-  pub note_ahead : (x : Item) (a : Place) → owed_note d x a.intent (taken a.intent) a.step (map.get known a.intent) ≡ (if place_eq p a then (if is_item x q.func (touched (effect_of d q)) then Some notes.Got else None) else owed_note d x a.intent (locked a.intent) a.step (map.get known a.intent))
+  pub note_ahead : (x : Item) (a : Place) → owed_note d x a.intent (taken a.intent) a.step (map.get known a.intent) ≡ (if place_eq p a then (if is_item x q.func (touched (effect_of d q)) then Some Note.Got else None) else owed_note d x a.intent (locked a.intent) a.step (map.get known a.intent))
   note_ahead x a = ap (owed_note d x a.intent (taken a.intent) a.step) (sym (known_same known id q is a.intent))
       ∙ one_place known id q q is (λ j m z. owed_note d x j (locked j) m z) (λ j m z. owed_note d x j (taken j) m z) (λ j other m z. ap (λ b. owed_note d x j b m z) (lock_there locked id j other)) n
-      (if is_item x q.func (touched (effect_of d q)) then Some notes.Got else None) (ahead_more x) a
+      (if is_item x q.func (touched (effect_of d q)) then Some Note.Got else None) (ahead_more x) a
 
   -- nothing was owed there before
   owed_before : (x : Item) → owed_note d x id (locked id) n (map.get known id) ≡ None
@@ -106,13 +103,13 @@ module _ (d : Deployment) (known : Known) (locked : IntentId → Bool) (id : Int
   -- its item's content
   module _ (c : Content) (none : note_at c.notes p ≡ None) (free : other_owner (Tx s) c.owner ≡ None) where
     abbrev locked_content : Content
-    locked_content = record { value = c.value; owner = Some (Tx s); notes = c.notes ++ (p, notes.Got) ∷ [] }
+    locked_content = record { value = c.value; owner = Some (Tx s); notes = c.notes ++ (p, Note.Got) ∷ [] }
 
     pub lock_taken : ItemMatches d known locked item c → ItemMatches d known taken item locked_content
     lock_taken h = record {
       owner = λ j. sym (owns_none s c.owner j free) ∙ h.owner j;
-      notes = λ a apart. note_pushed c.notes p a notes.Got none ∙ ap (λ z. if place_eq p a then z else note_at c.notes a) (sym (ap (λ b. if b then Some notes.Got else None) on_it))
-          ∙ ap (λ z. if place_eq p a then (if is_item item q.func (touched (effect_of d q)) then Some notes.Got else None) else z) (h.notes a apart) ∙ sym (note_ahead item a);
+      notes = λ a apart. note_pushed c.notes p a Note.Got none ∙ ap (λ z. if place_eq p a then z else note_at c.notes a) (sym (ap (λ b. if b then Some Note.Got else None) on_it))
+          ∙ ap (λ z. if place_eq p a then (if is_item item q.func (touched (effect_of d q)) then Some Note.Got else None) else z) (h.notes a apart) ∙ sym (note_ahead item a);
     }
 
     pub txs_taken : TxsMatch d known locked item c.owner → TxsMatch d known taken item (Some (Tx s))
@@ -125,8 +122,8 @@ module _ (d : Deployment) (known : Known) (locked : IntentId → Bool) (id : Int
   pub lock_kept : (x : Item) (c : Content) → is_eq (item_cmp item x) ≡ false → ItemMatches d known locked x c → ItemMatches d known taken x c
   lock_kept x c other h = record {
     owner = h.owner;
-    notes = λ a apart. h.notes a apart ∙ sym (note_ahead x a ∙ if_is (place_eq p a) (λ e. subst (λ (z : Place). (if is_item x q.func (touched (effect_of d q)) then Some notes.Got else None) ≡ owed_note d x z.intent (locked z.intent) z.step (map.get known z.intent)) (place_same p a e)
-        (ap (λ b. if b then Some notes.Got else None) (on_item x ∙ other) ∙ sym (owed_before x))) (λ e. refl));
+    notes = λ a apart. h.notes a apart ∙ sym (note_ahead x a ∙ if_is (place_eq p a) (λ e. subst (λ (z : Place). (if is_item x q.func (touched (effect_of d q)) then Some Note.Got else None) ≡ owed_note d x z.intent (locked z.intent) z.step (map.get known z.intent)) (place_same p a e)
+        (ap (λ b. if b then Some Note.Got else None) (on_item x ∙ other) ∙ sym (owed_before x))) (λ e. refl));
   }
 
   pub txs_kept : (x : Item) (c : Option Owner) → is_eq (item_cmp item x) ≡ false → TxsMatch d known locked x c → TxsMatch d known taken x c

@@ -1,8 +1,7 @@
 -- At the start nothing is known, no lock is ahead, and no row is there: all that matches.
 use Rattle.beldi_known.proofs.Names.{Bool, CellMatches, Content, Deployment, Instance, IntentId, IntentMatches, ItemMatches, Kind, Known, LockedAtEnds, Matches, None, RootMatches, RowMatches, Sane, ShadowMatches, Some, TxId, TxsMatch, ap, called_by, child_of, content_in, false, get-empty, got_by, has_ended, has_no_hops, head_key, holds, id_cmp, key_cmp, owed_lockset, owed_note, owed_shadow, owed_value, refl, root_of, shadow_key, subst, suc, sym, true, zero, ℕ, ◌==◌, ◌∙◌, ◌≡◌}
-use Rattle.beldi_known.proofs.Names.kinds
-use Rattle.beldi_known.proofs.Names.map
 use Rattle.beldi_known.proofs.Instances.{no_callee}
+use Rattle.beldi_known.proofs.Names.map
 
 abbrev none : Known
 none = map.empty
@@ -38,12 +37,12 @@ no_cell zero = tt
 no_cell (suc n) = refl
 
 no_row : (d : Deployment) (home : ℕ) (k : Kind) → RowMatches d none home k None
-no_row d home (kinds.Intent id) = subst (IntentMatches (has_ended d none) (has_no_hops id.hops) home None) (sym (absent id)) (no_intent (has_ended d none) home (has_no_hops id.hops))
-no_row d home (kinds.ReadLog a) = ap (owed_value d home a.step) (absent a.intent)
-no_row d home (kinds.Invoke a) = ap (called_by home (map.get none a.intent)) (absent (child_of a.intent a.step)) ∙ no_callee home (map.get none a.intent)
-no_row d home (kinds.Lockset i b t k) = ap (owed_lockset d b (record { func = home; table = t; key = k }) i) (absent i)
-no_row d home (kinds.Data t k n) = no_cell n
-no_row d home (kinds.Shadow s t k n) = no_cell n
+no_row d home (Kind.Intent id) = subst (IntentMatches (has_ended d none) (has_no_hops id.hops) home None) (sym (absent id)) (no_intent (has_ended d none) home (has_no_hops id.hops))
+no_row d home (Kind.ReadLog a) = ap (owed_value d home a.step) (absent a.intent)
+no_row d home (Kind.Invoke a) = ap (called_by home (map.get none a.intent)) (absent (child_of a.intent a.step)) ∙ no_callee home (map.get none a.intent)
+no_row d home (Kind.Lockset i b t k) = ap (owed_lockset d b (record { func = home; table = t; key = k }) i) (absent i)
+no_row d home (Kind.Data t k n) = no_cell n
+no_row d home (Kind.Shadow s t k n) = no_cell n
 
 pub nothing_matches : (d : Deployment) → Matches d map.empty none unlocked
 nothing_matches d = record {

@@ -1,17 +1,8 @@
 -- An operation outside transactions, over what is known: by the same frame.
 use Rattle.beldi_known.proofs.Names.{Answer, AnswersOne, Bool, CellOp, Content, Deployment, DoneRows, Effect, Instance, IntentId, Item, ItemMatches, Kind, Known, LockedOut, Matches, None, OnItem, Option, Owner, Place, Row, RowMatches, Rows, ShadowMatches, Some, TxId, TxsMatch, Value, and_right, answer_after, ap, asks_lock, barred, begins_at, commit_in, content_of, done_to, effect_of, false, got_before, got_by, held_by, held_if, holds, if◌then◌else◌, inl, inr, is_aborted, is_eq, is_item, is_mark, is_none, is_on, is_open, is_owner, is_tx, item_cmp, item_in, item_total, key_cmp, length, lock_note, log_key, not, note_after, note_at, note_by, note_of, note_pushed, noted, op_of, owed_read, owner_after, place_eq, place_of, refl, row_added, set_row, shadow_by, shadow_of, subst, sym, tied_itself, touched, tx_now, txs_after, write_op, ℕ, ◌&&◌, ◌||◌, ◌∙◌, ◌≡◌, ◌⊎◌}
-use Rattle.beldi_known.proofs.Names.cell
-use Rattle.beldi_known.proofs.Names.effect
-use Rattle.beldi_known.proofs.Names.kinds
-use Rattle.beldi_known.proofs.Names.map
-use Rattle.beldi_known.proofs.Names.owner
-use Rattle.beldi_known.proofs.Names.rows
-use Rattle.beldi_known.proofs.Acts.{log_set, head_at}
-use Rattle.beldi_known.proofs.Owners.{IsFreeFor, unbarred}
-use Rattle.beldi_known.proofs.Operations.{Does}
 use Rattle.beldi_known.proofs.FrameAt.{holds_one, note_one, got_one, note_same, read_none, read_here, item_alike, txs_alike, none_out}
-use Rattle.beldi_known.proofs.Fronts.{row_by, mark_same, tx_end_same, shadow_kept, locksets_kept, read_elsewhere}
-use Rattle.beldi_known.proofs.Cases.{if_same}
+use Rattle.beldi_known.proofs.{Acts.log_set, Acts.head_at, Owners.IsFreeFor, Owners.unbarred, Operations.Does, Fronts.row_by, Fronts.mark_same, Fronts.tx_end_same, Fronts.shadow_kept, Fronts.locksets_kept, Fronts.read_elsewhere, Cases.if_same}
+use Rattle.beldi_known.proofs.Names.map
 
 -- ---- an answer outside, or to an effect that touches no item, but to an End: what it leaves of all that it does not answer
 -- no item is touched inside
@@ -41,7 +32,7 @@ module _ (d : Deployment) (known : Known) (locked : IntentId → Bool) (id : Int
       (ap (λ z. got_before d t x id q || (z && not (is_aborted a))) (on_none t x)
       ∙ sym (ap (got_by d t x id (locked id)) is ∙ ap (λ z. got_before d t x id q || (z && is_on t x q.func (tx_now d id q) (effect_of d q))) unlocked)) (λ j other. refl)
 
-  pub txs_done : (x : Item) (was now : Option Owner) → ((t : TxId) → was ≡ Some (owner.Tx t) → ⊥) → ((t : TxId) → now ≡ Some (owner.Tx t) → ⊥) → TxsMatch d known locked x was → TxsMatch d after locked x now
+  pub txs_done : (x : Item) (was now : Option Owner) → ((t : TxId) → was ≡ Some (Owner.Tx t) → ⊥) → ((t : TxId) → now ≡ Some (Owner.Tx t) → ⊥) → TxsMatch d known locked x was → TxsMatch d after locked x now
   txs_done x was now no_tx still h = record {
     owned_is_got = λ t e. absurd (still t e);
     got_is_owned = λ t g open_still. absurd (no_tx t (h.got_is_owned t (record { member = g.member; got = sym (got_same t x g.member) ∙ g.got }) (sym (tx_end_same d known locked locked id q r a is one out quiet t) ∙ open_still)));
@@ -54,8 +45,8 @@ module _ (d : Deployment) (known : Known) (locked : IntentId → Bool) (id : Int
   shadows_kept t x c h = shadow_kept d known locked locked id q r a is one out t x c none h
     where
       no_write : (e : Effect) → touched e ≡ None → write_op e ≡ None
-      no_write (effect.Write u k v) g = cc
-      no_write (effect.CondWrite u k z o v) g = cc
+      no_write (Effect.Write u k v) g = cc
+      no_write (Effect.CondWrite u k z o v) g = cc
       no_write e g = refl
 
       none : shadow_by t x q.func (tx_now d id q) (effect_of d q) a ≡ None
@@ -65,7 +56,7 @@ module _ (d : Deployment) (known : Known) (locked : IntentId → Bool) (id : Int
       ]
 
   -- every row, but that of a read
-  pub row_kept : (home : ℕ) (kind : Kind) (row : Option Row) → ((b : Place) → kind ≡ kinds.ReadLog b → owed_read d after home b ≡ owed_read d known home b) → RowMatches d known home kind row → RowMatches d after home kind row
+  pub row_kept : (home : ℕ) (kind : Kind) (row : Option Row) → ((b : Place) → kind ≡ Kind.ReadLog b → owed_read d after home b ≡ owed_read d known home b) → RowMatches d known home kind row → RowMatches d after home kind row
   row_kept home kind row same = row_by d known locked locked id q r a is one out home kind row same (λ j b t k e. let x : Item = record { func = home; table = t; key = k } in
       locksets_kept d known locked locked id q r a is one out quiet b x j row (asks_none b x)
       (ap (λ u. is_none q.outcome && (is_open d known (tx_now d id q) && u)) (asks_none b x) ∙ and_right (is_none q.outcome) _ (and_right (is_open d known (tx_now d id q)) false refl)))
@@ -102,32 +93,32 @@ module _ (d : Deployment) (known : Known) (locked : IntentId → Bool) (id : Int
 
   -- the row of a read is added with its answer
   pub read_added : (m : Rows) (v : Value) → op_of (effect_of d q) ≡ None → row_added (length q.answers) (txs_after d q q.answers).begun (effect_of d q) a ≡ Some (length q.answers, v) → Matches d m known locked
-      → Matches d (set_row m (log_key q.func (place_of id (length q.answers))) (Some (rows.ReadLog v))) after locked
+      → Matches d (set_row m (log_key q.func (place_of id (length q.answers))) (Some (Row.ReadLog v))) after locked
   read_added m v none added h = let k = log_key q.func (place_of id (length q.answers)) in
-      log_set d after locked m k (Some (rows.ReadLog v)) refl (subst (λ z. z ≡ Some v) (sym (read_here d known id q r a is one (length q.answers) v added)) refl)
+      log_set d after locked m k (Some (Row.ReadLog v)) refl (subst (λ z. z ≡ Some v) (sym (read_here d known id q r a is one (length q.answers) v added)) refl)
       (λ l other. row_kept l.home l.kind (map.get m l) (λ b kind. read_elsewhere d known locked locked id q r a is one out (length q.answers) v added l.home b (subst (λ (z : Kind). is_eq (key_cmp (record { home = l.home; kind = z }) k) ≡ false) kind other)) (h.keys l))
       (λ x. item_same none x (content_of m x) (h.items x)) (λ t x. shadows_kept t x (shadow_of m t x) (h.shadows t x)) (λ x. txs_kept x (content_of m x).owner (h.txs x))
 
 -- ---- an operation
 op_quiet : (e : Effect) (o : OnItem) → op_of e ≡ Some o → commit_in e ≡ None
-op_quiet (effect.End c) o h = cc
+op_quiet (Effect.End c) o h = cc
 op_quiet e o h = refl
 
 op_adds_none : (n : ℕ) (b : Option ℕ) (e : Effect) (o : OnItem) (a : Answer) → op_of e ≡ Some o → row_added n b e a ≡ None
-op_adds_none n b (effect.Read t k) o a h = cc
-op_adds_none n b (effect.End c) o a h = cc
+op_adds_none n b (Effect.Read t k) o a h = cc
+op_adds_none n b (Effect.End c) o a h = cc
 op_adds_none n b e o a h = elim b as (λ c. row_added n c e a ≡ None) [ None ↦ refl | Some c ↦ refl ]
 
 -- who owns its item then is no transaction, nor was one before
-pub no_tx : (id : IntentId) (was : Option Owner) → IsFreeFor id was → (t : TxId) → was ≡ Some (owner.Tx t) → ⊥
+pub no_tx : (id : IntentId) (was : Option Owner) → IsFreeFor id was → (t : TxId) → was ≡ Some (Owner.Tx t) → ⊥
 no_tx id was (inl is) t e = let k = sym is ∙ e in cc
 no_tx id was (inr is) t e = let k = sym is ∙ e in cc
 
-pub free_after : (op : CellOp) (id : IntentId) (was : Option Owner) → barred op (owner.Intent id) was ≡ None → IsFreeFor id (owner_after op (owner.Intent id) was)
-free_after (cell.Write v) id was h = unbarred (cell.Write v) id was h
-free_after (cell.Cond u o v) id was h = unbarred (cell.Cond u o v) id was h
-free_after cell.Lock id was h = inr refl
-free_after (cell.Free v) id was h = inl refl
+pub free_after : (op : CellOp) (id : IntentId) (was : Option Owner) → barred op (Owner.Intent id) was ≡ None → IsFreeFor id (owner_after op (Owner.Intent id) was)
+free_after (CellOp.Write v) id was h = unbarred (CellOp.Write v) id was h
+free_after (CellOp.Cond u o v) id was h = unbarred (CellOp.Cond u o v) id was h
+free_after CellOp.Lock id was h = inr refl
+free_after (CellOp.Free v) id was h = inl refl
 
 module _ (d : Deployment) (known : Known) (locked : IntentId → Bool) (id : IntentId) (q r : Instance) (w : Value) (o : OnItem) (op : CellOp) (does : Does o.does op) (is : map.get known id ≡ Some q) (unlocked : locked id ≡ false)
     (outside : tx_now d id q ≡ None) (wants_it : op_of (effect_of d q) ≡ Some o) (one : AnswersOne d id q (answer_after o.does w) r) where
@@ -141,7 +132,7 @@ module _ (d : Deployment) (known : Known) (locked : IntentId → Bool) (id : Int
   p = place_of id (length q.answers)
 
   abbrev who : Owner
-  who = owner.Intent id
+  who = Owner.Intent id
 
   abbrev now : Known
   now = map.insert known id r
@@ -161,10 +152,10 @@ module _ (d : Deployment) (known : Known) (locked : IntentId → Bool) (id : Int
   -- its item's content
   pub item_done : (c : Content) → c.value ≡ w → note_at c.notes p ≡ None → barred op who c.owner ≡ None → ItemMatches d known locked item c → ItemMatches d now locked item (done_to p who op c)
   item_done c same none free h = record {
-    owner = holds_one d known id q r a is one item (λ j b. is_owner (owner_after op who c.owner) (owner.Intent j) ≡ b)
+    owner = holds_one d known id q r a is one item (λ j b. is_owner (owner_after op who c.owner) (Owner.Intent j) ≡ b)
         (does.own id c.owner free ∙ ap (held_by o.does) (h.owner id)
         ∙ sym (held_here item (holds d item (map.get known id)) ∙ ap (λ t. if is_eq t then held_by o.does (holds d item (map.get known id)) else holds d item (map.get known id)) (tied_itself item_total item)))
-        (λ j other. does.others id c.owner free (owner.Intent j) other ∙ h.owner j);
+        (λ j other. does.others id c.owner free (Owner.Intent j) other ∙ h.owner j);
     notes = λ b apart. note_pushed c.notes p b (note_after op c.value) none
         ∙ ap (λ n. if place_eq p b then n else note_at c.notes b) (ap (λ v. Some (note_after op v)) same ∙ sym (does.note w) ∙ ap (λ t. if is_eq t then noted o.does a else None) (sym (tied_itself item_total item)) ∙ sym (note_here item))
         ∙ ap (λ n. if place_eq p b then note_by item q.func (tx_now d id q) (effect_of d q) a else n) (h.notes b (unmarked d known locked id q r a is unlocked (inl outside) ends_none one b apart))

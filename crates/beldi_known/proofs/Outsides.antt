@@ -1,33 +1,20 @@
 -- An instance goes on outside in both: what is known stays beside the plain state, and shadows show what they did. It is in no open
 -- transaction of another, so those go on as they did.
 use Rattle.beldi_known.proofs.Names.{AllGot, AllShow, Answer, Beside, Bool, CalledBy, Deployment, Effect, FinMap, Goes, Got, Instance, IntentId, IsBelow, IsIn, IsKept, Item, Items, Known, Matches, None, OpenTx, Option, Outcome, PlainState, Row, Rows, Sane, ShadowShows, Shadows, Shows, Some, TouchedIn, Tx, TxId, Txs, Value, [], aborted, all_in, answer_at_once, answered, answered_if, answers_so, ap, arith, at_once, begins, child_of, child_same, cond, content_of, dies_at, effect_of, elsewhere, end_of, ended, ended_by, equal, false, false_from_ne_true, fell, get-insert, gone_on, got_before, got_by, here, id_cmp, id_total, if◌then◌else◌, in_line, inl, inr, is_aborted, is_at, is_begin, is_eq, is_none, is_on, is_some, is_writing, item_cmp, item_same, last_hop, length, length-append, line_opened, moved, moves_beside, no_callees, no_later, none_after, none_by, not, not_longer, once, once_if, opened, or_null, or_old, plain_set, refl, root_of, same_some, sane_with, set_if, shadow_key, subst, sym, tied_itself, true, tx_after, tx_begun, tx_end, txs_after, txs_by, txs_pushed, value_at, with_instance, writing_at, ℕ, ◌&&◌, ◌++◌, ◌<◌, ◌||◌, ◌∙◌, ◌∷◌, ◌≡◌, ◌≤◌}
-use Rattle.beldi_known.proofs.Names.answer
-use Rattle.beldi_known.proofs.Names.effect
+use Rattle.beldi_known.proofs.{Answers.true_false, Begins.aborts_inside, Frame.at_once_same, Frame.moved_one, FrameAt.known_set, Callers.called_below, Lines.parent_in, NoTx.IsOutside, NoTx.begins_parts, NoTx.no_begin, Owns.going, Owns.got_owned, Owns.owner_known, Owns.touched_owned, Phases.end_is, Phases.inside_is, ReadLists.got_since, ReadLists.member_tx, Sanes.no_callees as known_childless, Cases.by_option, Cases.by_cases}
 use Rattle.beldi_known.proofs.Names.inside
 use Rattle.beldi_known.proofs.Names.map
 use Rattle.beldi_known.proofs.Names.plain
-use Rattle.beldi_known.proofs.Answers.{true_false}
-use Rattle.beldi_known.proofs.Begins.{aborts_inside}
-use Rattle.beldi_known.proofs.Frame.{at_once_same, moved_one}
-use Rattle.beldi_known.proofs.FrameAt.{known_set}
-use Rattle.beldi_known.proofs.Callers.{called_below}
-use Rattle.beldi_known.proofs.Lines.{parent_in}
-use Rattle.beldi_known.proofs.NoTx.{IsOutside, begins_parts, no_begin}
-use Rattle.beldi_known.proofs.Owns.{going, got_owned, owner_known, touched_owned}
-use Rattle.beldi_known.proofs.Phases.{end_is, inside_is}
-use Rattle.beldi_known.proofs.ReadLists.{got_since, member_tx}
-use Rattle.beldi_known.proofs.Sanes.{no_callees as known_childless}
-use Rattle.beldi_known.proofs.Cases.{by_option, by_cases}
 
 abbrev pub value_of : Items → Item → Value
 value_of m x = or_null (map.get m x)
 
 -- ---- outside of transactions
 -- an End and an Abort stand in a transaction
-pub outside_no_end : (d : Deployment) (q : Instance) (c : Bool) → IsOutside d q q.answers → effect_of d q ≡ effect.End c → ⊥
+pub outside_no_end : (d : Deployment) (q : Instance) (c : Bool) → IsOutside d q q.answers → effect_of d q ≡ Effect.End c → ⊥
 outside_no_end d q c out is = let clash = sym (ap is_some out.1) ∙ end_is d q q.answers c is in cc
 
-outside_no_abort : (d : Deployment) (q : Instance) → IsOutside d q q.answers → effect_of d q ≡ effect.Abort → ⊥
+outside_no_abort : (d : Deployment) (q : Instance) → IsOutside d q q.answers → effect_of d q ≡ Effect.Abort → ⊥
 outside_no_abort d q out is = let clash = sym (inside_is d q q.answers ∙ (λ i. is_some (out.1 i) || is_some (out.0 i))) ∙ aborts_inside d q.func q.args (is_some q.within) q.answers is in cc
 
 -- what takes no turn
@@ -35,8 +22,8 @@ pub at_once_stays : (d : Deployment) (id : IntentId) (q : Instance) → IsOutsid
 at_once_stays d id q out apart = ap (once d id) same ∙ same
   where
     by_effect : q.outcome ≡ None → (e : Effect) → effect_of d q ≡ e → answered_if q (answer_at_once id (length q.answers) e) ≡ q
-    by_effect none effect.Begin is = let clash = sym (λ i. is_none (none i) && is_begin (is i)) ∙ apart in cc
-    by_effect none effect.Abort is = absurd (outside_no_abort d q out is)
+    by_effect none Effect.Begin is = let clash = sym (λ i. is_none (none i) && is_begin (is i)) ∙ apart in cc
+    by_effect none Effect.Abort is = absurd (outside_no_abort d q out is)
     by_effect none e is = refl
 
     by_outcome : (o : Option Outcome) → q.outcome ≡ o → once_if d id q o ≡ q
@@ -104,7 +91,7 @@ pub record MaySet (d : Deployment) (m : Rows) (p : PlainState) (known : Known) (
 -- ---- a transaction that it begins
 module _ (d : Deployment) (p : PlainState) (known : Known) (id : IntentId) (s : Instance) (b : begins d s ≡ true) (there : map.get known id ≡ Some (at_once d id s)) (below : (i : IntentId) → IsBelow (tx_begun id s) i → map.get known i ≡ map.get p.made i) where
   abbrev next : Instance
-  next = answered s answer.Done
+  next = answered s Answer.Done
 
   first : at_once d id s ≡ once d id next
   first = let e = begins_parts d s b in ap (once d id) (ap (once_if d id s) e.0 ∙ ap (λ e. answered_if s (answer_at_once id (length s.answers) e)) e.1)
@@ -132,8 +119,8 @@ module _ (d : Deployment) (p : PlainState) (known : Known) (id : IntentId) (s : 
       }
 
       by_effect : (e : Effect) → effect_of d next ≡ e → OpenTx d p known id s
-      by_effect effect.Begin is = absurd (no_begin d next (length s.answers) (ap (λ (z : Txs). z.begun) (txs_pushed d s s.answers answer.Done) ∙ ap (λ e. (txs_by (length s.answers) e (txs_after d s s.answers)).begun) (begins_parts d s b).1) is)
-      by_effect effect.Abort is =
+      by_effect Effect.Begin is = absurd (no_begin d next (length s.answers) (ap (λ (z : Txs). z.begun) (txs_pushed d s s.answers Answer.Done) ∙ ap (λ e. (txs_by (length s.answers) e (txs_after d s s.answers)).begun) (begins_parts d s b).1) is)
+      by_effect Effect.Abort is =
           let a = aborted id next None in
           let last = answered next a in
           record {
@@ -164,7 +151,7 @@ module _ (d : Deployment) (m n : Rows) (p r : PlainState) (known next : Known) (
   u = tx_begun j z
 
   set_alike : (i : IntentId) → map.get r.made i ≡ map.get p.made i → map.get (opened r j z).state.made i ≡ map.get (opened p j z).state.made i
-  set_alike i same = get-insert id_total r.made j (answered z answer.Done) i ∙ ap (cond (is_eq (id_cmp i j)) (Some (answered z answer.Done))) same ∙ sym (get-insert id_total p.made j (answered z answer.Done) i)
+  set_alike i same = get-insert id_total r.made j (answered z Answer.Done) i ∙ ap (cond (is_eq (id_cmp i j)) (Some (answered z Answer.Done))) same ∙ sym (get-insert id_total p.made j (answered z Answer.Done) i)
 
   there_too : inside.Beside d (tx_begun j z) (opened p j z) (opened r j z) g.tx.moves g.tx.going
   there_too = moves_beside d u (opened p j z) (opened r j z) g.tx.moves g.tx.going (line_opened d p j z (begins_parts d z b).0) g.tx.leads (record { front = refl; members = λ i is. set_alike i (members i is) }) touches
@@ -257,7 +244,7 @@ pub no_ends : (d : Deployment) (q : Instance) (b : ℕ) → q.answers ≡ [] →
 no_ends d q b bare = ap (λ ts. (txs_after d q ts).ends b) bare
 
 -- an answer to anything but an End that commits
-pub ends_next : (d : Deployment) (k : Instance) (a : Answer) → (effect_of d k ≡ effect.End true → ⊥) → (b n : ℕ) → end_of d (answered k a) b ≡ Some (n, true) → end_of d k b ≡ Some (n, true)
+pub ends_next : (d : Deployment) (k : Instance) (a : Answer) → (effect_of d k ≡ Effect.End true → ⊥) → (b n : ℕ) → end_of d (answered k a) b ≡ Some (n, true) → end_of d k b ≡ Some (n, true)
 ends_next d k a other b n ends = by_effect (effect_of d k) refl (sym (ap (λ (s : Txs). s.ends b) (txs_pushed d k k.answers a)) ∙ ends)
   where
     s : Txs
@@ -268,9 +255,9 @@ ends_next d k a other b n ends = by_effect (effect_of d k) refl (sym (ap (λ (s 
     by_test false e = e
 
     by_effect : (e : Effect) → effect_of d k ≡ e → (txs_by (length k.answers) e s).ends b ≡ Some (n, true) → s.ends b ≡ Some (n, true)
-    by_effect (effect.End true) is e = absurd (other is)
-    by_effect (effect.End false) is e = by_test (is_at b s.begun) e
-    by_effect effect.Begin is e = e
+    by_effect (Effect.End true) is e = absurd (other is)
+    by_effect (Effect.End false) is e = by_test (is_at b s.begun) e
+    by_effect Effect.Begin is e = e
     by_effect e is g = g
 
 module _ (d : Deployment) (m : Rows) (p : PlainState) (known : Known) (locked : IntentId → Bool) (h : Shadows d m p known locked) (beside : Beside d p known) (sane : Sane d known) (matches : Matches d m known locked) (legal : plain.Sane d p) where
@@ -307,7 +294,7 @@ module _ (d : Deployment) (m : Rows) (p : PlainState) (known : Known) (locked : 
       pub fresh_next : (x : Item) → map.get m (shadow_key (tx_begun id (answered k a)) x) ≡ None
       fresh_next x = no_shadow (tx_begun id (answered k a)) x few_next
 
-      pub set_next : (effect_of d k ≡ effect.End true → ⊥) → MaySet d m p known id (answered k a)
+      pub set_next : (effect_of d k ≡ Effect.End true → ⊥) → MaySet d m p known id (answered k a)
       set_next other =
           let q = plain_owner id k is out.0 in
           record {

@@ -1,7 +1,7 @@
 -- Who may own an item that an operation of an intent, or its read, gets past.
-use Rattle.beldi_known.proofs.Names.{CellOp, Free, Intent, IntentId, IsOther, None, Option, Owner, Some, Tx, ap, barred, false, false_from_ne_true, id_cmp, id_eq, id_self, id_total, if◌then◌else◌, inl, inr, is_eq, is_owner, other_owner, owner_eq, owns, refl, sym, tied_itself, true, unless_owned, ◌∙◌, ◌≡◌, ◌⊎◌}
 use Rattle.beldi_row.proofs.Logs.{id_same}
 use Rattle.beldi_daal.specs.Logged.{held_by}
+use Rattle.beldi_known.proofs.Names.{CellOp, Free, Intent, IntentId, IsOther, None, Option, Owner, Some, Tx, ap, barred, false, false_from_ne_true, id_cmp, id_eq, id_self, id_total, if◌then◌else◌, inl, inr, is_eq, is_owner, other_owner, owner_eq, owns, refl, sym, tied_itself, true, unless_owned, ◌∙◌, ◌≡◌, ◌⊎◌}
 
 -- nobody owns it, or the intent does
 abbrev pub IsFreeFor : IntentId → Option Owner → Type 0

@@ -1,17 +1,11 @@
 -- What an open transaction touched it got, and owns; what it wrote has a shadow. So what it sees of an item is what its shadow shows,
 -- where that is there, and else the plain value.
+use Rattle.beldi_plain.specs.Plain.{item_of}
 use Rattle.beldi_known.proofs.Names.{AllPlain, AllSound, Answer, Bool, CellMatches, Deployment, Effect, GoingSane, Got, Grown, Instance, IntentId, Item, Items, Known, List, Matches, None, OnItem, OpenTx, Option, PlainState, Row, Rows, Sane, SaneWith, ShadowShows, Some, TouchedIn, Tx, TxId, WrittenIn, answer_inside, answered, ap, at_step, begins, content_in, content_of, effect_after, effect_of, ended_by, false, fits, going_begun, going_so, got_before, got_by, id_total, if◌then◌else◌, inl, inr, is_aborted, is_eq, is_item, is_on, is_some, is_tx, is_writing, item_in, item_total, kept, length, not, note_at, note_of, noted, op_of, opened, option_map, or_left, or_null, outside_of, owed_shadow, place_of, refl, same_some, sane_in, sane_with, shadow_at, shadow_by, shadow_key, subst, sym, tied_itself, touched, true, tx_after, tx_begun, tx_end, tx_now, value_at, value_in, write, write_op, written_touched, ℕ, ◌&&◌, ◌∙◌, ◌∷◌, ◌≡◌, ◌⊎◌}
-use Rattle.beldi_known.proofs.Names.effect
+use Rattle.beldi_known.proofs.{Answers.take_front, Answers.get_next, Answers.true_false, Behind.gathers, Falls.Fell, Falls.falls, Falls.later_is, Falls.sound, Falls.touched_made, Falls.written_made, Locks.tx_self, NoTx.begins_parts}
 use Rattle.beldi_known.proofs.Names.map
 use Rattle.beldi_known.proofs.Names.operation
 use Rattle.beldi_known.proofs.Names.plain
-use Rattle.beldi_known.proofs.Names.rows
-use Rattle.beldi_plain.specs.Plain.{item_of}
-use Rattle.beldi_known.proofs.Answers.{take_front, get_next, true_false}
-use Rattle.beldi_known.proofs.Behind.{gathers}
-use Rattle.beldi_known.proofs.Falls.{Fell, falls, later_is, sound, touched_made, written_made}
-use Rattle.beldi_known.proofs.Locks.{tx_self}
-use Rattle.beldi_known.proofs.NoTx.{begins_parts}
 
 -- ---- one step
 item_self : (func : ℕ) (o : ℕ × List ℕ) → is_item (record { func = func; table = o.0; key = o.1 }) func (Some o) ≡ true
@@ -22,20 +16,20 @@ on_item z None x h = cc
 on_item z (Some o) x h = ap (λ y. is_item y z.func (Some o)) (sym (same_some h)) ∙ item_self z.func o
 
 pub plain_lives : (m : Items) (func : ℕ) (e : Effect) (a : Answer) → answer_inside m func e ≡ Some a → is_aborted a ≡ false
-plain_lives m func (effect.Read t k) a h = ap is_aborted (sym (same_some h))
-plain_lives m func (effect.Write t k v) a h = ap is_aborted (sym (same_some h))
-plain_lives m func (effect.CondWrite t k r o v) a h = ap is_aborted (sym (same_some h))
+plain_lives m func (Effect.Read t k) a h = ap is_aborted (sym (same_some h))
+plain_lives m func (Effect.Write t k v) a h = ap is_aborted (sym (same_some h))
+plain_lives m func (Effect.CondWrite t k r o v) a h = ap is_aborted (sym (same_some h))
 plain_lives m func e a h = cc
 
 note_self : (func : ℕ) (o : OnItem) (a : Answer) → note_of (item_in func o) func (Some o) a ≡ noted o.does a
 note_self func o a = ap (λ b. if is_eq b then noted o.does a else None) (tied_itself item_total (item_in func o))
 
 plain_note : (m : Items) (x : Item) (func : ℕ) (e : Effect) (a : Answer) → answer_inside m func e ≡ Some a → option_map (item_in func) (op_of e) ≡ Some x → is_some (note_of x func (write_op e) a) ≡ true
-plain_note m x func (effect.Write t k v) a h w = let o : OnItem = record { table = t; key = k; does = write v } in
+plain_note m x func (Effect.Write t k v) a h w = let o : OnItem = record { table = t; key = k; does = write v } in
     subst (λ y. is_some (note_of y func (Some o) a) ≡ true) (same_some w) (ap is_some (note_self func o a) ∙ ap (λ z. is_some (noted (write v) z)) (sym (same_some h)))
-plain_note m x func (effect.CondWrite t k r u v) a h w = let o : OnItem = record { table = t; key = k; does = operation.cond r u v } in
+plain_note m x func (Effect.CondWrite t k r u v) a h w = let o : OnItem = record { table = t; key = k; does = operation.cond r u v } in
     subst (λ y. is_some (note_of y func (Some o) a) ≡ true) (same_some w) (ap is_some (note_self func o a) ∙ ap (λ z. is_some (noted (operation.cond r u v) z)) (sym (same_some h)))
-plain_note m x func (effect.Read t k) a h w = cc
+plain_note m x func (Effect.Read t k) a h w = cc
 plain_note m x func e a h w = cc
 
 module _ (d : Deployment) (t : TxId) (x : Item) (id : IntentId) (z y : Instance) (a : Answer) (g : Grown (answered z a) y) (inside : tx_now d id z ≡ Some t) where
@@ -135,6 +129,6 @@ module _ (d : Deployment) (p : PlainState) (known : Known) (sane : Sane d known)
         where
           by_row : (o : Option Row) → map.get m (shadow_key t x) ≡ o → CellMatches 0 o → ShadowShows (is_writing d locked x tx.going) o (value_at tx.going.state x) → value_in o (value_at p x) ≡ value_at tx.going.state x
           by_row None is fits h = sym (unwritten is)
-          by_row (Some (rows.Cell c)) is fits (inl e) = absurd (true_false (sym e ∙ off))
-          by_row (Some (rows.Cell c)) is fits (inr e) = e
+          by_row (Some (Row.Cell c)) is fits (inl e) = absurd (true_false (sym e ∙ off))
+          by_row (Some (Row.Cell c)) is fits (inr e) = e
           by_row (Some r) is fits h = absurd fits

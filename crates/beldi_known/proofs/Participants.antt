@@ -1,15 +1,11 @@
 -- Who was called in a transaction, and has no outcome, holds up its owner at a call: so at an End nobody else is inside.
 use Rattle.beldi_known.proofs.Names.{Bool, Deployment, Effect, Instance, IntentId, Item, Known, None, Option, Sane, Some, TxId, Value, ap, arith, effect_of, end_of, ended_by, false, fits, holds, id_cmp, id_total, inl, inr, is_begin, is_eq, is_some, length, or_own, same_some, sym, tied_itself, true, tx_by, tx_end, tx_now, txs_after, ℕ, ◌∙◌, ◌≡◌, ◌⊎◌}
-use Rattle.beldi_known.proofs.Names.effect
+use Rattle.beldi_known.proofs.{Callers.all_called, Callers.waits_for, OwnTx.Own, OwnTx.own, OwnTx.own_by, OwnTx.own_intent, Phases.inside_holds_none, Cases.by_option}
 use Rattle.beldi_known.proofs.Names.map
-use Rattle.beldi_known.proofs.Callers.{all_called, waits_for}
-use Rattle.beldi_known.proofs.OwnTx.{Own, own, own_by, own_intent}
-use Rattle.beldi_known.proofs.Phases.{inside_holds_none}
-use Rattle.beldi_known.proofs.Cases.{by_option}
 
 -- one's own transaction has not ended, where it is that of the next step
 own_begin : (id : IntentId) (func n : ℕ) (e : Effect) (o : Option ℕ) (t : TxId) → tx_by id func n e o ≡ Some t → (t.begin ≡ n) ⊎ (o ≡ Some t.begin)
-own_begin id func n effect.Begin o t h = inl (ap (λ (z : TxId). z.begin) (sym (same_some h)))
+own_begin id func n Effect.Begin o t h = inl (ap (λ (z : TxId). z.begin) (sym (same_some h)))
 own_begin id func n e None t h = cc
 own_begin id func n e (Some b) t h = inr (ap (λ (z : TxId). Some z.begin) (same_some h))
 
@@ -36,7 +32,7 @@ module _ (d : Deployment) (known : Known) (h : Sane d known) where
     owns : IsOpenOwner d known t
     func : ℕ
     args : Value
-    at_call : effect_of d owns.owner ≡ effect.Call func args
+    at_call : effect_of d owns.owner ≡ Effect.Call func args
 
   waits : (t : TxId) (i : IntentId) (z : Instance) → map.get known i ≡ Some z → z.within ≡ Some t → z.outcome ≡ None → Waits t
   waits t = all_called d known h t (λ i z. z.outcome ≡ None → Waits t)
@@ -53,7 +49,7 @@ module _ (d : Deployment) (known : Known) (h : Sane d known) where
       in_it w e = sym (ap (λ o. or_own o (tx_by j z.func (length z.answers) (effect_of d z) (txs_after d z z.answers).begun)) e) ∙ now
 
   -- where an instance stands at no call, nobody else that can step is in a transaction of its own
-  pub ends_alone : (id : IntentId) (q : Instance) → map.get known id ≡ Some q → ((f : ℕ) (v : Value) → effect_of d q ≡ effect.Call f v → ⊥) → (j : IntentId) (z : Instance) (t : TxId) → map.get known j ≡ Some z → is_eq (id_cmp j id) ≡ false → z.outcome ≡ None → tx_now d j z ≡ Some t → t.intent ≡ id → ⊥
+  pub ends_alone : (id : IntentId) (q : Instance) → map.get known id ≡ Some q → ((f : ℕ) (v : Value) → effect_of d q ≡ Effect.Call f v → ⊥) → (j : IntentId) (z : Instance) (t : TxId) → map.get known j ≡ Some z → is_eq (id_cmp j id) ≡ false → z.outcome ≡ None → tx_now d j z ≡ Some t → t.intent ≡ id → ⊥
   ends_alone id q is other j z t on apart none now mine = elim (stands_in j z t on none now) [
     | inl own ↦
         let same = sym (own_intent j z.func (length z.answers) (effect_of d z) (txs_after d z z.answers).begun t own.1) ∙ mine in

@@ -1,13 +1,8 @@
 -- Where a body is, by the answers of its instance: the Begin that is open, what was aborted since, and the locks that it holds.
-use Rattle.beldi_known.proofs.Names.{Answer, Bool, Cause, Deployment, Effect, HeldLock, Instance, IntentId, IsAnswer, Item, List, None, Option, Place, SaneInstance, Some, TxId, Txs, [], answered, ap, append-nil, append_assoc, arith, body, effect_after, effect_of, eq-eqb, eqb-true, false, false_from_ne_true, func_at, held_along, held_if, held_pushed, holds, if◌then◌else◌, inl, inr, is_eq, is_held, is_inside, is_lock, is_name, is_some, item_cmp, item_same, item_total, length, length-append, not, op_of, or_own, or_right, place_of, refl, slice_eq-Decides, slice_get, subst, suc, sym, take, take-append-le, tied_itself, true, tx_after, tx_at, tx_by, tx_now, txs_after, txs_by, txs_pushed, unsigned_Decides, without, zero, ℕ, ◌&&◌, ◌++◌, ◌<◌, ◌==◌, ◌||◌, ◌∙◌, ◌∷◌, ◌≡◌, ◌⊎◌, none_by}
-use Rattle.beldi_known.proofs.Names.answer
-use Rattle.beldi_known.proofs.Names.effect
-use Rattle.beldi_known.proofs.Names.outcome
+use Rattle.beldi_known.proofs.Names.{Answer, Bool, Cause, Deployment, Effect, HeldLock, Instance, IntentId, IsAnswer, Item, List, None, Option, Place, SaneInstance, Some, TxId, Txs, [], answered, ap, append-nil, append_assoc, arith, body, effect_after, effect_of, eq-eqb, eqb-true, false, false_from_ne_true, func_at, held_along, held_if, held_pushed, holds, if◌then◌else◌, inl, inr, is_eq, is_held, is_inside, is_lock, is_name, is_some, item_cmp, item_same, item_total, length, length-append, none_by, not, op_of, or_own, or_right, place_of, refl, slice_eq-Decides, slice_get, subst, suc, sym, take, take-append-le, tied_itself, true, tx_after, tx_at, tx_by, tx_now, txs_after, txs_by, txs_pushed, unsigned_Decides, without, zero, ℕ, ◌&&◌, ◌++◌, ◌<◌, ◌==◌, ◌||◌, ◌∙◌, ◌∷◌, ◌≡◌, ◌⊎◌, Outcome}
 use Rattle.beldi_known.proofs.Flows.{Phase, block, own, aborted, leaving, stands, held_after, asked}
 use Rattle.beldi_known.proofs.Begins.{is_begun, is_leaving, is_unlock, begun_after, Going, Now, Next, at_first, going_now, going_next, going_on, dies_own, dies_else}
-use Rattle.beldi_known.proofs.Answers.{take_front}
-use Rattle.beldi_known.proofs.Cases.{by_cases, if_same}
-use Rattle.beldi_known.proofs.FrameAt.{or_no}
+use Rattle.beldi_known.proofs.{Answers.take_front, Cases.by_cases, Cases.if_same, FrameAt.or_no}
 
 -- ---- locks
 name_decides : (a b : List ℕ) → (is_name a b ≡ true → a ≡ b) × (a ≡ b → is_name a b ≡ true)
@@ -45,15 +40,15 @@ abbrev Holds : Item → ℕ → Bool → List HeldLock → Type 0
 Holds x func b hs = b ≡ true → (x.func ≡ func) × (is_held x.table x.key hs ≡ true)
 
 holds_after : (x : Item) (func : ℕ) (hs : List HeldLock) (e : Effect) (b : Bool) → Holds x func b hs → Holds x func (held_if x func (op_of e) b) (held_after e hs)
-holds_after x func hs (effect.Write t k v) b h = λ g. h (sym (if_same (is_eq (item_cmp (record { func = func; table = t; key = k }) x)) b) ∙ g)
-holds_after x func hs (effect.CondWrite t k r o v) b h = λ g. h (sym (if_same (is_eq (item_cmp (record { func = func; table = t; key = k }) x)) b) ∙ g)
-holds_after x func hs (effect.Lock t k) b h = by_test (is_eq (item_cmp (record { func = func; table = t; key = k }) x)) refl
+holds_after x func hs (Effect.Write t k v) b h = λ g. h (sym (if_same (is_eq (item_cmp (record { func = func; table = t; key = k }) x)) b) ∙ g)
+holds_after x func hs (Effect.CondWrite t k r o v) b h = λ g. h (sym (if_same (is_eq (item_cmp (record { func = func; table = t; key = k }) x)) b) ∙ g)
+holds_after x func hs (Effect.Lock t k) b h = by_test (is_eq (item_cmp (record { func = func; table = t; key = k }) x)) refl
   where
     by_test : (c : Bool) → is_eq (item_cmp (record { func = func; table = t; key = k }) x) ≡ c → Holds x func (if c then true else b) (hs ++ record { table = t; key = k } ∷ [])
     by_test true e g = let same = item_same (record { func = func; table = t; key = k }) x e in
         subst (λ (y : Item). (y.func ≡ func) × (is_held y.table y.key (hs ++ record { table = t; key = k } ∷ []) ≡ true)) same (refl, held_last hs (record { table = t; key = k }))
     by_test false e g = let k0 = h g in (k0.0, held_front x.table x.key hs (record { table = t; key = k }) k0.1)
-holds_after x func hs (effect.Unlock t k) b h = by_test (is_eq (item_cmp (record { func = func; table = t; key = k }) x)) refl
+holds_after x func hs (Effect.Unlock t k) b h = by_test (is_eq (item_cmp (record { func = func; table = t; key = k }) x)) refl
   where
     by_test : (c : Bool) → is_eq (item_cmp (record { func = func; table = t; key = k }) x) ≡ c → Holds x func (if c then false else b) (without t k hs)
     by_test true e g = cc
@@ -67,16 +62,16 @@ holds_after x func hs e b h = h
 
 -- .. and it has no lock where it locked nothing
 abbrev pub is_locking : Effect → Bool
-is_locking (effect.Lock t k) = true
+is_locking (Effect.Lock t k) = true
 is_locking e = false
 
 bare_after : (e : Effect) → is_locking e ≡ false → held_after e [] ≡ []
-bare_after (effect.Lock t k) h = cc
+bare_after (Effect.Lock t k) h = cc
 bare_after e h = refl
 
 -- ---- the Begin that is open
 begun_by : (n : ℕ) (e : Effect) (s : Txs) → is_some (txs_by n e s).begun ≡ begun_after e (is_some s.begun)
-begun_by n effect.Begin s = refl
+begun_by n Effect.Begin s = refl
 begun_by n e s = refl
 
 -- ---- locks inside
@@ -100,9 +95,9 @@ or_left : (a b : Bool) → b ≡ false → (a || b) ≡ true → a ≡ true
 or_left true b e h = refl
 or_left false b e h = let clash = sym e ∙ h in cc
 
-begun_cases : (e : Effect) (b : Bool) → begun_after e b ≡ true → (e ≡ effect.Begin) ⊎ (b ≡ true)
-begun_cases effect.Begin b h = inl refl
-begun_cases (effect.End c) b h = cc
+begun_cases : (e : Effect) (b : Bool) → begun_after e b ≡ true → (e ≡ Effect.Begin) ⊎ (b ≡ true)
+begun_cases Effect.Begin b h = inl refl
+begun_cases (Effect.End c) b h = cc
 begun_cases e b h = inr h
 
 -- ---- an instance after some of its answers
@@ -174,26 +169,26 @@ module _ (d : Deployment) (q : Instance) where
   inside_is given = (here given).within ∙ ap (λ b. b || i) (at given).begun
 
   -- .. so its step is in a transaction exactly where it is wanted inside, but for a Begin
-  pub tx_is : (id : IntentId) (given : List Answer) → (effect_after d q given ≡ effect.Begin → ⊥) → is_some (tx_after d id q given) ≡ is_inside d q.func q.args i given
+  pub tx_is : (id : IntentId) (given : List Answer) → (effect_after d q given ≡ Effect.Begin → ⊥) → is_some (tx_after d id q given) ≡ is_inside d q.func q.args i given
   tx_is id given other = by_within q.within (tx_by id q.func (length given) (effect_after d q given) (txs_after d q given).begun) ∙ ap (λ b. b || i) (by_begun (length given) (txs_after d q given).begun (effect_after d q given) other) ∙ sym (inside_is given)
     where
       by_within : (w o : Option TxId) → is_some (or_own w o) ≡ (is_some o || is_some w)
       by_within None o = sym (or_no (is_some o))
       by_within (Some t) o = sym (or_right (is_some o) true refl)
 
-      by_begun : (n : ℕ) (o : Option ℕ) (e : Effect) → (e ≡ effect.Begin → ⊥) → is_some (tx_by id q.func n e o) ≡ is_some o
-      by_begun n o effect.Begin no_begin = absurd (no_begin refl)
+      by_begun : (n : ℕ) (o : Option ℕ) (e : Effect) → (e ≡ Effect.Begin → ⊥) → is_some (tx_by id q.func n e o) ≡ is_some o
+      by_begun n o Effect.Begin no_begin = absurd (no_begin refl)
       by_begun n o e no_begin = elim o as (λ b. is_some (tx_by id q.func n e b) ≡ is_some b) [ None ↦ refl | Some b ↦ refl ]
 
   -- a Begin is wanted where none is open, outside, and with no lock held ..
-  pub begin_is : (given : List Answer) → effect_after d q given ≡ effect.Begin → (q.within ≡ None) × (is_some (txs_after d q given).begun ≡ false)
+  pub begin_is : (given : List Answer) → effect_after d q given ≡ Effect.Begin → (q.within ≡ None) × (is_some (txs_after d q given).begun ≡ false)
   begin_is given is = let k = (here given).at_begin is in (none_by q.within (λ t e. let clash = sym (ap is_some e) ∙ k.0 in cc), sym (at given).begun ∙ k.2)
 
-  pub begin_free : (given : List Answer) → effect_after d q given ≡ effect.Begin → (x : Item) → holds d x (Some (record q { answers = given })) ≡ false
+  pub begin_free : (given : List Answer) → effect_after d q given ≡ Effect.Begin → (x : Item) → holds d x (Some (record q { answers = given })) ≡ false
   begin_free given is x = false_from_ne_true (holds d x (Some (record q { answers = given }))) (λ e. let k = (here given).at_begin is in let z = (at given).locks k.3 x e in let none = sym (ap (is_held x.table x.key) k.1) ∙ z.1 in cc)
 
   -- .. an End where one is open
-  pub end_is : (given : List Answer) (c : Bool) → effect_after d q given ≡ effect.End c → is_some (txs_after d q given).begun ≡ true
+  pub end_is : (given : List Answer) (c : Bool) → effect_after d q given ≡ Effect.End c → is_some (txs_after d q given).begun ≡ true
   end_is given c is = sym (at given).begun ∙ (here given).at_end c is
 
   -- who was called in a transaction begins and ends none
@@ -202,17 +197,17 @@ module _ (d : Deployment) (q : Instance) where
 
   -- ---- after an abort
   -- inside a transaction of one's own its End is wanted, without commit
-  pub abort_ends : (given : List Answer) (c : Cause) → is_some (txs_after d q given).begun ≡ true → ((b : Bool) → effect_after d q given ≡ effect.End b → ⊥) → effect_after d q (given ++ answer.Aborted c ∷ []) ≡ effect.End false
+  pub abort_ends : (given : List Answer) (c : Cause) → is_some (txs_after d q given).begun ≡ true → ((b : Bool) → effect_after d q given ≡ Effect.End b → ⊥) → effect_after d q (given ++ Answer.Aborted c ∷ []) ≡ Effect.End false
   abort_ends given c begun other = dies_own d q.func q.args i given c (at given).going ((at given).begun ∙ begun) other
 
 -- an effect that is answered by an abort is that of a statement, and moves no lock
-abort_answer : (p : Place) (t : Option TxId) (e : Effect) (c : Cause) → IsAnswer p t e (answer.Aborted c) → (stands true e ≡ true) × (is_unlock e ≡ false) × ((hs : List HeldLock) → held_after e hs ≡ hs)
-abort_answer p t (effect.Read b k) c h = (refl, refl, λ hs. refl)
-abort_answer p t (effect.Write b k v) c h = (refl, refl, λ hs. refl)
-abort_answer p t (effect.CondWrite b k r o v) c h = (refl, refl, λ hs. refl)
-abort_answer p t (effect.Call f v) c h = (refl, refl, λ hs. refl)
-abort_answer p t effect.Abort c h = (refl, refl, λ hs. refl)
-abort_answer p t (effect.Async f v) c h = (refl, refl, λ hs. refl)
+abort_answer : (p : Place) (t : Option TxId) (e : Effect) (c : Cause) → IsAnswer p t e (Answer.Aborted c) → (stands true e ≡ true) × (is_unlock e ≡ false) × ((hs : List HeldLock) → held_after e hs ≡ hs)
+abort_answer p t (Effect.Read b k) c h = (refl, refl, λ hs. refl)
+abort_answer p t (Effect.Write b k v) c h = (refl, refl, λ hs. refl)
+abort_answer p t (Effect.CondWrite b k r o v) c h = (refl, refl, λ hs. refl)
+abort_answer p t (Effect.Call f v) c h = (refl, refl, λ hs. refl)
+abort_answer p t Effect.Abort c h = (refl, refl, λ hs. refl)
+abort_answer p t (Effect.Async f v) c h = (refl, refl, λ hs. refl)
 abort_answer p None e c h = absurd h
 abort_answer p (Some t) e c h = absurd h
 
@@ -221,8 +216,8 @@ get_there [] n less h = omega (arith, less)
 get_there (x ∷ xs) zero less h = cc
 get_there (x ∷ xs) (suc n) less h = get_there xs n (omega (arith, less)) h
 
-is_begin : (e : Effect) → (e ≡ effect.Begin) ⊎ (e ≡ effect.Begin → ⊥)
-is_begin effect.Begin = inl refl
+is_begin : (e : Effect) → (e ≡ Effect.Begin) ⊎ (e ≡ Effect.Begin → ⊥)
+is_begin Effect.Begin = inl refl
 is_begin e = inr (λ h. cc)
 
 begun_stays : (p : Phase) → is_begun p ≡ true → is_leaving p ≡ false
@@ -231,10 +226,10 @@ begun_stays p h = refl
 
 -- what locks nothing holds nothing
 none_if : (x : Item) (func : ℕ) (e : Effect) → is_locking e ≡ false → held_if x func (op_of e) false ≡ false
-none_if x func (effect.Write t k v) h = if_same (is_eq (item_cmp (record { func = func; table = t; key = k }) x)) false
-none_if x func (effect.CondWrite t k r o v) h = if_same (is_eq (item_cmp (record { func = func; table = t; key = k }) x)) false
-none_if x func (effect.Lock t k) h = cc
-none_if x func (effect.Unlock t k) h = if_same (is_eq (item_cmp (record { func = func; table = t; key = k }) x)) false
+none_if x func (Effect.Write t k v) h = if_same (is_eq (item_cmp (record { func = func; table = t; key = k }) x)) false
+none_if x func (Effect.CondWrite t k r o v) h = if_same (is_eq (item_cmp (record { func = func; table = t; key = k }) x)) false
+none_if x func (Effect.Lock t k) h = cc
+none_if x func (Effect.Unlock t k) h = if_same (is_eq (item_cmp (record { func = func; table = t; key = k }) x)) false
 none_if x func e h = refl
 
 none_along : (d : Deployment) (q : Instance) (x : Item) (given rest : List Answer) → ((n : ℕ) → n < length rest → is_locking (effect_after d q (given ++ take n rest)) ≡ false) → held_along d x q.func q.args (is_some q.within) given rest false ≡ false
@@ -245,8 +240,8 @@ none_along d q x given (a ∷ rest) g =
 
 -- no lock is answered inside
 no_lock : (p : Place) (t : TxId) (e : Effect) (a : Answer) → IsAnswer p (Some t) e a → is_locking e ≡ false
-no_lock p t (effect.Lock b k) answer.Done h = absurd h
-no_lock p t (effect.Lock b k) a h = absurd h
+no_lock p t (Effect.Lock b k) Answer.Done h = absurd h
+no_lock p t (Effect.Lock b k) a h = absurd h
 no_lock p t e a h = refl
 
 module _ (d : Deployment) (id : IntentId) (q : Instance) (h : SaneInstance d id q) where
@@ -277,13 +272,13 @@ module _ (d : Deployment) (id : IntentId) (q : Instance) (h : SaneInstance d id 
   pub inside_holds_none : is_some (tx_now d id q) ≡ true → (x : Item) → holds d x (Some q) ≡ false
   inside_holds_none inner x = by_begin (is_begin (effect_of d q))
     where
-      by_begin : (effect_of d q ≡ effect.Begin) ⊎ (effect_of d q ≡ effect.Begin → ⊥) → holds d x (Some q) ≡ false
+      by_begin : (effect_of d q ≡ Effect.Begin) ⊎ (effect_of d q ≡ Effect.Begin → ⊥) → holds d x (Some q) ≡ false
       by_begin (inl is) = begin_free d q q.answers is x
       by_begin (inr other) = holds_none (sym (tx_is d q id q.answers other ∙ inside_is d q q.answers) ∙ inner) x
 
-module _ (d : Deployment) (id : IntentId) (q : Instance) (h : SaneInstance d id q) (c : Cause) (fits : IsAnswer (place_of id (length q.answers)) (tx_now d id q) (effect_of d q) (answer.Aborted c)) where
+module _ (d : Deployment) (id : IntentId) (q : Instance) (h : SaneInstance d id q) (c : Cause) (fits : IsAnswer (place_of id (length q.answers)) (tx_now d id q) (effect_of d q) (Answer.Aborted c)) where
   -- who was called in a transaction holds none, and returns it
-  pub abort_returns : (t : TxId) → q.within ≡ Some t → effect_of d (answered q (answer.Aborted c)) ≡ effect.Return (outcome.Aborted c)
+  pub abort_returns : (t : TxId) → q.within ≡ Some t → effect_of d (answered q (Answer.Aborted c)) ≡ Effect.Return (Outcome.Aborted c)
   abort_returns t inner =
       let k = abort_answer (place_of id (length q.answers)) (tx_now d id q) (effect_of d q) c fits in
       let g = at d q q.answers in

@@ -1,14 +1,7 @@
 -- A row of a read decides no transaction that owns an item, so what is listed stays.
 use Rattle.beldi_known.proofs.Names.{Answer, Bool, Content, Deployment, Effect, Got, Instance, IntentId, Item, Kind, Known, List, None, Option, Place, Row, RowKey, Rows, Some, Tx, TxId, TxsMatch, [], along, and_parts, ap, append-nil, append_assoc, arith, cond, content_of, decision_key, effect_after, effect_of, false, false_from_ne_true, fits_at, got_before, got_by, head_key, if◌then◌else◌, inl, inr, is_aborted, is_begin, is_committed, is_eq, is_item, is_on, is_tx, key_cmp, key_same, length, length-append, listed, log_key, not, or_own, place_of, refl, row_got, same_some, set_row, shadow_key, sym, touched, true, tx_after, tx_by, tx_now, txs_after, value_in, ℕ, ◌&&◌, ◌++◌, ◌<◌, ◌||◌, ◌∙◌, ◌∷◌, ◌≡◌, ◌⊎◌}
-use Rattle.beldi_known.proofs.Names.effect
-use Rattle.beldi_known.proofs.Names.kinds
+use Rattle.beldi_known.proofs.{Locks.is_its, Locks.tx_same, Acts.kinds_apart, Acts.is_data, Acts.is_shadow, Acts.content_apart, OwnTx.Own, OwnTx.own_by, Lists.elsewhere, Lists.lists_owned, Cases.by_cases, Answers.true_false}
 use Rattle.beldi_known.proofs.Names.map
-use Rattle.beldi_known.proofs.Locks.{is_its, tx_same}
-use Rattle.beldi_known.proofs.Acts.{kinds_apart, is_data, is_shadow, content_apart}
-use Rattle.beldi_known.proofs.OwnTx.{Own, own_by}
-use Rattle.beldi_known.proofs.Lists.{elsewhere, lists_owned}
-use Rattle.beldi_known.proofs.Cases.{by_cases}
-use Rattle.beldi_known.proofs.Answers.{true_false}
 
 -- ---- a step that a fold has gathered
 pub record Gathered (g : List Answer → Answer → Bool) (all : List Answer) : Type 0 where
@@ -45,7 +38,7 @@ asked_for d t x j z b h = by_cases (got_before d t x j z)
     (λ e. record { given = z.answers; later = []; all = append-nil z.answers; on = (and_parts b (is_on t x z.func (tx_now d j z) (effect_of d z)) (sym (ap (λ u. u || (b && is_on t x z.func (tx_now d j z) (effect_of d z))) e) ∙ h)).1 })
 
 pub no_begin : (x : Item) (func : ℕ) (e : Effect) → is_item x func (touched e) ≡ true → is_begin e ≡ false
-no_begin x func effect.Begin h = cc
+no_begin x func Effect.Begin h = cc
 no_begin x func e h = refl
 
 -- who was called in a transaction gets for that one
@@ -93,7 +86,7 @@ module _ (d : Deployment) (m : Rows) (known : Known) (locked : IntentId → Bool
   key = log_key q.func (place_of id (length q.answers))
 
   abbrev place_at : Kind → Place
-  place_at (kinds.ReadLog a) = a
+  place_at (Kind.ReadLog a) = a
   place_at k = place_of id 0
 
   apart : (x : Item) (t : TxId) → (content_of m x).owner ≡ Some (Tx t) → is_eq (key_cmp (decision_key t) key) ≡ false

@@ -1,6 +1,5 @@
 -- What is at a key after one row was set, and which keys differ.
 use Rattle.beldi_known.proofs.Names.{Bool, Equal, Item, Kind, Less, Option, Ordering, Row, RowKey, Rows, ap, cond, false, got, head_key, is_eq, item_cmp, key_cmp, key_same, key_self, nat_cmp, ordering_then, refl, root_key, set_row, slice_cmp, subst, sym, true, ℕ, ◌∙◌, ◌≡◌}
-use Rattle.beldi_known.proofs.Names.kinds
 use Rattle.beldi_known.proofs.Names.map
 
 -- ---- which keys differ
@@ -17,12 +16,12 @@ pub head_order : (x y : Item) → key_cmp (head_key x) (head_key y) ≡ item_cmp
 head_order x y = ap (λ o. ordering_then (nat_cmp x.func y.func) (ordering_then (nat_cmp x.table y.table) o)) (then_equal (slice_cmp nat_cmp x.key y.key))
 
 abbrev pub is_intent_key : Kind → Bool
-is_intent_key (kinds.Intent id) = true
+is_intent_key (Kind.Intent id) = true
 is_intent_key k = false
 
 -- a row of another kind is no root's
 pub no_root : (t home : ℕ) (k : Kind) → is_intent_key k ≡ false → is_eq (key_cmp (root_key t) (record { home = home; kind = k })) ≡ false
-no_root t home (kinds.Intent a) h = cc
+no_root t home (Kind.Intent a) h = cc
 no_root t home k h = not_less (nat_cmp 0 home)
 
 -- ---- what holds at the row that changed, and at all others, holds at all

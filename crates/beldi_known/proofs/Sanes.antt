@@ -1,13 +1,7 @@
 -- All that is known stays sane: move by move.
 use Rattle.beldi_known.proofs.Names.{Answer, Bool, CalledBy, Caller, Cause, Closed, Deployment, Effect, Instance, IntentId, IsAlone, IsAnswer, IsCalled, IsDeath, Known, List, None, Option, Outcome, Place, Rel, Sane, SaneInstance, Some, TxId, Value, [], answer_at_once, answer_given, answer_of, answered, ap, arith, at_once, both_set, call_of, callee_answered, callee_ended, callee_new, callee_of, callee_over, callee_sent, caller_answered, caller_ended, calls_at, child_of, child_same, effect_before, effect_now, effect_of, effect_past, ended, false, has_no_hops, inl, inr, is_some, is_waited, length, longer_cases, made_set, moved, new_instance, next_step, no_root, none_by, not_root, once, option_map, pairs_set, place_of, refl, root_of, same_some, slice_get, still_made, subst, sym, touched, true, tx_at, tx_here_now, tx_now, ℕ, ◌<◌, ◌∙◌, ◌≡◌}
-use Rattle.beldi_known.proofs.Names.answer
-use Rattle.beldi_known.proofs.Names.effect
+use Rattle.beldi_known.proofs.{AtOnce.origin_stays, AtOnce.closed_at_once, Frame.at_once_is, Frame.at_once_by, Goes.sane_once, Goes.sane_moved}
 use Rattle.beldi_known.proofs.Names.map
-use Rattle.beldi_known.proofs.Names.outcome
-use Rattle.beldi_known.proofs.Names.value
-use Rattle.beldi_known.proofs.AtOnce.{origin_stays, closed_at_once}
-use Rattle.beldi_known.proofs.Frame.{at_once_is, at_once_by}
-use Rattle.beldi_known.proofs.Goes.{sane_once, sane_moved}
 
 -- ---- one instance
 abbrev Good : Deployment → IntentId → Instance → Type 0
@@ -22,17 +16,17 @@ good_new d id q empty none =
 good_moved : (d : Deployment) (id : IntentId) (q : Instance) (a : Answer) → q.outcome ≡ None → IsAnswer (place_of id (length q.answers)) (tx_now d id q) (effect_of d q) a → SaneInstance d id q → Good d id (moved d id q a)
 good_moved d id q a none is h = (sane_moved d id q a none is h, closed_at_once d id (answered q a))
 
-good_ended : (d : Deployment) (id : IntentId) (q : Instance) (o : Outcome) → effect_of d q ≡ effect.Return o → SaneInstance d id q → Good d id (ended q o)
-good_ended d id q o is h = (record { past = h.past; over = λ u g. is ∙ ap effect.Return (same_some g) }, λ none. cc)
+good_ended : (d : Deployment) (id : IntentId) (q : Instance) (o : Outcome) → effect_of d q ≡ Effect.Return o → SaneInstance d id q → Good d id (ended q o)
+good_ended d id q o is h = (record { past = h.past; over = λ u g. is ∙ ap Effect.Return (same_some g) }, λ none. cc)
 
 -- a return has no answer
-no_return : (p : Place) (t : Option TxId) (o : Outcome) (a : Answer) → IsAnswer p t (effect.Return o) a → ⊥
+no_return : (p : Place) (t : Option TxId) (o : Outcome) (a : Answer) → IsAnswer p t (Effect.Return o) a → ⊥
 no_return p None o a h = h
 no_return p (Some t) o a h = h
 
 -- a call is answered by an outcome
-call_answers : (p : Place) (t : Option TxId) (f : ℕ) (v : Value) (o : Outcome) → IsAnswer p t (effect.Call f v) (answer_of o)
-call_answers p t f v (outcome.Value w) = tt
+call_answers : (p : Place) (t : Option TxId) (f : ℕ) (v : Value) (o : Outcome) → IsAnswer p t (Effect.Call f v) (answer_of o)
+call_answers p t f v (Outcome.Value w) = tt
 call_answers p t f v o = tt
 
 -- so who has one has no outcome
@@ -174,7 +168,7 @@ module _ (d : Deployment) (known : Known) (h : Sane d known) where
         (roots_set known id s (moved_root a) h.roots)
 
     -- it ends, and nobody waits for it
-    pub sane_ended : (o : Outcome) → effect_of d q ≡ effect.Return o → IsAlone q.from → Sane d (map.insert known id (ended q o))
+    pub sane_ended : (o : Outcome) → effect_of d q ≡ Effect.Return o → IsAlone q.from → Sane d (map.insert known id (ended q o))
     sane_ended o returns alone =
         let s = ended q o in
         sane_by d (map.insert known id s) (good_set d known id s (good_ended d id q o returns (h.each id q is)) all_good)
@@ -202,7 +196,7 @@ module _ (d : Deployment) (known : Known) (h : Sane d known) where
       abbrev callee : Bool → Option TxId → Instance
       callee waits t = record (new_instance f v (Some (calls_at id q waits))) { within = t }
 
-      pub sane_called : (t : Option TxId) → t ≡ tx_now d id q → effect_of d q ≡ effect.Call f v → Sane d (map.insert known (callee_of id q) (at_once d (callee_of id q) (callee true t)))
+      pub sane_called : (t : Option TxId) → t ≡ tx_now d id q → effect_of d q ≡ Effect.Call f v → Sane d (map.insert known (callee_of id q) (at_once d (callee_of id q) (callee true t)))
       sane_called t same call =
           let k = callee_of id q in
           let at = length q.answers in
@@ -215,14 +209,14 @@ module _ (d : Deployment) (known : Known) (h : Sane d known) where
           subst (λ z. Pair d z (map.get over z) n (Some s)) (sym r.0) (subst (λ m. Pair d id (map.get over id) m (Some s)) (sym r.1) (subst (λ o. Pair d id o at (Some s)) (sym there) two)))
 
       -- .. and nobody waits for it
-      pub sane_sent : tx_now d id q ≡ None → effect_of d q ≡ effect.Async f v → Sane d (map.insert (map.insert known (callee_of id q) (at_once d (callee_of id q) (callee false None))) id (moved d id q answer.Done))
+      pub sane_sent : tx_now d id q ≡ None → effect_of d q ≡ Effect.Async f v → Sane d (map.insert (map.insert known (callee_of id q) (at_once d (callee_of id q) (callee false None))) id (moved d id q Answer.Done))
       sane_sent out call =
           let k = callee_of id q in
           let s = callee false None in
           let p = place_of id (length q.answers) in
-          let fits = subst (λ t. IsAnswer p t (effect_of d q) answer.Done) (sym out) (subst (λ e. IsAnswer p None e answer.Done) (sym call) tt) in
-          sane_both (at_once d k s) answer.Done (good_new d k s refl refl) fits (λ u root. absurd (not_root id (length q.answers) u root))
-          (λ n u l. pair_new d k s n u refl (subst (λ z. Pair d k z n u) gone l)) (callee_at_once d id k (Some (answered q answer.Done)) (length q.answers) s (callee_sent d id q f v call))
+          let fits = subst (λ t. IsAnswer p t (effect_of d q) Answer.Done) (sym out) (subst (λ e. IsAnswer p None e Answer.Done) (sym call) tt) in
+          sane_both (at_once d k s) Answer.Done (good_new d k s refl refl) fits (λ u root. absurd (not_root id (length q.answers) u root))
+          (λ n u l. pair_new d k s n u refl (subst (λ z. Pair d k z n u) gone l)) (callee_at_once d id k (Some (answered q Answer.Done)) (length q.answers) s (callee_sent d id q f v call))
 
   -- ---- a root is made
   pub sane_bound : (id : IntentId) (f : ℕ) (v : Value) → map.get known id ≡ None → has_no_hops id.hops ≡ true → Sane d (map.insert known id (at_once d id (new_instance f v None)))
@@ -240,13 +234,13 @@ module _ (d : Deployment) (known : Known) (h : Sane d known) where
     pub last : n ≡ length q.answers
     last = next_step q.answers n call.here (call.answered ∙ ap (λ b. answer_given b j.outcome) waits ∙ ap (option_map answer_of) none)
 
-    pub stands : effect_of d q ≡ effect.Call j.func j.args
+    pub stands : effect_of d q ≡ Effect.Call j.func j.args
     stands = sym (effect_now d q) ∙ ap (effect_before d q) (sym last) ∙ call.call ∙ ap (λ b. call_of b j.func j.args) waits
 
     from : j.from ≡ Some (calls_at id q true)
     from = call.from ∙ ap (λ m. Some (record { place = place_of id m; func = q.func; waits = call.waits })) last ∙ ap (λ b. Some (calls_at id q b)) waits
 
-    pub sane_returned : (o : Outcome) → effect_of d j ≡ effect.Return o → Sane d (map.insert (map.insert known (child_of id n) (ended j o)) id (moved d id q (answer_of o)))
+    pub sane_returned : (o : Outcome) → effect_of d j ≡ Effect.Return o → Sane d (map.insert (map.insert known (child_of id n) (ended j o)) id (moved d id q (answer_of o)))
     sane_returned o returns =
         let k = callee_of id q in
         let at = length q.answers in
@@ -261,10 +255,10 @@ module _ (d : Deployment) (known : Known) (h : Sane d known) where
 
 -- ---- answers to operations
 -- inside, by a death
-pub death_answer : (p : Place) (t : TxId) (e : Effect) (x : ℕ × List ℕ) (c : Cause) → touched e ≡ Some x → IsDeath p t c → IsAnswer p (Some t) e (answer.Aborted c)
-death_answer p t (effect.Read b k) x c h dies = dies
-death_answer p t (effect.Write b k v) x c h dies = dies
-death_answer p t (effect.CondWrite b k r o v) x c h dies = dies
+pub death_answer : (p : Place) (t : TxId) (e : Effect) (x : ℕ × List ℕ) (c : Cause) → touched e ≡ Some x → IsDeath p t c → IsAnswer p (Some t) e (Answer.Aborted c)
+death_answer p t (Effect.Read b k) x c h dies = dies
+death_answer p t (Effect.Write b k v) x c h dies = dies
+death_answer p t (Effect.CondWrite b k r o v) x c h dies = dies
 death_answer p t e x c h dies = cc
 
 -- it is no call
@@ -273,27 +267,27 @@ touched_is_no_call x true f v h = cc
 touched_is_no_call x false f v h = cc
 
 module _ (d : Deployment) (known : Known) (h : Sane d known) (id : IntentId) (q : Instance) (is : map.get known id ≡ Some q) where
-  pub sane_died : (t : TxId) (x : ℕ × List ℕ) (c : Cause) → tx_now d id q ≡ Some t → touched (effect_of d q) ≡ Some x → IsDeath (place_of id (length q.answers)) t c → Sane d (map.insert known id (moved d id q (answer.Aborted c)))
+  pub sane_died : (t : TxId) (x : ℕ × List ℕ) (c : Cause) → tx_now d id q ≡ Some t → touched (effect_of d q) ≡ Some x → IsDeath (place_of id (length q.answers)) t c → Sane d (map.insert known id (moved d id q (Answer.Aborted c)))
   sane_died t x c inner touch dies = let p = place_of id (length q.answers) in
-      sane_answered d known h id q is (answer.Aborted c) (subst (λ t. IsAnswer p t (effect_of d q) (answer.Aborted c)) (sym inner) (death_answer p t (effect_of d q) x c touch dies))
+      sane_answered d known h id q is (Answer.Aborted c) (subst (λ t. IsAnswer p t (effect_of d q) (Answer.Aborted c)) (sym inner) (death_answer p t (effect_of d q) x c touch dies))
       (λ b f v call. touched_is_no_call x b f v (ap touched (sym call) ∙ touch))
 
   -- by an effect that is answered alike inside and outside
-  sane_at : (e : Effect) (a : Answer) → ((t : Option TxId) → IsAnswer (place_of id (length q.answers)) t e a) → ((f : ℕ) (v : Value) → e ≡ effect.Call f v → ⊥) → ((f : ℕ) (v : Value) → e ≡ effect.Async f v → ⊥) → effect_of d q ≡ e → Sane d (map.insert known id (moved d id q a))
+  sane_at : (e : Effect) (a : Answer) → ((t : Option TxId) → IsAnswer (place_of id (length q.answers)) t e a) → ((f : ℕ) (v : Value) → e ≡ Effect.Call f v → ⊥) → ((f : ℕ) (v : Value) → e ≡ Effect.Async f v → ⊥) → effect_of d q ≡ e → Sane d (map.insert known id (moved d id q a))
   sane_at e a fits no_call no_send same = sane_answered d known h id q is a (subst (λ z. IsAnswer (place_of id (length q.answers)) (tx_now d id q) z a) (sym same) (fits (tx_now d id q))) (λ w f v call. by_wait w f v (sym same ∙ call))
     where
       by_wait : (w : Bool) (f : ℕ) (v : Value) → e ≡ call_of w f v → ⊥
       by_wait true f v g = no_call f v g
       by_wait false f v g = no_send f v g
 
-  pub sane_read : (t : ℕ) (k : List ℕ) (v : Value) → effect_of d q ≡ effect.Read t k → Sane d (map.insert known id (moved d id q (answer.Value v)))
-  sane_read t k v = sane_at (effect.Read t k) (answer.Value v) (λ s. tt) (λ f w g. cc) (λ f w g. cc)
+  pub sane_read : (t : ℕ) (k : List ℕ) (v : Value) → effect_of d q ≡ Effect.Read t k → Sane d (map.insert known id (moved d id q (Answer.Value v)))
+  sane_read t k v = sane_at (Effect.Read t k) (Answer.Value v) (λ s. tt) (λ f w g. cc) (λ f w g. cc)
 
-  pub sane_wrote : (t : ℕ) (k : List ℕ) (v : Value) → effect_of d q ≡ effect.Write t k v → Sane d (map.insert known id (moved d id q answer.Done))
-  sane_wrote t k v = sane_at (effect.Write t k v) answer.Done (λ s. tt) (λ f w g. cc) (λ f w g. cc)
+  pub sane_wrote : (t : ℕ) (k : List ℕ) (v : Value) → effect_of d q ≡ Effect.Write t k v → Sane d (map.insert known id (moved d id q Answer.Done))
+  sane_wrote t k v = sane_at (Effect.Write t k v) Answer.Done (λ s. tt) (λ f w g. cc) (λ f w g. cc)
 
-  pub sane_tested : (t : ℕ) (k : List ℕ) (r : Rel) (o v : Value) (b : Bool) → effect_of d q ≡ effect.CondWrite t k r o v → Sane d (map.insert known id (moved d id q (answer.Value (value.Bool b))))
-  sane_tested t k r o v b = sane_at (effect.CondWrite t k r o v) (answer.Value (value.Bool b)) (λ s. tt) (λ f w g. cc) (λ f w g. cc)
+  pub sane_tested : (t : ℕ) (k : List ℕ) (r : Rel) (o v : Value) (b : Bool) → effect_of d q ≡ Effect.CondWrite t k r o v → Sane d (map.insert known id (moved d id q (Answer.Value (Value.Bool b))))
+  sane_tested t k r o v b = sane_at (Effect.CondWrite t k r o v) (Answer.Value (Value.Bool b)) (λ s. tt) (λ f w g. cc) (λ f w g. cc)
 
-  pub sane_decided : (c : Bool) → effect_of d q ≡ effect.End c → Sane d (map.insert known id (moved d id q answer.Done))
-  sane_decided c = sane_at (effect.End c) answer.Done (λ s. tt) (λ f w g. cc) (λ f w g. cc)
+  pub sane_decided : (c : Bool) → effect_of d q ≡ Effect.End c → Sane d (map.insert known id (moved d id q Answer.Done))
+  sane_decided c = sane_at (Effect.End c) Answer.Done (λ s. tt) (λ f w g. cc) (λ f w g. cc)

@@ -1,10 +1,8 @@
 -- An instance is made, or ends: it owes items, shadows, locksets and reads what was owed, and its own rows or those of a call change.
 use Rattle.beldi_known.proofs.Names.{Bool, CallMatches, Content, Deployment, Instance, IntentId, IntentMatches, Item, ItemMatches, Kind, Known, LocksetMatches, LogMatches, Matches, Option, Owner, Place, Row, RowKey, RowMatches, Rows, ShadowMatches, Some, TxId, TxsMatch, ap, content_of, ended_by, false, got_by, has_ended, has_no_hops, holds, is_eq, is_mark, is_some, key_cmp, lockset_ahead, owed_call, owed_lockset, owed_note, owed_shadow, owed_value, refl, set_row, shadow_of, subst, sym, true, tx_end, ℕ, ◌||◌, ◌∙◌, ◌≡◌}
-use Rattle.beldi_known.proofs.Names.kinds
-use Rattle.beldi_known.proofs.Names.map
-use Rattle.beldi_known.proofs.Acts.{is_cell, log_set}
 use Rattle.beldi_known.proofs.FrameAt.{known_set, item_alike, txs_alike, lockset_by, or_no, mark_alike, ahead_alike}
-use Rattle.beldi_known.proofs.Instances.{EndMore, intent_stays}
+use Rattle.beldi_known.proofs.{Acts.is_cell, Acts.log_set, Instances.EndMore, Instances.intent_stays}
+use Rattle.beldi_known.proofs.Names.map
 
 -- what is at an id owes what was owed there, and has no lock ahead
 pub record OwesStill (d : Deployment) (known : Known) (id : IntentId) (o : Option Instance) (s : Instance) : Type 0 where
@@ -20,13 +18,13 @@ pub record OwesStill (d : Deployment) (known : Known) (id : IntentId) (o : Optio
 
 -- rows that are no cells and no lockset row
 abbrev pub is_log : Kind → Bool
-is_log (kinds.Intent id) = true
-is_log (kinds.Invoke a) = true
+is_log (Kind.Intent id) = true
+is_log (Kind.Invoke a) = true
 is_log k = false
 
 no_cell : (k : Kind) → is_log k ≡ true → is_cell k ≡ false
-no_cell (kinds.Data t k n) h = cc
-no_cell (kinds.Shadow s t k n) h = cc
+no_cell (Kind.Data t k n) h = cc
+no_cell (Kind.Shadow s t k n) h = cc
 no_cell k h = refl
 
 module _ (d : Deployment) (known : Known) (locked : IntentId → Bool) (id : IntentId) (s : Instance) (unlocked : locked id ≡ false) (owes : OwesStill d known id (map.get known id) s) where
@@ -70,20 +68,20 @@ module _ (d : Deployment) (known : Known) (locked : IntentId → Bool) (id : Int
       owed i = as_before (λ i o. owed_lockset d b x i o) (owes.locksets b x) i
 
   -- a row matches still, where its own do and calls are owed as before
-  pub row_same : (home : ℕ) (kind : Kind) (row : Option Row) → (kind ≡ kinds.Intent id → IntentMatches (has_ended d known) (has_no_hops id.hops) home row (map.get known id) → IntentMatches (has_ended d known) (has_no_hops id.hops) home row (Some s))
-      → ((b : Place) → kind ≡ kinds.Invoke b → owed_call after home b ≡ owed_call known home b) → RowMatches d known home kind row → RowMatches d after home kind row
-  row_same home (kinds.Intent j) row own calls g = intent_stays (has_ended d known) (has_ended d after) ended_more (has_no_hops j.hops) home row (map.get after j)
+  pub row_same : (home : ℕ) (kind : Kind) (row : Option Row) → (kind ≡ Kind.Intent id → IntentMatches (has_ended d known) (has_no_hops id.hops) home row (map.get known id) → IntentMatches (has_ended d known) (has_no_hops id.hops) home row (Some s))
+      → ((b : Place) → kind ≡ Kind.Invoke b → owed_call after home b ≡ owed_call known home b) → RowMatches d known home kind row → RowMatches d after home kind row
+  row_same home (Kind.Intent j) row own calls g = intent_stays (has_ended d known) (has_ended d after) ended_more (has_no_hops j.hops) home row (map.get after j)
       (known_set known id s (λ i o. i ≡ j → IntentMatches (has_ended d known) (has_no_hops i.hops) home row (map.get known i) → IntentMatches (has_ended d known) (has_no_hops i.hops) home row o)
-      (λ e k. own (ap kinds.Intent (sym e)) k) (λ i other e k. k) j refl g)
-  row_same home (kinds.ReadLog b) row own calls g = subst (LogMatches row) (sym (as_before (λ j o. owed_value d home b.step o) (owes.values home b.step) b.intent)) g
-  row_same home (kinds.Invoke b) row own calls g = subst (CallMatches row) (sym (calls b refl)) g
-  row_same home (kinds.Lockset j b t k) row own calls g = lockset_same b (record { func = home; table = t; key = k }) j row g
+      (λ e k. own (ap Kind.Intent (sym e)) k) (λ i other e k. k) j refl g)
+  row_same home (Kind.ReadLog b) row own calls g = subst (LogMatches row) (sym (as_before (λ j o. owed_value d home b.step o) (owes.values home b.step) b.intent)) g
+  row_same home (Kind.Invoke b) row own calls g = subst (CallMatches row) (sym (calls b refl)) g
+  row_same home (Kind.Lockset j b t k) row own calls g = lockset_same b (record { func = home; table = t; key = k }) j row g
   row_same home kind row own calls g = g
 
   -- it was set, with one row of an intent or of a call
   pub instance_set : (m : Rows) (k : RowKey) (v : Option Row) → is_log k.kind ≡ true → RowMatches d after k.home k.kind v
-      → ((l : RowKey) → is_eq (key_cmp l k) ≡ false → l.kind ≡ kinds.Intent id → IntentMatches (has_ended d known) (has_no_hops id.hops) l.home (map.get m l) (map.get known id) → IntentMatches (has_ended d known) (has_no_hops id.hops) l.home (map.get m l) (Some s))
-      → ((l : RowKey) (b : Place) → is_eq (key_cmp l k) ≡ false → l.kind ≡ kinds.Invoke b → owed_call after l.home b ≡ owed_call known l.home b) → Matches d m known locked → Matches d (set_row m k v) after locked
+      → ((l : RowKey) → is_eq (key_cmp l k) ≡ false → l.kind ≡ Kind.Intent id → IntentMatches (has_ended d known) (has_no_hops id.hops) l.home (map.get m l) (map.get known id) → IntentMatches (has_ended d known) (has_no_hops id.hops) l.home (map.get m l) (Some s))
+      → ((l : RowKey) (b : Place) → is_eq (key_cmp l k) ≡ false → l.kind ≡ Kind.Invoke b → owed_call after l.home b ≡ owed_call known l.home b) → Matches d m known locked → Matches d (set_row m k v) after locked
   instance_set m k v kind here own calls h = log_set d after locked m k v (no_cell k.kind kind) here (λ l other. row_same l.home l.kind (map.get m l) (own l other) (λ b e. calls l b other e) (h.keys l))
       (λ x. item_same x (content_of m x) (h.items x)) (λ t x. shadow_same t x (shadow_of m t x) (h.shadows t x)) (λ x. txs_same x (content_of m x).owner (h.txs x))
 

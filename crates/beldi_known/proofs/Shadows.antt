@@ -1,11 +1,7 @@
 -- Rows of shadows, one at a time, and what they show; and who got the items that have one.
-use Rattle.beldi_known.proofs.Names.{AllGot, Answer, Bool, Deployment, Got, Instance, IntentId, Item, Known, LockedOut, None, Option, PlainState, Row, RowKey, Rows, ShadowShows, Shadows, Some, TxId, Value, and_right, ap, cond, content_in, effect_of, false, false_from_ne_true, got_before, got_by, inl, inr, is_aborted, is_eq, is_item, is_on, is_some, is_tx, is_writing, item_cmp, item_total, key_cmp, key_same, key_self, moved, not, refl, row_got, set_row, shadow_key, subst, sym, tied_itself, touched, true, tx_begun, tx_now, value_at, writes_on, writing_at, ◌&&◌, ◌||◌, ◌∙◌, ◌≡◌, ◌⊎◌, arith}
+use Rattle.beldi_known.proofs.Names.{AllGot, Answer, Bool, Deployment, Got, Instance, IntentId, Item, Known, LockedOut, None, Option, PlainState, Row, RowKey, Rows, ShadowShows, Shadows, Some, TxId, Value, and_right, ap, arith, cond, content_in, effect_of, false, false_from_ne_true, got_before, got_by, inl, inr, is_aborted, is_eq, is_item, is_on, is_some, is_tx, is_writing, item_cmp, item_total, key_cmp, key_same, key_self, moved, not, refl, row_got, set_row, shadow_key, subst, sym, tied_itself, touched, true, tx_begun, tx_now, value_at, writes_on, writing_at, ◌&&◌, ◌||◌, ◌∙◌, ◌≡◌, ◌⊎◌}
+use Rattle.beldi_known.proofs.{Acts.by_item, Acts.shadow_same, Answers.true_false, Frame.moved_one, FrameAt.known_set, Cases.by_cases}
 use Rattle.beldi_known.proofs.Names.map
-use Rattle.beldi_known.proofs.Acts.{by_item, shadow_same}
-use Rattle.beldi_known.proofs.Answers.{true_false}
-use Rattle.beldi_known.proofs.Frame.{moved_one}
-use Rattle.beldi_known.proofs.FrameAt.{known_set}
-use Rattle.beldi_known.proofs.Cases.{by_cases}
 
 -- ---- one shadow
 pub more_writes : (b c : Bool) (o : Option Row) (v : Value) → (b ≡ true → c ≡ true) → ShadowShows b o v → ShadowShows c o v

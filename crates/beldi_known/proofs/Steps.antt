@@ -1,16 +1,9 @@
 -- An open transaction goes on: by an answer to the one that can step, by a call of it, or by its return; and by what takes no turn.
+use Rattle.beldi_plain.specs.{Moves.moved, Moves.Leads, Piece.is_owner}
 use Rattle.beldi_known.proofs.Names.{Answer, Caller, Cause, Deployment, Effect, FinMap, Going, Instance, IntentId, IsIn, Items, Known, List, Move, None, OpenTx, Outcome, PlainState, Some, TxId, Value, [], aborted, all_in, answer_at_once, answer_by, answer_of, answered, answered_on, answers_so, ap, at_once, begins, callee_in, callee_of, calls_at, calls_so, child_of, child_same, cond, dies_at, effect_of, ended, false, fell, get-insert, gone_on, has_callees, here, id_cmp, id_total, if◌then◌else◌, inl, inr, is_eq, is_some, items_by, last_of, length, new_member, once, opened, place_of, plain, refl, returned, returns_so, same_some, set_alike, subst, sym, true, tx_begun, with_member, ℕ, ◌++◌, ◌∙◌, ◌∷◌, ◌≡◌}
-use Rattle.beldi_known.proofs.Names.answer
-use Rattle.beldi_known.proofs.Names.effect
+use Rattle.beldi_known.proofs.{AtOnce.none_of, AtOnce.once_none, AtOnce.once_some, Begins.aborts_once, Lines.front_in_tx, Lines.line, Lines.member, Phases.begin_is, FrameAt.known_same}
 use Rattle.beldi_known.proofs.Names.map
 use Rattle.beldi_known.proofs.Names.plain
-use Rattle.beldi_plain.specs.Moves.{moved, Leads}
-use Rattle.beldi_plain.specs.Piece.{is_owner}
-use Rattle.beldi_known.proofs.AtOnce.{none_of, once_none, once_some}
-use Rattle.beldi_known.proofs.Begins.{aborts_once}
-use Rattle.beldi_known.proofs.Lines.{front_in_tx, line, member}
-use Rattle.beldi_known.proofs.Phases.{begin_is}
-use Rattle.beldi_known.proofs.FrameAt.{known_same}
 
 -- it is open, this one can step in it, and these are its items
 pub record GoesOn (d : Deployment) (p : PlainState) (known : Known) (o : IntentId) (q : Instance) (front : IntentId) (items : Items) : Type 0 where
@@ -44,7 +37,7 @@ module _ (d : Deployment) (p : PlainState) (sane : plain.Sane d p) (o : IntentId
     made_front y is = sym (tx.whole tx.going.front in_it) ∙ is
 
     -- nobody in it stands at a Begin
-    pub no_begin : (i : IntentId) (z : Instance) → IsIn (tx_begun o q) i → map.get known i ≡ Some z → effect_of d z ≡ effect.Begin → ⊥
+    pub no_begin : (i : IntentId) (z : Instance) → IsIn (tx_begun o q) i → map.get known i ≡ Some z → effect_of d z ≡ Effect.Begin → ⊥
     no_begin i z (inl own) is at = let clash = sym (ap is_some ((member d p known sane o q made b tx i z (inl own) is).owner own).begun) ∙ (begin_is d z z.answers at).1 in cc
     no_begin i z (inr h) is at = let clash = sym ((member d p known sane o q made b tx i z (inr h) is).below h) ∙ (begin_is d z z.answers at).0 in cc
 
@@ -68,10 +61,10 @@ module _ (d : Deployment) (p : PlainState) (sane : plain.Sane d p) (o : IntentId
             })
 
         by_effect : (e : Effect) → effect_of d y ≡ e → GoesOn d p (map.insert known tx.going.front (at_once d tx.going.front y)) o q tx.going.front tx.going.state.items
-        by_effect effect.Begin at = absurd (no_begin tx.going.front y in_it is at)
-        by_effect effect.Abort at =
+        by_effect Effect.Begin at = absurd (no_begin tx.going.front y in_it is at)
+        by_effect Effect.Abort at =
             let c : Cause = record { place = place_of tx.going.front (length y.answers); holder = None } in
-            let a = answer.Aborted c in
+            let a = Answer.Aborted c in
             let first = once_some d tx.going.front y a none (ap (answer_at_once tx.going.front (length y.answers)) at) in
             let then_none = none_of tx.going.front (length (answered y a).answers) (effect_of d (answered y a)) (aborts_once d y.func y.args (is_some y.within) y.answers c at) in
             subst (λ z. GoesOn d p (map.insert known tx.going.front z) o q tx.going.front tx.going.state.items) (sym (ap (once d tx.going.front) first ∙ once_none d tx.going.front (answered y a) then_none))
@@ -96,7 +89,7 @@ module _ (d : Deployment) (p : PlainState) (sane : plain.Sane d p) (o : IntentId
     goes_answered y is none m a gives = then_once known tx.going.front (answered y a) (items_by tx.going.state.items y (effect_of d y) m) (answer_on known tx y is m a gives) none
 
     -- ---- a call
-    pub goes_called : (y : Instance) → map.get known tx.going.front ≡ Some y → (f : ℕ) (v : Value) → effect_of d y ≡ effect.Call f v → has_callees tx.going.front ≡ true → map.get known (callee_of tx.going.front y) ≡ None → let c = callee_of tx.going.front y in
+    pub goes_called : (y : Instance) → map.get known tx.going.front ≡ Some y → (f : ℕ) (v : Value) → effect_of d y ≡ Effect.Call f v → has_callees tx.going.front ≡ true → map.get known (callee_of tx.going.front y) ≡ None → let c = callee_of tx.going.front y in
         GoesOn d p (map.insert known c (at_once d c (new_member (tx_begun o q) f v (calls_at tx.going.front y true)))) o q c tx.going.state.items
     goes_called y is f v call short gone =
         let t = tx_begun o q in
@@ -110,7 +103,7 @@ module _ (d : Deployment) (p : PlainState) (sane : plain.Sane d p) (o : IntentId
         (λ j is_in. set_alike known tx.going.state.made c j z (tx.whole j is_in))) refl
 
     -- ---- a return, to who waits
-    pub goes_returned : (z : Instance) → map.get known tx.going.front ≡ Some z → (u : Outcome) (c : Caller) → effect_of d z ≡ effect.Return u → is_owner (tx_begun o q) tx.going.front ≡ false → z.from ≡ Some c
+    pub goes_returned : (z : Instance) → map.get known tx.going.front ≡ Some z → (u : Outcome) (c : Caller) → effect_of d z ≡ Effect.Return u → is_owner (tx_begun o q) tx.going.front ≡ false → z.from ≡ Some c
         → (i : IntentId) (n : ℕ) (y : Instance) → tx.going.front ≡ child_of i n → map.get known i ≡ Some y → GoesOn d p (map.insert (map.insert known tx.going.front (ended z u)) i (answered_on d i y (answer_of u))) o q i tx.going.state.items
     goes_returned z is u c returns own from i n y called there =
         let t = tx_begun o q in

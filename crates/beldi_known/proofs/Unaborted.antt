@@ -1,22 +1,15 @@
 -- Who was called in a transaction returns an abort only where it was told one; so where all moves were plain steps, nobody was.
-use Rattle.beldi_known.proofs.Names.{AllPlain, Answer, Bindings, Bool, Cause, Code, Command, Commands, Deployment, Does, Effect, Err, Going, HeldLock, InLine, Instance, IntentId, IsIn, Leads, LeadsTo, List, Local, Move, MoveIs, None, Null, Ok, Option, Outcome, PlainState, Result, Some, TableHead, TxId, [], abort, all_in, and_then, answer_of, answer_to, answered, answers, ap, asks, async, body, break, breaks, call, callee_of, calls, calls_at, choose, command, condwrite, counted, does, effect_to, ended, ends, false, fault, first_local, followed, func_at, func_number, goes, id_total, if◌then◌else◌, inl, inr, is_aborted, is_eq, is_held, is_some, key_value, last_answer, line_moved, lock, locks, looped, most_effects, move_is, mover, nat_lt, new_member, no_commands, opened, or_fault, plain, read, refl, releases, repeat, return, returned, returns, run_block, same_some, set, set_to, slice_get, subst, suc, sym, table_number, tables_of, takes, term_value, tied_itself, transaction, true, truth, turns, tx_begun, unlock, unlocks, without, zero, ℕ, ◌++◌, ◌+◌, ◌∙◌, ◌∷◌, ◌≡◌, ◌⊎◌}
-use Rattle.beldi_known.proofs.Names.answer
-use Rattle.beldi_known.proofs.Names.code
-use Rattle.beldi_known.proofs.Names.effect
-use Rattle.beldi_known.proofs.Names.map
-use Rattle.beldi_known.proofs.Names.outcome
-use Rattle.beldi_known.proofs.Names.plainly
 use Rattle.beldi_tree.specs.Command.{write}
 use Rattle.beldi_lang.specs.Wants.{body_of, effect_of}
-use Rattle.beldi_plain.specs.Moves.{moved}
-use Rattle.beldi_plain.specs.Piece.{is_owner}
+use Rattle.beldi_plain.specs.{Moves.moved, Piece.is_owner}
 use Rattle.beldi_order.specs.Sane as plain_sane
-use Rattle.beldi_known.proofs.Falls.{last_is}
-use Rattle.beldi_known.proofs.Lines.{set_cases, owner_alone}
-use Rattle.beldi_known.proofs.Owns.{plain_lives}
+use Rattle.beldi_known.proofs.Names.{AllPlain, Answer, Bindings, Bool, Cause, Code, Command, Commands, Deployment, Does, Effect, Err, Going, HeldLock, InLine, Instance, IntentId, IsIn, Leads, LeadsTo, List, Local, Move, MoveIs, None, Null, Ok, Option, Outcome, PlainState, Result, Some, TableHead, TxId, [], abort, all_in, and_then, answer_of, answer_to, answered, answers, ap, asks, async, body, break, breaks, call, callee_of, calls, calls_at, choose, command, condwrite, counted, does, effect_to, ended, ends, false, fault, first_local, followed, func_at, func_number, goes, id_total, if◌then◌else◌, inl, inr, is_aborted, is_eq, is_held, is_some, key_value, last_answer, line_moved, lock, locks, looped, most_effects, move_is, mover, nat_lt, new_member, no_commands, opened, or_fault, plain, read, refl, releases, repeat, return, returned, returns, run_block, same_some, set, set_to, slice_get, subst, suc, sym, table_number, tables_of, takes, term_value, tied_itself, transaction, true, truth, turns, tx_begun, unlock, unlocks, without, zero, ℕ, ◌++◌, ◌+◌, ◌∙◌, ◌∷◌, ◌≡◌, ◌⊎◌}
+use Rattle.beldi_known.proofs.{Falls.last_is, Lines.set_cases, Lines.owner_alone, Owns.plain_lives}
+use Rattle.beldi_known.proofs.Names.map
+use Rattle.beldi_known.proofs.Names.plainly
 
 -- its releases return what it was left by
-released_by : (o : Outcome) (hs : List HeldLock) (rest : List Answer) (u : Outcome) → releases o hs rest ≡ effect.Return u → o ≡ u
+released_by : (o : Outcome) (hs : List HeldLock) (rest : List Answer) (u : Outcome) → releases o hs rest ≡ Effect.Return u → o ≡ u
 released_by o [] rest u h = cc
 released_by o (l ∷ ls) [] u h = cc
 released_by o (l ∷ ls) (a ∷ rest) u h = released_by o ls rest u h
@@ -27,19 +20,19 @@ Unaborted [] = Unit {0}
 Unaborted (a ∷ rest) = (is_aborted a ≡ false) × Unaborted rest
 
 abbrev is_return : Effect → Bool
-is_return (effect.Return o) = true
+is_return (Effect.Return o) = true
 is_return e = false
 
 -- what is said of each cause that was told
 abbrev pub Caused : (Cause → Type 0) → List Answer → Type 0
 Caused P [] = Unit {0}
-Caused P (a ∷ rest) = ((c : Cause) → a ≡ answer.Aborted c → P c) × Caused P rest
+Caused P (a ∷ rest) = ((c : Cause) → a ≡ Answer.Aborted c → P c) × Caused P rest
 
 abbrev CausedBy : (Cause → Type 0) → Outcome → Type 0
-CausedBy P o = (c : Cause) → o ≡ outcome.Aborted c → P c
+CausedBy P o = (c : Cause) → o ≡ Outcome.Aborted c → P c
 
 -- two outcomes that were aborted alike
-same_cause : (c k : Cause) → outcome.Aborted c ≡ outcome.Aborted k → c ≡ k
+same_cause : (c k : Cause) → Outcome.Aborted c ≡ Outcome.Aborted k → c ≡ k
 same_cause c k e = cc
 
 module _ (P : Cause → Type 0) where
@@ -62,11 +55,11 @@ module _ (P : Cause → Type 0) where
   if_left false l k f g = g
 
   counted_left : (f : Does) → LeftBy f → LeftBy (counted f)
-  counted_left f h s rest un = if_left (nat_lt s.used most_effects) (f (record s { used = s.used + 1 }) rest) (fault code.Steps s rest) (h (record s { used = s.used + 1 }) rest un) ((λ k e. cc), un)
+  counted_left f h s rest un = if_left (nat_lt s.used most_effects) (f (record s { used = s.used + 1 }) rest) (fault Code.Steps s rest) (h (record s { used = s.used + 1 }) rest un) ((λ k e. cc), un)
 
-  answered_left : (n : Option (List ℕ)) (a : Answer) → ((c : Cause) → a ≡ answer.Aborted c → P c) → LeftBy (answer_to n a)
-  answered_left n (answer.Fault c) lives s rest un = ((λ k e. cc), un)
-  answered_left n (answer.Aborted c) lives s rest un = ((λ k e. lives k (ap (λ z. answer.Aborted z) (same_cause c k e))), un)
+  answered_left : (n : Option (List ℕ)) (a : Answer) → ((c : Cause) → a ≡ Answer.Aborted c → P c) → LeftBy (answer_to n a)
+  answered_left n (Answer.Fault c) lives s rest un = ((λ k e. cc), un)
+  answered_left n (Answer.Aborted c) lives s rest un = ((λ k e. lives k (ap (λ z. Answer.Aborted z) (same_cause c k e))), un)
   answered_left n a lives s rest un = un
 
   takes_left : (e : Effect) (n : Option (List ℕ)) (h : Local → Local) → is_return e ≡ false → LeftBy (counted (takes true e (λ a s. answer_to n a (h s))))
@@ -100,51 +93,51 @@ module _ (P : Cause → Type 0) where
     mutual
       lefts : (c : Command) (vs : Bindings) → LeftResult (does d ts true c vs)
       lefts (set l n e) vs = then_left (term_value vs e) (λ v. Ok (λ s. goes (set_to n v s))) (λ v s rest un. un)
-      lefts (read l n t k) vs = then_left (key_value vs k) (λ key. Ok (effect_to true (Some n) (effect.Read (table_number ts t) key))) (λ key. takes_left (effect.Read (table_number ts t) key) (Some n) (λ s. s) refl)
+      lefts (read l n t k) vs = then_left (key_value vs k) (λ key. Ok (effect_to true (Some n) (Effect.Read (table_number ts t) key))) (λ key. takes_left (Effect.Read (table_number ts t) key) (Some n) (λ s. s) refl)
       lefts (write l t k e) vs =
-          then_left (key_value vs k) (λ key. and_then (term_value vs e) (λ v. Ok (effect_to true None (effect.Write (table_number ts t) key v)))) (λ key.
-          then_left (term_value vs e) (λ v. Ok (effect_to true None (effect.Write (table_number ts t) key v))) (λ v. takes_left (effect.Write (table_number ts t) key v) None (λ s. s) refl))
+          then_left (key_value vs k) (λ key. and_then (term_value vs e) (λ v. Ok (effect_to true None (Effect.Write (table_number ts t) key v)))) (λ key.
+          then_left (term_value vs e) (λ v. Ok (effect_to true None (Effect.Write (table_number ts t) key v))) (λ v. takes_left (Effect.Write (table_number ts t) key v) None (λ s. s) refl))
       lefts (condwrite l n t k r o e) vs =
-          then_left (key_value vs k) (λ key. and_then (term_value vs o) (λ w. and_then (term_value vs e) (λ v. Ok (effect_to true (Some n) (effect.CondWrite (table_number ts t) key r w v))))) (λ key.
-          then_left (term_value vs o) (λ w. and_then (term_value vs e) (λ v. Ok (effect_to true (Some n) (effect.CondWrite (table_number ts t) key r w v)))) (λ w.
-          then_left (term_value vs e) (λ v. Ok (effect_to true (Some n) (effect.CondWrite (table_number ts t) key r w v))) (λ v. takes_left (effect.CondWrite (table_number ts t) key r w v) (Some n) (λ s. s) refl)))
-      lefts (call l n f e) vs = then_left (term_value vs e) (λ v. Ok (effect_to true (Some n) (effect.Call (func_number d.funcs f) v))) (λ v. takes_left (effect.Call (func_number d.funcs f) v) (Some n) (λ s. s) refl)
-      lefts (async l f e) vs = then_left (term_value vs e) (λ v. Ok (effect_to true None (effect.Async (func_number d.funcs f) v))) (λ v. takes_left (effect.Async (func_number d.funcs f) v) None (λ s. s) refl)
+          then_left (key_value vs k) (λ key. and_then (term_value vs o) (λ w. and_then (term_value vs e) (λ v. Ok (effect_to true (Some n) (Effect.CondWrite (table_number ts t) key r w v))))) (λ key.
+          then_left (term_value vs o) (λ w. and_then (term_value vs e) (λ v. Ok (effect_to true (Some n) (Effect.CondWrite (table_number ts t) key r w v)))) (λ w.
+          then_left (term_value vs e) (λ v. Ok (effect_to true (Some n) (Effect.CondWrite (table_number ts t) key r w v))) (λ v. takes_left (Effect.CondWrite (table_number ts t) key r w v) (Some n) (λ s. s) refl)))
+      lefts (call l n f e) vs = then_left (term_value vs e) (λ v. Ok (effect_to true (Some n) (Effect.Call (func_number d.funcs f) v))) (λ v. takes_left (Effect.Call (func_number d.funcs f) v) (Some n) (λ s. s) refl)
+      lefts (async l f e) vs = then_left (term_value vs e) (λ v. Ok (effect_to true None (Effect.Async (func_number d.funcs f) v))) (λ v. takes_left (Effect.Async (func_number d.funcs f) v) None (λ s. s) refl)
       lefts (lock l t k) vs = then_left (key_value vs k) (λ key. Ok (locks true (table_number ts t) key)) (λ key s rest un.
           let h : Local → Local = λ s. record s { held = s.held ++ record { table = table_number ts t; key = key } ∷ [] } in
-          if_left (is_held (table_number ts t) key s.held) (goes s rest) (counted (takes true (effect.Lock (table_number ts t) key) (λ a s. answer_to None a (h s))) s rest) un (takes_left (effect.Lock (table_number ts t) key) None h refl s rest un))
+          if_left (is_held (table_number ts t) key s.held) (goes s rest) (counted (takes true (Effect.Lock (table_number ts t) key) (λ a s. answer_to None a (h s))) s rest) un (takes_left (Effect.Lock (table_number ts t) key) None h refl s rest un))
       lefts (unlock l t k) vs = then_left (key_value vs k) (λ key. Ok (unlocks true (table_number ts t) key)) (λ key s rest un.
           let h : Local → Local = λ s. record s { held = without (table_number ts t) key s.held } in
-          if_left (is_held (table_number ts t) key s.held) (counted (takes true (effect.Unlock (table_number ts t) key) (λ a s. answer_to None a (h s))) s rest) (goes s rest) (takes_left (effect.Unlock (table_number ts t) key) None h refl s rest un) un)
+          if_left (is_held (table_number ts t) key s.held) (counted (takes true (Effect.Unlock (table_number ts t) key) (λ a s. answer_to None a (h s))) s rest) (goes s rest) (takes_left (Effect.Unlock (table_number ts t) key) None h refl s rest un) un)
       lefts (transaction l b c) vs = lefts_in b
-      lefts (abort l) vs = takes_left effect.Abort None (λ s. s) refl
+      lefts (abort l) vs = takes_left Effect.Abort None (λ s. s) refl
       lefts (break l) vs = λ s rest un. un
       lefts (choose l e b c) vs = then_left (term_value vs e) (λ v. and_then (truth v) (λ test. Ok (if test then run_block d ts true b else run_block d ts true c))) (λ v.
           then_left (truth v) (λ test. Ok (if test then run_block d ts true b else run_block d ts true c)) (λ test. elim test as (λ t. LeftBy (if t then run_block d ts true b else run_block d ts true c)) [ true ↦ lefts_in b | false ↦ lefts_in c ]))
       lefts (repeat l n b) vs = turns_left (run_block d ts true b) (lefts_in b) n
-      lefts (return l e) vs = then_left (term_value vs e) (λ v. Ok (ends (outcome.Value v))) (λ v s rest un. ((λ k e. cc), un))
+      lefts (return l e) vs = then_left (term_value vs e) (λ v. Ok (ends (Outcome.Value v))) (λ v s rest un. ((λ k e. cc), un))
 
       lefts_in : (b : Commands) → LeftBy (run_block d ts true b)
       lefts_in no_commands s rest un = un
       lefts_in (command c cs) s rest un = followed_left (run_block d ts true cs) (lefts_in cs) (or_fault (does d ts true c s.variables) s rest) (or_fault_left (does d ts true c s.variables) (lefts c s.variables) s rest un)
 
-  returns_caused : (l : Leads) → Left l → (c : Cause) → effect_of l ≡ effect.Return (outcome.Aborted c) → P c
+  returns_caused : (l : Leads) → Left l → (c : Cause) → effect_of l ≡ Effect.Return (Outcome.Aborted c) → P c
   returns_caused (asks i e) h c is = let clash = sym h ∙ ap is_return is in cc
-  returns_caused (goes s rest) h c is = let clash = released_by (outcome.Value Null) s.held rest (outcome.Aborted c) is in cc
-  returns_caused (breaks s rest) h c is = let clash = released_by (outcome.Value Null) s.held rest (outcome.Aborted c) is in cc
-  returns_caused (ends o s rest) h c is = h.0 c (released_by o s.held rest (outcome.Aborted c) is)
+  returns_caused (goes s rest) h c is = let clash = released_by (Outcome.Value Null) s.held rest (Outcome.Aborted c) is in cc
+  returns_caused (breaks s rest) h c is = let clash = released_by (Outcome.Value Null) s.held rest (Outcome.Aborted c) is in cc
+  returns_caused (ends o s rest) h c is = h.0 c (released_by o s.held rest (Outcome.Aborted c) is)
 
-  caused_by : (xs : List Answer) → ((n : ℕ) (c : Cause) → slice_get xs n ≡ Some (answer.Aborted c) → P c) → Caused P xs
+  caused_by : (xs : List Answer) → ((n : ℕ) (c : Cause) → slice_get xs n ≡ Some (Answer.Aborted c) → P c) → Caused P xs
   caused_by [] h = tt
   caused_by (a ∷ xs) h = ((λ c e. h zero c (ap Some e)), caused_by xs (λ n c e. h (suc n) c e))
 
-  caused_returned : (d : Deployment) (z : Instance) (t : TxId) (c : Cause) → z.within ≡ Some t → Caused P z.answers → plainly.effect_of d z ≡ effect.Return (outcome.Aborted c) → P c
+  caused_returned : (d : Deployment) (z : Instance) (t : TxId) (c : Cause) → z.within ≡ Some t → Caused P z.answers → plainly.effect_of d z ≡ Effect.Return (Outcome.Aborted c) → P c
   caused_returned d z t c within un is =
       let o = func_at d z.func in
       returns_caused (body d o z.args true z.answers) (lefts_in d (tables_of o) (body_of o) (first_local o z.args) z.answers un) c (ap (λ b. effect_of (body d o z.args b z.answers)) (ap is_some (sym within)) ∙ is)
 
   -- who was called in a transaction returns an abort by a cause that it was told
-  pub returned_cause : (d : Deployment) (z : Instance) (t : TxId) → z.within ≡ Some t → ((n : ℕ) (c : Cause) → slice_get z.answers n ≡ Some (answer.Aborted c) → P c) → (c : Cause) → plainly.effect_of d z ≡ effect.Return (outcome.Aborted c) → P c
+  pub returned_cause : (d : Deployment) (z : Instance) (t : TxId) → z.within ≡ Some t → ((n : ℕ) (c : Cause) → slice_get z.answers n ≡ Some (Answer.Aborted c) → P c) → (c : Cause) → plainly.effect_of d z ≡ Effect.Return (Outcome.Aborted c) → P c
   returned_cause d z t within told c is = caused_returned d z t c within (caused_by z.answers told) is
 
 -- so none where none was told
@@ -152,7 +145,7 @@ uncaused : (xs : List Answer) → Unaborted xs → Caused (λ c. ⊥) xs
 uncaused [] h = tt
 uncaused (a ∷ xs) h = ((λ c e. let clash = sym h.0 ∙ ap is_aborted e in cc), uncaused xs h.1)
 
-pub no_abort_returned : (d : Deployment) (z : Instance) (t : TxId) (c : Cause) → z.within ≡ Some t → Unaborted z.answers → plainly.effect_of d z ≡ effect.Return (outcome.Aborted c) → ⊥
+pub no_abort_returned : (d : Deployment) (z : Instance) (t : TxId) (c : Cause) → z.within ≡ Some t → Unaborted z.answers → plainly.effect_of d z ≡ Effect.Return (Outcome.Aborted c) → ⊥
 no_abort_returned d z t c within un is = caused_returned (λ c. ⊥) d z t c within (uncaused z.answers un) is
 
 -- ---- of moves
@@ -160,7 +153,7 @@ unaborted_more : (xs : List Answer) (a : Answer) → Unaborted xs → is_aborted
 unaborted_more [] a h lives = (lives, tt)
 unaborted_more (x ∷ xs) a h lives = (h.0, unaborted_more xs a h.1 lives)
 
-last_lives : (xs : List Answer) (c : Cause) → Unaborted xs → last_answer xs ≡ Some (answer.Aborted c) → ⊥
+last_lives : (xs : List Answer) (c : Cause) → Unaborted xs → last_answer xs ≡ Some (Answer.Aborted c) → ⊥
 last_lives [] c h is = cc
 last_lives (a ∷ []) c h is = let clash = sym h.0 ∙ ap is_aborted (same_some is) in cc
 last_lives (a ∷ b ∷ rest) c h is = last_lives (b ∷ rest) c h.1 is
@@ -168,7 +161,7 @@ last_lives (a ∷ b ∷ rest) c h is = last_lives (b ∷ rest) c h.1 is
 module _ (d : Deployment) (t : TxId) where
   -- the owner was told of no abort last, and nobody else of any
   abbrev pub Lives : IntentId → Instance → Type 0
-  Lives i z = ((i ≡ t.intent) × ((c : Cause) → last_answer z.answers ≡ Some (answer.Aborted c) → ⊥)) ⊎ Unaborted z.answers
+  Lives i z = ((i ≡ t.intent) × ((c : Cause) → last_answer z.answers ≡ Some (Answer.Aborted c) → ⊥)) ⊎ Unaborted z.answers
 
   abbrev pub AllLive : Going → Type 0
   AllLive s = (i : IntentId) (z : Instance) → IsIn t i → map.get s.state.made i ≡ Some z → Lives i z
@@ -177,8 +170,8 @@ module _ (d : Deployment) (t : TxId) where
   lives_on i z a lives (inl own) = inl (own.0, λ c is. let clash = sym lives ∙ ap is_aborted (same_some (sym (last_is z.answers a) ∙ is)) in cc)
   lives_on i z a lives (inr un) = inr (unaborted_more z.answers a un lives)
 
-  outcome_lives : (o : Outcome) → ((c : Cause) → o ≡ outcome.Aborted c → ⊥) → is_aborted (answer_of o) ≡ false
-  outcome_lives (outcome.Aborted c) none = absurd (none c refl)
+  outcome_lives : (o : Outcome) → ((c : Cause) → o ≡ Outcome.Aborted c → ⊥) → is_aborted (answer_of o) ≡ false
+  outcome_lives (Outcome.Aborted c) none = absurd (none c refl)
   outcome_lives o none = refl
 
   lives_moved : (s r : Going) → InLine d t s → moved d t plain s ≡ Some r → AllLive s → AllLive r
@@ -204,7 +197,7 @@ module _ (d : Deployment) (t : TxId) where
             | inl own ↦ let clash = sym e.not_owner ∙ ap (is_owner t) own.0 ∙ ap is_eq (tied_itself id_total t.intent) in cc
             | inr un ↦ un
           ] in
-          let lives = outcome_lives e.outcome (λ c is. no_abort_returned d z t c within mine (e.returns ∙ ap effect.Return is)) in
+          let lives = outcome_lives e.outcome (λ c is. no_abort_returned d z t c within mine (e.returns ∙ ap Effect.Return is)) in
           subst AllLive (sym u.is) (λ i w is_in has. elim (set_cases over u.caller i (answered u.member.waiter (answer_of e.outcome)) w has) [
             | inl same ↦ subst (Lives i) same.1 (subst (λ i. Lives i (answered u.member.waiter (answer_of e.outcome))) (sym same.0) (lives_on u.caller u.member.waiter (answer_of e.outcome) lives (h u.caller u.member.waiter (all_in d t s.state.made u.caller u.line) u.member.waits)))
             | inr other ↦ elim (set_cases s.state.made s.front i (ended z e.outcome) w other.1) [
@@ -221,7 +214,7 @@ module _ (d : Deployment) (t : TxId) where
 
 -- so where nothing was aborted its owner was told of no abort last
 pub owner_lives : (d : Deployment) (p : PlainState) → plain_sane.Sane d p → (id : IntentId) (q : Instance) → map.get p.made id ≡ Some q → (moves : List Move) (l : Going) → InLine d (tx_begun id q) (opened p id q) → AllPlain moves → LeadsTo d (tx_begun id q) (opened p id q) moves l
-    → (k : Instance) → map.get l.state.made id ≡ Some k → (c : Cause) → last_answer k.answers ≡ Some (answer.Aborted c) → ⊥
+    → (k : Instance) → map.get l.state.made id ≡ Some k → (c : Cause) → last_answer k.answers ≡ Some (Answer.Aborted c) → ⊥
 owner_lives d p legal id q made moves l line plains leads k is c told = elim (lives_led d t (opened p id q) moves l line plains leads at_first id k (inl refl) is) [
   | inl own ↦ own.1 c told
   | inr un ↦ last_lives k.answers c un told
@@ -231,7 +224,7 @@ owner_lives d p legal id q made moves l line plains leads k is c told = elim (li
     t = tx_begun id q
 
     at_first : AllLive d (tx_begun id q) (opened p id q)
-    at_first i z is_in has = elim (set_cases p.made id i (answered q answer.Done) z has) [
-      | inl same ↦ inl (same.0, λ c is. let clash = ap is_aborted (same_some (sym (last_is q.answers answer.Done) ∙ ap (λ (y : Instance). last_answer y.answers) same.1 ∙ is)) in cc)
+    at_first i z is_in has = elim (set_cases p.made id i (answered q Answer.Done) z has) [
+      | inl same ↦ inl (same.0, λ c is. let clash = ap is_aborted (same_some (sym (last_is q.answers Answer.Done) ∙ ap (λ (y : Instance). last_answer y.answers) same.1 ∙ is)) in cc)
       | inr other ↦ absurd (other.0 (owner_alone d p legal id q made i z is_in other.1))
     ]

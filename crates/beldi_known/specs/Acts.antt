@@ -1,22 +1,8 @@
 -- The acts inside a transaction: on the content of an item or of a shadow, on a row, and what a run reads in what it is told.
 use Rattle.std.specs.Prelude.{Bool, true, false, [], ◌∷◌, ◌++◌, Option, Some, None, if◌then◌else◌}
-use Rattle.beldi_value.specs.Id.{is_older, age_of}
-use Rattle.beldi_value.specs.Passes.{passes}
-use Rattle.beldi_value.specs.declared.id.IntentId.{IntentId}
-use Rattle.beldi_value.specs.declared.place.Owner.{Owner}
-use Rattle.beldi_value.specs.declared.place.Owner.TheVariants.{Tx}
-use Rattle.beldi_value.specs.declared.place.Place.{Place}
-use Rattle.beldi_value.specs.declared.place.TxId.{TxId}
-use Rattle.beldi_value.specs.declared.rel.Rel.{Rel}
-use Rattle.beldi_value.specs.declared.value.Value.{Value}
+use Rattle.beldi_value.specs.{Id.is_older, Id.age_of, Passes.passes, declared.id.IntentId.IntentId, declared.place.Owner.Owner, declared.place.Owner.TheVariants.Tx, declared.place.Place.Place, declared.place.TxId.TxId, declared.rel.Rel.Rel, declared.value.Value.Value}
 use Rattle.beldi_lang.specs.declared.effect.Answer.{Answer}
-use Rattle.beldi_lang.specs.declared.effect.Answer.TheVariants as answer
-use Rattle.beldi_row.specs.Act.{other_owner}
-use Rattle.beldi_row.specs.Log.{note_at}
-use Rattle.beldi_row.specs.declared.notes.Note.{Note}
-use Rattle.beldi_row.specs.declared.notes.Note.TheVariants as notes
-use Rattle.beldi_row.specs.declared.row.Row.{Row}
-use Rattle.beldi_row.specs.declared.row.Row.TheVariants as rows
+use Rattle.beldi_row.specs.{Act.other_owner, Log.note_at, declared.notes.Note.Note, declared.row.Row.Row}
 use Rattle.beldi_daal.specs.Content.{Content}
 
 -- ---- on a content: what is there afterwards, and what is told
@@ -42,25 +28,25 @@ with_note c p n = record c { notes = c.notes ++ (p, n) ∷ [] }
 
 -- the lock of a transaction: another owner lets it wait where the asker is older, or die
 abbrev pub lock_or : Place → TxId → Content → Option Owner → Content × Told
-lock_or p t c None = (record { value = c.value; owner = Some (Tx t); notes = c.notes ++ (p, notes.Got) ∷ [] }, did)
-lock_or p t c (Some o) = if is_older t.intent (age_of o) then (c, held o) else (with_note c p (notes.Died (age_of o)), died (age_of o))
+lock_or p t c None = (record { value = c.value; owner = Some (Tx t); notes = c.notes ++ (p, Note.Got) ∷ [] }, did)
+lock_or p t c (Some o) = if is_older t.intent (age_of o) then (c, held o) else (with_note c p (Note.Died (age_of o)), died (age_of o))
 
 abbrev pub lock_on : Place → TxId → Content → Content × Told
 lock_on p t c = noted_or c (note_at c.notes p) (lock_or p t c (other_owner (Tx t) c.owner))
 
 abbrev pub write_on : Place → Owner → Value → Content → Content × Told
-write_on p w v c = noted_or c (note_at c.notes p) (held_or c (other_owner w c.owner) (record { value = v; owner = c.owner; notes = c.notes ++ (p, notes.Wrote) ∷ [] }, did))
+write_on p w v c = noted_or c (note_at c.notes p) (held_or c (other_owner w c.owner) (record { value = v; owner = c.owner; notes = c.notes ++ (p, Note.Wrote) ∷ [] }, did))
 
 abbrev pub test_on : Place → Owner → Rel → Value → Value → Content → Content × Told
-test_on p w r o v c = noted_or c (note_at c.notes p) (held_or c (other_owner w c.owner) (record { value = (if passes c.value r o then v else c.value); owner = c.owner; notes = c.notes ++ (p, notes.Cond (passes c.value r o)) ∷ [] }, tested (passes c.value r o)))
+test_on p w r o v c = noted_or c (note_at c.notes p) (held_or c (other_owner w c.owner) (record { value = (if passes c.value r o then v else c.value); owner = c.owner; notes = c.notes ++ (p, Note.Cond (passes c.value r o)) ∷ [] }, tested (passes c.value r o)))
 
 -- ---- on a row
 abbrev pub put_lockset : Option Row → Option Row × Bool
-put_lockset None = (Some rows.Lockset, true)
+put_lockset None = (Some Row.Lockset, true)
 put_lockset (Some r) = (Some r, false)
 
 -- ---- what a run reads in what it was told of its lock: that it died
 abbrev pub lock_answer : Place → Told → Option Answer
-lock_answer p (noted (notes.Died h)) = Some (answer.Aborted (record { place = p; holder = Some h }))
-lock_answer p (died h) = Some (answer.Aborted (record { place = p; holder = Some h }))
+lock_answer p (noted (Note.Died h)) = Some (Answer.Aborted (record { place = p; holder = Some h }))
+lock_answer p (died h) = Some (Answer.Aborted (record { place = p; holder = Some h }))
 lock_answer p t = None

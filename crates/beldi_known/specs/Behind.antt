@@ -1,17 +1,13 @@
 -- Where a run stands: behind what is known of its instance, or at the front, at an operation inside.
 use Rattle.std.specs.Prelude.{◌≡◌, ℕ, ◌<◌, Bool, List, ◌∷◌, ◌++◌, length, Some}
 use Rattle.std.specs.FinMap as map
-use Rattle.beldi_value.specs.declared.id.IntentId.{IntentId}
-use Rattle.beldi_value.specs.declared.place.TxId.{TxId}
+use Rattle.beldi_value.specs.declared.{id.IntentId.IntentId, place.TxId.TxId}
 use Rattle.beldi_tree.specs.declared.deployment.Deployment.{Deployment}
 use Rattle.beldi_lang.specs.declared.effect.Answer.{Answer}
-use Rattle.beldi_row.specs.Table.{Rows}
-use Rattle.beldi_plain.specs.Operation.{touched}
-use Rattle.beldi_plain.specs.Plain.{Instance, effect_of}
+use Rattle.beldi_plain.specs.{Operation.touched, Plain.Instance, Plain.effect_of}
 use Rattle.beldi_order.specs.Txs.{tx_now}
-use Rattle.beldi_known.specs.Known.{Known, last_step}
-use Rattle.beldi_known.specs.Matches.{Matches}
-use Rattle.beldi_known.specs.Sane.{SaneInstance}
+use Rattle.beldi_row.specs.Table.{Rows}
+use Rattle.beldi_known.specs.{Known.Known, Known.last_step, Matches.Matches, Sane.SaneInstance}
 
 -- a run that is behind: it finds what is owed, and is told the answer that is known
 pub record IsBehind (d : Deployment) (m : Rows) (known : Known) (id : IntentId) (q : Instance) (given : List Answer) (a : Answer) : Type 0 where

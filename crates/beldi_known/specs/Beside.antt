@@ -2,21 +2,17 @@
 -- Of that, and of all that were called in it, it is known what they did since: moves lead there from the plain state. Who was called in a
 -- transaction that aborted is known for good, and is in no plain state.
 use Rattle.std.specs.Prelude.{◌≡◌, ℕ, ◌&&◌, Bool, true, false, List, Some, None}
-use Rattle.std.specs.FinMap as map
 use Rattle.std.specs.Option.{is_none}
-use Rattle.beldi_value.specs.declared.id.IntentId.{IntentId}
-use Rattle.beldi_value.specs.declared.place.TxId.{TxId}
+use Rattle.std.specs.FinMap as map
+use Rattle.beldi_value.specs.declared.{id.IntentId.IntentId, place.TxId.TxId}
 use Rattle.beldi_tree.specs.declared.deployment.Deployment.{Deployment}
 use Rattle.beldi_lang.specs.declared.effect.Effect.{Effect}
-use Rattle.beldi_lang.specs.declared.effect.Effect.TheVariants as effect
-use Rattle.beldi_plain.specs.Moves.{Move, Leads}
-use Rattle.beldi_plain.specs.Piece.{Going, opened, tx_begun}
-use Rattle.beldi_plain.specs.Plain.{Instance, PlainState, effect_of}
+use Rattle.beldi_plain.specs.{Moves.Move, Moves.Leads, Piece.Going, Piece.opened, Piece.tx_begun, Plain.Instance, Plain.PlainState, Plain.effect_of}
 use Rattle.beldi_order.specs.Inside.{IsIn}
 use Rattle.beldi_known.specs.Known.{Known, tx_end}
 
 abbrev pub is_begin : Effect → Bool
-is_begin effect.Begin = true
+is_begin Effect.Begin = true
 is_begin e = false
 
 -- an instance that has not ended stands at the begin of a transaction

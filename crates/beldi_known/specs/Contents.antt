@@ -1,16 +1,11 @@
 -- What the rows hold of an item, and of a transaction's shadow of it.
 use Rattle.std.specs.Prelude.{ℕ, Bool, false, Option, Some, None}
-use Rattle.std.specs.FinMap as map
 use Rattle.std.specs.Ordering.{is_eq}
-use Rattle.beldi_value.specs.declared.id.IntentId.{IntentId}
-use Rattle.beldi_value.specs.declared.place.Owner.{Owner}
-use Rattle.beldi_value.specs.declared.place.TxId.{TxId}
-use Rattle.beldi_row.specs.declared.key.Kind.TheVariants as kinds
-use Rattle.beldi_row.specs.Key.{RowKey, key_cmp, head_key as first_row}
-use Rattle.beldi_row.specs.Log.{owner_eq}
-use Rattle.beldi_row.specs.Table.{Rows}
-use Rattle.beldi_daal.specs.Content.{Content, content_in, SoundAt}
+use Rattle.std.specs.FinMap as map
+use Rattle.beldi_value.specs.declared.{id.IntentId.IntentId, place.Owner.Owner, place.TxId.TxId}
 use Rattle.beldi_plain.specs.Item.{Item}
+use Rattle.beldi_row.specs.{Key.RowKey, Key.key_cmp, Key.head_key as first_row, Log.owner_eq, Table.Rows, declared.key.Kind.Kind}
+use Rattle.beldi_daal.specs.Content.{Content, content_in, SoundAt}
 
 -- the key of an item's first row
 abbrev pub head_key : Item → RowKey
@@ -36,11 +31,11 @@ is_owner (Some w) o = owner_eq w o
 -- ---- transactions
 -- the first row of a transaction's shadow of an item
 abbrev pub shadow_key : TxId → Item → RowKey
-shadow_key t x = record { home = x.func; kind = kinds.Shadow t x.table x.key 0 }
+shadow_key t x = record { home = x.func; kind = Kind.Shadow t x.table x.key 0 }
 
 abbrev pub shadow_of : Rows → TxId → Item → Content
 shadow_of m t x = content_in (map.get m (shadow_key t x))
 
 -- the row that says that the transaction which an intent began at a step asked for an item
 abbrev pub lockset_key : IntentId → ℕ → Item → RowKey
-lockset_key id b x = record { home = x.func; kind = kinds.Lockset id b x.table x.key }
+lockset_key id b x = record { home = x.func; kind = Kind.Lockset id b x.table x.key }

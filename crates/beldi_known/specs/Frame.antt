@@ -1,32 +1,19 @@
 -- What an instance owes once an answer more is known: it changes at the place of that answer alone.
 use Rattle.std.specs.Prelude.{◌≡◌, ℕ, ◌==◌, ◌&&◌, ◌||◌, not, Bool, true, false, length, Option, Some, None, if◌then◌else◌}
 use Rattle.std.specs.Ordering.{is_eq}
-use Rattle.beldi_value.specs.Id.{id_cmp}
-use Rattle.beldi_value.specs.declared.id.IntentId.{IntentId}
-use Rattle.beldi_value.specs.declared.outcome.Outcome.{Outcome}
-use Rattle.beldi_value.specs.declared.place.TxId.{TxId}
-use Rattle.beldi_value.specs.declared.value.Value.{Value}
-use Rattle.beldi_value.specs.declared.value.Value.TheVariants as value
+use Rattle.beldi_value.specs.{Id.id_cmp, declared.id.IntentId.IntentId, declared.outcome.Outcome.Outcome, declared.place.TxId.TxId, declared.value.Value.Value}
 use Rattle.beldi_tree.specs.declared.deployment.Deployment.{Deployment}
-use Rattle.beldi_lang.specs.declared.effect.Answer.{Answer}
-use Rattle.beldi_lang.specs.declared.effect.Answer.TheVariants as answer
-use Rattle.beldi_lang.specs.declared.effect.Effect.{Effect}
-use Rattle.beldi_lang.specs.declared.effect.Effect.TheVariants as effect
-use Rattle.beldi_row.specs.declared.notes.Note.{Note}
-use Rattle.beldi_row.specs.declared.row.Body.{Body}
-use Rattle.beldi_plain.specs.Holds.{held_if, holds}
-use Rattle.beldi_plain.specs.Item.{Item}
-use Rattle.beldi_plain.specs.Operation.{op_of}
-use Rattle.beldi_plain.specs.Plain.{Instance, effect_of}
-use Rattle.beldi_plain.specs.Piece.{is_aborted}
-use Rattle.beldi_known.specs.Known.{row_at, note_by, answered_note, shadow_by, shadow_at, asks_lock, lockset_of, is_on, got_before, commit_in, ended_at}
+use Rattle.beldi_lang.specs.declared.effect.{Answer.Answer, Effect.Effect}
+use Rattle.beldi_plain.specs.{Holds.held_if, Holds.holds, Item.Item, Operation.op_of, Plain.Instance, Plain.effect_of, Piece.is_aborted}
 use Rattle.beldi_order.specs.Txs.{txs_by, txs_after, end_of, tx_now}
+use Rattle.beldi_row.specs.declared.{notes.Note.Note, row.Body.Body}
+use Rattle.beldi_known.specs.Known.{row_at, note_by, answered_note, shadow_by, shadow_at, asks_lock, lockset_of, is_on, got_before, commit_in, ended_at}
 use Rattle.beldi_known.specs.Stands.{body_of}
 
 -- the row that an answer adds, if any: of a read at its own step, of an End at the step of the Begin that is open
 abbrev pub row_added : ℕ → Option ℕ → Effect → Answer → Option (ℕ × Value)
-row_added n o (effect.Read t k) (answer.Value v) = Some (n, v)
-row_added n (Some b) (effect.End c) a = Some (b, value.Bool c)
+row_added n o (Effect.Read t k) (Answer.Value v) = Some (n, v)
+row_added n (Some b) (Effect.End c) a = Some (b, Value.Bool c)
 row_added n o e a = None
 
 abbrev pub put : Option (ℕ × Value) → ℕ → Option Value → Option Value

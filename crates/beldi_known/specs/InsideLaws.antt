@@ -1,45 +1,18 @@
 -- The laws of open transactions: each act inside keeps what shadows show, and what is known stays beside the plain state.
 use Rattle.std.specs.Prelude.{◌≡◌, ℕ, ◌⊎◌, Bool, true, false, List, [], ◌∷◌, length, Option, Some, None, is_some, slice_get, if◌then◌else◌}
 use Rattle.std.specs.FinMap as map
-use Rattle.beldi_value.specs.Id.{child_of, has_callees}
-use Rattle.beldi_value.specs.declared.id.IntentId.{IntentId}
-use Rattle.beldi_value.specs.declared.outcome.Cause.{Cause}
-use Rattle.beldi_value.specs.declared.outcome.Outcome.{Outcome}
-use Rattle.beldi_value.specs.declared.place.Owner.TheVariants.{Tx}
-use Rattle.beldi_value.specs.declared.place.Place.{Place}
-use Rattle.beldi_value.specs.declared.place.TxId.{TxId}
-use Rattle.beldi_value.specs.declared.rel.Rel.{Rel}
-use Rattle.beldi_value.specs.declared.value.Value.{Value}
-use Rattle.beldi_value.specs.declared.value.Value.TheVariants as value
+use Rattle.beldi_value.specs.{Id.child_of, Id.has_callees, declared.id.IntentId.IntentId, declared.outcome.Cause.Cause, declared.outcome.Outcome.Outcome, declared.place.Owner.TheVariants.Tx, declared.place.Place.Place, declared.place.TxId.TxId, declared.rel.Rel.Rel, declared.value.Value.Value}
 use Rattle.beldi_tree.specs.declared.deployment.Deployment.{Deployment}
-use Rattle.beldi_lang.specs.Callee.{answer_of}
-use Rattle.beldi_lang.specs.declared.effect.Answer.{Answer}
-use Rattle.beldi_lang.specs.declared.effect.Answer.TheVariants as answer
-use Rattle.beldi_lang.specs.declared.effect.Effect.TheVariants as effect
-use Rattle.beldi_row.specs.Table.{Rows, set_row}
-use Rattle.beldi_row.specs.declared.row.Row.{Row}
-use Rattle.beldi_row.specs.declared.row.Row.TheVariants as rows
+use Rattle.beldi_lang.specs.{Callee.answer_of, declared.effect.Answer.Answer, declared.effect.Effect.Effect}
+use Rattle.beldi_plain.specs.Plain.{Instance, PlainState, answered, callee_of, calls_at, effect_of, ended, value_at, with_instance}
+use Rattle.beldi_plain.specs.{Item.Item, Moves.Commits, Moves.Aborts, Moves.TouchedIn, Piece.opened, Piece.new_member, Piece.tx_begun}
+use Rattle.beldi_order.specs.{Sane.IsAnswer, Txs.tx_at, Txs.tx_now}
+use Rattle.beldi_order.specs.Sane as plain
+use Rattle.beldi_row.specs.{Table.Rows, Table.set_row, declared.row.Row.Row}
 use Rattle.beldi_daal.specs.Content.{content_in}
 use Rattle.beldi_readlog.specs.ReadLog.{log_key}
-use Rattle.beldi_plain.specs.Item.{Item}
-use Rattle.beldi_plain.specs.Moves.{Commits, Aborts, TouchedIn}
-use Rattle.beldi_plain.specs.Piece.{opened, new_member, tx_begun}
-use Rattle.beldi_plain.specs.Plain.{Instance, PlainState, answered, callee_of, calls_at, effect_of, ended, value_at, with_instance}
-use Rattle.beldi_order.specs.Sane as plain
-use Rattle.beldi_order.specs.Sane.{IsAnswer}
-use Rattle.beldi_order.specs.Txs.{tx_at, tx_now}
-use Rattle.beldi_step.specs.Run.{place_of}
-use Rattle.beldi_step.specs.Tables.{value_in, is_committed, decision_key}
-use Rattle.beldi_known.specs.Acts.{did, tested, write_on, test_on}
-use Rattle.beldi_known.specs.Beside.{Beside, begins}
-use Rattle.beldi_known.specs.Contents.{head_key, content_of, shadow_key, shadow_of}
-use Rattle.beldi_known.specs.Frame.{LockedOut}
-use Rattle.beldi_known.specs.Known.{Known, at_once, moved}
-use Rattle.beldi_known.specs.Behind.{IsFront}
-use Rattle.beldi_known.specs.Listed.{listed}
-use Rattle.beldi_known.specs.Matches.{Matches}
-use Rattle.beldi_known.specs.Sane.{Sane}
-use Rattle.beldi_known.specs.Shadows.{Shadows, writes_on}
+use Rattle.beldi_step.specs.{Run.place_of, Tables.value_in, Tables.is_committed, Tables.decision_key}
+use Rattle.beldi_known.specs.{Acts.did, Acts.tested, Acts.write_on, Acts.test_on, Beside.Beside, Beside.begins, Contents.head_key, Contents.content_of, Contents.shadow_key, Contents.shadow_of, Frame.LockedOut, Known.Known, Known.at_once, Known.moved, Behind.IsFront, Listed.listed, Matches.Matches, Sane.Sane, Shadows.Shadows, Shadows.writes_on}
 
 -- what is kept together
 pub record Goes (d : Deployment) (n : Rows) (p : PlainState) (known : Known) (after : IntentId → Bool) : Type 0 where
@@ -73,23 +46,23 @@ item_of k t y = record { func = k.func; table = t; key = y }
 -- a read is answered: by the shadow's value where the shadow is there, and else by the plain one
 abbrev pub ReadsGo : Type 0
 ReadsGo = (d : Deployment) (m : Rows) (p : PlainState) (known : Known) (locked after : IntentId → Bool) (id : IntentId) (k : Instance) (s : TxId) (t : ℕ) (y : List ℕ) (v : Value) → IsOpen d m p known locked s → IsFront d known id k s t y → LockedOut locked after id
-    → effect_of d k ≡ effect.Read t y → value_in (map.get m (shadow_key s (item_of k t y))) (value_at p (item_of k t y)) ≡ v
-    → Goes d (set_row m (log_key k.func (place_of id (length k.answers))) (Some (rows.ReadLog v))) p (map.insert known id (moved d id k (answer.Value v))) after
+    → effect_of d k ≡ Effect.Read t y → value_in (map.get m (shadow_key s (item_of k t y))) (value_at p (item_of k t y)) ≡ v
+    → Goes d (set_row m (log_key k.func (place_of id (length k.answers))) (Some (Row.ReadLog v))) p (map.insert known id (moved d id k (Answer.Value v))) after
 
 -- it dies
 abbrev pub DeathsGo : Type 0
 DeathsGo = (d : Deployment) (m : Rows) (p : PlainState) (known : Known) (locked after : IntentId → Bool) (id : IntentId) (k : Instance) (s : TxId) (t : ℕ) (y : List ℕ) (r : Option Row) (c : Cause) → IsOpen d m p known locked s → IsFront d known id k s t y → LockedOut locked after id
-    → locked id ≡ false → IsAnswer (place_of id (length k.answers)) (Some s) (effect_of d k) (answer.Aborted c) → Goes d (set_row m (head_key (item_of k t y)) r) p (map.insert known id (moved d id k (answer.Aborted c))) after
+    → locked id ≡ false → IsAnswer (place_of id (length k.answers)) (Some s) (effect_of d k) (Answer.Aborted c) → Goes d (set_row m (head_key (item_of k t y)) r) p (map.insert known id (moved d id k (Answer.Aborted c))) after
 
 -- a write of the shadow, and a test
 abbrev pub WritesGo : Type 0
 WritesGo = (d : Deployment) (m : Rows) (p : PlainState) (known : Known) (locked after : IntentId → Bool) (id : IntentId) (k : Instance) (s : TxId) (t : ℕ) (y : List ℕ) (v : Value) (r : Option Row) → IsOpen d m p known locked s → IsFront d known id k s t y → LockedOut locked after id
-    → locked id ≡ true → effect_of d k ≡ effect.Write t y v → write_on (place_of id (length k.answers)) (Tx s) v (shadow_of m s (item_of k t y)) ≡ (content_in r, did) → Goes d (set_row m (shadow_key s (item_of k t y)) r) p (map.insert known id (moved d id k answer.Done)) after
+    → locked id ≡ true → effect_of d k ≡ Effect.Write t y v → write_on (place_of id (length k.answers)) (Tx s) v (shadow_of m s (item_of k t y)) ≡ (content_in r, did) → Goes d (set_row m (shadow_key s (item_of k t y)) r) p (map.insert known id (moved d id k Answer.Done)) after
 
 abbrev pub TestsGo : Type 0
 TestsGo = (d : Deployment) (m : Rows) (p : PlainState) (known : Known) (locked after : IntentId → Bool) (id : IntentId) (k : Instance) (s : TxId) (t : ℕ) (y : List ℕ) (u : Rel) (w v : Value) (b : Bool) (r : Option Row) → IsOpen d m p known locked s → IsFront d known id k s t y → LockedOut locked after id
-    → locked id ≡ true → effect_of d k ≡ effect.CondWrite t y u w v → is_some (map.get m (shadow_key s (item_of k t y))) ≡ true → test_on (place_of id (length k.answers)) (Tx s) u w v (shadow_of m s (item_of k t y)) ≡ (content_in r, tested b)
-    → Goes d (set_row m (shadow_key s (item_of k t y)) r) p (map.insert known id (moved d id k (answer.Value (value.Bool b)))) after
+    → locked id ≡ true → effect_of d k ≡ Effect.CondWrite t y u w v → is_some (map.get m (shadow_key s (item_of k t y))) ≡ true → test_on (place_of id (length k.answers)) (Tx s) u w v (shadow_of m s (item_of k t y)) ≡ (content_in r, tested b)
+    → Goes d (set_row m (shadow_key s (item_of k t y)) r) p (map.insert known id (moved d id k (Answer.Value (Value.Bool b)))) after
 
 -- the first row of its shadow is made: for a write, or with the plain value
 abbrev pub FirstRowsGo : Type 0
@@ -103,17 +76,17 @@ RowsGo = (d : Deployment) (m n : Rows) (p : PlainState) (known : Known) (locked 
 -- ---- calls
 -- a callee is made, in the transaction; it owes no shadow yet
 abbrev pub CallsGo : Type 0
-CallsGo = (d : Deployment) (m n : Rows) (p : PlainState) (known : Known) (locked : IntentId → Bool) (id : IntentId) (k : Instance) (s : TxId) (f : ℕ) (v : Value) → IsOpen d m p known locked s → map.get known id ≡ Some k → tx_now d id k ≡ Some s → effect_of d k ≡ effect.Call f v → has_callees id ≡ true
+CallsGo = (d : Deployment) (m n : Rows) (p : PlainState) (known : Known) (locked : IntentId → Bool) (id : IntentId) (k : Instance) (s : TxId) (f : ℕ) (v : Value) → IsOpen d m p known locked s → map.get known id ≡ Some k → tx_now d id k ≡ Some s → effect_of d k ≡ Effect.Call f v → has_callees id ≡ true
     → map.get known (callee_of id k) ≡ None → ((t : TxId) (x : Item) → map.get n (shadow_key t x) ≡ map.get m (shadow_key t x)) → Goes d n p (map.insert known (callee_of id k) (at_once d (callee_of id k) (new_member s f v (calls_at id k true)))) locked
 
 -- it gives its outcome back, which answers its caller
 abbrev pub ReturnsGo : Type 0
 ReturnsGo = (d : Deployment) (m n : Rows) (p : PlainState) (known : Known) (locked : IntentId → Bool) (id : IntentId) (i j : Instance) (c : ℕ) (s : TxId) (o : Outcome) → IsOpen d m p known locked s → map.get known id ≡ Some i → map.get known (child_of id c) ≡ Some j → j.within ≡ Some s → j.outcome ≡ None
-    → effect_of d j ≡ effect.Return o → ((t : TxId) (x : Item) → map.get n (shadow_key t x) ≡ map.get m (shadow_key t x)) → Goes d n p (map.insert (map.insert known (child_of id c) (ended j o)) id (moved d id i (answer_of o))) locked
+    → effect_of d j ≡ Effect.Return o → ((t : TxId) (x : Item) → map.get n (shadow_key t x) ≡ map.get m (shadow_key t x)) → Goes d n p (map.insert (map.insert known (child_of id c) (ended j o)) id (moved d id i (answer_of o))) locked
 
 -- ---- the decision
 abbrev pub decided : Rows → TxId → Bool → Rows
-decided m s c = set_row m (decision_key s) (Some (rows.ReadLog (value.Bool c)))
+decided m s c = set_row m (decision_key s) (Some (Row.ReadLog (Value.Bool c)))
 
 -- what its moves touched it owns
 abbrev pub OwnsWhatItTouched : Deployment → Rows → PlainState → TxId → (Item → Type 0) → Type 0
@@ -128,8 +101,8 @@ pub record IsCommit (d : Deployment) (m n : Rows) (p : PlainState) (known : Know
   pub goes : Goes d n state known locked
 
 abbrev pub CommitsArePieces : Type 0
-CommitsArePieces = (d : Deployment) (m : Rows) (p : PlainState) (known : Known) (locked : IntentId → Bool) (s : TxId) (k : Instance) → IsOpen d m p known locked s → map.get known s.intent ≡ Some k → effect_of d k ≡ effect.End true → locked s.intent ≡ false
-    → ((x : Item) → listed m x ≡ value_at p x) → IsCommit d m (decided m s true) p (map.insert known s.intent (moved d s.intent k answer.Done)) locked s
+CommitsArePieces = (d : Deployment) (m : Rows) (p : PlainState) (known : Known) (locked : IntentId → Bool) (s : TxId) (k : Instance) → IsOpen d m p known locked s → map.get known s.intent ≡ Some k → effect_of d k ≡ Effect.End true → locked s.intent ≡ false
+    → ((x : Item) → listed m x ≡ value_at p x) → IsCommit d m (decided m s true) p (map.insert known s.intent (moved d s.intent k Answer.Done)) locked s
 
 -- what an instance was answered last
 abbrev pub last_answer : List Answer → Option Answer
@@ -139,26 +112,26 @@ last_answer (a ∷ b ∷ rest) = last_answer (b ∷ rest)
 
 -- where it fell: at the place that its owner was told last, or else at its End
 abbrev pub FellAt : IntentId → ℕ → Option Answer → Place → Option IntentId → Type 0
-FellAt id n (Some (answer.Aborted c)) p h = (p ≡ c.place) × (h ≡ c.holder)
+FellAt id n (Some (Answer.Aborted c)) p h = (p ≡ c.place) × (h ≡ c.holder)
 FellAt id n a p h = (p ≡ place_of id n) × (h ≡ None)
 
 -- without, it is its try, at what was aborted or at the End itself, and all items are listed as before
 pub record IsAbort (d : Deployment) (m n : Rows) (p : PlainState) (known : Known) (locked : IntentId → Bool) (s : TxId) (k : Instance) : Type 0 where
   pub place : Place
   pub holder : Option IntentId
-  pub aborts : Aborts d p s.intent place holder (with_instance p s.intent (answered k answer.Done))
+  pub aborts : Aborts d p s.intent place holder (with_instance p s.intent (answered k Answer.Done))
   pub touched : OwnsWhatItTouched d m p s (TouchedIn d s (opened p s.intent aborts.instance) aborts.before)
   pub fell : FellAt s.intent (length k.answers) (last_answer k.answers) place holder
   pub lists : (x : Item) → listed n x ≡ listed m x
-  pub goes : Goes d n (with_instance p s.intent (answered k answer.Done)) known locked
+  pub goes : Goes d n (with_instance p s.intent (answered k Answer.Done)) known locked
 
 -- .. where who let a step inside a transaction die was made
 abbrev pub HoldersInsideAreMade : Deployment → PlainState → Known → Type 0
-HoldersInsideAreMade d p known = (id : IntentId) (q : Instance) (n : ℕ) (c : Cause) (h : IntentId) → map.get known id ≡ Some q → is_some (tx_at d id q n) ≡ true → slice_get q.answers n ≡ Some (answer.Aborted c) → c.holder ≡ Some h → is_some (map.get p.made h) ≡ true
+HoldersInsideAreMade d p known = (id : IntentId) (q : Instance) (n : ℕ) (c : Cause) (h : IntentId) → map.get known id ≡ Some q → is_some (tx_at d id q n) ≡ true → slice_get q.answers n ≡ Some (Answer.Aborted c) → c.holder ≡ Some h → is_some (map.get p.made h) ≡ true
 
 abbrev pub AbortsAreTries : Type 0
-AbortsAreTries = (d : Deployment) (m : Rows) (p : PlainState) (known : Known) (locked : IntentId → Bool) (s : TxId) (k : Instance) → IsOpen d m p known locked s → map.get known s.intent ≡ Some k → effect_of d k ≡ effect.End false → locked s.intent ≡ false
-    → HoldersInsideAreMade d p known → IsAbort d m (decided m s false) p (map.insert known s.intent (moved d s.intent k answer.Done)) locked s k
+AbortsAreTries = (d : Deployment) (m : Rows) (p : PlainState) (known : Known) (locked : IntentId → Bool) (s : TxId) (k : Instance) → IsOpen d m p known locked s → map.get known s.intent ≡ Some k → effect_of d k ≡ Effect.End false → locked s.intent ≡ false
+    → HoldersInsideAreMade d p known → IsAbort d m (decided m s false) p (map.insert known s.intent (moved d s.intent k Answer.Done)) locked s k
 
 -- ---- a release leaves the value that was listed
 abbrev pub ReleasesList : Type 0

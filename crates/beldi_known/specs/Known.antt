@@ -1,31 +1,13 @@
 -- What is known of each instance, and what it owes the rows: by its answers alone, inside transactions and outside.
 use Rattle.std.specs.Prelude.{◌≡◌, ℕ, ◌==◌, ◌&&◌, ◌||◌, not, Bool, true, false, List, [], ◌∷◌, ◌++◌, length, take, slice_get, Option, Some, None, is_some, if◌then◌else◌}
+use Rattle.std.specs.{FinMap.FinMap, Option.option_map, Ordering.is_eq}
 use Rattle.std.specs.FinMap as map
-use Rattle.std.specs.FinMap.{FinMap}
-use Rattle.std.specs.Option.{option_map}
-use Rattle.std.specs.Ordering.{is_eq}
-use Rattle.beldi_value.specs.Id.{id_cmp, child_of}
-use Rattle.beldi_value.specs.declared.id.IntentId.{IntentId}
-use Rattle.beldi_value.specs.declared.outcome.Outcome.{Outcome}
-use Rattle.beldi_value.specs.declared.place.Owner.TheVariants.{Tx}
-use Rattle.beldi_value.specs.declared.place.Place.{Place}
-use Rattle.beldi_value.specs.declared.place.TxId.{TxId}
-use Rattle.beldi_value.specs.declared.value.Value.{Value}
-use Rattle.beldi_value.specs.declared.value.Value.TheVariants as value
+use Rattle.beldi_value.specs.{Id.id_cmp, Id.child_of, declared.id.IntentId.IntentId, declared.outcome.Outcome.Outcome, declared.place.Owner.TheVariants.Tx, declared.place.Place.Place, declared.place.TxId.TxId, declared.value.Value.Value}
 use Rattle.beldi_tree.specs.declared.deployment.Deployment.{Deployment}
-use Rattle.beldi_lang.specs.declared.effect.Answer.{Answer}
-use Rattle.beldi_lang.specs.declared.effect.Answer.TheVariants as answer
-use Rattle.beldi_lang.specs.declared.effect.Effect.{Effect}
-use Rattle.beldi_lang.specs.declared.effect.Effect.TheVariants as effect
-use Rattle.beldi_row.specs.declared.notes.Note.{Note}
-use Rattle.beldi_row.specs.declared.notes.Note.TheVariants as notes
-use Rattle.beldi_row.specs.Log.{owner_eq}
-use Rattle.beldi_plain.specs.Plain.{answered_if}
-use Rattle.beldi_plain.specs.Item.{Item, item_cmp}
-use Rattle.beldi_plain.specs.Operation.{OnItem, op_of, touched}
-use Rattle.beldi_plain.specs.Piece.{is_aborted}
-use Rattle.beldi_plain.specs.Plain.{Instance, answered, effect_of}
+use Rattle.beldi_lang.specs.declared.effect.{Answer.Answer, Effect.Effect}
+use Rattle.beldi_plain.specs.{Plain.answered_if, Plain.Instance, Plain.answered, Plain.effect_of, Item.Item, Item.item_cmp, Operation.OnItem, Operation.op_of, Operation.touched, Piece.is_aborted}
 use Rattle.beldi_order.specs.Txs.{effect_after, along, end_of, tx_after, tx_now}
+use Rattle.beldi_row.specs.{declared.notes.Note.Note, Log.owner_eq}
 pub use Rattle.beldi_step.specs.Run.{answer_at_once}
 use Rattle.beldi_known.specs.Owed.{note_of, value_for, called_by}
 
@@ -85,8 +67,8 @@ is_item x func (Some o) = is_eq (item_cmp (record { func = func; table = o.0; ke
 
 -- an operation that writes
 abbrev pub write_op : Effect → Option OnItem
-write_op (effect.Write t k v) = op_of (effect.Write t k v)
-write_op (effect.CondWrite t k r o v) = op_of (effect.CondWrite t k r o v)
+write_op (Effect.Write t k v) = op_of (Effect.Write t k v)
+write_op (Effect.CondWrite t k r o v) = op_of (Effect.CondWrite t k r o v)
 write_op e = None
 
 -- ---- the rows of reads and decisions
@@ -96,7 +78,7 @@ read_at d q n = at_step (λ given a. value_for (effect_after d q given) a) (take
 
 abbrev pub decision_by : Option (ℕ × Bool) → Option Value
 decision_by None = None
-decision_by (Some e) = Some (value.Bool e.1)
+decision_by (Some e) = Some (Value.Bool e.1)
 
 abbrev pub value_or : Option Value → Option Value → Option Value
 value_or None b = b
@@ -122,8 +104,8 @@ owed_call known f a = called_by f (map.get known a.intent) (map.get known (child
 -- ---- the notes of a plain item
 -- of the lock of an operation inside: a death, or the lock
 abbrev pub lock_note : Answer → Option Note
-lock_note (answer.Aborted c) = option_map notes.Died c.holder
-lock_note a = Some notes.Got
+lock_note (Answer.Aborted c) = option_map Note.Died c.holder
+lock_note a = Some Note.Got
 
 -- the note of an answer: outside as the operation's, inside as of its lock
 abbrev pub note_by : Item → ℕ → Option TxId → Effect → Answer → Option Note
@@ -135,7 +117,7 @@ answered_note d x id n q = at_step (λ given a. note_by x q.func (tx_after d id 
 
 -- a lock that is ahead of its answer: of an operation that is not answered yet
 abbrev pub ahead_by : Item → ℕ → Option TxId → Effect → Bool → Option Note
-ahead_by x func (Some t) e true = if is_item x func (touched e) then Some notes.Got else None
+ahead_by x func (Some t) e true = if is_item x func (touched e) then Some Note.Got else None
 ahead_by x func t e b = None
 
 abbrev pub ahead_note : Deployment → Item → IntentId → Bool → ℕ → Instance → Option Note
@@ -206,7 +188,7 @@ tx_end d known t = ended_by d t.begin (map.get known t.intent)
 
 -- ---- the places of releases: the End of a decided transaction, and the last step of who was called in one
 abbrev pub commit_in : Effect → Option Bool
-commit_in (effect.End c) = Some c
+commit_in (Effect.End c) = Some c
 commit_in e = None
 
 -- an End that was answered

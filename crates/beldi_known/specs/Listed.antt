@@ -1,9 +1,8 @@
 -- The value that a listing shows of an item: of one that a committed transaction owns, its shadow's.
 use Rattle.std.specs.Prelude.{Option}
-use Rattle.beldi_value.specs.declared.place.Owner.{Owner}
-use Rattle.beldi_value.specs.declared.value.Value.{Value}
-use Rattle.beldi_row.specs.Table.{Rows}
+use Rattle.beldi_value.specs.declared.{place.Owner.Owner, value.Value.Value}
 use Rattle.beldi_plain.specs.Item.{Item}
+use Rattle.beldi_row.specs.Table.{Rows}
 use Rattle.beldi_step.specs.Tables.{shown_under}
 use Rattle.beldi_known.specs.Contents.{content_of}
 

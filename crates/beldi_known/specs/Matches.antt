@@ -2,35 +2,20 @@
 use Rattle.std.specs.Prelude.{◌≡◌, ℕ, ◌&&◌, ◌||◌, not, Bool, true, false, Option, Some, None, is_some}
 use Rattle.std.specs.Option.{is_none}
 use Rattle.std.specs.FinMap as map
-use Rattle.beldi_value.specs.Id.{has_no_hops}
-use Rattle.beldi_value.specs.declared.id.IntentId.{IntentId}
-use Rattle.beldi_value.specs.declared.place.Owner.{Owner}
-use Rattle.beldi_value.specs.declared.place.Owner.TheVariants.{Intent, Tx}
-use Rattle.beldi_value.specs.declared.place.Place.{Place}
-use Rattle.beldi_value.specs.declared.place.TxId.{TxId}
+use Rattle.beldi_value.specs.{Id.has_no_hops, declared.id.IntentId.IntentId, declared.place.Owner.Owner, declared.place.Owner.TheVariants.Intent, declared.place.Owner.TheVariants.Tx, declared.place.Place.Place, declared.place.TxId.TxId}
 use Rattle.beldi_tree.specs.declared.deployment.Deployment.{Deployment}
-use Rattle.beldi_row.specs.Key.{RowKey}
-use Rattle.beldi_row.specs.declared.key.Kind.{Kind}
-use Rattle.beldi_row.specs.declared.key.Kind.TheVariants as kinds
-use Rattle.beldi_row.specs.declared.row.Row.{Row}
-use Rattle.beldi_row.specs.declared.row.Row.TheVariants as rows
-use Rattle.beldi_row.specs.Log.{note_at}
-use Rattle.beldi_row.specs.Table.{Rows}
-use Rattle.beldi_daal.specs.Content.{Content}
-use Rattle.beldi_plain.specs.Holds.{holds}
-use Rattle.beldi_plain.specs.Item.{Item}
-use Rattle.beldi_plain.specs.Plain.{Instance, effect_of}
-use Rattle.beldi_known.specs.Contents.{content_of, is_owner, shadow_of}
-use Rattle.beldi_known.specs.Known.{Known, is_item, begins_at, owed_read, owed_call, owed_note, owed_shadow, owed_lockset, tx_end, is_mark, Got}
+use Rattle.beldi_plain.specs.{Holds.holds, Item.Item, Plain.Instance, Plain.effect_of, Operation.touched}
 use Rattle.beldi_order.specs.Txs.{tx_now}
-use Rattle.beldi_plain.specs.Operation.{touched}
-use Rattle.beldi_known.specs.Rows.{IntentMatches, CallMatches, LogMatches, CellMatches}
+use Rattle.beldi_row.specs.{Key.RowKey, declared.key.Kind.Kind, declared.row.Row.Row, Log.note_at, Table.Rows}
+use Rattle.beldi_daal.specs.Content.{Content}
+use Rattle.beldi_known.specs.Known.{Known, is_item, begins_at, owed_read, owed_call, owed_note, owed_shadow, owed_lockset, tx_end, is_mark, Got}
+use Rattle.beldi_known.specs.{Contents.content_of, Contents.is_owner, Contents.shadow_of, Rows.IntentMatches, Rows.CallMatches, Rows.LogMatches, Rows.CellMatches}
 
 -- ---- row by row
 -- a lockset row: where one is owed; and it may be ahead
 abbrev pub LocksetMatches : Option Row → Bool → Bool → Type 0
 LocksetMatches None owed ahead = owed ≡ false
-LocksetMatches (Some rows.Lockset) owed ahead = (owed || ahead) ≡ true
+LocksetMatches (Some Row.Lockset) owed ahead = (owed || ahead) ≡ true
 LocksetMatches (Some r) owed ahead = ⊥
 
 -- a transaction has ended
@@ -64,12 +49,12 @@ pub record TxsMatch (d : Deployment) (known : Known) (locked : IntentId → Bool
 -- ---- all rows
 -- the row of a key, by its kind
 abbrev pub RowMatches : Deployment → Known → ℕ → Kind → Option Row → Type 0
-RowMatches d known home (kinds.Intent id) r = IntentMatches (has_ended d known) (has_no_hops id.hops) home r (map.get known id)
-RowMatches d known home (kinds.ReadLog a) r = LogMatches r (owed_read d known home a)
-RowMatches d known home (kinds.Invoke a) r = CallMatches r (owed_call known home a)
-RowMatches d known home (kinds.Lockset i b t k) r = LocksetMatches r (owed_lockset d b (record { func = home; table = t; key = k }) i (map.get known i)) (lockset_ahead d known b (record { func = home; table = t; key = k }) i (map.get known i))
-RowMatches d known home (kinds.Data t k n) r = CellMatches n r
-RowMatches d known home (kinds.Shadow s t k n) r = CellMatches n r
+RowMatches d known home (Kind.Intent id) r = IntentMatches (has_ended d known) (has_no_hops id.hops) home r (map.get known id)
+RowMatches d known home (Kind.ReadLog a) r = LogMatches r (owed_read d known home a)
+RowMatches d known home (Kind.Invoke a) r = CallMatches r (owed_call known home a)
+RowMatches d known home (Kind.Lockset i b t k) r = LocksetMatches r (owed_lockset d b (record { func = home; table = t; key = k }) i (map.get known i)) (lockset_ahead d known b (record { func = home; table = t; key = k }) i (map.get known i))
+RowMatches d known home (Kind.Data t k n) r = CellMatches n r
+RowMatches d known home (Kind.Shadow s t k n) r = CellMatches n r
 
 pub record Matches (d : Deployment) (m : Rows) (known : Known) (locked : IntentId → Bool) : Type 0 where
   -- every row, there or absent, matches at its key

@@ -1,27 +1,19 @@
 -- What an answer owes the rows: a note, the value of a read, a call.
 use Rattle.std.specs.Prelude.{ℕ, ◌==◌, Option, Some, None, if◌then◌else◌}
 use Rattle.std.specs.Ordering.{is_eq}
-use Rattle.beldi_value.specs.declared.outcome.Outcome.{Outcome}
-use Rattle.beldi_value.specs.declared.value.Value.{Value}
-use Rattle.beldi_value.specs.declared.value.Value.TheVariants as value
-use Rattle.beldi_lang.specs.declared.effect.Answer.{Answer}
-use Rattle.beldi_lang.specs.declared.effect.Answer.TheVariants.{Done}
-use Rattle.beldi_lang.specs.declared.effect.Answer.TheVariants as answer
-use Rattle.beldi_lang.specs.declared.effect.Effect.{Effect}
-use Rattle.beldi_lang.specs.declared.effect.Effect.TheVariants.{Read}
-use Rattle.beldi_row.specs.declared.notes.Note.{Note}
-use Rattle.beldi_row.specs.declared.notes.Note.TheVariants as notes
-use Rattle.beldi_plain.specs.Item.{Item, item_cmp}
+use Rattle.beldi_value.specs.declared.{outcome.Outcome.Outcome, value.Value.Value}
+use Rattle.beldi_lang.specs.declared.effect.{Answer.Answer, Answer.TheVariants.Done, Effect.Effect, Effect.TheVariants.Read}
 use Rattle.beldi_plain.specs.Operation.{Operation, OnItem, item_in, write, cond, lock, free}
-use Rattle.beldi_plain.specs.Plain.{Instance}
+use Rattle.beldi_plain.specs.{Item.Item, Item.item_cmp, Plain.Instance}
+use Rattle.beldi_row.specs.declared.notes.Note.{Note}
 use Rattle.beldi_step.specs.Run.{is_waited}
 
 -- the note that an answer to an operation leaves
 abbrev pub noted : Operation → Answer → Option Note
-noted (write v) Done = Some notes.Wrote
-noted (cond r o v) (answer.Value (value.Bool b)) = Some (notes.Cond b)
-noted lock Done = Some notes.Got
-noted free Done = Some notes.Freed
+noted (write v) Done = Some Note.Wrote
+noted (cond r o v) (Answer.Value (Value.Bool b)) = Some (Note.Cond b)
+noted lock Done = Some Note.Got
+noted free Done = Some Note.Freed
 noted o a = None
 
 -- the note of an answer to an operation of a function, where it is one on this item
@@ -31,7 +23,7 @@ note_of x func (Some o) a = if is_eq (item_cmp (item_in func o) x) then noted o.
 
 -- the value of an answer to an effect, where the effect is a read
 abbrev pub value_for : Effect → Answer → Option Value
-value_for (Read t k) (answer.Value v) = Some v
+value_for (Read t k) (Answer.Value v) = Some v
 value_for e a = None
 
 -- what a call of this function, whose callee is this instance, gives back: its outcome, where the caller waits for it

@@ -1,14 +1,9 @@
 -- Rows that match what is owed to them, by their kind.
 use Rattle.std.specs.Prelude.{◌≡◌, ℕ, zero, suc, ◌==◌, Bool, true, false, Option, Some, None, is_some}
-use Rattle.beldi_value.specs.declared.outcome.Outcome.{Outcome}
-use Rattle.beldi_value.specs.declared.place.TxId.{TxId}
-use Rattle.beldi_value.specs.declared.value.Value.{Value}
-use Rattle.beldi_row.specs.declared.row.Body.{Body}
-use Rattle.beldi_row.specs.declared.row.IntentRow.{IntentRow}
-use Rattle.beldi_row.specs.declared.row.Row.{Row}
-use Rattle.beldi_row.specs.declared.row.Row.TheVariants as rows
-use Rattle.beldi_daal.specs.Content.{SoundAt}
+use Rattle.beldi_value.specs.declared.{outcome.Outcome.Outcome, place.TxId.TxId, value.Value.Value}
 use Rattle.beldi_plain.specs.Plain.{Instance}
+use Rattle.beldi_row.specs.declared.row.{Body.Body, IntentRow.IntentRow, Row.Row}
+use Rattle.beldi_daal.specs.Content.{SoundAt}
 use Rattle.beldi_step.specs.Run.{is_waited}
 use Rattle.beldi_known.specs.Stands.{body_of}
 
@@ -62,7 +57,7 @@ pub record IsCalleeRow (ended : TxId → Bool) (home : ℕ) (r : IntentRow) (i :
 -- the rows of a root, by whether it is the host's home: it has its row there alone
 abbrev pub RootMatches : Bool → Option Row → Option Instance → Type 0
 RootMatches true None i = i ≡ None
-RootMatches true (Some (rows.Intent r)) i = IsRootRow r i
+RootMatches true (Some (Row.Intent r)) i = IsRootRow r i
 RootMatches true (Some r) i = ⊥
 RootMatches false r i = r ≡ None
 
@@ -72,7 +67,7 @@ pub record HasNoRow (home : ℕ) (i : Option Instance) : Type 0 where
 
 abbrev pub CalleeMatches : (TxId → Bool) → ℕ → Option Row → Option Instance → Type 0
 CalleeMatches ended home None i = HasNoRow home i
-CalleeMatches ended home (Some (rows.Intent r)) i = IsCalleeRow ended home r i
+CalleeMatches ended home (Some (Row.Intent r)) i = IsCalleeRow ended home r i
 CalleeMatches ended home (Some r) i = ⊥
 
 -- the row of an intent in a home, by which transactions have ended, and whether the intent is a root
@@ -90,13 +85,13 @@ pub record EndsRow (r s : IntentRow) (o : Outcome) : Type 0 where
 -- the row of a call, by the call that is owed there
 abbrev pub CallMatches : Option Row → Option (ℕ × Option Outcome) → Type 0
 CallMatches None o = o ≡ None
-CallMatches (Some (rows.Invoke r)) o = o ≡ Some (r.func, r.result)
+CallMatches (Some (Row.Invoke r)) o = o ≡ Some (r.func, r.result)
 CallMatches (Some r) o = ⊥
 
 -- the row of a read, by the value that is owed there
 abbrev pub LogMatches : Option Row → Option Value → Type 0
 LogMatches None o = o ≡ None
-LogMatches (Some (rows.ReadLog v)) o = o ≡ Some v
+LogMatches (Some (Row.ReadLog v)) o = o ≡ Some v
 LogMatches (Some r) o = ⊥
 
 -- the shape of an item's rows: there is a first one or none, and no other. What it holds is said of the item.

@@ -1,12 +1,9 @@
 -- Instances that are known went as their bodies want, inside transactions and outside, and were called where their ids say.
 use Rattle.std.specs.Prelude.{◌≡◌, ℕ, ◌<◌, Bool, true, length, is_some, Some, None}
 use Rattle.std.specs.FinMap as map
-use Rattle.beldi_value.specs.Id.{root_of, child_of}
-use Rattle.beldi_value.specs.declared.id.IntentId.{IntentId}
-use Rattle.beldi_value.specs.declared.outcome.Outcome.{Outcome}
-use Rattle.beldi_value.specs.declared.value.Value.{Value}
+use Rattle.beldi_value.specs.{Id.root_of, Id.child_of, declared.id.IntentId.IntentId, declared.outcome.Outcome.Outcome, declared.value.Value.Value}
 use Rattle.beldi_tree.specs.declared.deployment.Deployment.{Deployment}
-use Rattle.beldi_lang.specs.declared.effect.Effect.TheVariants as effect
+use Rattle.beldi_lang.specs.declared.effect.Effect.{Effect}
 use Rattle.beldi_plain.specs.Plain.{Instance, effect_of, effect_before}
 use Rattle.beldi_order.specs.Sane.{WentSo, CalledBy, call_of}
 use Rattle.beldi_known.specs.Known.{Known, answer_at_once}
@@ -15,7 +12,7 @@ use Rattle.beldi_known.specs.Known.{Known, answer_at_once}
 pub record SaneInstance (d : Deployment) (id : IntentId) (q : Instance) : Type 0 where
   pub past : WentSo d id q
   -- an outcome is there only where the body returns it
-  pub over : (o : Outcome) → q.outcome ≡ Some o → effect_of d q ≡ effect.Return o
+  pub over : (o : Outcome) → q.outcome ≡ Some o → effect_of d q ≡ Effect.Return o
 
 -- a known instance that has no outcome stands at no effect that takes no turn
 abbrev pub Closed : Deployment → IntentId → Instance → Type 0

@@ -2,25 +2,17 @@
 -- null for a write, and is so until that write is answered.
 use Rattle.std.specs.Prelude.{◌≡◌, ℕ, ◌&&◌, ◌⊎◌, Bool, true, false, Option, Some, None, is_some}
 use Rattle.std.specs.FinMap as map
-use Rattle.beldi_value.specs.declared.id.IntentId.{IntentId}
-use Rattle.beldi_value.specs.declared.place.TxId.{TxId}
-use Rattle.beldi_value.specs.declared.value.Value.{Value}
+use Rattle.beldi_value.specs.declared.{id.IntentId.IntentId, place.TxId.TxId, value.Value.Value}
 use Rattle.beldi_tree.specs.declared.deployment.Deployment.{Deployment}
 use Rattle.beldi_lang.specs.declared.effect.Effect.{Effect}
-use Rattle.beldi_lang.specs.declared.effect.Effect.TheVariants as effect
-use Rattle.beldi_row.specs.Table.{Rows}
-use Rattle.beldi_row.specs.declared.row.Row.{Row}
+use Rattle.beldi_plain.specs.{Item.Item, Piece.Going, Piece.tx_begun, Plain.Instance, Plain.PlainState, Plain.effect_of, Plain.value_at}
+use Rattle.beldi_row.specs.{Table.Rows, declared.row.Row.Row}
 use Rattle.beldi_daal.specs.Content.{content_in}
-use Rattle.beldi_plain.specs.Item.{Item}
-use Rattle.beldi_plain.specs.Piece.{Going, tx_begun}
-use Rattle.beldi_plain.specs.Plain.{Instance, PlainState, effect_of, value_at}
-use Rattle.beldi_known.specs.Beside.{OpenTx, begins}
-use Rattle.beldi_known.specs.Contents.{shadow_key}
-use Rattle.beldi_known.specs.Known.{Known, Got, is_item}
+use Rattle.beldi_known.specs.{Beside.OpenTx, Beside.begins, Contents.shadow_key, Known.Known, Known.Got, Known.is_item}
 
 -- a write of the item
 abbrev pub writes_on : Item → ℕ → Effect → Bool
-writes_on x func (effect.Write t k v) = is_item x func (Some (t, k))
+writes_on x func (Effect.Write t k v) = is_item x func (Some (t, k))
 writes_on x func e = false
 
 -- the first row of a shadow, by whether the one that can step stands at a write of it with the lock ahead

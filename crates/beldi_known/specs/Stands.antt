@@ -1,42 +1,20 @@
 -- That rows stand for a plain state.
 use Rattle.std.specs.Prelude.{◌≡◌, ℕ, Bool, true, false, slice_get, Option, Some, None, option_and_then}
-use Rattle.std.specs.FinMap as map
-use Rattle.beldi_value.specs.Id.{root_of}
-use Rattle.beldi_value.specs.declared.id.IntentId.{IntentId}
-use Rattle.beldi_value.specs.declared.outcome.Outcome.{Outcome}
-use Rattle.beldi_value.specs.declared.place.Place.{Place}
-use Rattle.beldi_value.specs.declared.place.TxId.{TxId}
-use Rattle.beldi_value.specs.declared.value.Value.{Value}
-use Rattle.beldi_value.specs.declared.value.Value.TheVariants as value
-use Rattle.beldi_tree.specs.declared.deployment.Deployment.{Deployment}
-use Rattle.beldi_lang.specs.declared.effect.Answer.{Answer}
-use Rattle.beldi_lang.specs.declared.effect.Answer.TheVariants.{Done}
-use Rattle.beldi_lang.specs.declared.effect.Answer.TheVariants as answer
-use Rattle.beldi_lang.specs.declared.effect.Effect.{Effect}
-use Rattle.beldi_lang.specs.declared.effect.Effect.TheVariants.{Read, Write, CondWrite, Call, Async, Begin, End, Abort}
-use Rattle.beldi_lang.specs.Callee.{answer_of}
-use Rattle.beldi_row.specs.Key.{RowKey}
-use Rattle.beldi_row.specs.declared.key.Kind.TheVariants as kinds
-use Rattle.beldi_row.specs.declared.notes.Note.{Note}
-use Rattle.beldi_row.specs.declared.notes.Note.TheVariants.{Got, Died}
-use Rattle.beldi_row.specs.declared.row.Body.{Body}
-use Rattle.beldi_row.specs.declared.row.IntentRow.{IntentRow}
-use Rattle.beldi_row.specs.declared.row.Row.TheVariants as rows
-use Rattle.beldi_row.specs.Log.{note_at}
-use Rattle.beldi_row.specs.Table.{Rows}
-use Rattle.beldi_invokelog.specs.InvokeLog.{invoke_key, call_at, result_in}
-use Rattle.beldi_readlog.specs.ReadLog.{log_key, given}
 use Rattle.std.specs.Option.{option_map}
-use Rattle.beldi_plain.specs.Item.{Item}
-use Rattle.beldi_plain.specs.Operation.{OnItem, op_of, item_in}
-use Rattle.beldi_plain.specs.Plain.{Instance, PlainState, value_at, effect_before}
-use Rattle.beldi_step.specs.Noted.{noted_answer}
-use Rattle.beldi_step.specs.Tables.{decision_key, is_committed}
-use Rattle.beldi_intent.specs.Intent.{root_key, is_ended}
-use Rattle.beldi_known.specs.Contents.{content_of, shadow_key, shadow_of, IsSoundChain}
-use Rattle.beldi_daal.specs.Content.{SoundAt}
+use Rattle.std.specs.FinMap as map
+use Rattle.beldi_value.specs.{Id.root_of, declared.id.IntentId.IntentId, declared.outcome.Outcome.Outcome, declared.place.Place.Place, declared.place.TxId.TxId, declared.value.Value.Value}
+use Rattle.beldi_tree.specs.declared.deployment.Deployment.{Deployment}
+use Rattle.beldi_lang.specs.declared.effect.Effect.TheVariants.{Read, Write, CondWrite, Call, Async, Begin, End, Abort}
+use Rattle.beldi_lang.specs.{declared.effect.Answer.Answer, declared.effect.Answer.TheVariants.Done, declared.effect.Effect.Effect, Callee.answer_of}
+use Rattle.beldi_plain.specs.{Item.Item, Operation.OnItem, Operation.op_of, Operation.item_in, Plain.Instance, Plain.PlainState, Plain.value_at, Plain.effect_before}
 use Rattle.beldi_order.specs.Txs.{tx_at}
-use Rattle.beldi_known.specs.Listed.{listed}
+use Rattle.beldi_row.specs.{Key.RowKey, declared.notes.Note.Note, declared.notes.Note.TheVariants.Got, declared.notes.Note.TheVariants.Died, declared.row.Body.Body, declared.row.IntentRow.IntentRow, Log.note_at, Table.Rows, declared.key.Kind.Kind, declared.row.Row.Row}
+use Rattle.beldi_daal.specs.Content.{SoundAt}
+use Rattle.beldi_readlog.specs.ReadLog.{log_key, given}
+use Rattle.beldi_invokelog.specs.InvokeLog.{invoke_key, call_at, result_in}
+use Rattle.beldi_intent.specs.Intent.{root_key, is_ended}
+use Rattle.beldi_step.specs.{Noted.noted_answer, Tables.decision_key, Tables.is_committed}
+use Rattle.beldi_known.specs.{Contents.content_of, Contents.shadow_key, Contents.shadow_of, Contents.IsSoundChain, Listed.listed}
 
 -- ---- the answer that the rows hold
 -- the answer that an item's rows hold at a place, for an operation of a function on it
@@ -47,14 +25,14 @@ held_note m p func (Some o) = option_and_then noted_answer (note_at (content_of 
 -- .. for the effect of a function at a place outside transactions: the value that was given to a read, what a call gave back, that a
 -- call is there which nobody waits for, and the note that an operation left
 abbrev pub held_outside : Rows → Place → ℕ → Effect → Option Answer
-held_outside m p func (Read t k) = option_map answer.Value (given m (log_key func p))
+held_outside m p func (Read t k) = option_map Answer.Value (given m (log_key func p))
 held_outside m p func (Call f v) = option_map answer_of (result_in (call_at m (invoke_key func p)))
 held_outside m p func (Async f v) = option_map (λ i. Done) (call_at m (invoke_key func p))
 held_outside m p func e = held_note m p func (op_of e)
 
 -- .. inside, by the item's note at the place: whom it died of; or, where it got the lock, what it was answered then
 abbrev pub told_by : Place → Option Note → Option Answer → Option Answer
-told_by p (Some (Died h)) a = Some (answer.Aborted (record { place = p; holder = Some h }))
+told_by p (Some (Died h)) a = Some (Answer.Aborted (record { place = p; holder = Some h }))
 told_by p (Some Got) a = a
 told_by p n a = None
 
@@ -67,15 +45,15 @@ note_of_lock m p i = note_at (content_of m i).notes p
 
 -- .. a Begin and an Abort are answered at once, and an End once its decision, and no other, is kept at the place of its Begin
 abbrev pub decides : Bool → Value → Option Answer
-decides true (value.Bool true) = Some Done
-decides false (value.Bool false) = Some Done
+decides true (Value.Bool true) = Some Done
+decides false (Value.Bool false) = Some Done
 decides c v = None
 
 abbrev pub held_inside : Rows → TxId → Place → ℕ → Effect → Option Answer
 held_inside m x p func Begin = Some Done
-held_inside m x p func Abort = Some (answer.Aborted (record { place = p; holder = None }))
+held_inside m x p func Abort = Some (Answer.Aborted (record { place = p; holder = None }))
 held_inside m x p func (End c) = option_and_then (decides c) (given m (log_key x.func (record { intent = x.intent; step = x.begin })))
-held_inside m x p func (Read t k) = told_by p (note_of_lock m p (record { func = func; table = t; key = k })) (option_map answer.Value (given m (log_key func p)))
+held_inside m x p func (Read t k) = told_by p (note_of_lock m p (record { func = func; table = t; key = k })) (option_map Answer.Value (given m (log_key func p)))
 held_inside m x p func (Write t k v) = let i : Item = record { func = func; table = t; key = k } in told_by p (note_of_lock m p i) (answer_aside m x p i)
 held_inside m x p func (CondWrite t k r o v) = let i : Item = record { func = func; table = t; key = k } in told_by p (note_of_lock m p i) (answer_aside m x p i)
 held_inside m x p func e = held_outside m p func e
@@ -100,12 +78,12 @@ pub record IsMade (p : PlainState) (id : IntentId) (i : IntentRow) (b : Body) : 
 -- the row of an intent that has not ended
 pub record HasNotEnded (m : Rows) (k : RowKey) : Type 0 where
   pub row : IntentRow
-  pub there : map.get m k ≡ Some (rows.Intent row)
+  pub there : map.get m k ≡ Some (Row.Intent row)
   pub not_ended : is_ended row ≡ false
 
 -- the key of an intent's row in a home
 abbrev pub key_in : ℕ → IntentId → RowKey
-key_in home id = record { home = home; kind = kinds.Intent id }
+key_in home id = record { home = home; kind = Kind.Intent id }
 
 -- an intent that was called in a transaction stands for one of the plain state once that has committed
 abbrev pub has_place : Rows → Option TxId → Bool
@@ -116,11 +94,11 @@ pub record Stands (d : Deployment) (m : Rows) (p : PlainState) : Type 0 where
   -- each item is listed with its plain value
   pub items : (x : Item) → listed m x ≡ value_at p x
   -- each intent row with a body was made so, with the plain outcome, unless its transaction has not committed
-  pub made : (home : ℕ) (id : IntentId) (i : IntentRow) (b : Body) → map.get m (key_in home id) ≡ Some (rows.Intent i) → i.body ≡ Some b → has_place m b.tx ≡ true → IsMade p id i b
+  pub made : (home : ℕ) (id : IntentId) (i : IntentRow) (b : Body) → map.get m (key_in home id) ≡ Some (Row.Intent i) → i.body ≡ Some b → has_place m b.tx ≡ true → IsMade p id i b
   -- .. and then it was not made
-  pub unmade : (home : ℕ) (id : IntentId) (i : IntentRow) (b : Body) → map.get m (key_in home id) ≡ Some (rows.Intent i) → i.body ≡ Some b → has_place m b.tx ≡ false → map.get p.made id ≡ None
+  pub unmade : (home : ℕ) (id : IntentId) (i : IntentRow) (b : Body) → map.get m (key_in home id) ≡ Some (Row.Intent i) → i.body ≡ Some b → has_place m b.tx ≡ false → map.get p.made id ≡ None
   -- where such an intent has not ended, each answer of its instance is held by the rows at its step
-  pub held : (home : ℕ) (id : IntentId) (i : IntentRow) (b : Body) → map.get m (key_in home id) ≡ Some (rows.Intent i) → i.body ≡ Some b → has_place m b.tx ≡ true → is_ended i ≡ false
+  pub held : (home : ℕ) (id : IntentId) (i : IntentRow) (b : Body) → map.get m (key_in home id) ≡ Some (Row.Intent i) → i.body ≡ Some b → has_place m b.tx ≡ true → is_ended i ≡ false
       → (q : Instance) → map.get p.made id ≡ Some q → (n : ℕ) (a : Answer) → slice_get q.answers n ≡ Some a → held_answer m id q.func n (tx_at d id q n) (effect_before d q n) ≡ Some a
   -- each root without outcome has its row, which has not ended
   pub open_roots : (t : ℕ) (q : Instance) → map.get p.made (root_of t) ≡ Some q → q.outcome ≡ None → HasNotEnded m (root_key t)

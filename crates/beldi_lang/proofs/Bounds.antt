@@ -1,14 +1,6 @@
 -- By induction on the body: inside a transaction, another one is its first block.
-use Rattle.std.proofs.Common.{◌≡◌, Bool, true, false, List, [], ◌∷◌, refl}
-use Rattle.beldi_value.specs.declared.outcome.Outcome.{Outcome}
-use Rattle.beldi_lang.specs.declared.effect.Answer.{Answer}
-use Rattle.beldi_lang.specs.declared.effect.Effect.{Effect}
-use Rattle.beldi_lang.specs.declared.state.HeldLock.{HeldLock}
-use Rattle.beldi_tree.specs.Command.{Command, Commands, no_commands, command, set, read, write, condwrite, call, async, lock, unlock, transaction, abort, break, choose, repeat, return}
-use Rattle.beldi_tree.specs.Names.{func_at}
-use Rattle.beldi_lang.specs.Wants.{body_of, releases}
+use Rattle.beldi_lang.proofs.Names.{Answer, Bool, Command, Commands, Effect, HeldLock, InheritedWantNoBound, List, Outcome, [], abort, async, body_of, break, call, choose, command, condwrite, false, func_at, is_bound, lock, no_commands, read, refl, releases, repeat, return, set, transaction, true, unlock, write, ◌∷◌, ◌≡◌}
 use Rattle.beldi_lang.proofs.Occurs.{Each, EachOf, wants_only}
-use Rattle.beldi_lang.specs.Bounds.{is_bound, InheritedWantNoBound}
 
 abbrev NoBound : Bool → Effect → Type 0
 NoBound i e = is_bound e ≡ false

@@ -1,7 +1,8 @@
 pub mod Blocks
 pub mod Bounds
 pub mod Goes
-pub mod Resumes
-pub mod Spends
-pub mod SameWants
+mod Names
 pub mod Occurs
+pub mod Resumes
+pub mod SameWants
+pub mod Spends

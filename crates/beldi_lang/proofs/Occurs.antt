@@ -1,25 +1,7 @@
 -- The effects that a body wants are those of its statements: what holds of each effect that stands in it, and of the locks that
 -- its statements leave, holds of what it wants.
-use Rattle.std.proofs.Common.{ℕ, zero, suc, ◌+◌, Bool, true, false, List, [], ◌∷◌, ◌++◌, Option, Some, None, Result, Ok, Err, if◌then◌else◌}
-use Rattle.std.specs.Prelude.{nat_lt}
-use Rattle.beldi_value.specs.declared.value.Value.{Value}
-use Rattle.beldi_value.specs.declared.outcome.Outcome.{Outcome}
-use Rattle.beldi_value.specs.declared.outcome.Outcome.TheVariants as outcome
-use Rattle.beldi_value.specs.declared.outcome.Code.{Code}
-use Rattle.beldi_value.specs.declared.outcome.Code.TheVariants as code
-use Rattle.beldi_tree.specs.declared.deployment.Deployment.{Deployment}
-use Rattle.beldi_tree.specs.declared.deployment.TableHead.{TableHead}
-use Rattle.beldi_lang.specs.declared.effect.Effect.{Effect}
-use Rattle.beldi_lang.specs.declared.effect.Effect.TheVariants as effect
-use Rattle.beldi_lang.specs.declared.effect.Answer.{Answer}
-use Rattle.beldi_lang.specs.declared.effect.Answer.TheVariants as answer
-use Rattle.beldi_lang.specs.declared.state.HeldLock.{HeldLock}
-use Rattle.beldi_tree.specs.Bindings.{Bindings}
-use Rattle.beldi_tree.specs.Names.{func_at}
-use Rattle.beldi_tree.specs.Evaluate.{and_then, truth, term_value}
-use Rattle.beldi_tree.specs.Command.{Command, Commands, no_commands, command, set, read, write, condwrite, call, async, lock, unlock, transaction, abort, break, choose, repeat, return}
-use Rattle.beldi_lang.specs.Locks.{is_held, is_none_held, without}
-use Rattle.beldi_lang.specs.Wants.{key_value, table_number, func_number, most_effects, Local, Leads, asks, goes, breaks, ends, Does, fault, or_fault, takes, counted, set_to, answered, effect_to, locks, unlocks, followed, looped, turns, closes, closed, transact, does, run_block, tables_of, body_of, first_local, releases, effect_of, inside_of, body, wants, is_inside}
+use Rattle.beldi_lang.specs.Wants.{turns, run_block}
+use Rattle.beldi_lang.proofs.Names.{Answer, Bindings, Bool, Code, Command, Commands, Deployment, Does, Effect, Err, HeldLock, Leads, List, Local, None, Ok, Option, Outcome, Result, Some, TableHead, Value, [], abort, and_then, answered, asks, async, body, body_of, break, breaks, call, choose, closed, closes, command, condwrite, counted, does, effect_of, effect_to, ends, false, fault, first_local, followed, func_at, func_number, goes, if◌then◌else◌, inside_of, is_held, is_inside, is_none_held, key_value, lock, locks, looped, most_effects, nat_lt, no_commands, or_fault, read, releases, repeat, return, set, set_to, suc, table_number, tables_of, takes, term_value, transact, transaction, true, truth, unlock, unlocks, wants, without, write, zero, ℕ, ◌++◌, ◌+◌, ◌∷◌}
 
 -- ---- what is said of the locks that are held, and of each effect, inside a transaction or not
 
@@ -28,16 +10,16 @@ module _ (H : List HeldLock → Type 0) (Q : Bool → Effect → Type 0) where
   abbrev mutual
     pub Each : Bool → Command → Type 0
     Each i (set l n e) = Unit {0}
-    Each i (read l n t k) = (t : ℕ) (k : List ℕ) → Q i (effect.Read t k)
-    Each i (write l t k e) = (t : ℕ) (k : List ℕ) (v : Value) → Q i (effect.Write t k v)
-    Each i (condwrite l n t k r o e) = (t : ℕ) (k : List ℕ) (w v : Value) → Q i (effect.CondWrite t k r w v)
-    Each i (call l n f e) = (f : ℕ) (v : Value) → Q i (effect.Call f v)
-    Each i (async l f e) = (f : ℕ) (v : Value) → Q i (effect.Async f v)
-    Each i (lock l t k) = (t : ℕ) (k : List ℕ) → Q i (effect.Lock t k) × ((hs : List HeldLock) → H hs → H (hs ++ record { table = t; key = k } ∷ []))
-    Each i (unlock l t k) = (t : ℕ) (k : List ℕ) → Q i (effect.Unlock t k) × ((hs : List HeldLock) → H hs → H (without t k hs))
+    Each i (read l n t k) = (t : ℕ) (k : List ℕ) → Q i (Effect.Read t k)
+    Each i (write l t k e) = (t : ℕ) (k : List ℕ) (v : Value) → Q i (Effect.Write t k v)
+    Each i (condwrite l n t k r o e) = (t : ℕ) (k : List ℕ) (w v : Value) → Q i (Effect.CondWrite t k r w v)
+    Each i (call l n f e) = (f : ℕ) (v : Value) → Q i (Effect.Call f v)
+    Each i (async l f e) = (f : ℕ) (v : Value) → Q i (Effect.Async f v)
+    Each i (lock l t k) = (t : ℕ) (k : List ℕ) → Q i (Effect.Lock t k) × ((hs : List HeldLock) → H hs → H (hs ++ record { table = t; key = k } ∷ []))
+    Each i (unlock l t k) = (t : ℕ) (k : List ℕ) → Q i (Effect.Unlock t k) × ((hs : List HeldLock) → H hs → H (without t k hs))
     Each true (transaction l b c) = EachOf true b
-    Each false (transaction l b c) = Q false effect.Begin × ((commit : Bool) → Q true (effect.End commit)) × EachOf true b × EachOf false c
-    Each true (abort l) = Q true effect.Abort
+    Each false (transaction l b c) = Q false Effect.Begin × ((commit : Bool) → Q true (Effect.End commit)) × EachOf true b × EachOf false c
+    Each true (abort l) = Q true Effect.Abort
     Each false (abort l) = Unit {0}
     Each i (break l) = Unit {0}
     Each i (choose l e b c) = EachOf i b × EachOf i c
@@ -78,14 +60,14 @@ module _ (H : List HeldLock → Type 0) (Q : Bool → Effect → Type 0) where
   takes_only i e f q h s (a ∷ rest) k = h a s rest k
 
   counted_only : (f : Does) → OnlyDoes f → OnlyDoes (counted f)
-  counted_only f h s rest k = if_only (nat_lt s.used most_effects) (f (record s { used = s.used + 1 }) rest) (fault code.Steps s rest) (h (record s { used = s.used + 1 }) rest k) k
+  counted_only f h s rest k = if_only (nat_lt s.used most_effects) (f (record s { used = s.used + 1 }) rest) (fault Code.Steps s rest) (h (record s { used = s.used + 1 }) rest k) k
 
   answered_only : (n : Option (List ℕ)) (a : Answer) → OnlyDoes (answered n a)
-  answered_only n answer.Done s rest k = k
-  answered_only None (answer.Value v) s rest k = k
-  answered_only (Some n) (answer.Value v) s rest k = k
-  answered_only n (answer.Fault c) s rest k = k
-  answered_only n (answer.Aborted c) s rest k = k
+  answered_only n Answer.Done s rest k = k
+  answered_only None (Answer.Value v) s rest k = k
+  answered_only (Some n) (Answer.Value v) s rest k = k
+  answered_only n (Answer.Fault c) s rest k = k
+  answered_only n (Answer.Aborted c) s rest k = k
 
   effect_only : (i : Bool) (n : Option (List ℕ)) (e : Effect) → Q i e → OnlyDoes (effect_to i n e)
   effect_only i n e q = counted_only (takes i e (answered n)) (takes_only i e (answered n) q (answered_only n))
@@ -109,45 +91,45 @@ module _ (H : List HeldLock → Type 0) (Q : Bool → Effect → Type 0) where
   turns_only f h zero s rest k = k
   turns_only f h (suc n) s rest k = counted_only (λ s rest. looped (turns f n) (f s rest)) (λ s rest k. looped_only (turns f n) (turns_only f h n) (f s rest) (h s rest k)) s rest k
 
-  module _ (f g : Does) (begins : Q false effect.Begin) (closing : (commit : Bool) → Q true (effect.End commit)) (first : OnlyDoes f) (second : OnlyDoes g) where
+  module _ (f g : Does) (begins : Q false Effect.Begin) (closing : (commit : Bool) → Q true (Effect.End commit)) (first : OnlyDoes f) (second : OnlyDoes g) where
     closes_only : (commit : Bool) (k : Does) → OnlyDoes k → OnlyDoes (closes commit k)
-    closes_only commit k h = takes_only true (effect.End commit) (λ a. k) (closing commit) (λ a. h)
+    closes_only commit k h = takes_only true (Effect.End commit) (λ a. k) (closing commit) (λ a. h)
 
     closed_only : (vs : Bindings) (l : Leads) → Only l → Only (closed vs g l)
     closed_only vs (asks i e) q = q
     closed_only vs (goes s rest) q = closes_only true goes (λ s rest k. k) s rest q
     closed_only vs (breaks s rest) q = closes_only true breaks (λ s rest k. k) s rest q
-    closed_only vs (ends (outcome.Value v) s rest) q = closes_only true (ends (outcome.Value v)) (λ s rest k. k) s rest q
-    closed_only vs (ends (outcome.Fault c) s rest) q = closes_only false (ends (outcome.Fault c)) (λ s rest k. k) s rest q
-    closed_only vs (ends (outcome.Aborted c) s rest) q = closes_only false (λ t. g (record t { variables = vs })) (λ t. second (record t { variables = vs })) s rest q
+    closed_only vs (ends (Outcome.Value v) s rest) q = closes_only true (ends (Outcome.Value v)) (λ s rest k. k) s rest q
+    closed_only vs (ends (Outcome.Fault c) s rest) q = closes_only false (ends (Outcome.Fault c)) (λ s rest k. k) s rest q
+    closed_only vs (ends (Outcome.Aborted c) s rest) q = closes_only false (λ t. g (record t { variables = vs })) (λ t. second (record t { variables = vs })) s rest q
 
     transact_only : OnlyDoes (transact f g)
     transact_only s rest k =
-        if_only (is_none_held s.held) (counted (takes false effect.Begin (λ a s rest. closed s.variables g (f s rest))) s rest) (fault code.LocksHeld s rest)
-        (counted_only (takes false effect.Begin (λ a s rest. closed s.variables g (f s rest))) (takes_only false effect.Begin (λ a s rest. closed s.variables g (f s rest)) begins (λ a s rest k. closed_only s.variables (f s rest) (first s rest k))) s rest k) k
+        if_only (is_none_held s.held) (counted (takes false Effect.Begin (λ a s rest. closed s.variables g (f s rest))) s rest) (fault Code.LocksHeld s rest)
+        (counted_only (takes false Effect.Begin (λ a s rest. closed s.variables g (f s rest))) (takes_only false Effect.Begin (λ a s rest. closed s.variables g (f s rest)) begins (λ a s rest k. closed_only s.variables (f s rest) (first s rest k))) s rest k) k
 
   module _ (d : Deployment) (ts : List TableHead) where
     mutual
       pub occurs : (i : Bool) (c : Command) (vs : Bindings) → Each i c → OnlyResult (does d ts i c vs)
       occurs i (set l n e) vs h = then_only (term_value vs e) (λ v. Ok (λ s. goes (set_to n v s))) (λ v s rest k. k)
-      occurs i (read l n t k) vs h = then_only (key_value vs k) (λ key. Ok (effect_to i (Some n) (effect.Read (table_number ts t) key))) (λ key. effect_only i (Some n) (effect.Read (table_number ts t) key) (h (table_number ts t) key))
-      occurs i (write l t k e) vs h = then_only (key_value vs k) (λ key. and_then (term_value vs e) (λ v. Ok (effect_to i None (effect.Write (table_number ts t) key v)))) (λ key. then_only (term_value vs e) (λ v. Ok (effect_to i None (effect.Write (table_number ts t) key v))) (λ v. effect_only i None (effect.Write (table_number ts t) key v) (h (table_number ts t) key v)))
+      occurs i (read l n t k) vs h = then_only (key_value vs k) (λ key. Ok (effect_to i (Some n) (Effect.Read (table_number ts t) key))) (λ key. effect_only i (Some n) (Effect.Read (table_number ts t) key) (h (table_number ts t) key))
+      occurs i (write l t k e) vs h = then_only (key_value vs k) (λ key. and_then (term_value vs e) (λ v. Ok (effect_to i None (Effect.Write (table_number ts t) key v)))) (λ key. then_only (term_value vs e) (λ v. Ok (effect_to i None (Effect.Write (table_number ts t) key v))) (λ v. effect_only i None (Effect.Write (table_number ts t) key v) (h (table_number ts t) key v)))
       occurs i (condwrite l n t k r o e) vs h =
-          then_only (key_value vs k) (λ key. and_then (term_value vs o) (λ w. and_then (term_value vs e) (λ v. Ok (effect_to i (Some n) (effect.CondWrite (table_number ts t) key r w v))))) (λ key.
-          then_only (term_value vs o) (λ w. and_then (term_value vs e) (λ v. Ok (effect_to i (Some n) (effect.CondWrite (table_number ts t) key r w v)))) (λ w.
-          then_only (term_value vs e) (λ v. Ok (effect_to i (Some n) (effect.CondWrite (table_number ts t) key r w v))) (λ v. effect_only i (Some n) (effect.CondWrite (table_number ts t) key r w v) (h (table_number ts t) key w v))))
-      occurs i (call l n f e) vs h = then_only (term_value vs e) (λ v. Ok (effect_to i (Some n) (effect.Call (func_number d.funcs f) v))) (λ v. effect_only i (Some n) (effect.Call (func_number d.funcs f) v) (h (func_number d.funcs f) v))
-      occurs i (async l f e) vs h = then_only (term_value vs e) (λ v. Ok (effect_to i None (effect.Async (func_number d.funcs f) v))) (λ v. effect_only i None (effect.Async (func_number d.funcs f) v) (h (func_number d.funcs f) v))
-      occurs i (lock l t k) vs h = then_only (key_value vs k) (λ key. Ok (locks i (table_number ts t) key)) (λ key s rest k. if_only (is_held (table_number ts t) key s.held) (goes s rest) _ k (held_only i (effect.Lock (table_number ts t) key) (λ s. s.held ++ record { table = table_number ts t; key = key } ∷ []) (λ s. (h (table_number ts t) key).1 s.held) (h (table_number ts t) key).0 s rest k))
-      occurs i (unlock l t k) vs h = then_only (key_value vs k) (λ key. Ok (unlocks i (table_number ts t) key)) (λ key s rest k. if_only (is_held (table_number ts t) key s.held) _ (goes s rest) (held_only i (effect.Unlock (table_number ts t) key) (λ s. without (table_number ts t) key s.held) (λ s. (h (table_number ts t) key).1 s.held) (h (table_number ts t) key).0 s rest k) k)
+          then_only (key_value vs k) (λ key. and_then (term_value vs o) (λ w. and_then (term_value vs e) (λ v. Ok (effect_to i (Some n) (Effect.CondWrite (table_number ts t) key r w v))))) (λ key.
+          then_only (term_value vs o) (λ w. and_then (term_value vs e) (λ v. Ok (effect_to i (Some n) (Effect.CondWrite (table_number ts t) key r w v)))) (λ w.
+          then_only (term_value vs e) (λ v. Ok (effect_to i (Some n) (Effect.CondWrite (table_number ts t) key r w v))) (λ v. effect_only i (Some n) (Effect.CondWrite (table_number ts t) key r w v) (h (table_number ts t) key w v))))
+      occurs i (call l n f e) vs h = then_only (term_value vs e) (λ v. Ok (effect_to i (Some n) (Effect.Call (func_number d.funcs f) v))) (λ v. effect_only i (Some n) (Effect.Call (func_number d.funcs f) v) (h (func_number d.funcs f) v))
+      occurs i (async l f e) vs h = then_only (term_value vs e) (λ v. Ok (effect_to i None (Effect.Async (func_number d.funcs f) v))) (λ v. effect_only i None (Effect.Async (func_number d.funcs f) v) (h (func_number d.funcs f) v))
+      occurs i (lock l t k) vs h = then_only (key_value vs k) (λ key. Ok (locks i (table_number ts t) key)) (λ key s rest k. if_only (is_held (table_number ts t) key s.held) (goes s rest) _ k (held_only i (Effect.Lock (table_number ts t) key) (λ s. s.held ++ record { table = table_number ts t; key = key } ∷ []) (λ s. (h (table_number ts t) key).1 s.held) (h (table_number ts t) key).0 s rest k))
+      occurs i (unlock l t k) vs h = then_only (key_value vs k) (λ key. Ok (unlocks i (table_number ts t) key)) (λ key s rest k. if_only (is_held (table_number ts t) key s.held) _ (goes s rest) (held_only i (Effect.Unlock (table_number ts t) key) (λ s. without (table_number ts t) key s.held) (λ s. (h (table_number ts t) key).1 s.held) (h (table_number ts t) key).0 s rest k) k)
       occurs true (transaction l b c) vs h = occurs_in true b h
       occurs false (transaction l b c) vs h = transact_only (run_block d ts true b) (run_block d ts false c) h.0 h.1 (occurs_in true b h.2) (occurs_in false c h.3)
-      occurs true (abort l) vs h = effect_only true None effect.Abort h
+      occurs true (abort l) vs h = effect_only true None Effect.Abort h
       occurs false (abort l) vs h = tt
       occurs i (break l) vs h = λ s rest k. k
       occurs i (choose l e b c) vs h = then_only (term_value vs e) (λ v. and_then (truth v) (λ test. Ok (if test then run_block d ts i b else run_block d ts i c))) (λ v. then_only (truth v) (λ test. Ok (if test then run_block d ts i b else run_block d ts i c)) (λ test. elim test as (λ t. OnlyDoes (if t then run_block d ts i b else run_block d ts i c)) [ true ↦ occurs_in i b h.0 | false ↦ occurs_in i c h.1 ]))
       occurs i (repeat l n b) vs h = turns_only (run_block d ts i b) (occurs_in i b h) n
-      occurs i (return l e) vs h = then_only (term_value vs e) (λ v. Ok (ends (outcome.Value v))) (λ v s rest k. k)
+      occurs i (return l e) vs h = then_only (term_value vs e) (λ v. Ok (ends (Outcome.Value v))) (λ v s rest k. k)
 
       pub occurs_in : (i : Bool) (b : Commands) → EachOf i b → OnlyDoes (run_block d ts i b)
       occurs_in i no_commands h s rest k = k

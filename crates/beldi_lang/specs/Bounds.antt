@@ -2,15 +2,12 @@
 use Rattle.std.specs.Prelude.{◌≡◌, ℕ, Bool, true, false, List}
 use Rattle.beldi_value.specs.declared.value.Value.{Value}
 use Rattle.beldi_tree.specs.declared.deployment.Deployment.{Deployment}
-use Rattle.beldi_lang.specs.declared.effect.Effect.{Effect}
-use Rattle.beldi_lang.specs.declared.effect.Effect.TheVariants as effect
-use Rattle.beldi_lang.specs.declared.effect.Answer.{Answer}
-use Rattle.beldi_lang.specs.Wants.{wants}
+use Rattle.beldi_lang.specs.{declared.effect.Effect.Effect, declared.effect.Answer.Answer, Wants.wants}
 
 -- the effects that begin and end a transaction
 abbrev pub is_bound : Effect → Bool
-is_bound effect.Begin = true
-is_bound (effect.End commit) = true
+is_bound Effect.Begin = true
+is_bound (Effect.End commit) = true
 is_bound e = false
 
 abbrev pub InheritedWantNoBound : Type 0

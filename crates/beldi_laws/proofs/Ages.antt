@@ -1,13 +1,11 @@
 -- Who lets an operation inside die: it owns the item, was made, and is older than the transaction.
-use Rattle.beldi_laws.proofs.Names.{Answer, Beside, Bool, Content, Deployment, Effect, Instance, Intent, IntentId, IsBelow, IsOpenOwner, Item, Known, List, Lock, Matches, None, Option, Owner, OwnersCallNobody, Place, PlainState, Released, Rows, Sane, Some, Tx, TxId, Txs, [], age_of, all_called, ap, append-nil, append_assoc, arith, asked_for, asked_own, barred, begin_is, called_below, content_of, died, died_of, dies, drop, effect_after, effect_of, end_of, ended_by, ended_stays, eq-eqb, false, fits, got_by, held, held_by, her_own, holds, if◌then◌else◌, is_at, is_begin, is_older, is_owner, is_some, length, length-append, length-take-le, lock_on, lock_or, ltb-false, member_tx, nat_lt, note_at, noted_or, open_owner, or_own, other_owner, own, owner_eq, refl, same_some, subst, sym, take, true, tx_by, tx_end, tx_now, txs_after, txs_by, txs_pushed, waited, with_note, ℕ, ◌++◌, ◌<◌, ◌∙◌, ◌∷◌, ◌≡◌, ◌≤◌}
-use Rattle.beldi_laws.proofs.Names.effect
-use Rattle.beldi_laws.proofs.Names.map
-use Rattle.std.proofs.Common.{take-append-drop}
 use borrow.Author.Tests.{ltb-true}
-use Rattle.beldi_row.specs.declared.notes.Note.TheVariants as notes
-use Rattle.beldi_known.specs.Acts.{Told}
-use Rattle.beldi_known.proofs.OwnTx.{Own}
+use Rattle.std.proofs.Common.{take-append-drop}
+use Rattle.beldi_row.specs.declared.notes.Note.{Note}
+use Rattle.beldi_known.{specs.Acts.Told, proofs.OwnTx.Own}
+use Rattle.beldi_laws.proofs.Names.{Answer, Beside, Bool, Content, Deployment, Effect, Instance, Intent, IntentId, IsBelow, IsOpenOwner, Item, Known, List, Lock, Matches, None, Option, Owner, OwnersCallNobody, Place, PlainState, Released, Rows, Sane, Some, Tx, TxId, Txs, [], age_of, all_called, ap, append-nil, append_assoc, arith, asked_for, asked_own, barred, begin_is, called_below, content_of, died, died_of, dies, drop, effect_after, effect_of, end_of, ended_by, ended_stays, eq-eqb, false, fits, got_by, held, held_by, her_own, holds, if◌then◌else◌, is_at, is_begin, is_older, is_owner, is_some, length, length-append, length-take-le, lock_on, lock_or, ltb-false, member_tx, nat_lt, note_at, noted_or, open_owner, or_own, other_owner, own, owner_eq, refl, same_some, subst, sym, take, true, tx_by, tx_end, tx_now, txs_after, txs_by, txs_pushed, waited, with_note, ℕ, ◌++◌, ◌<◌, ◌∙◌, ◌∷◌, ◌≡◌, ◌≤◌}
 use Rattle.beldi_laws.proofs.Ended.{EndedAt, ended_at}
+use Rattle.beldi_laws.proofs.Names.map
 
 -- ---- what a death tells
 -- it owns the item, and has this age
@@ -18,12 +16,12 @@ pub record Holder (was : Option Owner) (holder : IntentId) : Type 0 where
 
 module _ (p : Place) (t : TxId) (c : Content) (a : IntentId) where
   DiesSo : Option Owner → Content × Told → Type 0
-  DiesSo o z = (z ≡ (with_note c p (notes.Died a), died a)) × Holder o a
+  DiesSo o z = (z ≡ (with_note c p (Note.Died a), died a)) × Holder o a
 
-  by_age : (w : Owner) (b : Bool) → (if b then None else Some (age_of w)) ≡ Some a → DiesSo (Some w) (if b then (c, held w) else (with_note c p (notes.Died (age_of w)), died (age_of w)))
+  by_age : (w : Owner) (b : Bool) → (if b then None else Some (age_of w)) ≡ Some a → DiesSo (Some w) (if b then (c, held w) else (with_note c p (Note.Died (age_of w)), died (age_of w)))
   unfolding DiesSo
   by_age w true h = cc
-  by_age w false h = let same : age_of w ≡ a = same_some h in (λ i. (with_note c p (notes.Died (same i)), died (same i)), record { owner = w; owns = refl; age = same })
+  by_age w false h = let same : age_of w ≡ a = same_some h in (λ i. (with_note c p (Note.Died (same i)), died (same i)), record { owner = w; owns = refl; age = same })
 
   by_other : (w : Owner) (b : Bool) → died_of (Tx t) (if b then None else Some w) ≡ Some a → DiesSo (Some w) (lock_or p t c (if b then None else Some w))
   by_other w true h = cc
@@ -34,7 +32,7 @@ module _ (p : Place) (t : TxId) (c : Content) (a : IntentId) where
   by_owner (Some w) h = by_other w (owner_eq w (Tx t)) h
 
   -- where the place has no note, a lock that dies is told so, by an owner
-  pub dies_so : note_at c.notes p ≡ None → dies (Tx t) Lock c.owner ≡ Some a → (lock_on p t c ≡ (with_note c p (notes.Died a), died a)) × Holder c.owner a
+  pub dies_so : note_at c.notes p ≡ None → dies (Tx t) Lock c.owner ≡ Some a → (lock_on p t c ≡ (with_note c p (Note.Died a), died a)) × Holder c.owner a
   unfolding DiesSo
   dies_so none h = let z = by_owner c.owner h in (ap (λ o. noted_or c o (lock_or p t c (other_owner (Tx t) c.owner))) none ∙ z.0, z.1)
 
@@ -55,8 +53,8 @@ open_on d q given (a ∷ rest) b all open_still begun =
     open_on d q (given ++ a ∷ []) rest b (append_assoc given (a ∷ []) rest ∙ all) open_still (ap (λ (s : Txs). s.begun) (txs_pushed d q given a) ∙ by_effect (effect_after d q given) refl)
   where
     by_effect : (e : Effect) → effect_after d q given ≡ e → (txs_by (length given) e (txs_after d q given)).begun ≡ Some b
-    by_effect effect.Begin is = let clash = sym (ap is_some begun) ∙ (begin_is d q given is).1 in cc
-    by_effect (effect.End c) is =
+    by_effect Effect.Begin is = let clash = sym (ap is_some begun) ∙ (begin_is d q given is).1 in cc
+    by_effect (Effect.End c) is =
         let ended = ended_stays d q (given ++ a ∷ []) rest b (length given, c) (append_assoc given (a ∷ []) rest ∙ all)
         (ap (λ (s : Txs). s.ends b) (txs_pushed d q given a) ∙ ap (λ z. (txs_by (length given) z (txs_after d q given)).ends b) is ∙ ap (λ u. if is_at b u then Some (length given, c) else (txs_after d q given).ends b) begun
         ∙ ap (λ z. if z then Some (length given, c) else (txs_after d q given).ends b) (eq-eqb b b refl)) in

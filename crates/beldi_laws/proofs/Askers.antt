@@ -1,16 +1,14 @@
 -- What a transaction that has ended owns, one that took part asked the lock of. So where all who took part have given back all, it owns
 -- nothing.
-use Rattle.beldi_laws.proofs.Names.{AllFreed, AllReleased, AllShort, Answer, Bool, Deployment, Instance, IntentId, Item, Known, List, LockedAtEnds, LockedIf, LocksetMatches, Matches, Member, None, Option, Row, Rows, Sane, Some, Tx, TxId, [], and_parts, ap, arith, asked_own, begins_at, content_of, effect_after, effect_of, eq-eqb, false, first_end, gathered, got_before, got_by, inl, inr, is_aborted, is_item, is_its, is_on, is_tx, item_same, length, lockset_ahead, lockset_key, lockset_there, not, now_open, or_own, owed_lockset, owns, refl, subst, sym, touched, true, tx_after, tx_by, tx_end, tx_now, tx_self, txs_after, visited_by, ℕ, ◌&&◌, ◌++◌, ◌||◌, ◌∙◌, ◌∷◌, ◌≡◌, ◌⊎◌}
-use Rattle.beldi_laws.proofs.Names.kinds
-use Rattle.beldi_laws.proofs.Names.map
-use Rattle.beldi_laws.proofs.Names.rows
+use Rattle.beldi_laws.proofs.Names.{AllFreed, AllReleased, AllShort, Answer, Bool, Deployment, Instance, IntentId, Item, Known, List, LockedAtEnds, LockedIf, LocksetMatches, Matches, Member, None, Option, Row, Rows, Sane, Some, Tx, TxId, [], and_parts, ap, arith, asked_own, begins_at, content_of, effect_after, effect_of, eq-eqb, false, first_end, gathered, got_before, got_by, inl, inr, is_aborted, is_item, is_its, is_on, is_tx, item_same, length, lockset_ahead, lockset_key, lockset_there, not, now_open, or_own, owed_lockset, owns, refl, subst, sym, touched, true, tx_after, tx_by, tx_end, tx_now, tx_self, txs_after, visited_by, ℕ, ◌&&◌, ◌++◌, ◌||◌, ◌∙◌, ◌∷◌, ◌≡◌, ◌⊎◌, Kind}
 use Rattle.beldi_laws.proofs.Members.{TakesPart, reached}
+use Rattle.beldi_laws.proofs.Names.map
 
 of_function : (x : Item) (func : ℕ) (o : Option (ℕ × List ℕ)) → is_item x func o ≡ true → x.func ≡ func
 of_function x func None h = cc
 of_function x func (Some k) h = ap (λ (y : Item). y.func) (sym (item_same (record { func = func; table = k.0; key = k.1 }) x h))
 
-row_owed : (r : Option Row) (ahead : Bool) → LocksetMatches r true ahead → r ≡ Some rows.Lockset
+row_owed : (r : Option Row) (ahead : Bool) → LocksetMatches r true ahead → r ≡ Some Row.Lockset
 row_owed r ahead h = grind arith
 
 -- a member's function has the item, and the row is there
@@ -18,7 +16,7 @@ pub record HasAsked (m : Rows) (known : Known) (t : TxId) (x : Item) : Type 0 wh
   pub member : Member
   pub role : (◌≡◌ {A = Member} member (t.intent, t.func)) ⊎ TakesPart known t member
   pub func : x.func ≡ member.1
-  pub row : map.get m (lockset_key member.0 t.begin x) ≡ Some rows.Lockset
+  pub row : map.get m (lockset_key member.0 t.begin x) ≡ Some Row.Lockset
 
 module _ (d : Deployment) (m : Rows) (known : Known) (locked : IntentId → Bool) (h : Matches d m known locked) (sane : Sane d known) (ends : LockedAtEnds d known locked) (t : TxId) (e : ℕ × Bool) (ended : tx_end d known t ≡ Some e) (x : Item) where
   module _ (j : IntentId) (q : Instance) (is : map.get known j ≡ Some q) where
@@ -84,9 +82,9 @@ module _ (d : Deployment) (m : Rows) (known : Known) (locked : IntentId → Bool
       freed_by : (a : HasAsked m known t x) (p : Member) → a.member ≡ p → AllFreed (first_end t e.0 e.1) m p → ⊥
       freed_by a p same freed =
           let func : x.func ≡ p.1 = a.func ∙ ap (λ (y : Member). y.1) same in
-          let row : map.get m (lockset_key p.0 t.begin (record { func = p.1; table = x.table; key = x.key })) ≡ Some rows.Lockset = subst (λ f. map.get m (record { home = f; kind = kinds.Lockset p.0 t.begin x.table x.key }) ≡ Some rows.Lockset) func (subst (λ (i : IntentId). map.get m (lockset_key i t.begin x) ≡ Some rows.Lockset) (ap (λ (y : Member). y.0) same) a.row) in
+          let row : map.get m (lockset_key p.0 t.begin (record { func = p.1; table = x.table; key = x.key })) ≡ Some Row.Lockset = subst (λ f. map.get m (record { home = f; kind = Kind.Lockset p.0 t.begin x.table x.key }) ≡ Some Row.Lockset) func (subst (λ (i : IntentId). map.get m (lockset_key i t.begin x) ≡ Some Row.Lockset) (ap (λ (y : Member). y.0) same) a.row) in
           let own : (content_of m (record { func = p.1; table = x.table; key = x.key })).owner ≡ Some (Tx t) = subst (λ f. (content_of m (record { func = f; table = x.table; key = x.key })).owner ≡ Some (Tx t)) func owned in
-          let clash = sym (ap (owns (Tx t)) own ∙ tx_self t) ∙ freed (x.table, x.key) rows.Lockset row in cc
+          let clash = sym (ap (owns (Tx t)) own ∙ tx_self t) ∙ freed (x.table, x.key) Row.Lockset row in cc
 
       by_role : (a : HasAsked m known t x) → (◌≡◌ {A = Member} a.member (t.intent, t.func)) ⊎ TakesPart known t a.member → ⊥
       by_role a (inl own) = freed_by a (t.intent, t.func) own all.owner

@@ -1,25 +1,13 @@
 -- The turns of a call that nobody waits for: it is opened once, its callee's row is put, and then it is marked as registered.
-use Rattle.beldi_laws.proofs.Names.{Absent, AlreadySet, Answer, Async, AsyncAt, Begins, Begun, Body, Bool, CallMatches, Core, Deployment, Done, Ends, Inside, Instance, IntentId, InvokeRow, IsBodyOf, Known, Knows, KnowsAt, List, Matches, None, NoteRegistered, On, OpenInvoke, Option, Place, PlainState, Register, Right, Row, RowKey, Rows, Run, Says, Set, Some, Step, Tell, Value, [], act, after_act, ahead_set, ap, arith, async_answer, async_asks, async_here_asks, async_here_says, async_says, at_once, back_of, call_answered, callee_body, callee_of, calls_at, child_of, commit_in, effect_before, effect_of, elsewhere, false, grows_through, has_callees, here, if◌then◌else◌, inl, intent_key, invoke_key, is_sent, is_some, issued_at, known_set, length, look_asks, moved, moved_one, new_instance, no_own_callee, no_root_key, none_out, note_says, op_of, open_says, opened, origin_stays, owed_call, place_of, refl, registered_asks, root_key, row_added, run_called, said, same_some, set_others, set_row, step_by, subst, sym, true, turn_next, turned_by, tx_after, tx_now, txs_after, ℕ, ◌∙◌, ◌∷◌, ◌≡◌}
-use Rattle.beldi_laws.proofs.Names.async
-use Rattle.beldi_laws.proofs.Names.back
-use Rattle.beldi_laws.proofs.Names.kinds
-use Rattle.beldi_laws.proofs.Names.map
-use Rattle.beldi_laws.proofs.Names.mark
-use Rattle.beldi_laws.proofs.Names.rows
-use Rattle.beldi_laws.proofs.Names.stage
-use Rattle.beldi_laws.proofs.Beginnings.{same_roots}
+use Rattle.beldi_value.proofs.Callees.{no_root}
+use Rattle.beldi_laws.proofs.Names.{Absent, AlreadySet, Answer, Async, AsyncAt, Begins, Begun, Body, Bool, CallMatches, Core, Deployment, Done, Ends, Inside, Instance, IntentId, InvokeRow, IsBodyOf, Known, Knows, KnowsAt, List, Matches, None, NoteRegistered, On, OpenInvoke, Option, Place, PlainState, Register, Right, Row, RowKey, Rows, Run, Says, Set, Some, Step, Tell, Value, [], act, after_act, ahead_set, ap, arith, async_answer, async_asks, async_here_asks, async_here_says, async_says, at_once, back_of, call_answered, callee_body, callee_of, calls_at, child_of, commit_in, effect_before, effect_of, elsewhere, false, grows_through, has_callees, here, if◌then◌else◌, inl, intent_key, invoke_key, is_sent, is_some, issued_at, known_set, length, look_asks, moved, moved_one, new_instance, no_own_callee, no_root_key, none_out, note_says, op_of, open_says, opened, origin_stays, owed_call, place_of, refl, registered_asks, root_key, row_added, run_called, said, same_some, set_others, set_row, step_by, subst, sym, true, turn_next, turned_by, tx_after, tx_now, txs_after, ℕ, ◌∙◌, ◌∷◌, ◌≡◌, Kind, Mark, Stage}
 use Rattle.beldi_laws.proofs.CallsHere.{made_with, not_made, made_by, next_here, given_first, first_given, call_now, absent_here, callee_there, caller_there, call_entered, callee_goes, callee_row, callee_ahead, callee_settled, callee_grows, goes_answered_then}
-use Rattle.beldi_laws.proofs.Frames.{NobodyJoins}
-use Rattle.beldi_laws.proofs.Settling.{settled_outside}
-use Rattle.beldi_laws.proofs.Keeping.{as_it_was}
 use Rattle.beldi_laws.proofs.Moves.{AfterTurn, AfterQuery, Entered, SameRoots, Kept, Stays, AfterAct, still}
 use Rattle.beldi_laws.proofs.Turns.{effect_here, enters_on, goes_on, none_open, replays, starts_one, tx_step, tx_next, outside_after, unlocked_there}
-use Rattle.beldi_value.proofs.Callees.{no_root}
-use Rattle.beldi_laws.proofs.KeptSane.{sent_kept}
-use Rattle.beldi_laws.proofs.Shown.{log_values}
-use Rattle.beldi_laws.proofs.Grown.{grows_moved, grown_moved}
-use Rattle.beldi_laws.proofs.Others.{kept_moving}
 use Rattle.beldi_laws.proofs.Registered.{callee_registered, log_frame, log_shadows, log_stays, marked_registered, no_intent, no_more, stays_marked, stays_new}
+use Rattle.beldi_laws.proofs.{Beginnings.same_roots, Frames.NobodyJoins, Settling.settled_outside, Keeping.as_it_was, KeptSane.sent_kept, Shown.log_values, Grown.grows_moved, Grown.grown_moved, Others.kept_moving}
+use Rattle.beldi_laws.proofs.Names.back
+use Rattle.beldi_laws.proofs.Names.map
 
 module _ (d : Deployment) (c : Core) (m : Rows) (i : ℕ) (r : Run) (g : Begun) (h : Right d c m) (live : map.get c.runs i ≡ Some r) (at_is : r.at ≡ Begins g) (k : Knows d h.known r g) (finds : Inside m h.plain c.book k g.stage) (out : tx_after d r.id k.instance k.answers ≡ None)
     (f : ℕ) (v : Value) (is : g.machine.effect ≡ Async f v) (hops : has_callees r.id ≡ true) where
@@ -46,8 +34,8 @@ module _ (d : Deployment) (c : Core) (m : Rows) (i : ℕ) (r : Run) (g : Begun) 
       by_callee None at there = cc
       by_callee (Some j) at there = given_first Done k.later (first_given d c m r g h k false f v call_here j at k.later refl)
 
-  goes_to_stage : (at : AsyncAt) (n : Rows) → SameRoots m n → Stays h n → (is_sent at ≡ true → is_some (map.get h.known callee) ≡ true) → Left (On (stage.Async at) None) n
-  goes_to_stage at n roots rows done = goes_on d c m i r g h live k finds out (Async f v) is n (stage.Async at) roots rows (hops, done)
+  goes_to_stage : (at : AsyncAt) (n : Rows) → SameRoots m n → Stays h n → (is_sent at ≡ true → is_some (map.get h.known callee) ≡ true) → Left (On (Stage.Async at) None) n
+  goes_to_stage at n roots rows done = goes_on d c m i r g h live k finds out (Async f v) is n (Stage.Async at) roots rows (hops, done)
 
   -- ---- it is opened now: it is the instance's next step
   module _ (none : map.get m key ≡ None) (new : map.get h.known callee ≡ None) (left : k.later ≡ []) where
@@ -68,7 +56,7 @@ module _ (d : Deployment) (c : Core) (m : Rows) (i : ℕ) (r : Run) (g : Begun) 
     state = step_by h.plain r.id k.instance (Async f v)
 
     abbrev row : Option Row
-    row = Some (rows.Invoke (opened f))
+    row = Some (Row.Invoke (opened f))
 
     abbrev rows_now : Rows
     rows_now = set_row m key row
@@ -114,21 +102,21 @@ module _ (d : Deployment) (c : Core) (m : Rows) (i : ℕ) (r : Run) (g : Begun) 
     callee_stays : is_some (map.get next callee) ≡ true
     callee_stays = ap is_some (elsewhere given r.id callee (moved d r.id k.instance Done) (λ e. no_own_callee r.id g.machine.steps (sym e))) ∙ callee_there d c m r g h k finds false f v is hops new left None refl
 
-    pub opens_now : Left (On (stage.Async async.Register) (Some mark.Step)) rows_now
-    opens_now = enters_on d c m i r g h live k finds is (none_open k out) (stage.Async async.Register) mark.Step rows_now state next (moved d r.id k.instance Done) (here given r.id (moved d r.id k.instance Done)) (grown_moved d r.id k.instance Done)
-        (λ u. ap is_some (set_others m key row (root_key u) (no_root_key u r.func (kinds.Invoke place) refl))) leads kept_opened (hops, λ e. callee_stays)
+    pub opens_now : Left (On (Stage.Async AsyncAt.Register) (Some Mark.Step)) rows_now
+    opens_now = enters_on d c m i r g h live k finds is (none_open k out) (Stage.Async AsyncAt.Register) Mark.Step rows_now state next (moved d r.id k.instance Done) (here given r.id (moved d r.id k.instance Done)) (grown_moved d r.id k.instance Done)
+        (λ u. ap is_some (set_others m key row (root_key u) (no_root_key u r.func (Kind.Invoke place) refl))) leads kept_opened (hops, λ e. callee_stays)
 
   -- ---- its turns
   abbrev AfterAsync : RowKey → AsyncAt → Option Row × Tell → Type 0
   AfterAsync q at z = AfterAct d h.plain m q (λ t. turn_next c i r (turned_by d r g (async_answer at (async_says f at t)))) z
 
-  open_by : (x : InvokeRow) (b : Bool) → x.registered ≡ b → is_some (map.get h.known callee) ≡ true → Left (async_answer async.Open (open_says false b)) m
-  open_by x false e there = goes_to_stage async.Register m (λ t. refl) (as_it_was h) (λ e. there)
+  open_by : (x : InvokeRow) (b : Bool) → x.registered ≡ b → is_some (map.get h.known callee) ≡ true → Left (async_answer AsyncAt.Open (open_says false b)) m
+  open_by x false e there = goes_to_stage AsyncAt.Register m (λ t. refl) (as_it_was h) (λ e. there)
   open_by x true e there = let a = answered_so there in replays d c m i r g h live k finds out (Async f v) is m Done a.0 (λ t. refl) (as_it_was h) a.1
 
-  open_at : (w : Option Row) → map.get m key ≡ w → CallMatches w (owed_call h.known r.func place) → AfterAsync key async.Open (act (OpenInvoke f) c.now w)
+  open_at : (w : Option Row) → map.get m key ≡ w → CallMatches w (owed_call h.known r.func place) → AfterAsync key AsyncAt.Open (act (OpenInvoke f) c.now w)
   open_at None at owed = let new = not_made d c m r g h k false f v call_here owed in opens_now at new (next_here d c m r g h k false f v call_here new k.later refl)
-  open_at (Some (rows.Invoke x)) at owed = still d h.plain m key (Some (rows.Invoke x)) (sym at) (open_by x x.registered refl (made_by d c m r g h k false f v call_here x owed))
+  open_at (Some (Row.Invoke x)) at owed = still d h.plain m key (Some (Row.Invoke x)) (sym at) (open_by x x.registered refl (made_by d c m r g h k false f v call_here x owed))
   open_at (Some w) at owed = absurd owed
 
   module _ (there : is_some (map.get h.known callee) ≡ true) where
@@ -140,38 +128,38 @@ module _ (d : Deployment) (c : Core) (m : Rows) (i : ℕ) (r : Run) (g : Begun) 
     body = callee_body r.id r.func g.machine.steps f v None false
 
     abbrev row_key : RowKey
-    row_key = record { home = f; kind = kinds.Intent callee }
+    row_key = record { home = f; kind = Kind.Intent callee }
 
-    register_at : (w : Option Row) → map.get m row_key ≡ w → AfterAsync row_key async.Register (act (Register body) c.now w)
+    register_at : (w : Option Row) → map.get m row_key ≡ w → AfterAsync row_key AsyncAt.Register (act (Register body) c.now w)
     register_at None at =
-        let new = Some (rows.Intent (issued_at c.now (Some body))) in
-        goes_to_stage async.Note (set_row m row_key new) (same_roots m f callee new (no_root r.id g.machine.steps))
+        let new = Some (Row.Intent (issued_at c.now (Some body))) in
+        goes_to_stage AsyncAt.Note (set_row m row_key new) (same_roots m f callee new (no_root r.id g.machine.steps))
         (log_stays d m row_key new refl c h (stays_new (map.get m row_key) new at) (no_more d m row_key new h.known (λ e. cc)) (callee_registered d m h.known h.locked callee body c.now (no_root r.id g.machine.steps) (body_is (map.get h.known callee) refl there) h.rows at)) (λ e. there)
-    register_at (Some w) at = still d h.plain m row_key (Some w) (sym at) (goes_to_stage async.Note m (λ t. refl) (as_it_was h) (λ e. there))
+    register_at (Some w) at = still d h.plain m row_key (Some w) (sym at) (goes_to_stage AsyncAt.Note m (λ t. refl) (as_it_was h) (λ e. there))
 
-    register_turn : AfterQuery d h.plain c.now m (λ t. turn_next c i r (turned_by d r g (async_answer async.Register (async_says f async.Register t)))) (async_asks r.func place body async.Register)
-    register_turn = subst (λ z. AfterAsync z async.Register (act (Register body) c.now (map.get m z))) own (register_at (map.get m row_key) refl)
+    register_turn : AfterQuery d h.plain c.now m (λ t. turn_next c i r (turned_by d r g (async_answer AsyncAt.Register (async_says f AsyncAt.Register t)))) (async_asks r.func place body AsyncAt.Register)
+    register_turn = subst (λ z. AfterAsync z AsyncAt.Register (act (Register body) c.now (map.get m z))) own (register_at (map.get m row_key) refl)
       where
         own : row_key ≡ intent_key callee f
-        own = λ j. record { home = sym (ap (λ t. if t then 0 else f) (no_root r.id g.machine.steps)) j; kind = kinds.Intent callee }
+        own = λ j. record { home = sym (ap (λ t. if t then 0 else f) (no_root r.id g.machine.steps)) j; kind = Kind.Intent callee }
 
     looks_later : (n : Rows) (o : Run) → run_called r ≡ Some o → KnowsAt d n h.plain c.book h.known o o.at
     looks_later n o started = grind arith
 
-    note_says_so : (n : Rows) → SameRoots m n → Stays h n → (b : back.Back) → Left (async_answer async.Note (note_says b)) n
+    note_says_so : (n : Rows) → SameRoots m n → Stays h n → (b : back.Back) → Left (async_answer AsyncAt.Note (note_says b)) n
     note_says_so n roots rows Set = let a = answered_so there in starts_one d c m i r g h live k finds out (Async f v) is n Done a.0 roots rows a.1 (looks_later n)
     note_says_so n roots rows AlreadySet = let a = answered_so there in starts_one d c m i r g h live k finds out (Async f v) is n Done a.0 roots rows a.1 (looks_later n)
-    note_says_so n roots rows Absent = goes_to_stage async.Note n roots rows (λ e. there)
+    note_says_so n roots rows Absent = goes_to_stage AsyncAt.Note n roots rows (λ e. there)
 
-    note_turn : AfterQuery d h.plain c.now m (λ t. turn_next c i r (turned_by d r g (async_answer async.Note (async_says f async.Note t)))) (registered_asks r.func place)
-    note_turn = note_says_so (after_act NoteRegistered c.now key m) (λ u. ap is_some (set_others m key (act NoteRegistered c.now (map.get m key)).0 (root_key u) (no_root_key u r.func (kinds.Invoke place) refl)))
+    note_turn : AfterQuery d h.plain c.now m (λ t. turn_next c i r (turned_by d r g (async_answer AsyncAt.Note (async_says f AsyncAt.Note t)))) (registered_asks r.func place)
+    note_turn = note_says_so (after_act NoteRegistered c.now key m) (λ u. ap is_some (set_others m key (act NoteRegistered c.now (map.get m key)).0 (root_key u) (no_root_key u r.func (Kind.Invoke place) refl)))
         (log_stays d m key (act NoteRegistered c.now (map.get m key)).0 refl c h (stays_marked c.now (map.get m key)) (no_intent d m key (act NoteRegistered c.now (map.get m key)).0 h.known refl) (marked_registered d m h.known h.locked r.func place c.now h.rows)) (back_of (said (act NoteRegistered c.now (map.get m key)).1))
 
   by_at : (at : AsyncAt) → (is_sent at ≡ true → is_some (map.get h.known callee) ≡ true)
       → AfterQuery d h.plain c.now m (λ t. turn_next c i r (turned_by d r g (async_answer at (async_says f at t)))) (async_asks r.func place (callee_body r.id r.func g.machine.steps f v None false) at)
-  by_at async.Open seen = open_at (map.get m key) refl (h.rows.keys key)
-  by_at async.Register seen = register_turn (seen refl)
-  by_at async.Note seen = note_turn (seen refl)
+  by_at AsyncAt.Open seen = open_at (map.get m key) refl (h.rows.keys key)
+  by_at AsyncAt.Register seen = register_turn (seen refl)
+  by_at AsyncAt.Note seen = note_turn (seen refl)
 
   pub async_turn : (at : AsyncAt) → (is_sent at ≡ true → is_some (map.get h.known callee) ≡ true)
       → AfterQuery d h.plain c.now m (λ t. turn_next c i r (turned_by d r g (async_here_says r.id (Async f v) at t))) (async_here_asks r.id r.func g.machine.steps (Async f v) at)

@@ -1,26 +1,20 @@
 -- The first turn of a run: it finds its body, or registers the one that its call gave it.
 use Rattle.beldi_laws.proofs.Names.{Body, Bool, Core, Deployment, Func, IntentId, IntentMatches, IntentRow, IsAt, IsBodyOf, IsRowOf, Kind, KnowsBody, Look, Machine, None, Option, Register, Right, Row, RowKey, Rows, Run, RunTx, Some, [], act, ap, arith, at_begin, begin_in, body_in, body_registered, body_told, cond, false, func_at, got, has_ended, has_no_hops, if◌then◌else◌, intent_key, is_eq, is_some, issued_at, key_cmp, key_in, key_same, key_self, look_asks, looked, machine_begun, open_body, refl, register_asks, root_key, row_of, said, same_some, set_others, set_row, subst, sym, true, true_false, turn_next, within, ℕ, ◌==◌, ◌∙◌, ◌≡◌}
-use Rattle.beldi_laws.proofs.Names.kinds
+use Rattle.beldi_laws.proofs.{Moves.AfterTurn, Moves.AfterQuery, Moves.SameRoots, Moves.AfterAct, Moves.Stays, Moves.still, Turns.is_over, Turns.comes_quiet, Turns.knows_next, Keeping.as_it_was, Registered.callee_registered, Registered.log_stays, Registered.no_more, Registered.stays_new, Cases.false_by}
 use Rattle.beldi_laws.proofs.Names.map
-use Rattle.beldi_laws.proofs.Names.rows
-use Rattle.beldi_laws.proofs.Moves.{AfterTurn, AfterQuery, SameRoots, AfterAct, Stays, still}
-use Rattle.beldi_laws.proofs.Turns.{is_over, comes_quiet, knows_next}
-use Rattle.beldi_laws.proofs.Keeping.{as_it_was}
-use Rattle.beldi_laws.proofs.Registered.{callee_registered, log_stays, no_more, stays_new}
-use Rattle.beldi_laws.proofs.Cases.{false_by}
 
 -- ---- rows of callees are no rows of roots
 is_root_key : Kind → Bool
-is_root_key (kinds.Intent id) = has_no_hops id.hops
+is_root_key (Kind.Intent id) = has_no_hops id.hops
 is_root_key k = false
 
-pub no_root_row : (t home : ℕ) (id : IntentId) → has_no_hops id.hops ≡ false → is_eq (key_cmp (root_key t) (record { home = home; kind = kinds.Intent id })) ≡ false
+pub no_root_row : (t home : ℕ) (id : IntentId) → has_no_hops id.hops ≡ false → is_eq (key_cmp (root_key t) (record { home = home; kind = Kind.Intent id })) ≡ false
 unfolding is_root_key
-no_root_row t home id hops = let key : RowKey = record { home = home; kind = kinds.Intent id } in
+no_root_row t home id hops = let key : RowKey = record { home = home; kind = Kind.Intent id } in
     false_by (is_eq (key_cmp (root_key t) key)) (λ e. true_false (ap (λ (k : RowKey). is_root_key k.kind) (key_same (root_key t) key e) ∙ hops))
 
-pub same_roots : (m : Rows) (home : ℕ) (id : IntentId) (v : Option Row) → has_no_hops id.hops ≡ false → SameRoots m (set_row m (record { home = home; kind = kinds.Intent id }) v)
-same_roots m home id v hops t = ap is_some (set_others m (record { home = home; kind = kinds.Intent id }) v (root_key t) (no_root_row t home id hops))
+pub same_roots : (m : Rows) (home : ℕ) (id : IntentId) (v : Option Row) → has_no_hops id.hops ≡ false → SameRoots m (set_row m (record { home = home; kind = Kind.Intent id }) v)
+same_roots m home id v hops t = ap is_some (set_others m (record { home = home; kind = Kind.Intent id }) v (root_key t) (no_root_row t home id hops))
 
 module _ (d : Deployment) (c : Core) (m : Rows) (i : ℕ) (r : Run) (h : Right d c m) (live : map.get c.runs i ≡ Some r) where
   -- the body, if any, is that of the run's instance, and of its function, and a callee has its row in these rows
@@ -49,7 +43,7 @@ module _ (d : Deployment) (c : Core) (m : Rows) (i : ℕ) (r : Run) (h : Right d
   made_told : (home : ℕ) (w : Option Row) → (is_some w ≡ true → has_no_hops r.id.hops ≡ false → is_some (map.get m (key_in r.func r.id)) ≡ true) → IntentMatches (has_ended d h.known) (has_no_hops r.id.hops) home w (map.get h.known r.id) → MadeWith m (body_told r.func (said (act Look c.now w).1))
   unfolding MadeWith
   made_told home None row f = tt
-  made_told home (Some (rows.Intent j)) row f = made_open m j (row_of (has_ended d h.known) (has_no_hops r.id.hops) home j (map.get h.known r.id) f) (row refl)
+  made_told home (Some (Row.Intent j)) row f = made_open m j (row_of (has_ended d h.known) (has_no_hops r.id.hops) home j (map.get h.known r.id) f) (row refl)
   made_told home (Some w) row f = tt
 
   begins : (n : Rows) → SameRoots m n → Stays h n → (f : Option Func) (b : Option Body) → MadeWith n b → AfterTurn d h.plain c i r (begin_in d r f b) n
@@ -67,7 +61,7 @@ module _ (d : Deployment) (c : Core) (m : Rows) (i : ℕ) (r : Run) (h : Right d
 
   -- a callee's row is in the home of its function
   key_is : (func : ℕ) → has_no_hops r.id.hops ≡ false → intent_key r.id func ≡ key_in func r.id
-  key_is func hops = λ k. record { home = if hops k then 0 else func; kind = kinds.Intent r.id }
+  key_is func hops = λ k. record { home = if hops k then 0 else func; kind = Kind.Intent r.id }
 
   -- it looks at its row
   pub look_turn : AfterQuery d h.plain c.now m (λ t. turn_next c i r (begin_in d r (func_at d r.func) (body_told r.func t))) (look_asks r.id r.func)
@@ -80,7 +74,7 @@ module _ (d : Deployment) (c : Core) (m : Rows) (i : ℕ) (r : Run) (h : Right d
   -- it registers its body, or finds its row
   module _ (b : Body) (k : KnowsBody h.known r b) where
     abbrev key : RowKey
-    key = record { home = b.func; kind = kinds.Intent r.id }
+    key = record { home = b.func; kind = Kind.Intent r.id }
 
     at_home : (n : Rows) → is_some (map.get n key) ≡ true → is_some (map.get n (key_in r.func r.id)) ≡ true
     at_home n there = ap (λ f. is_some (map.get n (key_in f r.id))) (sym k.func) ∙ there
@@ -88,7 +82,7 @@ module _ (d : Deployment) (c : Core) (m : Rows) (i : ℕ) (r : Run) (h : Right d
     by_row : (w : Option Row) → map.get m key ≡ w → AfterAct d h.plain m key (λ t. turn_next c i r (begin_in d r (func_at d r.func) (body_registered r.func b t))) (act (Register b) c.now w)
     unfolding MadeWith
     by_row None at =
-        let new = Some (rows.Intent (issued_at c.now (Some b))) in
+        let new = Some (Row.Intent (issued_at c.now (Some b))) in
         let n = set_row m key new in
         begins n (same_roots m b.func r.id new k.callee) (log_stays d m key new refl c h (stays_new (map.get m key) new at) (no_more d m key new h.known (λ e. cc)) (callee_registered d m h.known h.locked r.id b c.now k.callee k.body h.rows at)) (func_at d r.func) (body_in r.func (Some b))
         (made_in n (Some b) (λ x e. subst (λ z. IsBodyOf z (map.get h.known r.id)) (same_some e) k.body) (λ hops. at_home n (ap is_some (got m key key new ∙ ap (λ t. cond t new (map.get m key)) (key_self key)))))

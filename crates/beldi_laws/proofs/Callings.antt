@@ -1,23 +1,10 @@
 -- The turns of a call: it is opened once, and waits for its result.
-use Rattle.beldi_laws.proofs.Names.{Answer, Answers, Begins, Begun, Bool, Call, CallAt, CallMatches, Core, Deployment, Ends, Entry, Goes, Grows, Inside, Instance, IntentId, InvokeRow, Item, Known, Knows, KnowsAt, List, Look, None, OpenInvoke, Opens, Option, Outcome, Place, PlainState, Right, Row, RowKey, Rows, Run, RunAt, RunTx, Sane, Says, Some, Step, Tell, TxId, Value, Waits, [], act, answer_of, ap, arith, at_once, at_stage, call_answer, call_asks, call_here_says, call_says, callee_at, callee_of, calls_at, calls_go, child_of, effect_before, false, grows_self, has_callees, if◌then◌else◌, invoke_key, is_begin, is_opened, is_some, is_waited, listed, look_says, no_root_key, opened, opens_are_open, option_map, owed_call, place_of, refl, result_of, root_key, run_called, run_tx, set_others, set_row, step_by, step_mark, subst, sym, true, turn_next, turned_by, tx_after, tx_now, tx_of, value_at, ℕ, ◌++◌, ◌∙◌, ◌∷◌, ◌≡◌}
-use Rattle.beldi_laws.proofs.Names.call
-use Rattle.beldi_laws.proofs.Names.kinds
-use Rattle.beldi_laws.proofs.Names.map
-use Rattle.beldi_laws.proofs.Names.mark
-use Rattle.beldi_laws.proofs.Names.rows
-use Rattle.beldi_laws.proofs.Names.stage
-use Rattle.beldi_laws.proofs.Names.wait
 use Rattle.beldi_call.specs.Call.{open_says}
+use Rattle.beldi_laws.proofs.Names.{Answer, Answers, Begins, Begun, Bool, Call, CallAt, CallMatches, Core, Deployment, Ends, Entry, Goes, Grows, Inside, Instance, IntentId, InvokeRow, Item, Known, Knows, KnowsAt, List, Look, None, OpenInvoke, Opens, Option, Outcome, Place, PlainState, Right, Row, RowKey, Rows, Run, RunAt, RunTx, Sane, Says, Some, Step, Tell, TxId, Value, Waits, [], act, answer_of, ap, arith, at_once, at_stage, call_answer, call_asks, call_here_says, call_says, callee_at, callee_of, calls_at, calls_go, child_of, effect_before, false, grows_self, has_callees, if◌then◌else◌, invoke_key, is_begin, is_opened, is_some, is_waited, listed, look_says, no_root_key, opened, opens_are_open, option_map, owed_call, place_of, refl, result_of, root_key, run_called, run_tx, set_others, set_row, step_by, step_mark, subst, sym, true, turn_next, turned_by, tx_after, tx_now, tx_of, value_at, ℕ, ◌++◌, ◌∙◌, ◌∷◌, ◌≡◌, Kind, Mark, Stage, Wait}
 use Rattle.beldi_laws.proofs.CallsHere.{not_made, was_made, made_by, next_here, callee_knows, given_first, first_given, call_now, absent_here, callee_frame, callee_there, caller_there, call_entered, callee_goes, callee_row, callee_ahead, callee_settled, callee_grows, no_outcome}
-use Rattle.beldi_laws.proofs.Keeping.{as_it_was, set_shadows}
-use Rattle.beldi_laws.proofs.Passing.{replays_call, tx_is, tx_now_is, tx_step_is}
 use Rattle.beldi_laws.proofs.Moves.{AfterTurn, AfterQuery, Kept, SameRoots, quiet, entered, AfterAct, still}
-use Rattle.beldi_laws.proofs.Others.{kept_moving}
-use Rattle.beldi_laws.proofs.Registered.{no_intent}
-use Rattle.beldi_laws.proofs.Turns.{at_other, effect_here, awaits, stands_at, tx_next}
-use Rattle.beldi_laws.proofs.KeptSane.{called_kept, called_with}
-use Rattle.beldi_laws.proofs.Shown.{log_values, sound}
-use Rattle.beldi_laws.proofs.Grown.{grown_same}
+use Rattle.beldi_laws.proofs.{Keeping.as_it_was, Keeping.set_shadows, Passing.replays_call, Passing.tx_is, Passing.tx_now_is, Passing.tx_step_is, Others.kept_moving, Registered.no_intent, Turns.at_other, Turns.effect_here, Turns.awaits, Turns.stands_at, Turns.tx_next, KeptSane.called_kept, KeptSane.called_with, Shown.log_values, Shown.sound, Grown.grown_same}
+use Rattle.beldi_laws.proofs.Names.map
 
 -- a call that is there already made no entry
 again_unmarked : (o : Option RunTx) → step_mark o false ≡ None
@@ -62,24 +49,24 @@ module _ (d : Deployment) (c : Core) (m : Rows) (i : ℕ) (r : Run) (g : Begun) 
   starts_here : is_some (map.get h.known callee) ≡ true → (o : Run) → run_called r ≡ Some o → KnowsAt d m h.plain c.book h.known o o.at
   starts_here there = starts m h.plain c.book h.known h.sane k.made there
 
-  waits : is_some (map.get h.known callee) ≡ true → Left (Waits (wait.Result callee)) m
+  waits : is_some (map.get h.known callee) ≡ true → Left (Waits (Wait.Result callee)) m
   waits there = awaits d c m i r g h live k callee m (λ t. refl) (as_it_was h) (λ e. starts_here there)
 
   opens_again : is_some (map.get h.known callee) ≡ true → Left (Opens (step_mark g.tx false)) m
   opens_again there = subst (λ z. Left (Opens z) m) (sym (again_unmarked g.tx)) (quiet d c m m i r h live (λ t. refl) (turned_by d r g (Opens None)) h.known h.locked refl refl
-      (stands_at d c m i r g h live k finds is refl (stage.Call call.Look) m h.locked (as_it_was h) (hops, λ e. there))
+      (stands_at d c m i r g h live k finds is refl (Stage.Call CallAt.Look) m h.locked (as_it_was h) (hops, λ e. there))
       (λ e. starts_here there) (as_it_was h))
 
   -- ---- it is opened now: it is the instance's next step
   module _ (none : map.get m key ≡ None) (new : map.get h.known callee ≡ None) (left : k.later ≡ []) where
     abbrev row : Option Row
-    row = Some (rows.Invoke (opened f))
+    row = Some (Row.Invoke (opened f))
 
     abbrev rows_now : Rows
     rows_now = set_row m key row
 
     roots : SameRoots m rows_now
-    roots u = ap is_some (set_others m key row (root_key u) (no_root_key u r.func (kinds.Invoke place) refl))
+    roots u = ap is_some (set_others m key row (root_key u) (no_root_key u r.func (Kind.Invoke place) refl))
 
     -- its callee is known from then on, in the transaction of the call, if any
     module _ (t : Option TxId) (inner : t ≡ tx_now d r.id k.instance) where
@@ -100,18 +87,18 @@ module _ (d : Deployment) (c : Core) (m : Rows) (i : ℕ) (r : Run) (g : Begun) 
       stays_made : is_some (map.get next callee) ≡ true
       stays_made = callee_there d c m r g h k finds true f v is hops new left t inner
 
-      looks : (more : List Entry) (q : PlainState) → Kept h rows_now q next h.locked → RunAt d rows_now q more next (Some (record r { at = Begins (at_stage g (stage.Call call.Look)) }))
-      looks more q kept = at_other d c m i r g h live k finds is refl (stage.Call call.Look) more rows_now q next h.locked k.instance made (grown_same k.instance) kept (hops, λ e. stays_made)
+      looks : (more : List Entry) (q : PlainState) → Kept h rows_now q next h.locked → RunAt d rows_now q more next (Some (record r { at = Begins (at_stage g (Stage.Call CallAt.Look)) }))
+      looks more q kept = at_other d c m i r g h live k finds is refl (Stage.Call CallAt.Look) more rows_now q next h.locked k.instance made (grown_same k.instance) kept (hops, λ e. stays_made)
 
     -- outside, by an entry
-    opens_outside : g.tx ≡ None → Left (Opens (Some mark.Step)) rows_now
+    opens_outside : g.tx ≡ None → Left (Opens (Some Mark.Step)) rows_now
     opens_outside tx =
         let out : tx_after d r.id k.instance k.answers ≡ None = tx_is k apart ∙ ap (run_tx r.id r.func) tx in
         let inner : None ≡ tx_now d r.id k.instance = sym (tx_next k out left) in
         let state = step_by h.plain r.id k.instance (Call f v) in
         let leads = call_entered d c m i r g h live k finds true f v is hops new left out (next None inner) in
         let kept = kept_opened None inner state leads.grows refl (log_values h key row refl) (callee_goes d c m i r g h live k finds true f v is hops new left out) in
-        entered d c m rows_now i r h live roots (turned_by d r g (Opens (Some mark.Step))) mark.Step state (next None inner) h.locked refl leads (λ o told. cc)
+        entered d c m rows_now i r h live roots (turned_by d r g (Opens (Some Mark.Step))) Mark.Step state (next None inner) h.locked refl leads (λ o told. cc)
         (looks None inner (c.book ++ Step r.id ∷ []) state kept) (λ e. starts rows_now state (c.book ++ Step r.id ∷ []) (next None inner) (sane None inner) (made None inner) (stays_made None inner)) kept
 
     -- inside, by none
@@ -142,23 +129,23 @@ module _ (d : Deployment) (c : Core) (m : Rows) (i : ℕ) (r : Run) (g : Begun) 
   open_by x None none there = opens_again (made_by d c m r g h k true f v call_here x there)
   open_by x (Some u) some there = done u (x.func, x.result) there some
 
-  open_at : (w : Option Row) → map.get m key ≡ w → CallMatches w (owed_call h.known r.func place) → AfterCall call.Open (act (OpenInvoke f) c.now w)
+  open_at : (w : Option Row) → map.get m key ≡ w → CallMatches w (owed_call h.known r.func place) → AfterCall CallAt.Open (act (OpenInvoke f) c.now w)
   open_at None at owed = let new = not_made d c m r g h k true f v call_here owed in opens_now at new (next_here d c m r g h k true f v call_here new k.later refl)
-  open_at (Some (rows.Invoke x)) at owed = still d h.plain m key (Some (rows.Invoke x)) (sym at) (open_by x x.result refl owed)
+  open_at (Some (Row.Invoke x)) at owed = still d h.plain m key (Some (Row.Invoke x)) (sym at) (open_by x x.result refl owed)
   open_at (Some w) at owed = absurd owed
 
   look_by : (x : InvokeRow) (o : Option Outcome) → x.result ≡ o → owed_call h.known r.func place ≡ Some (x.func, x.result) → Left (call_answer r.id g.tx g.machine.steps (look_says o)) m
   look_by x None none there = waits (made_by d c m r g h k true f v call_here x there)
   look_by x (Some u) some there = done u (x.func, x.result) there some
 
-  look_at : (w : Option Row) → map.get m key ≡ w → CallMatches w (owed_call h.known r.func place) → is_some (map.get h.known callee) ≡ true → AfterCall call.Look (act Look c.now w)
+  look_at : (w : Option Row) → map.get m key ≡ w → CallMatches w (owed_call h.known r.func place) → is_some (map.get h.known callee) ≡ true → AfterCall CallAt.Look (act Look c.now w)
   look_at None at owed there = still d h.plain m key None (sym at) (waits there)
-  look_at (Some (rows.Invoke x)) at owed there = still d h.plain m key (Some (rows.Invoke x)) (sym at) (look_by x x.result refl owed)
+  look_at (Some (Row.Invoke x)) at owed there = still d h.plain m key (Some (Row.Invoke x)) (sym at) (look_by x x.result refl owed)
   look_at (Some w) at owed there = absurd owed
 
   by_at : (at : CallAt) → (is_opened at ≡ true → is_some (map.get h.known callee) ≡ true) → AfterQuery d h.plain c.now m (λ t. turn_next c i r (turned_by d r g (call_answer r.id g.tx g.machine.steps (call_says f at t)))) (call_asks r.func place f at)
-  by_at call.Open seen = open_at (map.get m key) refl (h.rows.keys key)
-  by_at call.Look seen = look_at (map.get m key) refl (h.rows.keys key) (seen refl)
+  by_at CallAt.Open seen = open_at (map.get m key) refl (h.rows.keys key)
+  by_at CallAt.Look seen = look_at (map.get m key) refl (h.rows.keys key) (seen refl)
 
   pub call_turn : (at : CallAt) → (is_opened at ≡ true → is_some (map.get h.known callee) ≡ true)
       → AfterQuery d h.plain c.now m (λ t. turn_next c i r (turned_by d r g (call_here_says r.id g.tx g.machine.steps (Call f v) at t))) (call_asks r.func place f at)

@@ -1,20 +1,10 @@
 -- What is called at a step, and what a run knows of it.
-use Rattle.beldi_laws.proofs.Names.{Answer, Begun, Body, Bool, ByTx, Call, CalledBy, Core, Deployment, Effect, End, Entry, Frame, Goes, Grows, Inside, Instance, IntentId, InvokeRow, IsBelow, IsBodyOf, IsOutside, IsTrue, Item, Known, Knows, KnowsAt, List, LockedAtEnds, Matches, MaySet, None, Option, Outcome, PlainState, Registers, Right, Row, RowKey, Rows, Run, RunTx, Sane, Some, Step, TxId, Value, [], ahead_set, answer_given, answered, ap, append_assoc, arith, at_once, at_once_same, call_of, call_opened, called_by, called_in, callee_apart, callee_body, callee_by, callee_of, calls_at, child_of, child_same, content_of, effect_before, effect_of, elsewhere, enabled_step, ended_by, false, goes_one, got_next, grows_new, has_callees, here, if◌then◌else◌, inl, inr, invoke_key, is_begin, is_none, is_some, item_touched, kind_of, last_hop, length, length-append, made_owes, made_set, moved, new_instance, no_own_callee, none_by, none_out, now_open, opened, option_map, origin_stays, owed_call, place_of, refl, result_of, run_tx, same_some, set_after_callee, set_next, set_row, slice_get, step_by, subst, suc, sym, touched_by, true, tx_after, tx_at, tx_begun, tx_end, tx_now, unlocked_absent, waits_at, wants_answer, with_callee, with_instance, within_by, zero, ℕ, ◌&&◌, ◌++◌, ◌<◌, ◌∙◌, ◌∷◌, ◌≡◌, ◌⊎◌}
-use Rattle.beldi_laws.proofs.Names.kind
-use Rattle.beldi_laws.proofs.Names.map
-use Rattle.beldi_laws.proofs.Names.rows
-use Rattle.beldi_laws.proofs.Keeping.{SameShadows, goes_made, set_shadows}
-use Rattle.beldi_laws.proofs.Moves.{Entered, change_entered}
-use Rattle.beldi_laws.proofs.Frames.{NobodyJoins, nobody_made}
-use Rattle.beldi_laws.proofs.Settling.{settled_grown, settled_new}
-use Rattle.beldi_laws.proofs.KeptSane.{called_with}
-use Rattle.beldi_laws.proofs.Registered.{log_frame, stays_new}
-use Rattle.beldi_laws.proofs.Short.{child_short}
-use Rattle.beldi_laws.proofs.Shown.{Settled, legal_sane, settled}
-use Rattle.beldi_laws.proofs.Turns.{answer_here, step_here, effect_next, not_over, plain_there}
 use Rattle.beldi_value.proofs.Callees.{no_root}
-use Rattle.beldi_laws.proofs.Outside.{plain_none}
+use Rattle.beldi_plain.specs.declared.kind.Kind.{Kind}
 use Rattle.beldi_known.specs.Beside.{begins}
+use Rattle.beldi_laws.proofs.Names.{Answer, Begun, Body, Bool, ByTx, Call, CalledBy, Core, Deployment, Effect, End, Entry, Frame, Goes, Grows, Inside, Instance, IntentId, InvokeRow, IsBelow, IsBodyOf, IsOutside, IsTrue, Item, Known, Knows, KnowsAt, List, LockedAtEnds, Matches, MaySet, None, Option, Outcome, PlainState, Registers, Right, Row, RowKey, Rows, Run, RunTx, Sane, Some, Step, TxId, Value, [], ahead_set, answer_given, answered, ap, append_assoc, arith, at_once, at_once_same, call_of, call_opened, called_by, called_in, callee_apart, callee_body, callee_by, callee_of, calls_at, child_of, child_same, content_of, effect_before, effect_of, elsewhere, enabled_step, ended_by, false, goes_one, got_next, grows_new, has_callees, here, if◌then◌else◌, inl, inr, invoke_key, is_begin, is_none, is_some, item_touched, kind_of, last_hop, length, length-append, made_owes, made_set, moved, new_instance, no_own_callee, none_by, none_out, now_open, opened, option_map, origin_stays, owed_call, place_of, refl, result_of, run_tx, same_some, set_after_callee, set_next, set_row, slice_get, step_by, subst, suc, sym, touched_by, true, tx_after, tx_at, tx_begun, tx_end, tx_now, unlocked_absent, waits_at, wants_answer, with_callee, with_instance, within_by, zero, ℕ, ◌&&◌, ◌++◌, ◌<◌, ◌∙◌, ◌∷◌, ◌≡◌, ◌⊎◌}
+use Rattle.beldi_laws.proofs.{Keeping.SameShadows, Keeping.goes_made, Keeping.set_shadows, Moves.Entered, Moves.change_entered, Frames.NobodyJoins, Frames.nobody_made, Settling.settled_grown, Settling.settled_new, KeptSane.called_with, Registered.log_frame, Registered.stays_new, Short.child_short, Shown.Settled, Shown.legal_sane, Shown.settled, Turns.answer_here, Turns.step_here, Turns.effect_next, Turns.not_over, Turns.plain_there, Outside.plain_none}
+use Rattle.beldi_laws.proofs.Names.map
 
 -- a call tells whether it waits, its function and its argument
 pub same_call : (a b : Bool) (f g : ℕ) (v u : Value) → call_of a f v ≡ call_of b g u → (a ≡ b) × (f ≡ g) × (v ≡ u)
@@ -111,13 +101,13 @@ below_parent t i n b = elim (last_hop b.hops) [
 
 -- ---- a call is opened: its row is put, and its callee is known
 pub call_row : (d : Deployment) (known : Known) (locked : IntentId → Bool) → LockedAtEnds d known locked → Sane d known → (id : IntentId) (i : Instance) (t : Option TxId) (f : ℕ) (v : Value) (waits : Bool) → map.get known id ≡ Some i → map.get known (callee_of id i) ≡ None → (m : Rows) (step func : ℕ) → step ≡ length i.answers → i.func ≡ func → Matches d m known locked
-    → Matches d (set_row m (invoke_key func (place_of id step)) (Some (rows.Invoke (opened f)))) (map.insert known (callee_of id i) (at_once d (callee_of id i) (called_with t f v (calls_at id i waits)))) locked
+    → Matches d (set_row m (invoke_key func (place_of id step)) (Some (Row.Invoke (opened f)))) (map.insert known (callee_of id i) (at_once d (callee_of id i) (called_with t f v (calls_at id i waits)))) locked
 call_row d known locked ends sane id i t f v waits is new m step func steps func_is h =
     let s = called_with t f v (calls_at id i waits) in
     let z = at_once d (callee_of id i) s in
     let same = at_once_same d (callee_of id i) s in
-    subst (λ n. Matches d (set_row m (invoke_key func (place_of id n)) (Some (rows.Invoke (opened f)))) (map.insert known (callee_of id i) z) locked) (sym steps)
-    (subst (λ g. Matches d (set_row m (invoke_key g (place_of id (length i.answers))) (Some (rows.Invoke (opened f)))) (map.insert known (callee_of id i) z) locked) func_is
+    subst (λ n. Matches d (set_row m (invoke_key func (place_of id n)) (Some (Row.Invoke (opened f)))) (map.insert known (callee_of id i) z) locked) (sym steps)
+    (subst (λ g. Matches d (set_row m (invoke_key g (place_of id (length i.answers))) (Some (Row.Invoke (opened f)))) (map.insert known (callee_of id i) z) locked) func_is
     (call_opened d known locked id i z waits is new (childless d known sane (callee_of id i) new) (unlocked_absent d known locked ends (callee_of id i) new) (made_owes d known (callee_of id i) f v (Some (calls_at id i waits)) t) (sym (ap (λ (b : Body). b.from) same.body)) same.outcome m (opened f) (sym same.func) refl h))
 
 -- .. now: it is the instance's next step
@@ -151,7 +141,7 @@ module _ (d : Deployment) (c : Core) (m : Rows) (r : Run) (g : Begun) (h : Right
   key = invoke_key r.func (place_of r.id g.machine.steps)
 
   abbrev row : Option Row
-  row = Some (rows.Invoke (opened f))
+  row = Some (Row.Invoke (opened f))
 
   abbrev opened_rows : Rows
   opened_rows = set_row m key row
@@ -226,7 +216,7 @@ module _ (d : Deployment) (c : Core) (m : Rows) (i : ℕ) (r : Run) (g : Begun) 
       waits_not true = ap is_some (plain_none d h.plain h.known h.beside (callee_of r.id k.instance) none_there)
       waits_not false = ap is_some (plain_none d h.plain h.known h.beside (callee_of r.id k.instance) none_there)
 
-      is_change : (b : Bool) → kind_of r.id (call_of b f v) ≡ kind.Change
+      is_change : (b : Bool) → kind_of r.id (call_of b f v) ≡ Kind.Change
       is_change b = grind arith
 
       touches : (b : Bool) → item_touched k.instance (call_of b f v) ≡ None
@@ -234,10 +224,10 @@ module _ (d : Deployment) (c : Core) (m : Rows) (i : ℕ) (r : Run) (g : Begun) 
 
   -- the callee is made in both
   abbrev rows_now : Rows
-  rows_now = set_row m (invoke_key r.func (place_of r.id g.machine.steps)) (Some (rows.Invoke (opened f)))
+  rows_now = set_row m (invoke_key r.func (place_of r.id g.machine.steps)) (Some (Row.Invoke (opened f)))
 
   pub callee_goes : Goes d rows_now (with_callee h.plain r.id k.instance f v w) (map.insert h.known (callee_of r.id k.instance) (at_once d (callee_of r.id k.instance) (new_instance f v (Some (calls_at r.id k.instance w))))) h.locked
-  callee_goes = goes_made h rows_now (set_shadows m (invoke_key r.func (place_of r.id g.machine.steps)) (Some (rows.Invoke (opened f))) refl) (callee_of r.id k.instance) (new_instance f v (Some (calls_at r.id k.instance w))) none_there refl (refl, refl)
+  callee_goes = goes_made h rows_now (set_shadows m (invoke_key r.func (place_of r.id g.machine.steps)) (Some (Row.Invoke (opened f))) refl) (callee_of r.id k.instance) (new_instance f v (Some (calls_at r.id k.instance w))) none_there refl (refl, refl)
       (callee_apart d h.plain (legal_sane h) r.id k.instance (length k.instance.answers) there no_begin)
 
 -- ---- a callee was set, and then its caller is answered, that stays outside or begins: no shadow was made in between

@@ -1,13 +1,9 @@
 -- Who took part in a transaction that has ended, and has its finish, has given back all: whatever row changes, unless it is such a finish.
+use Rattle.beldi_txn.specs.{Visited.item_in, Way.callee_of}
 use Rattle.beldi_laws.proofs.Names.{AllFreed, AreClosed, AreReleased, Bool, ByTx, CalleeMatches, Core, Deployment, EndWalk, Frame, Grown, GrownAt, Grows, Instance, Intent, IntentId, IntentMatches, IsReleased, Known, Matches, Member, None, Option, Owner, ParticipantsAreReleased, ParticipantsHaveRows, PlainState, Right, Row, Rows, Sane, Some, TookPart, TxId, ap, arith, decided_over, end_of, ended_by, ended_stays, false, first_end, has_ended, has_finish, inr, is_closed, is_own, is_some, key_in, lock_row, owns, refl, row_closed, same_some, subst, sym, true, tx_end, tx_same, tx_self, txs_after, visited_by, ℕ, ◌∙◌, ◌∷◌, ◌≡◌}
-use Rattle.beldi_laws.proofs.Names.map
-use Rattle.beldi_laws.proofs.Names.rows
-use Rattle.beldi_txn.specs.Visited.{item_in}
-use Rattle.beldi_txn.specs.Way.{callee_of}
-use Rattle.beldi_laws.proofs.Frames.{NoFinish}
-use Rattle.beldi_laws.proofs.Settling.{seated_stays, settled_rows}
-use Rattle.beldi_laws.proofs.Shown.{Settled}
 use Rattle.beldi_laws.proofs.Members.{TakesPart, call_there, callee_is, callee_joins, members_joined, part_below, part_key, reached, took_part}
+use Rattle.beldi_laws.proofs.{Frames.NoFinish, Settling.seated_stays, Settling.settled_rows, Shown.Settled}
+use Rattle.beldi_laws.proofs.Names.map
 
 -- ---- who owns an item
 pub owner_is : (t : TxId) (o : Option Owner) → owns (ByTx t) o ≡ true → o ≡ Some (ByTx t)
@@ -41,7 +37,7 @@ closed_by r h = grind arith
 -- which it has only where its transaction has ended
 ended_for : (ended : TxId → Bool) (home : ℕ) (r : Option Row) (q : Instance) (t : TxId) → q.within ≡ Some t → CalleeMatches ended home r (Some q) → has_finish r ≡ true → ended t ≡ true
 ended_for ended home None q t inner h finish = cc
-ended_for ended home (Some (rows.Intent r)) q t inner h finish = grind (arith, h.body, h.finishes)
+ended_for ended home (Some (Row.Intent r)) q t inner h finish = grind (arith, h.body, h.finishes)
 ended_for ended home (Some r) q t inner h finish = absurd h
 
 module _ (d : Deployment) (m : Rows) (known : Known) (locked : IntentId → Bool) (matches : Matches d m known locked) (sane : Sane d known) (t : TxId) (p : Member) (part : TakesPart known t p) where

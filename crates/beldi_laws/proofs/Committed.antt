@@ -1,17 +1,15 @@
 -- Who was called in a transaction is in the plain state exactly where the transaction has committed, as its decision's row says.
-use Rattle.beldi_laws.proofs.Names.{Answer, Beside, Bool, Deployment, Grown, Instance, IntentId, Known, List, LogMatches, Matches, None, Option, PlainState, Row, Rows, Sane, Some, TxId, all_called, ap, arith, at_step, begins, decision_key, decision_row, drop, effect_after, effect_before, end_of, ended_by, false, fits_at, has_place, is_committed, owed_read, place_of, refl, same_some, subst, sym, take, take-append-drop, take-append-le, true, tx_end, value_for, ℕ, ◌∙◌, ◌≡◌}
-use Rattle.beldi_laws.proofs.Names.effect
+use Rattle.beldi_laws.proofs.Names.{Answer, Beside, Bool, Deployment, Grown, Instance, IntentId, Known, List, LogMatches, Matches, None, Option, PlainState, Row, Rows, Sane, Some, TxId, all_called, ap, arith, at_step, begins, decision_key, decision_row, drop, effect_after, effect_before, end_of, ended_by, false, fits_at, has_place, is_committed, owed_read, place_of, refl, same_some, subst, sym, take, take-append-drop, take-append-le, true, tx_end, value_for, ℕ, ◌∙◌, ◌≡◌, Effect}
+use Rattle.beldi_laws.proofs.{Closing.end_grows, Outside.known_of, Outside.made_of}
 use Rattle.beldi_laws.proofs.Names.map
 use Rattle.beldi_laws.proofs.Names.plain
-use Rattle.beldi_laws.proofs.Closing.{end_grows}
-use Rattle.beldi_laws.proofs.Outside.{known_of, made_of}
 
 -- ---- a transaction that somebody was called in has its Begin
 pub record HasBegin (d : Deployment) (known : Known) (t : TxId) : Type 0 where
   pub owner : Instance
   pub made : map.get known t.intent ≡ Some owner
   pub func_is : owner.func ≡ t.func
-  pub begins : effect_before d owner t.begin ≡ effect.Begin
+  pub begins : effect_before d owner t.begin ≡ Effect.Begin
 
 module _ (d : Deployment) (known : Known) (sane : Sane d known) (t : TxId) where
   pub has_begin : (j : IntentId) (z : Instance) → map.get known j ≡ Some z → z.within ≡ Some t → HasBegin d known t
@@ -31,7 +29,7 @@ module _ (d : Deployment) (known : Known) (sane : Sane d known) (t : TxId) where
         b : HasBegin d known t
         b = has_begin j z is inner
 
-        no_read : (given : List Answer) (o : Option Answer) → effect_after d (has_begin j z is inner).owner given ≡ effect.Begin → at_step (λ ts a. value_for (effect_after d (has_begin j z is inner).owner ts) a) given o ≡ None
+        no_read : (given : List Answer) (o : Option Answer) → effect_after d (has_begin j z is inner).owner given ≡ Effect.Begin → at_step (λ ts a. value_for (effect_after d (has_begin j z is inner).owner ts) a) given o ≡ None
         no_read given o e = grind arith
 
         undecided : end_of d (has_begin j z is inner).owner t.begin ≡ None → owed_read d known t.func (place_of t.intent t.begin) ≡ None

@@ -1,32 +1,17 @@
 -- The turn of a run that is to decide its transaction: it puts the decision, whose entry is the transaction's piece or its try; or the
 -- decision is there.
-use Rattle.beldi_laws.proofs.Names.{Answer, Begun, Bool, ByTx, Core, Deployment, FellAt, Frame, Goes, Grows, Inside, Instance, Intent, IntentId, IsAbort, IsCommit, IsFree, IsFreePlace, IsOpen, IsTrue, Item, Known, Knows, List, Mark, Matches, None, OpenTx, Option, Own, OwnedAreUnmarked, Owner, OwnersCallNobody, ParticipantsHaveRows, Place, PlainState, PutRead, Right, Row, RowKey, Rows, Run, Sane, SaneInstance, Some, TookPart, TouchedIn, Touches, Try, TxId, Visit, Visited, [], aborts_are_tries, act, after, ahead_set, answered, ap, arith, at_calls, behind_decided, commits_are_pieces, cond, content_of, decide_by_says, decided, decided_by, decided_says, decision_key, effect_after, effect_of, end_by_asks, end_mark, end_of, end_walk, ended_by, ends_alone, entries_touch, entry_of, eq-eqb, false, few_answers, first_visit, fits, here, if◌then◌else◌, inl, inr, is_at, is_owner, is_some, key_self, known_none_after, known_set, last_answer, length, listed, log_key, moved, moved_one, no_decision, no_note, no_root, none_out, note_at, open_of, opens_are_open, or_null, own_tx, pieces_are_moves, pieces_touch_their_items, place_of, refl, root_key, row_got, same_some, sane_decided, seen_of, set_others, set_row, subst, sym, touched, true, turn_next, turned_by, tx_after, tx_begun, tx_end, txs_after, txs_by, unlocked_elsewhere, value_at, wants_answer, with_decision, with_instance, ℕ, ◌++◌, ◌<◌, ◌==◌, ◌∙◌, ◌∷◌, ◌≡◌, ◌⊎◌}
-use Rattle.beldi_laws.proofs.Names.answer
-use Rattle.beldi_laws.proofs.Names.effect
-use Rattle.beldi_laws.proofs.Names.goes
-use Rattle.beldi_laws.proofs.Names.kinds
-use Rattle.beldi_laws.proofs.Names.map
-use Rattle.beldi_laws.proofs.Names.rows
-use Rattle.beldi_laws.proofs.Names.stage
-use Rattle.beldi_laws.proofs.Names.value
 use Rattle.beldi_book.specs.declared.entry.Entry.TheVariants.{Tx}
 use Rattle.beldi_plain.specs.Piece.{opened}
-use Rattle.beldi_laws.proofs.Fallen.{cause_in, cause_is}
-use Rattle.beldi_laws.proofs.Closing.{closed_rows}
-use Rattle.beldi_laws.proofs.Frames.{ValuesStay, frame_log, no_finish, nobody_set}
+use Rattle.beldi_laws.proofs.Names.{Answer, Begun, Bool, ByTx, Core, Deployment, FellAt, Frame, Goes, Grows, Inside, Instance, Intent, IntentId, IsAbort, IsCommit, IsFree, IsFreePlace, IsOpen, IsTrue, Item, Known, Knows, List, Mark, Matches, None, OpenTx, Option, Own, OwnedAreUnmarked, Owner, OwnersCallNobody, ParticipantsHaveRows, Place, PlainState, PutRead, Right, Row, RowKey, Rows, Run, Sane, SaneInstance, Some, TookPart, TouchedIn, Touches, Try, TxId, Visit, Visited, [], aborts_are_tries, act, after, ahead_set, answered, ap, arith, at_calls, behind_decided, commits_are_pieces, cond, content_of, decide_by_says, decided, decided_by, decided_says, decision_key, effect_after, effect_of, end_by_asks, end_mark, end_of, end_walk, ended_by, ends_alone, entries_touch, entry_of, eq-eqb, false, few_answers, first_visit, fits, here, if◌then◌else◌, inl, inr, is_at, is_owner, is_some, key_self, known_none_after, known_set, last_answer, length, listed, log_key, moved, moved_one, no_decision, no_note, no_root, none_out, note_at, open_of, opens_are_open, or_null, own_tx, pieces_are_moves, pieces_touch_their_items, place_of, refl, root_key, row_got, same_some, sane_decided, seen_of, set_others, set_row, subst, sym, touched, true, turn_next, turned_by, tx_after, tx_begun, tx_end, txs_after, txs_by, unlocked_elsewhere, value_at, wants_answer, with_decision, with_instance, ℕ, ◌++◌, ◌<◌, ◌==◌, ◌∙◌, ◌∷◌, ◌≡◌, ◌⊎◌, Effect, EndGoes, Kind, Stage, Value}
 use Rattle.beldi_laws.proofs.Settling.{IsSettled, holders_set, latest_stays, marks_stay, one_answered, one_at_once, one_known, seated_set, seated_stays, settled_grown, short_set}
-use Rattle.beldi_laws.proofs.Visits.{at_part, visits_found}
-use Rattle.beldi_laws.proofs.Grown.{grown_moved, grows_moved}
-use Rattle.beldi_laws.proofs.Keeping.{as_it_was}
 use Rattle.beldi_laws.proofs.Moves.{AfterAct, AfterQuery, AfterTurn, Entered, SameRoots, change_entered, still}
-use Rattle.beldi_laws.proofs.OpenOf.{open_begun, own_begin}
-use Rattle.beldi_laws.proofs.Others.{kept_by, end_here}
-use Rattle.beldi_laws.proofs.Shown.{Settled, Shows, holds_here, settled, sound}
 use Rattle.beldi_laws.proofs.Turns.{at_steps, by_answer, enters_on, wanted_here, all_here, effect_next, not_over, sane_instance, stands_on, step_here}
+use Rattle.beldi_laws.proofs.{Fallen.cause_in, Fallen.cause_is, Closing.closed_rows, Frames.ValuesStay, Frames.frame_log, Frames.no_finish, Frames.nobody_set, Visits.at_part, Visits.visits_found, Grown.grown_moved, Grown.grows_moved, Keeping.as_it_was, OpenOf.open_begun, OpenOf.own_begin, Others.kept_by, Others.end_here, Shown.Settled, Shown.Shows, Shown.holds_here, Shown.settled, Shown.sound}
+use Rattle.beldi_laws.proofs.Names.map
 
 -- ---- small facts
 -- its own decision is the one that is there
-own_there : (c : Bool) → decided_by c c ≡ goes.Decided false
+own_there : (c : Bool) → decided_by c c ≡ EndGoes.Decided false
 own_there c = grind arith
 
 -- the mark of a decision without commit, by what its instance was answered last
@@ -39,12 +24,12 @@ end_under d known (Some (ByTx t)) = tx_end d known t
 end_under d known o = None
 
 -- ---- an End is answered: that is no death
-one_over : (d : Deployment) (m : Rows) (p : PlainState) (id : IntentId) (k : Instance) → IsSettled d m p id k → IsSettled d m p id (moved d id k answer.Done)
-one_over d m p id k h = (one_at_once d m p id (answered k answer.Done) (one_answered d m p id k answer.Done (λ c i inside dead. cc) h)).settled
+one_over : (d : Deployment) (m : Rows) (p : PlainState) (id : IntentId) (k : Instance) → IsSettled d m p id k → IsSettled d m p id (moved d id k Answer.Done)
+one_over d m p id k h = (one_at_once d m p id (answered k Answer.Done) (one_answered d m p id k Answer.Done (λ c i inside dead. cc) h)).settled
 
 -- ---- the turn
 module _ (d : Deployment) (c : Core) (m : Rows) (i : ℕ) (r : Run) (g : Begun) (h : Right d c m) (live : map.get c.runs i ≡ Some r) (k : Knows d h.known r g) (finds : Inside m h.plain c.book k g.stage) (o : OpenTx) (tx : g.tx ≡ Some (Own o))
-    (inside_here : tx_after d r.id k.instance k.answers ≡ Some (own_tx r.id r.func o)) (open_here : open_of d k.instance k.answers ≡ Some (Own o)) (commit : Bool) (is : g.machine.effect ≡ effect.End commit) (mk : Mark) (mark : mk ≡ end_mark r.id g.machine.steps o.cause commit) where
+    (inside_here : tx_after d r.id k.instance k.answers ≡ Some (own_tx r.id r.func o)) (open_here : open_of d k.instance k.answers ≡ Some (Own o)) (commit : Bool) (is : g.machine.effect ≡ Effect.End commit) (mk : Mark) (mark : mk ≡ end_mark r.id g.machine.steps o.cause commit) where
   abbrev own : TxId
   own = own_tx r.id r.func o
 
@@ -53,13 +38,13 @@ module _ (d : Deployment) (c : Core) (m : Rows) (i : ℕ) (r : Run) (g : Begun) 
   key = decision_key own
 
   abbrev row : Option Row
-  row = Some (rows.ReadLog (value.Bool commit))
+  row = Some (Row.ReadLog (Value.Bool commit))
 
   -- its calls come next
   abbrev next_visit : Visit
   next_visit = at_calls [] None
 
-  effect_so : effect_after d k.instance k.answers ≡ effect.End commit
+  effect_so : effect_after d k.instance k.answers ≡ Effect.End commit
   effect_so = wanted_here k ∙ is
 
   begun_here : (txs_after d k.instance k.answers).begun ≡ Some o.begin
@@ -81,7 +66,7 @@ module _ (d : Deployment) (c : Core) (m : Rows) (i : ℕ) (r : Run) (g : Begun) 
 
   -- what follows the act on its row
   abbrev AfterPut : Option Row → Type 0
-  AfterPut w = AfterAct d h.plain m key (λ u. turn_next c i r (turned_by d r g (decide_by_says r.id r.func g.machine.steps commit mk (Some (Own o)) u))) (act (PutRead (value.Bool commit)) c.now w)
+  AfterPut w = AfterAct d h.plain m key (λ u. turn_next c i r (turned_by d r g (decide_by_says r.id r.func g.machine.steps commit mk (Some (Own o)) u))) (act (PutRead (Value.Bool commit)) c.now w)
 
   -- ---- behind: the decision is there
   module _ (a : Answer) (rest : List Answer) (left : k.later ≡ a ∷ rest) where
@@ -97,7 +82,7 @@ module _ (d : Deployment) (c : Core) (m : Rows) (i : ℕ) (r : Run) (g : Begun) 
     finds_it : AfterPut (map.get m key)
     finds_it = subst AfterPut (sym there) (still d h.plain m key row (sym there)
         (subst (λ z. AfterTurn d h.plain c i r (turned_by d r g (decided_says commit mk z)) m) (sym (own_there commit))
-        (stands_on d c m i r g h live k finds is tx (stage.End next_visit) m h.locked (λ t. refl) (as_it_was h) (refl, next_found m h.plain h.known h.locked h.rows h.sane (settled h) ended there))))
+        (stands_on d c m i r g h live k finds is tx (Stage.End next_visit) m h.locked (λ t. refl) (as_it_was h) (refl, next_found m h.plain h.known h.locked h.rows h.sane (settled h) ended there))))
 
   -- ---- at the front: it is put
   module _ (left : k.later ≡ []) where
@@ -107,7 +92,7 @@ module _ (d : Deployment) (c : Core) (m : Rows) (i : ℕ) (r : Run) (g : Begun) 
     step_now : g.machine.steps ≡ length k.instance.answers
     step_now = step_here k left
 
-    now : effect_of d k.instance ≡ effect.End commit
+    now : effect_of d k.instance ≡ Effect.End commit
     now = effect_next k left ∙ is
 
     begun_now : (txs_after d k.instance k.instance.answers).begun ≡ Some o.begin
@@ -121,14 +106,14 @@ module _ (d : Deployment) (c : Core) (m : Rows) (i : ℕ) (r : Run) (g : Begun) 
     n = set_row m key row
 
     abbrev over : Instance
-    over = moved d r.id k.instance answer.Done
+    over = moved d r.id k.instance Answer.Done
 
     abbrev next : Known
     next = map.insert h.known r.id over
 
     -- its transaction ended here, and no other one
     end_is : (b : ℕ) → end_of d over b ≡ (if b == o.begin then Some (length k.instance.answers, commit) else end_of d k.instance b)
-    end_is b = (moved_one d r.id k.instance answer.Done).ends b ∙ ap (λ e. (txs_by (length k.instance.answers) e (txs_after d k.instance k.instance.answers)).ends b) now
+    end_is b = (moved_one d r.id k.instance Answer.Done).ends b ∙ ap (λ e. (txs_by (length k.instance.answers) e (txs_after d k.instance k.instance.answers)).ends b) now
         ∙ ap (λ u. if is_at b u then Some (length k.instance.answers, commit) else end_of d k.instance b) begun_now
 
     ended_now : tx_end d next own ≡ Some (g.machine.steps, commit)
@@ -141,7 +126,7 @@ module _ (d : Deployment) (c : Core) (m : Rows) (i : ℕ) (r : Run) (g : Begun) 
 
     -- who took part did so before
     took_before : (t : TxId) (i : IntentId) → TookPart next t i → TookPart h.known t i
-    took_before t i part = known_set h.known r.id over (λ j u. u ≡ Some part.instance → TookPart h.known t j) (λ g. record { instance = k.instance; made = k.made; within = sym (moved_one d r.id k.instance answer.Done).within ∙ ap (λ (y : Instance). y.within) (same_some g) ∙ part.within })
+    took_before t i part = known_set h.known r.id over (λ j u. u ≡ Some part.instance → TookPart h.known t j) (λ g. record { instance = k.instance; made = k.made; within = sym (moved_one d r.id k.instance Answer.Done).within ∙ ap (λ (y : Instance). y.within) (same_some g) ∙ part.within })
         (λ j other g. record { instance = part.instance; made = g; within = part.within }) i part.made
 
     -- no note is at its places yet
@@ -176,11 +161,11 @@ module _ (d : Deployment) (c : Core) (m : Rows) (i : ℕ) (r : Run) (g : Begun) 
 
     rows_now : Matches d n next h.locked
     rows_now = subst (λ z. Matches d (set_row m z row) next h.locked) own_key
-        (decided d h.known h.locked r.id k.instance over answer.Done k.made (moved_one d r.id k.instance answer.Done) unlocked commit now o.begin begun_now
+        (decided d h.known h.locked r.id k.instance over Answer.Done k.made (moved_one d r.id k.instance Answer.Done) unlocked commit now o.begin begun_now
         (λ j z t on apart none inside mine begin. ends_alone d h.known h.sane r.id k.instance k.made (λ f v call. let clash = sym now ∙ call in cc) j z t on apart none inside mine) m h.rows)
 
     roots : SameRoots m n
-    roots u = ap is_some (set_others m key row (root_key u) (no_root u r.func (kinds.ReadLog (place_of r.id o.begin)) refl))
+    roots u = ap is_some (set_others m key row (root_key u) (no_root u r.func (Kind.ReadLog (place_of r.id o.begin)) refl))
 
     -- ---- its transaction is open
     opened_tx : IsOpen d m h.plain h.known h.locked own
@@ -200,12 +185,12 @@ module _ (d : Deployment) (c : Core) (m : Rows) (i : ℕ) (r : Run) (g : Begun) 
 
     -- the row that is put
     same_row : (b : Bool) → commit ≡ b → with_decision m own b ≡ n
-    same_row b e i = set_row m key (Some (rows.ReadLog (value.Bool (sym e i))))
+    same_row b e i = set_row m key (Some (Row.ReadLog (Value.Bool (sym e i))))
 
     -- with commit it is the transaction's piece
     module _ (it_commits : commit ≡ true) where
       piece : IsCommit d m (with_decision m own true) h.plain next h.locked own
-      piece = commits_are_pieces d m h.plain h.known h.locked own k.instance opened_tx k.made (now ∙ ap effect.End it_commits) unlocked h.values
+      piece = commits_are_pieces d m h.plain h.known h.locked own k.instance opened_tx k.made (now ∙ ap Effect.End it_commits) unlocked h.values
 
       piece_entry : entry_of r.id mk ≡ Tx r.id
       piece_entry = ap (entry_of r.id) (mark ∙ ap (end_mark r.id g.machine.steps o.cause) it_commits)
@@ -223,10 +208,10 @@ module _ (d : Deployment) (c : Core) (m : Rows) (i : ℕ) (r : Run) (g : Begun) 
     -- without, it is its try, at what was aborted or at the End itself
     module _ (no_commit : commit ≡ false) where
       abbrev tried : PlainState
-      tried = with_instance h.plain r.id (answered k.instance answer.Done)
+      tried = with_instance h.plain r.id (answered k.instance Answer.Done)
 
       its_try : IsAbort d m (with_decision m own false) h.plain next h.locked own k.instance
-      its_try = aborts_are_tries d m h.plain h.known h.locked own k.instance opened_tx k.made (now ∙ ap effect.End no_commit) unlocked h.holders
+      its_try = aborts_are_tries d m h.plain h.known h.locked own k.instance opened_tx k.made (now ∙ ap Effect.End no_commit) unlocked h.holders
 
       try_entry : entry_of r.id mk ≡ Try r.id its_try.place its_try.holder
       try_entry = ap (entry_of r.id) (mark ∙ (λ i. end_mark r.id (step_now i) (cause_is d r.id k.instance sane_here o (subst (λ ts. open_of d k.instance ts ≡ Some (Own o)) all open_here) i) (no_commit i)))
@@ -244,7 +229,7 @@ module _ (d : Deployment) (c : Core) (m : Rows) (i : ℕ) (r : Run) (g : Begun) 
 
     -- ---- what it keeps
     puts : (state : PlainState) → Decision state → AfterPut None
-    puts state by = enters_on d c m i r g h live k finds is tx (stage.End next_visit) mk n state next over (here h.known r.id over) (grown_moved d r.id k.instance answer.Done) roots leads (kept_by d c m n h state next h.locked shows_now grows frame)
+    puts state by = enters_on d c m i r g h live k finds is tx (Stage.End next_visit) mk n state next over (here h.known r.id over) (grown_moved d r.id k.instance Answer.Done) roots leads (kept_by d c m n h state next h.locked shows_now grows frame)
         (refl, next_found n state next h.locked rows_now sane_now settled_now ended_now (row_got m key key row ∙ ap (λ b. cond b row (map.get m key)) (key_self key)))
       where
         -- nobody holds the lock of an item that it owns
@@ -263,7 +248,7 @@ module _ (d : Deployment) (c : Core) (m : Rows) (i : ℕ) (r : Run) (g : Begun) 
         frame = frame_log d m h.plain state h.known next stays (nobody_set d h.known r.id over (ap is_some k.made)) r.func (place_of r.id o.begin) row refl
 
         grows : Grows h.known next
-        grows = grows_moved d h.known r.id k.instance answer.Done k.made
+        grows = grows_moved d h.known r.id k.instance Answer.Done k.made
 
         sane_now : Sane d next
         sane_now = sane_decided d h.known h.sane r.id k.instance k.made commit now

@@ -1,13 +1,11 @@
 -- How a transaction ended: its End was wanted while it was open, and all steps of its owner between its Begin and its End are of it.
-use Rattle.beldi_laws.proofs.Names.{Answer, Bool, Deployment, Effect, Instance, IntentId, List, None, Some, Txs, [], ap, append-nil, append_assoc, arith, at_of, begin_is, drop, effect_after, effect_before, end_of, eq-or-lt_of_le, false, fits_at, get_or, if◌then◌else◌, inl, inr, is_at, is_bound, is_some, length, length-append, length-take-le, ltb-true, nat_lt, no_bound, none_by, or_own, refl, same_some, subst, sym, take, take-append-drop, take-append-le, take_front, take_more, true, tx_at, tx_by, txs_after, txs_by, txs_pushed, wants, ℕ, ◌++◌, ◌+◌, ◌<◌, ◌∙◌, ◌∷◌, ◌≡◌, ◌≤◌, ◌⊎◌}
-use Rattle.beldi_laws.proofs.Names.answer
-use Rattle.beldi_laws.proofs.Names.effect
 use Rattle.std.proofs.lemmas.Bool.{ltb-false}
+use Rattle.beldi_laws.proofs.Names.{Answer, Bool, Deployment, Effect, Instance, IntentId, List, None, Some, Txs, [], ap, append-nil, append_assoc, arith, at_of, begin_is, drop, effect_after, effect_before, end_of, eq-or-lt_of_le, false, fits_at, get_or, if◌then◌else◌, inl, inr, is_at, is_bound, is_some, length, length-append, length-take-le, ltb-true, nat_lt, no_bound, none_by, or_own, refl, same_some, subst, sym, take, take-append-drop, take-append-le, take_front, take_more, true, tx_at, tx_by, txs_after, txs_by, txs_pushed, wants, ℕ, ◌++◌, ◌+◌, ◌<◌, ◌∙◌, ◌∷◌, ◌≡◌, ◌≤◌, ◌⊎◌}
 
 -- after these answers the Begin at a step ended so: its End was wanted while it was open
 pub record EndedAt (d : Deployment) (q : Instance) (given : List Answer) (b : ℕ) (z : ℕ × Bool) : Type 0 where
   pub before : z.0 < length given
-  pub ends : effect_after d q (take z.0 given) ≡ effect.End z.1
+  pub ends : effect_after d q (take z.0 given) ≡ Effect.End z.1
   pub begun : (txs_after d q (take z.0 given)).begun ≡ Some b
 
 AllEnded : Deployment → Instance → List Answer → Type 0
@@ -25,19 +23,19 @@ module _ (d : Deployment) (q : Instance) (given : List Answer) (a : Answer) wher
   unfolding AllEnded
   ended_more h b z is = by_effect (effect_after d q given) refl (sym (ap (λ (s : Txs). s.ends b) (txs_pushed d q given a)) ∙ is)
     where
-      at_end : (c : Bool) → effect_after d q given ≡ effect.End c → (txs_after d q given).begun ≡ Some b → (length given, c) ≡ z → EndedAt d q (given ++ a ∷ []) b z
+      at_end : (c : Bool) → effect_after d q given ≡ Effect.End c → (txs_after d q given).begun ≡ Some b → (length given, c) ≡ z → EndedAt d q (given ++ a ∷ []) b z
       at_end c ends begun same =
           let l = length-append given (a ∷ []) in
           let front : take (length given) (given ++ a ∷ []) ≡ given = take_front given (a ∷ []) in
           subst (EndedAt d q (given ++ a ∷ []) b) same (record { before = omega (arith, l); ends = ap (effect_after d q) front ∙ ends; begun = ap (λ ts. (txs_after d q ts).begun) front ∙ begun })
 
-      by_test : (c : Bool) → effect_after d q given ≡ effect.End c → (t : Bool) → is_at b (txs_after d q given).begun ≡ t → (if t then Some (length given, c) else (txs_after d q given).ends b) ≡ Some z → EndedAt d q (given ++ a ∷ []) b z
+      by_test : (c : Bool) → effect_after d q given ≡ Effect.End c → (t : Bool) → is_at b (txs_after d q given).begun ≡ t → (if t then Some (length given, c) else (txs_after d q given).ends b) ≡ Some z → EndedAt d q (given ++ a ∷ []) b z
       by_test c ends true e g = at_end c ends (at_of b (txs_after d q given).begun e) (same_some g)
       by_test c ends false e g = ended_still b z (h b z g)
 
       by_effect : (e : Effect) → effect_after d q given ≡ e → (txs_by (length given) e (txs_after d q given)).ends b ≡ Some z → EndedAt d q (given ++ a ∷ []) b z
-      by_effect (effect.End c) ends g = by_test c ends (is_at b (txs_after d q given).begun) refl g
-      by_effect effect.Begin ends g = ended_still b z (h b z g)
+      by_effect (Effect.End c) ends g = by_test c ends (is_at b (txs_after d q given).begun) refl g
+      by_effect Effect.Begin ends g = ended_still b z (h b z g)
       by_effect e ends g = ended_still b z (h b z g)
 
 ended_on : (d : Deployment) (q : Instance) (given rest : List Answer) → AllEnded d q given → AllEnded d q (given ++ rest)
@@ -49,7 +47,7 @@ unfolding AllEnded
 ended_at d q b z h = ended_on d q [] q.answers (λ b z e. cc) b z h
 
 -- who was called in a transaction wants no End
-pub ends_outside : (d : Deployment) (q : Instance) (given : List Answer) (c : Bool) → effect_after d q given ≡ effect.End c → q.within ≡ None
+pub ends_outside : (d : Deployment) (q : Instance) (given : List Answer) (c : Bool) → effect_after d q given ≡ Effect.End c → q.within ≡ None
 ends_outside d q given c ends = none_by q.within (λ t is. let clash = sym (no_bound d q.func q.args given) ∙ ap (λ w. is_bound (wants d q.func q.args (is_some w) given)) (sym is) ∙ ap is_bound ends in cc)
 
 -- ---- between a Begin and its End
@@ -91,11 +89,11 @@ module _ (d : Deployment) (q : Instance) (b : ℕ) where
         open_there = let k = at.before in begun_at n z.0 (omega (arith, less)) (omega (arith, k)) past at.begun
 
         by_effect : (e : Effect) → effect_before d q n ≡ e → tx_by id q.func (length (take n q.answers)) e (Some b) ≡ Some (record { intent = id; begin = b; func = q.func })
-        by_effect effect.Begin is = let clash = sym (ap is_some open_there) ∙ (begin_is d q (take n q.answers) is).1 in cc
+        by_effect Effect.Begin is = let clash = sym (ap is_some open_there) ∙ (begin_is d q (take n q.answers) is).1 in cc
         by_effect e is = refl
 
     -- and where the transaction is open before a step that is no End, the End comes later
-    pub before_end : (n : ℕ) → n ≤ length q.answers → (txs_after d q (take n q.answers)).begun ≡ Some b → b < n → ((c : Bool) → effect_before d q n ≡ effect.End c → ⊥) → n < z.0
+    pub before_end : (n : ℕ) → n ≤ length q.answers → (txs_after d q (take n q.answers)).begun ≡ Some b → b < n → ((c : Bool) → effect_before d q n ≡ Effect.End c → ⊥) → n < z.0
     before_end n len begun past none = by_less (nat_lt n z.0) refl
       where
         by_last : (z.0 ≡ n) ⊎ (z.0 < n) → n < z.0
@@ -103,8 +101,8 @@ module _ (d : Deployment) (q : Instance) (b : ℕ) where
         by_last (inr less) =
             let k = at.before in
             let ts = take z.0 q.answers in
-            let a = get_or q.answers z.0 answer.Done in
-            let more : take (z.0 + 1) q.answers ≡ ts ++ a ∷ [] = take_more q.answers z.0 answer.Done k in
+            let a = get_or q.answers z.0 Answer.Done in
+            let more : take (z.0 + 1) q.answers ≡ ts ++ a ∷ [] = take_more q.answers z.0 Answer.Done k in
             let before = (fits_at d q ts).before b at.begun in
             let short = length-take-le z.0 q.answers (omega (arith, k)) in
             let clash = sym (begun_at (z.0 + 1) n (omega (arith, less)) len (omega (arith, before, short)) begun) ∙ ap (λ xs. (txs_after d q xs).begun) more ∙ ap (λ (s : Txs). s.begun) (txs_pushed d q ts a) ∙ ap (λ e. (txs_by (length ts) e (txs_after d q ts)).begun) at.ends in cc

@@ -1,20 +1,10 @@
 -- The last turn of a run: its instance is ended.
-use Rattle.beldi_laws.proofs.Names.{Begun, Body, BodyMatches, Bool, CalleeBodyMatches, Caller, Core, Deployment, Ends, FinishMatches, Inside, Instance, IntentMatches, IntentRow, IsCalleeRow, Known, Knows, Matches, None, Option, Outcome, OutcomeMatches, PlainState, Return, Right, Row, RowKey, Rows, Run, Some, Step, Tell, TxId, act, answer_caller, ap, arith, callee_put, close_says, effect_of, end_asks, end_with, false, finish_at, func_called, has_ended, has_finish, has_no_hops, here, intent_ended, intent_key, is_did, is_inherited, is_some, is_waited, mark_if, not, option_map, outcome_of, refl, reply_if, root_of, same_some, set_others, set_row, subst, sym, true, turn_next, turned_by, tx_in, with_instance, within, ℕ, ◌∙◌, ◌≡◌}
-use Rattle.beldi_laws.proofs.Names.map
-use Rattle.beldi_laws.proofs.Names.mark
-use Rattle.beldi_laws.proofs.Names.rows
-use Rattle.beldi_laws.proofs.Beginnings.{same_roots}
-use Rattle.beldi_laws.proofs.Frames.{NoFinish, no_member_finish}
-use Rattle.beldi_laws.proofs.Keeping.{as_it_was}
-use Rattle.beldi_laws.proofs.KeptSane.{ended_kept}
-use Rattle.beldi_laws.proofs.Moves.{AfterQuery, SameRoots, Kept, Stays, Entered, entered, AfterAct, still, replaced}
-use Rattle.beldi_laws.proofs.Others.{kept_moving}
-use Rattle.beldi_laws.proofs.Registered.{StaysRow, log_frame, log_shadows, log_stays, no_more}
-use Rattle.beldi_laws.proofs.Shown.{log_values}
-use Rattle.beldi_laws.proofs.Turns.{ends}
 use Rattle.beldi_row.specs.declared.act.Act.TheVariants.{End}
+use Rattle.beldi_laws.proofs.Names.{Begun, Body, BodyMatches, Bool, CalleeBodyMatches, Caller, Core, Deployment, Ends, FinishMatches, Inside, Instance, IntentMatches, IntentRow, IsCalleeRow, Known, Knows, Matches, None, Option, Outcome, OutcomeMatches, PlainState, Return, Right, Row, RowKey, Rows, Run, Some, Step, Tell, TxId, act, answer_caller, ap, arith, callee_put, close_says, effect_of, end_asks, end_with, false, finish_at, func_called, has_ended, has_finish, has_no_hops, here, intent_ended, intent_key, is_did, is_inherited, is_some, is_waited, mark_if, not, option_map, outcome_of, refl, reply_if, root_of, same_some, set_others, set_row, subst, sym, true, turn_next, turned_by, tx_in, with_instance, within, ℕ, ◌∙◌, ◌≡◌, Mark}
+use Rattle.beldi_laws.proofs.Moves.{AfterQuery, SameRoots, Kept, Stays, Entered, entered, AfterAct, still, replaced}
 use Rattle.beldi_laws.proofs.Returns.{Left, ahead_over, done, goes_over, grows_over, idle_outside, leads, nobody_over, over, returns_now, root_is, root_outside, same_outcome, settled_over, tx, unlocked}
-use Rattle.beldi_laws.proofs.Cases.{false_by}
+use Rattle.beldi_laws.proofs.{Beginnings.same_roots, Frames.NoFinish, Frames.no_member_finish, Keeping.as_it_was, KeptSane.ended_kept, Others.kept_moving, Registered.StaysRow, Registered.log_frame, Registered.log_shadows, Registered.log_stays, Registered.no_more, Shown.log_values, Turns.ends, Cases.false_by}
+use Rattle.beldi_laws.proofs.Names.map
 
 module _ (d : Deployment) (c : Core) (m : Rows) (i : ℕ) (r : Run) (g : Begun) (h : Right d c m) (live : map.get c.runs i ≡ Some r) (k : Knows d h.known r g) (finds : Inside m h.plain c.book k g.stage) (o : Outcome) (is : g.machine.effect ≡ Return o) where
   returning : effect_of d k.instance ≡ Return o
@@ -34,7 +24,7 @@ module _ (d : Deployment) (c : Core) (m : Rows) (i : ℕ) (r : Run) (g : Begun) 
   end_row j = ended_in k.instance.within j
 
   abbrev row_in : Option TxId → IntentRow → Option Row
-  row_in w j = Some (rows.Intent (ended_in w j))
+  row_in w j = Some (Row.Intent (ended_in w j))
 
   finished : (f : Option ℕ) → is_some (finish_at true c.now f) ≡ true
   finished f = grind arith
@@ -46,17 +36,17 @@ module _ (d : Deployment) (c : Core) (m : Rows) (i : ℕ) (r : Run) (g : Begun) 
   AfterClose z = AfterAct d h.plain m key (λ t. turn_next c i r (turned_by d r g (close_says r.id g.caller (Return o) (is_did t)))) z
 
   AfterEnd : Type 0
-  AfterEnd = (j : IntentRow) → map.get m key ≡ Some (rows.Intent j) → j.outcome ≡ None → Left h i r g (close_says r.id g.caller (Return o) true) (set_row m key (Some (rows.Intent (end_row j))))
+  AfterEnd = (j : IntentRow) → map.get m key ≡ Some (Row.Intent j) → j.outcome ≡ None → Left h i r g (close_says r.id g.caller (Return o) true) (set_row m key (Some (Row.Intent (end_row j))))
 
-  row_here : (j : IntentRow) → map.get m key ≡ Some (rows.Intent j) → IntentMatches (has_ended d h.known) (has_no_hops r.id.hops) key.home (Some (rows.Intent j)) (Some k.instance)
+  row_here : (j : IntentRow) → map.get m key ≡ Some (Row.Intent j) → IntentMatches (has_ended d h.known) (has_no_hops r.id.hops) key.home (Some (Row.Intent j)) (Some k.instance)
   row_here j at = subst (λ w. IntentMatches (has_ended d h.known) (has_no_hops r.id.hops) key.home w (Some k.instance)) at (subst (IntentMatches (has_ended d h.known) (has_no_hops r.id.hops) key.home (map.get m key)) k.made (h.rows.keys key))
 
   -- its row keeps a finish that it has
-  end_stays : (j : IntentRow) → map.get m key ≡ Some (rows.Intent j) → StaysRow (map.get m key) (Some (rows.Intent (end_row j)))
+  end_stays : (j : IntentRow) → map.get m key ≡ Some (Row.Intent j) → StaysRow (map.get m key) (Some (Row.Intent (end_row j)))
   end_stays j at = record { there = λ e. refl; finish = λ e. (grind (arith, sym (ap has_finish at) ∙ e)); calls = λ f e. sym (ap (option_map func_called) at) ∙ e }
 
   -- .. and gets one only where it was called in no transaction
-  ends_none : (next : Known) (q : Instance) → map.get next r.id ≡ Some q → q.within ≡ k.instance.within → (j : IntentRow) → map.get m key ≡ Some (rows.Intent j) → NoFinish d m (set_row m key (Some (rows.Intent (end_row j)))) next
+  ends_none : (next : Known) (q : Instance) → map.get next r.id ≡ Some q → q.within ≡ k.instance.within → (j : IntentRow) → map.get m key ≡ Some (Row.Intent j) → NoFinish d m (set_row m key (Some (Row.Intent (end_row j)))) next
   ends_none next q made same j at = by_within k.instance.within refl
     where
       by_within : (w : Option TxId) → k.instance.within ≡ w → NoFinish d m (set_row m key (row_in w j)) next
@@ -89,13 +79,13 @@ module _ (d : Deployment) (c : Core) (m : Rows) (i : ℕ) (r : Run) (g : Begun) 
     put_now : AfterEnd
     unfolding AfterEnd
     put_now j at none =
-        let new = Some (rows.Intent (end_row j)) in
-        let f : IsCalleeRow (has_ended d h.known) key.home j (Some k.instance) = subst (λ b. IntentMatches (has_ended d h.known) b key.home (Some (rows.Intent j)) (Some k.instance)) hops (row_here j at) in
+        let new = Some (Row.Intent (end_row j)) in
+        let f : IsCalleeRow (has_ended d h.known) key.home j (Some k.instance) = subst (λ b. IntentMatches (has_ended d h.known) b key.home (Some (Row.Intent j)) (Some k.instance)) hops (row_here j at) in
         let same = tx_there key.home j.body j.outcome f.body in
         let finishes = subst (λ w. FinishMatches (has_ended d h.known) w (end_row j).finish (Some o)) (sym same)
         (finishes_now k.instance.within j.finish j.outcome (subst (λ w. FinishMatches (has_ended d h.known) w j.finish j.outcome) same f.finishes)) in
         let fits : IsCalleeRow (has_ended d h.known) key.home (end_row j) (map.get h.known r.id) = subst (IsCalleeRow (has_ended d h.known) key.home (end_row j)) (sym k.made) (record { finishes = finishes; body = body_ended key.home j.body j.outcome f.body }) in
-        subst (λ z. Left h i r g z (set_row m key new)) (sym (ap (λ b. Ends (mark_if (not b) mark.Step) (reply_if (has_no_hops r.id.hops) o)) waits ∙ ap (λ b. Ends None (reply_if b o)) hops))
+        subst (λ z. Left h i r g z (set_row m key new)) (sym (ap (λ b. Ends (mark_if (not b) Mark.Step) (reply_if (has_no_hops r.id.hops) o)) waits ∙ ap (λ b. Ends None (reply_if b o)) hops))
         (close_ends (set_row m key new) (same_roots m key.home r.id new hops) (log_stays d m key new refl c h (end_stays j at) (ends_none h.known k.instance k.made refl j at) (callee_put d h.known h.locked m r.id key.home (end_row j) hops fits h.rows)))
 
   -- one that nobody waits for: its step is its end, which gives a root's reply
@@ -119,7 +109,7 @@ module _ (d : Deployment) (c : Core) (m : Rows) (i : ℕ) (r : Run) (g : Begun) 
     open_callee : (home : ℕ) (b : Option Body) (u : Option Outcome) → CalleeBodyMatches home b u (Some k.instance) → k.instance.outcome ≡ u
     open_callee home b u f = grind arith
 
-    open_by : (t : Bool) (home : ℕ) (j : IntentRow) → IntentMatches (has_ended d h.known) t home (Some (rows.Intent j)) (Some k.instance) → k.instance.outcome ≡ j.outcome
+    open_by : (t : Bool) (home : ℕ) (j : IntentRow) → IntentMatches (has_ended d h.known) t home (Some (Row.Intent j)) (Some k.instance) → k.instance.outcome ≡ j.outcome
     open_by false home j f = open_callee home j.body j.outcome f.body
     open_by true home j f = grind (arith, f)
 
@@ -130,7 +120,7 @@ module _ (d : Deployment) (c : Core) (m : Rows) (i : ℕ) (r : Run) (g : Begun) 
     step_now : AfterEnd
     unfolding AfterEnd
     step_now j at none =
-        let new = Some (rows.Intent (end_row j)) in
+        let new = Some (Row.Intent (end_row j)) in
         let n = set_row m key new in
         let open_still = open_by (has_no_hops r.id.hops) key.home j (row_here j at) ∙ none in
         let steps = subst (λ z. Entered d c h.plain h.known (Step r.id) z (over k o)) (no_answer_given k.instance.from idle_here) (leads d c m i r g h live k finds o is own_here open_still (over k o)) in
@@ -140,18 +130,18 @@ module _ (d : Deployment) (c : Core) (m : Rows) (i : ℕ) (r : Run) (g : Begun) 
         (intent_ended d h.known h.locked r.id k.instance o k.made (unlocked d c m i r g h live k finds o is) returning idle_here own_here m j (end_row j) (record { body = refl; outcome = refl; finish = ap (λ w. is_some (finish_at (stamped w) c.now j.finish)) own_here ∙ finished j.finish }) (ap (map.get m) own_is ∙ at) h.rows) in
         let kept : Kept h n left_state (over k o) h.locked = kept_moving h n left_state (over k o) h.locked (goes_over d c m i r g h live k finds o is own_here n (log_shadows d m key new refl)) (ahead_over d c m i r g h live k finds o is) (ended_kept d h.known h.sane r.id k.instance o k.made returning idle_here) rows_ended (log_values h key new refl)
         (settled_over d c m i r g h live k finds o is open_still left_state steps.grows) (grows_over d c m i r g h live k finds o is open_still) (log_frame d m key new refl (end_stays j at) h.plain left_state h.known (over k o) refl (nobody_over d c m i r g h live k finds o is)) (ends_none (over k o) (done k o) (here h.known r.id (done k o)) refl j at) in
-        subst (λ z. Left h i r g z n) (sym (ap (λ b. Ends (mark_if (not b) mark.Step) (reply_if (has_no_hops r.id.hops) o)) idle))
-        (entered d c m n i r h live (replaced m key new (ap is_some (sym at))) (turned_by d r g (Ends (Some mark.Step) (reply_if (has_no_hops r.id.hops) o))) mark.Step left_state (over k o) h.locked refl steps
+        subst (λ z. Left h i r g z n) (sym (ap (λ b. Ends (mark_if (not b) Mark.Step) (reply_if (has_no_hops r.id.hops) o)) idle))
+        (entered d c m n i r h live (replaced m key new (ap is_some (sym at))) (turned_by d r g (Ends (Some Mark.Step) (reply_if (has_no_hops r.id.hops) o))) Mark.Step left_state (over k o) h.locked refl steps
         (replies (has_no_hops r.id.hops) refl) tt (λ e. cc) kept)
 
-  close_by : AfterEnd → (j : IntentRow) (u : Option Outcome) → j.outcome ≡ u → map.get m key ≡ Some (rows.Intent j) → AfterClose (Some (rows.Intent (end_with o (stamped k.instance.within) c.now j u).0), (end_with o (stamped k.instance.within) c.now j u).1)
+  close_by : AfterEnd → (j : IntentRow) (u : Option Outcome) → j.outcome ≡ u → map.get m key ≡ Some (Row.Intent j) → AfterClose (Some (Row.Intent (end_with o (stamped k.instance.within) c.now j u).0), (end_with o (stamped k.instance.within) c.now j u).1)
   unfolding AfterEnd
   close_by on_end j None none at = on_end j at none
-  close_by on_end j (Some u) some at = still d h.plain m key (Some (rows.Intent j)) (sym at) (close_ends m (λ t. refl) (as_it_was h))
+  close_by on_end j (Some u) some at = still d h.plain m key (Some (Row.Intent j)) (sym at) (close_ends m (λ t. refl) (as_it_was h))
 
   close_at : AfterEnd → (w : Option Row) → map.get m key ≡ w → AfterClose (act (End o (stamped k.instance.within)) c.now w)
   close_at on_end None at = still d h.plain m key None (sym at) (close_ends m (λ t. refl) (as_it_was h))
-  close_at on_end (Some (rows.Intent j)) at = close_by on_end j j.outcome refl at
+  close_at on_end (Some (Row.Intent j)) at = close_by on_end j j.outcome refl at
   close_at on_end (Some w) at = still d h.plain m key (Some w) (sym at) (close_ends m (λ t. refl) (as_it_was h))
 
   pub close_turn : (is_waited g.caller ≡ true → is_some k.instance.outcome ≡ true) → AfterQuery d h.plain c.now m (λ t. turn_next c i r (turned_by d r g (close_says r.id g.caller (Return o) (is_did t)))) (end_asks r.id r.func o (not (is_inherited g.tx)))

@@ -1,41 +1,13 @@
 -- Every event keeps the host and its rows right.
-use Rattle.beldi_laws.proofs.Names.{AllocError, Async, AtStage, Begins, Begun, Bind, Body, BodyMatches, Bool, Call, Caller, CameOn, CondWrite, Core, Crash, Deployment, Effect, End, Err, Event, EventBy, EventOn, Fits, Followed, Full, Ic, InItem, Inside, Instance, IntentId, IntentMatches, IntentRow, IsBelow, IsRootRow, IsTrue, Issue, KeepsRight, Known, Knows, KnowsAt, Looks, Lost, None, Ok, OnItem, Option, OutOfMemory, Outcome, Own, PlainState, Plan, Query, Read, Registers, RepliesAreOutcomes, Request, Restart, Result, Return, Right, RightIsLegal, Row, RowKey, Rows, Run, RunAt, RunTx, Seen, Some, Stage, Start, TableErr, Tell, Tick, Ticket, Told, Turn, TxAt, TxId, Value, Write, WriteAt, [], act, after_act, ahead_nothing, ahead_set, and-false, ap, arith, asks, asks_at, at_once_same, back_of, back_says, back_to_asks, bind_asks, bind_to, binding_of, bound_next, collect_asks, collect_next, collect_says, cond, content_in, count_changes, counted, crash_plan, ended_by, ended_run, false, first_core, func_called, get-empty, got, grows_new, grows_self, has_ended, has_finish, has_run, head_key, heard, id_cmp, id_same, id_total, if◌then◌else◌, is_added, is_begin, is_crowded, is_eq, is_gone, is_some, is_waited, item_cmp, key_cmp, last_moment, launched, le-leb, least_key, leb-false, len-empty, lends, length, length-append, listed_under, lt-leb, most_events, most_runs, nat_cmp, nat_le, nat_lt, nat_tests, new_instance, new_run, no_memory, none_out, none_show, nothing, nothing_matches, op_of, option_map, or_null, or_parts, other, outcome_of, outcome_tell, passed, plan, plan_of, refl, refused, refused_by, refused_stand, reply_of, request_next, root_apart, root_bound, root_key, root_of, row_put, rows_after, rows_stand, run_asks, run_next, run_plan, run_told, run_tx, same_some, same_value, sane_nothing, set_row, stage_asks, stage_says, start, subst, sym, ticket_next, tied_itself, told_at, told_by, told_outcome, touched, touched_by, true, true_false, turn_next, turned_by, tx_after, tx_of, unchanged, unheard_next, unlocked_absent, with_instance, with_once, with_run, ℕ, ◌&&◌, ◌++◌, ◌+◌, ◌-◌, ◌==◌, ◌^◌, ◌||◌, ◌∙◌, ◌∷◌, ◌≡◌, ◌≤◌}
-use Rattle.beldi_laws.proofs.Names.at
-use Rattle.beldi_laws.proofs.Names.map
-use Rattle.beldi_laws.proofs.Names.rows
-use Rattle.beldi_laws.proofs.Names.seen
-use Rattle.beldi_laws.proofs.Names.stage
-use Rattle.beldi_laws.proofs.Names.standing
 use borrow.Author.Tests.{lt-ltb}
 use Rattle.beldi_lang.specs.declared.effect.Effect.TheVariants.{Lock}
-use Rattle.beldi_step.specs.Host.{at_once}
-use Rattle.beldi_laws.proofs.Lives.{places_same, runs_on, runs_more, runs_less}
-use Rattle.beldi_laws.proofs.Moves.{if_plan, seen_by, After, AfterQuery, AfterAct, replaced, change_entered, unheard, with_runs, right_by, Kept, Stays}
-use Rattle.beldi_laws.proofs.OneEvent.{lent_only}
-use Rattle.beldi_laws.proofs.Beginnings.{look_turn, register_turn}
-use Rattle.beldi_laws.proofs.Callings.{call_turn}
-use Rattle.beldi_laws.proofs.Asyncs.{async_turn}
-use Rattle.beldi_laws.proofs.Endings.{close_turn}
-use Rattle.beldi_laws.proofs.GivingBack.{back_turn, tell_turn}
 use Rattle.beldi_collect.specs.declared.cursor.Found.{Found}
-use Rattle.beldi_collect.specs.declared.cursor.Found.TheVariants as found
-use Rattle.beldi_laws.proofs.Operations.{is_operation, operation_turn}
-use Rattle.beldi_laws.proofs.Readings.{ask_turn, walk_turn, keep_turn}
-use Rattle.beldi_laws.proofs.KeptSane.{root_kept}
-use Rattle.beldi_laws.proofs.Shown.{log_values, settled}
-use Rattle.beldi_laws.proofs.Frames.{frame_row, items_stay, nobody_made}
-use Rattle.beldi_laws.proofs.Settling.{settled_grown, settled_new}
-use Rattle.beldi_laws.proofs.Keeping.{goes_made, set_shadows}
-use Rattle.beldi_laws.proofs.Deciding.{decide_turn}
-use Rattle.beldi_laws.proofs.InTx.{no_begin}
-use Rattle.beldi_laws.proofs.Locking.{lock_turn, log_turn}
-use Rattle.beldi_laws.proofs.Passing.{tx_is}
-use Rattle.beldi_laws.proofs.Visiting.{visit_turn}
-use Rattle.beldi_laws.proofs.Working.{operates, working_turn}
-use Rattle.beldi_laws.proofs.Outside.{plain_none, outcome_known}
-use Rattle.beldi_laws.proofs.Others.{kept_moving}
-use Rattle.beldi_laws.proofs.Registered.{log_stays, no_more, stays_new}
-use Rattle.beldi_laws.proofs.CallsHere.{childless}
+use Rattle.beldi_step.specs.Host.{at_once}
+use Rattle.beldi_laws.proofs.Names.{AllocError, Async, AtStage, Begins, Begun, Bind, Body, BodyMatches, Bool, Call, Caller, CameOn, CondWrite, Core, Crash, Deployment, Effect, End, Err, Event, EventBy, EventOn, Fits, Followed, Full, Ic, InItem, Inside, Instance, IntentId, IntentMatches, IntentRow, IsBelow, IsRootRow, IsTrue, Issue, KeepsRight, Known, Knows, KnowsAt, Looks, Lost, None, Ok, OnItem, Option, OutOfMemory, Outcome, Own, PlainState, Plan, Query, Read, Registers, RepliesAreOutcomes, Request, Restart, Result, Return, Right, RightIsLegal, Row, RowKey, Rows, Run, RunAt, RunTx, Seen, Some, Stage, Start, TableErr, Tell, Tick, Ticket, Told, Turn, TxAt, TxId, Value, Write, WriteAt, [], act, after_act, ahead_nothing, ahead_set, and-false, ap, arith, asks, asks_at, at_once_same, back_of, back_says, back_to_asks, bind_asks, bind_to, binding_of, bound_next, collect_asks, collect_next, collect_says, cond, content_in, count_changes, counted, crash_plan, ended_by, ended_run, false, first_core, func_called, get-empty, got, grows_new, grows_self, has_ended, has_finish, has_run, head_key, heard, id_cmp, id_same, id_total, if◌then◌else◌, is_added, is_begin, is_crowded, is_eq, is_gone, is_some, is_waited, item_cmp, key_cmp, last_moment, launched, le-leb, least_key, leb-false, len-empty, lends, length, length-append, listed_under, lt-leb, most_events, most_runs, nat_cmp, nat_le, nat_lt, nat_tests, new_instance, new_run, no_memory, none_out, none_show, nothing, nothing_matches, op_of, option_map, or_null, or_parts, other, outcome_of, outcome_tell, passed, plan, plan_of, refl, refused, refused_by, refused_stand, reply_of, request_next, root_apart, root_bound, root_key, root_of, row_put, rows_after, rows_stand, run_asks, run_next, run_plan, run_told, run_tx, same_some, same_value, sane_nothing, set_row, stage_asks, stage_says, start, subst, sym, ticket_next, tied_itself, told_at, told_by, told_outcome, touched, touched_by, true, true_false, turn_next, turned_by, tx_after, tx_of, unchanged, unheard_next, unlocked_absent, with_instance, with_once, with_run, ℕ, ◌&&◌, ◌++◌, ◌+◌, ◌-◌, ◌==◌, ◌^◌, ◌||◌, ◌∙◌, ◌∷◌, ◌≡◌, ◌≤◌}
+use Rattle.beldi_laws.proofs.Moves.{if_plan, seen_by, After, AfterQuery, AfterAct, replaced, change_entered, unheard, with_runs, right_by, Kept, Stays}
+use Rattle.beldi_laws.proofs.{Lives.places_same, Lives.runs_on, Lives.runs_more, Lives.runs_less, OneEvent.lent_only, Beginnings.look_turn, Beginnings.register_turn, Callings.call_turn, Asyncs.async_turn, Endings.close_turn, GivingBack.back_turn, GivingBack.tell_turn, Operations.is_operation, Operations.operation_turn, Readings.ask_turn, Readings.walk_turn, Readings.keep_turn, KeptSane.root_kept, Shown.log_values, Shown.settled, Frames.frame_row, Frames.items_stay, Frames.nobody_made, Settling.settled_grown, Settling.settled_new, Keeping.goes_made, Keeping.set_shadows, Deciding.decide_turn, InTx.no_begin, Locking.lock_turn, Locking.log_turn, Passing.tx_is, Visiting.visit_turn, Working.operates, Working.working_turn, Outside.plain_none, Outside.outcome_known, Others.kept_moving, Registered.log_stays, Registered.no_more, Registered.stays_new, CallsHere.childless}
+use Rattle.beldi_laws.proofs.Names.map
+use Rattle.beldi_laws.proofs.Names.standing
 
 -- it tells no outcome, nor that a row is absent
 abbrev TellsNothing : Seen → Type 0
@@ -64,33 +36,33 @@ module _ (d : Deployment) (c : Core) (m : Rows) (i : ℕ) (h : Right d c m) (r :
     in_it : {e : Effect} {o : Option RunTx} → g.machine.effect ≡ e → g.tx ≡ o → is_begin e ≡ false → tx_after d r.id k.instance k.answers ≡ run_tx r.id r.func o
     in_it is tx apart = tx_is k (ap is_begin is ∙ apart) ∙ ap (run_tx r.id r.func) tx
 
-    write_turn : (w : WriteAt) (e : Effect) (o : Option OnItem) → op_of e ≡ o → is_some o ≡ true → g.machine.effect ≡ e → g.tx ≡ None → AfterStage (stage.Write w) e g.tx
+    write_turn : (w : WriteAt) (e : Effect) (o : Option OnItem) → op_of e ≡ o → is_some o ≡ true → g.machine.effect ≡ e → g.tx ≡ None → AfterStage (Stage.Write w) e g.tx
     write_turn w e None so some is tx = cc
     write_turn w e (Some o) so some is tx = operation_turn d c m i r g h live k finds (in_it is tx (is_operation e o so).2) e so is w
 
-    tx_turn : (a : TxAt) (e : Effect) (o : RunTx) → g.machine.effect ≡ e → g.tx ≡ Some o → tx_after d r.id k.instance k.answers ≡ Some (tx_of r.id r.func o) → Fits e a → InItem d m h.plain h.known r.id r.func o g.machine.steps e a (touched e) → AfterStage (stage.Tx a) e (Some o)
-    tx_turn at.Log (Read b y) o is tx here fits f = log_turn d c m i r g h live k finds o tx here (Read b y) is (b, y) refl fits
-    tx_turn (at.Lock l) (Read b y) o is tx here fits f = lock_turn d c m i r g h live k finds o tx here (Read b y) is (b, y) refl l fits f
-    tx_turn (at.Lock l) (Write b y v) o is tx here fits f = lock_turn d c m i r g h live k finds o tx here (Write b y v) is (b, y) refl l fits f
-    tx_turn (at.Lock l) (CondWrite b y u w v) o is tx here fits f = lock_turn d c m i r g h live k finds o tx here (CondWrite b y u w v) is (b, y) refl l fits f
-    tx_turn at.Log e o is tx here fits f = absurd fits
-    tx_turn (at.Lock l) e o is tx here fits f = absurd fits
+    tx_turn : (a : TxAt) (e : Effect) (o : RunTx) → g.machine.effect ≡ e → g.tx ≡ Some o → tx_after d r.id k.instance k.answers ≡ Some (tx_of r.id r.func o) → Fits e a → InItem d m h.plain h.known r.id r.func o g.machine.steps e a (touched e) → AfterStage (Stage.Tx a) e (Some o)
+    tx_turn TxAt.Log (Read b y) o is tx here fits f = log_turn d c m i r g h live k finds o tx here (Read b y) is (b, y) refl fits
+    tx_turn (TxAt.Lock l) (Read b y) o is tx here fits f = lock_turn d c m i r g h live k finds o tx here (Read b y) is (b, y) refl l fits f
+    tx_turn (TxAt.Lock l) (Write b y v) o is tx here fits f = lock_turn d c m i r g h live k finds o tx here (Write b y v) is (b, y) refl l fits f
+    tx_turn (TxAt.Lock l) (CondWrite b y u w v) o is tx here fits f = lock_turn d c m i r g h live k finds o tx here (CondWrite b y u w v) is (b, y) refl l fits f
+    tx_turn TxAt.Log e o is tx here fits f = absurd fits
+    tx_turn (TxAt.Lock l) e o is tx here fits f = absurd fits
     tx_turn a e o is tx here fits f = working_turn d c m i r g h live k finds o tx here e a is refl fits f
 
     -- what its stage leaves
     stage_turn : (s : Stage) (e : Effect) (o : Option RunTx) → g.machine.effect ≡ e → g.tx ≡ o → AtStage m h.plain c.book k s e o → AfterStage s e g.tx
-    stage_turn stage.Ask (Read t key) None is tx at = ask_turn d c m i r g h live k finds (in_it is tx refl) t key is
-    stage_turn stage.Walk (Read t key) None is tx at = walk_turn d c m i r g h live k finds (in_it is tx refl) t key is
-    stage_turn (stage.Keep v seen) (Read t key) None is tx at = keep_turn d c m i r g h live k finds (in_it is tx refl) t key is v seen at
-    stage_turn (stage.Write w) e None is tx at = write_turn w e (op_of e) refl at is tx
-    stage_turn (stage.Call w) (Call f v) o is tx at = call_turn d c m i r g h live at_is k finds f v is at.0 w at.1
-    stage_turn (stage.Async w) (Async f v) None is tx at = async_turn d c m i r g h live at_is k finds (in_it is tx refl) f v is at.0 w at.1
-    stage_turn stage.Back (Return u) o is tx at = back_at g.caller u refl is at
-    stage_turn stage.Tell (Return u) None is tx at = tell_turn d c m i r g h live k finds u is (in_it is tx refl) g.caller at
-    stage_turn stage.Close (Return u) o is tx at = close_turn d c m i r g h live k finds u is at.1
-    stage_turn (stage.Tx a) e (Some o) is tx at = let x = operates e a at.0 in subst (AfterStage (stage.Tx a) e) (sym tx) (tx_turn a e o is tx (in_it is tx (no_begin e x.0 x.1)) at.0 at.1)
-    stage_turn (stage.Decide w) (End commit) (Some (Own o)) is tx at = subst (AfterStage (stage.Decide w) (End commit)) (sym tx) (decide_turn d c m i r g h live k finds o tx (in_it is tx refl) (sym k.run_open ∙ tx) commit is w at)
-    stage_turn (stage.End v) (End commit) (Some (Own o)) is tx at = subst (AfterStage (stage.End v) (End commit)) (sym tx) (visit_turn d c m i r g h live k finds o tx (in_it is tx refl) commit is v at.0 at.1)
+    stage_turn Stage.Ask (Read t key) None is tx at = ask_turn d c m i r g h live k finds (in_it is tx refl) t key is
+    stage_turn Stage.Walk (Read t key) None is tx at = walk_turn d c m i r g h live k finds (in_it is tx refl) t key is
+    stage_turn (Stage.Keep v seen) (Read t key) None is tx at = keep_turn d c m i r g h live k finds (in_it is tx refl) t key is v seen at
+    stage_turn (Stage.Write w) e None is tx at = write_turn w e (op_of e) refl at is tx
+    stage_turn (Stage.Call w) (Call f v) o is tx at = call_turn d c m i r g h live at_is k finds f v is at.0 w at.1
+    stage_turn (Stage.Async w) (Async f v) None is tx at = async_turn d c m i r g h live at_is k finds (in_it is tx refl) f v is at.0 w at.1
+    stage_turn Stage.Back (Return u) o is tx at = back_at g.caller u refl is at
+    stage_turn Stage.Tell (Return u) None is tx at = tell_turn d c m i r g h live k finds u is (in_it is tx refl) g.caller at
+    stage_turn Stage.Close (Return u) o is tx at = close_turn d c m i r g h live k finds u is at.1
+    stage_turn (Stage.Tx a) e (Some o) is tx at = let x = operates e a at.0 in subst (AfterStage (Stage.Tx a) e) (sym tx) (tx_turn a e o is tx (in_it is tx (no_begin e x.0 x.1)) at.0 at.1)
+    stage_turn (Stage.Decide w) (End commit) (Some (Own o)) is tx at = subst (AfterStage (Stage.Decide w) (End commit)) (sym tx) (decide_turn d c m i r g h live k finds o tx (in_it is tx refl) (sym k.run_open ∙ tx) commit is w at)
+    stage_turn (Stage.End v) (End commit) (Some (Own o)) is tx at = subst (AfterStage (Stage.End v) (End commit)) (sym tx) (visit_turn d c m i r g h live k finds o tx (in_it is tx refl) commit is v at.0 at.1)
     stage_turn s e o is tx at = absurd at
 
   at_turn : (at : standing.RunAt) → r.at ≡ at → KnowsAt d m h.plain c.book h.known r at → AfterQuery d h.plain c.now m (λ t. turn_next c i r (told_at d (count_changes c.book) r at t)) (asks_at r at)
@@ -102,7 +74,7 @@ module _ (d : Deployment) (c : Core) (m : Rows) (i : ℕ) (h : Right d c m) (r :
   turn_made = at_turn r.at refl (subst (RunAt d m h.plain c.book h.known) live (h.runs.runs i))
 
   -- nobody hears what it told: it leaves what the turn leaves, without the run and without one that it started
-  turn_unheard : AfterQuery d h.plain c.now m (λ t. (unheard_next d c i t (Some r), seen.Dropped)) (run_asks r)
+  turn_unheard : AfterQuery d h.plain c.now m (λ t. (unheard_next d c i t (Some r), Seen.Dropped)) (run_asks r)
   turn_unheard = unheard d c m (rows_after (run_asks r) c.now m) i r h live (run_told d (count_changes c.book) r (told_by (run_asks r) c.now m)) turn_made
 
 -- ---- a run more
@@ -127,17 +99,17 @@ is_issued t n h = grind (arith, nat_tests)
 
 module _ (d : Deployment) (c : Core) (m : Rows) (h : Right d c m) where
   -- the row of a new ticket, where it is absent
-  issued : map.get m (root_key (c.newest + 1)) ≡ None → After d h.plain (record c { newest = c.newest + 1 }) (after_act Issue c.now (root_key (c.newest + 1)) m) (seen.Issued (c.newest + 1))
+  issued : map.get m (root_key (c.newest + 1)) ≡ None → After d h.plain (record c { newest = c.newest + 1 }) (after_act Issue c.now (root_key (c.newest + 1)) m) (Seen.Issued (c.newest + 1))
   issued is =
       let t = c.newest + 1 in
       let i : IntentRow = record { issued = c.now; body = None; outcome = None; finish = None } in
-      let n = set_row m (root_key t) (Some (rows.Intent i)) in
+      let n = set_row m (root_key t) (Some (Row.Intent i)) in
       let not_made : map.get h.known (root_of t) ≡ None = subst (λ r. IntentMatches (has_ended d h.known) true 0 r (map.get h.known (root_of t))) is (h.rows.keys (root_key t)) in
-      let kept : Stays h n = log_stays d m (root_key t) (Some (rows.Intent i)) refl c h (stays_new (map.get m (root_key t)) (Some (rows.Intent i)) is) (no_more d m (root_key t) (Some (rows.Intent i)) h.known (λ e. cc))
-      (row_put d h.known h.locked m (root_key t) (Some (rows.Intent i)) refl (record { bare = λ e. refl; finishes = refl; body = not_made }) h.rows) in
-      subst (λ (w : Option Row × Tell). After d h.plain (record c { newest = c.newest + 1 }) (set_row m (root_key t) w.0) (seen.Issued t)) (ap (act Issue c.now) (sym is)) (record {
+      let kept : Stays h n = log_stays d m (root_key t) (Some (Row.Intent i)) refl c h (stays_new (map.get m (root_key t)) (Some (Row.Intent i)) is) (no_more d m (root_key t) (Some (Row.Intent i)) h.known (λ e. cc))
+      (row_put d h.known h.locked m (root_key t) (Some (Row.Intent i)) refl (record { bare = λ e. refl; finishes = refl; body = not_made }) h.rows) in
+      subst (λ (w : Option Row × Tell). After d h.plain (record c { newest = c.newest + 1 }) (set_row m (root_key t) w.0) (Seen.Issued t)) (ap (act Issue c.now) (sym is)) (record {
         right = right_by {q = h.plain} {next = h.known} {locked = h.locked} h.bounded h.legal h.guarded kept.shows
-            (λ u. ap is_some (got m (root_key t) (root_key u) (Some (rows.Intent i))) ∙ (grind arith) ∙ next_ticket (is_eq (id_cmp (root_of u) (root_of t))) u c.newest refl (is_some (map.get m (root_key u))) (h.tickets u))
+            (λ u. ap is_some (got m (root_key t) (root_key u) (Some (Row.Intent i))) ∙ (grind arith) ∙ next_ticket (is_eq (id_cmp (root_of u) (root_of t))) u c.newest refl (is_some (map.get m (root_key u))) (h.tickets u))
             (runs_on d m n h.plain h.plain c.book c.book h.known h.known kept.grows (places_same d c.book h.known h.known) kept.others c.runs c.last_run h.runs);
         goes_on = grows_self h.plain.made;
         there = refl;
@@ -145,7 +117,7 @@ module _ (d : Deployment) (c : Core) (m : Rows) (h : Right d c m) where
       })
 
   ticket_by : (r : Option Row) → map.get m (root_key (c.newest + 1)) ≡ r → AfterAct d h.plain m (root_key (c.newest + 1)) (λ t. ticket_next c (is_added t)) (act Issue c.now r)
-  ticket_by None is = subst (λ (r : Option Row). After d h.plain (record c { newest = c.newest + 1 }) (set_row m (root_key (c.newest + 1)) (act Issue c.now r).0) (seen.Issued (c.newest + 1))) is (issued is)
+  ticket_by None is = subst (λ (r : Option Row). After d h.plain (record c { newest = c.newest + 1 }) (set_row m (root_key (c.newest + 1)) (act Issue c.now r).0) (Seen.Issued (c.newest + 1))) is (issued is)
   ticket_by (Some r) is = absurd (true_false (sym (ap is_some is) ∙ h.tickets (c.newest + 1) ∙ not_issued c.newest))
 
 -- ---- a request
@@ -168,16 +140,16 @@ module _ (d : Deployment) (c : Core) (m : Rows) (h : Right d c m) (t f : ℕ) (a
   abbrev next : Known
   next = map.insert h.known own_id (with_once d own_id new)
 
-  request_bound : (i : IntentRow) → map.get m (root_key t) ≡ Some (rows.Intent i) → IsRootRow i (map.get h.known own_id) → i.body ≡ None → map.get h.known own_id ≡ None
-      → After d h.plain (bound_next d c t f a).0 (set_row m (root_key t) (Some (rows.Intent (bound_row i)))) (bound_next d c t f a).1
+  request_bound : (i : IntentRow) → map.get m (root_key t) ≡ Some (Row.Intent i) → IsRootRow i (map.get h.known own_id) → i.body ≡ None → map.get h.known own_id ≡ None
+      → After d h.plain (bound_next d c t f a).0 (set_row m (root_key t) (Some (Row.Intent (bound_row i)))) (bound_next d c t f a).1
   request_bound i is fits bare not_known =
       let not_made = plain_none d h.plain h.known h.beside own_id not_known in
-      let n = set_row m (root_key t) (Some (rows.Intent (bound_row i))) in
+      let n = set_row m (root_key t) (Some (Row.Intent (bound_row i))) in
       let leads = change_entered d c m h (Start t f a) state next refl (start_is h.plain t f a (map.get h.plain.made own_id) (or_parts (t == 0) (nat_lt c.newest t) issued).0 not_made)
       (λ x touched. let none = sym (ap (touched_by d) not_made) ∙ touched in cc) in
       let unlocked = unlocked_absent d h.known h.locked h.locked_at_ends own_id not_known in
       let k = root_key t in
-      let v : Option Row = Some (rows.Intent (bound_row i)) in
+      let v : Option Row = Some (Row.Intent (bound_row i)) in
       let members = nobody_made d h.known own_id (with_once d own_id new) (λ u within. let clash = sym (at_once_same d own_id new).within ∙ within in cc) in
       let frame = frame_row d m h.plain state h.known next (items_stay d m h.plain state next refl) members k v refl refl (λ e. sym (ap has_finish is) ∙ e) (λ g e. sym (ap (option_map func_called) is) ∙ e) in
       let kept : Kept h n state next h.locked = kept_moving h n state next h.locked (goes_made h n (set_shadows m k v refl) own_id new not_known refl (refl, refl) (root_apart d h.plain t))
@@ -189,7 +161,7 @@ module _ (d : Deployment) (c : Core) (m : Rows) (h : Right d c m) (t f : ℕ) (a
       (grows_new h.known own_id (with_once d own_id new) not_known) frame (no_more d m k v next (λ e. ap has_finish is ∙ e)) in
       record {
         right = right_by {q = state} {next = next} {locked = h.locked} leads.bounded leads.legal leads.guarded kept.shows
-            (λ u. replaced m (root_key t) (Some (rows.Intent (bound_row i))) (ap is_some (sym is)) u ∙ h.tickets u)
+            (λ u. replaced m (root_key t) (Some (Row.Intent (bound_row i))) (ap is_some (sym is)) u ∙ h.tickets u)
             (runs_more d n state (c.book ++ Start t f a ∷ []) next c.runs c.last_run (new_run d c own_id f) (leb-false most_runs (map.len c.runs) room) tt
             (runs_on d m n h.plain state c.book (c.book ++ Start t f a ∷ []) h.known next kept.grows leads.places kept.others c.runs c.last_run h.runs));
         goes_on = leads.grows;
@@ -209,22 +181,22 @@ module _ (d : Deployment) (c : Core) (m : Rows) (h : Right d c m) (t f : ℕ) (a
   answer_kept v x e there told = subst (λ n. After d h.plain c n x) (sym (unchanged m (root_key t) v e)) (record { right = h; goes_on = grows_self h.plain.made; there = there; reply = told })
 
   told_running : (o : Option Outcome) → reply_of h.plain t ≡ o → (v : Option Row) → v ≡ map.get m (root_key t) → AfterAct d h.plain m (root_key t) (λ u. request_next d c t f a (binding_of u)) (v, outcome_tell o)
-  told_running None is v e = answer_kept v (seen.Running t) e refl (λ u o told. cc)
-  told_running (Some u) is v e = answer_kept v (seen.Replied t u) e refl (λ w o told. let both = same_some told in ap (reply_of h.plain) (sym (ap (λ z. z.0) both)) ∙ is ∙ ap (λ z. Some z.1) both)
+  told_running None is v e = answer_kept v (Seen.Running t) e refl (λ u o told. cc)
+  told_running (Some u) is v e = answer_kept v (Seen.Replied t u) e refl (λ w o told. let both = same_some told in ap (reply_of h.plain) (sym (ap (λ z. z.0) both)) ∙ is ∙ ap (λ z. Some z.1) both)
 
   told_same : (b : Body) (o : Option Outcome) (s : Bool) → reply_of h.plain t ≡ o → (v : Option Row) → v ≡ map.get m (root_key t)
       → AfterAct d h.plain m (root_key t) (λ u. request_next d c t f a (binding_of u)) (v, (if s then outcome_tell o else other b))
   told_same b o true is v e = told_running o is v e
-  told_same b o false is v e = answer_kept v (seen.Other t b.func b.args) e refl (λ u o told. cc)
+  told_same b o false is v e = answer_kept v (Seen.Other t b.func b.args) e refl (λ u o told. cc)
 
-  request_by : (i : IntentRow) (b : Option Body) → i.body ≡ b → map.get m (root_key t) ≡ Some (rows.Intent i) → IsRootRow i (map.get h.known (root_of t)) → BodyMatches b i.outcome (map.get h.known (root_of t))
-      → AfterAct d h.plain m (root_key t) (λ u. request_next d c t f a (binding_of u)) (Some (rows.Intent (bind_to f a i b).0), (bind_to f a i b).1)
+  request_by : (i : IntentRow) (b : Option Body) → i.body ≡ b → map.get m (root_key t) ≡ Some (Row.Intent i) → IsRootRow i (map.get h.known (root_of t)) → BodyMatches b i.outcome (map.get h.known (root_of t))
+      → AfterAct d h.plain m (root_key t) (λ u. request_next d c t f a (binding_of u)) (Some (Row.Intent (bind_to f a i b).0), (bind_to f a i b).1)
   request_by i None bare is fits root = request_bound i is fits bare root
-  request_by i (Some b) has is fits root = told_same b i.outcome ((b.func == f) && same_value b.args a) (sym (outcome_known d h.plain h.known h.beside (root_of t) (λ k is. (h.sane.roots t k is).1)) ∙ ap outcome_of root.0.made ∙ root.1) (Some (rows.Intent i)) (sym is)
+  request_by i (Some b) has is fits root = told_same b i.outcome ((b.func == f) && same_value b.args a) (sym (outcome_known d h.plain h.known h.beside (root_of t) (λ k is. (h.sane.roots t k is).1)) ∙ ap outcome_of root.0.made ∙ root.1) (Some (Row.Intent i)) (sym is)
 
   request_row : (r : Option Row) → map.get m (root_key t) ≡ r → IntentMatches (has_ended d h.known) true 0 r (map.get h.known (root_of t)) → AfterAct d h.plain m (root_key t) (λ u. request_next d c t f a (binding_of u)) (act (Bind f a) c.now r)
   request_row None is root = absurd (true_false (sym (sym (ap is_some is) ∙ h.tickets t ∙ is_issued t c.newest issued)))
-  request_row (Some (rows.Intent i)) is root = request_by i i.body refl is root root.body
+  request_row (Some (Row.Intent i)) is root = request_by i i.body refl is root root.body
   request_row (Some r) is root = absurd root
 
 -- ---- every event
@@ -236,14 +208,14 @@ taken d c m h = with_runs h (counted c) refl refl h.runs
 -- of memory then
 abbrev RightPlan : (d : Deployment) (m : Rows) (p : PlainState) (e : Event) (c : Core) → Plan → Type 0
 RightPlan d m p e c (at_once b y) = After d p b m y
-RightPlan d m p e c (asks q) = AfterQuery d p c.now m (heard d e c) q × ((b : Core) → no_memory d e c (told_by q c.now m) ≡ Some b → After d p b (rows_after q c.now m) seen.Dropped)
+RightPlan d m p e c (asks q) = AfterQuery d p c.now m (heard d e c) q × ((b : Core) → no_memory d e c (told_by q c.now m) ≡ Some b → After d p b (rows_after q c.now m) Seen.Dropped)
 
 so_left : (d : Deployment) (p : PlainState) (c b : Core) (m n : Rows) (x : Seen) → n ≡ m → b ≡ c → After d p c m x → After d p b n x
 so_left d p c b m n x rows core h = subst (λ k. After d p b k x) (sym rows) (subst (λ k. After d p k m x) (sym core) h)
 
-right_no_run : (d : Deployment) (c : Core) (m : Rows) (h : Right d c m) (b : Bool) → After d h.plain c m (if b then seen.NoRun else seen.RunOver)
-right_no_run d c m h true = as_before d c m seen.NoRun (refl, refl) h
-right_no_run d c m h false = as_before d c m seen.RunOver (refl, refl) h
+right_no_run : (d : Deployment) (c : Core) (m : Rows) (h : Right d c m) (b : Bool) → After d h.plain c m (if b then Seen.NoRun else Seen.RunOver)
+right_no_run d c m h true = as_before d c m Seen.NoRun (refl, refl) h
+right_no_run d c m h false = as_before d c m Seen.RunOver (refl, refl) h
 
 -- the intent collector changes no row, and starts a run that registers nothing
 abbrev at_cursor : (d : Deployment) (c : Core) (m : Rows) (k : RowKey) → Right d c m → Right d (record c { cursor = k }) m
@@ -255,82 +227,82 @@ collect d c m h t = by_found (collect_says t)
     passes : (k : RowKey) (x : Seen) → TellsNothing x → After d h.plain (record c { cursor = k }) m x
     passes k x silent = as_before d (record c { cursor = k }) m x silent (at_cursor d c m k h)
 
-    by_place : (k : RowKey) (id : IntentId) (f : ℕ) (b : Bool) → is_crowded c ≡ b → let z : Core × Seen = if b then (c, seen.Crowded) else launched d (record c { cursor = k }) id f in After d h.plain z.0 m z.1
-    by_place k id f true e = as_before d c m seen.Crowded (refl, refl) h
-    by_place k id f false e = as_before d (launched d (record c { cursor = k }) id f).0 m (seen.Launched (c.last_run + 1) id) (refl, refl) (with_new d (record c { cursor = k }) m id f e (at_cursor d c m k h))
+    by_place : (k : RowKey) (id : IntentId) (f : ℕ) (b : Bool) → is_crowded c ≡ b → let z : Core × Seen = if b then (c, Seen.Crowded) else launched d (record c { cursor = k }) id f in After d h.plain z.0 m z.1
+    by_place k id f true e = as_before d c m Seen.Crowded (refl, refl) h
+    by_place k id f false e = as_before d (launched d (record c { cursor = k }) id f).0 m (Seen.Launched (c.last_run + 1) id) (refl, refl) (with_new d (record c { cursor = k }) m id f e (at_cursor d c m k h))
 
-    by_live : (k : RowKey) (id : IntentId) (f : ℕ) (b : Bool) → let z : Core × Seen = if b then passed c k else if is_crowded c then (c, seen.Crowded) else launched d (record c { cursor = k }) id f in After d h.plain z.0 m z.1
-    by_live k id f true = passes k seen.Passed (refl, refl)
+    by_live : (k : RowKey) (id : IntentId) (f : ℕ) (b : Bool) → let z : Core × Seen = if b then passed c k else if is_crowded c then (c, Seen.Crowded) else launched d (record c { cursor = k }) id f in After d h.plain z.0 m z.1
+    by_live k id f true = passes k Seen.Passed (refl, refl)
     by_live k id f false = by_place k id f (is_crowded c) refl
 
     by_found : (x : Found) → After d h.plain (collect_next d c x).0 m (collect_next d c x).1
-    by_found found.Round = passes least_key seen.Round (refl, refl)
-    by_found (found.Passed k) = passes k seen.Passed (refl, refl)
-    by_found (found.Unended k id f) = by_live k id f (has_run c.runs id)
+    by_found Found.Round = passes least_key Seen.Round (refl, refl)
+    by_found (Found.Passed k) = passes k Seen.Passed (refl, refl)
+    by_found (Found.Unended k id f) = by_live k id f (has_run c.runs id)
 
 -- a run that is past its deadline is over
-right_expired : (d : Deployment) (c : Core) (m : Rows) (i : ℕ) (h : Right d c m) → After d h.plain (ended_run c i) m seen.Expired
-right_expired d c m i h = as_before d (ended_run c i) m seen.Expired (refl, refl) (without d c m i h)
+right_expired : (d : Deployment) (c : Core) (m : Rows) (i : ℕ) (h : Right d c m) → After d h.plain (ended_run c i) m Seen.Expired
+right_expired d c m i h = as_before d (ended_run c i) m Seen.Expired (refl, refl) (without d c m i h)
 
 right_of : (d : Deployment) (e : Event) (c : Core) (m : Rows) (h : Right d c m) → RightPlan d m h.plain e c (plan_of d e c)
-right_of d Ticket c m h = if_plan (RightPlan d m h.plain Ticket c) (c.newest == 2 ^ 32 - 1) _ _ (λ t. as_before d c m seen.NoTicket (refl, refl) h) (λ t. (ticket_by d c m h (map.get m (root_key (c.newest + 1))) refl, λ b w. cc))
+right_of d Ticket c m h = if_plan (RightPlan d m h.plain Ticket c) (c.newest == 2 ^ 32 - 1) _ _ (λ t. as_before d c m Seen.NoTicket (refl, refl) h) (λ t. (ticket_by d c m h (map.get m (root_key (c.newest + 1))) refl, λ b w. cc))
 right_of d (Request t f a) c m h =
-    if_plan (RightPlan d m h.plain (Request t f a) c) ((t == 0) || nat_lt c.newest t) _ _ (λ u. as_before d c m (seen.Unknown t) (refl, refl) h) (λ known.
-    if_plan (RightPlan d m h.plain (Request t f a) c) (is_crowded c) _ _ (λ u. as_before d c m seen.Crowded (refl, refl) h) (λ few. (
+    if_plan (RightPlan d m h.plain (Request t f a) c) ((t == 0) || nat_lt c.newest t) _ _ (λ u. as_before d c m (Seen.Unknown t) (refl, refl) h) (λ known.
+    if_plan (RightPlan d m h.plain (Request t f a) c) (is_crowded c) _ _ (λ u. as_before d c m Seen.Crowded (refl, refl) h) (λ few. (
       request_row d c m h t f a known few (map.get m (root_key t)) refl (h.rows.keys (root_key t)),
       λ b w.
           let q = bind_asks t f a in
           let z = lent_only (lends (told_by q c.now m)) c b w in
-          so_left d h.plain c b m (rows_after q c.now m) seen.Dropped (rows_stand q c.now m refl z.1) z.0 (as_before d c m seen.Dropped (refl, refl) h),
+          so_left d h.plain c b m (rows_after q c.now m) Seen.Dropped (rows_stand q c.now m refl z.1) z.0 (as_before d c m Seen.Dropped (refl, refl) h),
     )))
 right_of d (Turn i) c m h = by_run (map.get c.runs i) refl
   where
     by_run : (o : Option Run) → map.get c.runs i ≡ o → RightPlan d m h.plain (Turn i) c (run_plan c i o)
     by_run None gone = right_no_run d c m h ((i == 0) || nat_lt c.last_run i)
     by_run (Some r) live = if_plan (RightPlan d m h.plain (Turn i) c) (nat_lt r.deadline c.now) _ _ (λ late. right_expired d c m i h)
-        (λ alive. subst (λ o. AfterQuery d h.plain c.now m (λ t. run_next d c i t o) (run_asks r) × ((b : Core) → Some (unheard_next d c i (told_by (run_asks r) c.now m) o) ≡ Some b → After d h.plain b (rows_after (run_asks r) c.now m) seen.Dropped)) (sym live)
-        (turn_made d c m i h r live, λ b w. subst (λ z. After d h.plain z (rows_after (run_asks r) c.now m) seen.Dropped) (same_some w) (turn_unheard d c m i h r live)))
+        (λ alive. subst (λ o. AfterQuery d h.plain c.now m (λ t. run_next d c i t o) (run_asks r) × ((b : Core) → Some (unheard_next d c i (told_by (run_asks r) c.now m) o) ≡ Some b → After d h.plain b (rows_after (run_asks r) c.now m) Seen.Dropped)) (sym live)
+        (turn_made d c m i h r live, λ b w. subst (λ z. After d h.plain z (rows_after (run_asks r) c.now m) Seen.Dropped) (same_some w) (turn_unheard d c m i h r live)))
 right_of d (Lost i) c m h = by_run (map.get c.runs i) refl
   where
     by_run : (o : Option Run) → map.get c.runs i ≡ o → RightPlan d m h.plain (Lost i) c (run_plan c i o)
     by_run None gone = right_no_run d c m h ((i == 0) || nat_lt c.last_run i)
     by_run (Some r) live = if_plan (RightPlan d m h.plain (Lost i) c) (nat_lt r.deadline c.now) _ _ (λ late. right_expired d c m i h)
-        (λ alive. (subst (λ o. AfterQuery d h.plain c.now m (λ t. (unheard_next d c i t o, seen.Dropped)) (run_asks r)) (sym live) (turn_unheard d c m i h r live), λ b w. cc))
+        (λ alive. (subst (λ o. AfterQuery d h.plain c.now m (λ t. (unheard_next d c i t o, Seen.Dropped)) (run_asks r)) (sym live) (turn_unheard d c m i h r live), λ b w. cc))
 right_of d (Crash i) c m h = by_run (map.get c.runs i)
   where
     by_run : (o : Option Run) → RightPlan d m h.plain (Crash i) c (crash_plan c i o)
     by_run None = right_no_run d c m h ((i == 0) || nat_lt c.last_run i)
-    by_run (Some r) = if_plan (RightPlan d m h.plain (Crash i) c) (nat_lt r.deadline c.now) _ _ (λ late. right_expired d c m i h) (λ alive. as_before d (ended_run c i) m seen.Crashed (refl, refl) (without d c m i h))
-right_of d (Restart id f) c m h = if_plan (RightPlan d m h.plain (Restart id f) c) (is_crowded c) _ _ (λ u. as_before d c m seen.Crowded (refl, refl) h)
-    (λ few. as_before d (with_run c (new_run d c id f)) m (seen.Started (c.last_run + 1)) (refl, refl) (with_new d c m id f few h))
-right_of d Ic c m h = (collect d c m h (told_by (collect_asks c.cursor) c.now m), λ b w. let z = lent_only (lends (told_by (collect_asks c.cursor) c.now m)) c b w in subst (λ y. After d h.plain y m seen.Dropped) (sym z.0) (as_before d c m seen.Dropped (refl, refl) h))
-right_of d (Tick n) c m h = if_plan (RightPlan d m h.plain (Tick n) c) (nat_lt last_moment (c.now + n)) _ _ (λ u. as_before d c m seen.ClockEnd (refl, refl) h)
-    (λ u. as_before d (record c { now = c.now + n }) m (seen.Now (c.now + n)) (refl, refl) (with_runs h (record c { now = c.now + n }) refl refl h.runs))
+    by_run (Some r) = if_plan (RightPlan d m h.plain (Crash i) c) (nat_lt r.deadline c.now) _ _ (λ late. right_expired d c m i h) (λ alive. as_before d (ended_run c i) m Seen.Crashed (refl, refl) (without d c m i h))
+right_of d (Restart id f) c m h = if_plan (RightPlan d m h.plain (Restart id f) c) (is_crowded c) _ _ (λ u. as_before d c m Seen.Crowded (refl, refl) h)
+    (λ few. as_before d (with_run c (new_run d c id f)) m (Seen.Started (c.last_run + 1)) (refl, refl) (with_new d c m id f few h))
+right_of d Ic c m h = (collect d c m h (told_by (collect_asks c.cursor) c.now m), λ b w. let z = lent_only (lends (told_by (collect_asks c.cursor) c.now m)) c b w in subst (λ y. After d h.plain y m Seen.Dropped) (sym z.0) (as_before d c m Seen.Dropped (refl, refl) h))
+right_of d (Tick n) c m h = if_plan (RightPlan d m h.plain (Tick n) c) (nat_lt last_moment (c.now + n)) _ _ (λ u. as_before d c m Seen.ClockEnd (refl, refl) h)
+    (λ u. as_before d (record c { now = c.now + n }) m (Seen.Now (c.now + n)) (refl, refl) (with_runs h (record c { now = c.now + n }) refl refl h.runs))
 
 right_plan : (d : Deployment) (e : Event) (c : Core) (m : Rows) (h : Right d c m) → RightPlan d m h.plain e (counted c) (plan d e c)
-right_plan d e c m h = if_plan (RightPlan d m h.plain e (counted c)) (nat_lt c.taken most_events) _ _ (λ few. right_of d e (counted c) m (taken d c m h)) (λ spent. as_before d c m seen.Spent (refl, refl) h)
+right_plan d e c m h = if_plan (RightPlan d m h.plain e (counted c)) (nat_lt c.taken most_events) _ _ (λ few. right_of d e (counted c) m (taken d c m h)) (λ spent. as_before d c m Seen.Spent (refl, refl) h)
 
 -- the query was not made, so no more than a run is over
 refusal_tells : (v : TableErr) → TellsNothing (seen_by (refused_by v))
 refusal_tells v = grind arith
 
 after_refused : (d : Deployment) (e : Event) (c : Core) (m : Rows) (h : Right d c m) (v : TableErr) → After d h.plain (refused e c v).0 m (seen_by (refused e c v).1)
-after_refused d (Turn i) c m h (Full live most) = as_before d c m (seen.Full live most) (refl, refl) h
+after_refused d (Turn i) c m h (Full live most) = as_before d c m (Seen.Full live most) (refl, refl) h
 after_refused d (Turn i) c m h v = as_before d (ended_run c i) m (seen_by (refused_by v)) (refusal_tells v) (without d c m i h)
-after_refused d (Lost i) c m h OutOfMemory = as_before d (ended_run c i) m seen.Dropped (refl, refl) (without d c m i h)
-after_refused d (Lost i) c m h v = as_before d (ended_run c i) m seen.Dropped (refl, refl) (without d c m i h)
+after_refused d (Lost i) c m h OutOfMemory = as_before d (ended_run c i) m Seen.Dropped (refl, refl) (without d c m i h)
+after_refused d (Lost i) c m h v = as_before d (ended_run c i) m Seen.Dropped (refl, refl) (without d c m i h)
 after_refused d e c m h v = as_before d c m (seen_by (refused_by v)) (refusal_tells v) h
 
 module _ (d : Deployment) (room old new : ℕ) (e : Event) (c b : Core) (m n : Rows) (h : Right d c m) where
   after_came : (q : Query) (w : Result Told TableErr) (r : Result Seen AllocError) → RightPlan d m h.plain e c (asks q) → Followed d e c w b r → CameOn q c.now room w m n → After d h.plain b n (seen_by r)
   after_came q (Ok t) (Ok x) g s p = subst (λ l. After d h.plain b l x) (sym p.0) (subst (λ (z : Core × Seen). After d h.plain z.0 (rows_after q c.now m) z.1) (sym (s ∙ ap (heard d e c) p.1)) g.0)
-  after_came q (Ok t) (Err w) g s p = subst (λ l. After d h.plain b l seen.Dropped) (sym p.0) (g.1 b (ap (no_memory d e c) (sym p.1) ∙ s))
+  after_came q (Ok t) (Err w) g s p = subst (λ l. After d h.plain b l Seen.Dropped) (sym p.0) (g.1 b (ap (no_memory d e c) (sym p.1) ∙ s))
   after_came q (Err v) r g s p =
       subst (λ l. After d h.plain b l (seen_by r)) (sym (refused_stand q c.now room v m n p)) (subst (λ (z : Core × Result Seen AllocError). After d h.plain z.0 m (seen_by z.1)) (sym s) (after_refused d e c m h v))
 
   after_by : (p : Plan) (r : Result Seen AllocError) → RightPlan d m h.plain e c p → EventBy d room old new e c p m b n r → After d h.plain b n (seen_by r)
   after_by (at_once k y) (Ok x) g s = so_left d h.plain k b m n x s.1 s.0.0 (subst (λ z. After d h.plain k m z) (sym s.0.1) g)
-  after_by (at_once k y) (Err w) g s = so_left d h.plain c b m n seen.Dropped s.1 s.0.0 (as_before d c m seen.Dropped (refl, refl) h)
+  after_by (at_once k y) (Err w) g s = so_left d h.plain c b m n Seen.Dropped s.1 s.0.0 (as_before d c m Seen.Dropped (refl, refl) h)
   after_by (asks q) r g s = after_came q s.0 r g s.1 s.2
 
 pub after_event : (d : Deployment) (room old new : ℕ) (e : Event) (c b : Core) (m n : Rows) (r : Result Seen AllocError) (h : Right d c m) → EventOn d room old new e c m b n r → After d h.plain b n (seen_by r)

@@ -1,10 +1,7 @@
 -- What an event keeps for the runs of others: a frame, of a row that is set.
 use Rattle.beldi_laws.proofs.Names.{Bool, ByTx, CellOp, Content, Deployment, DoneRows, Frame, Instance, IntentId, IsFreeFor, IsOf, IsWriting, Item, Kind, Known, List, None, Note, Option, Place, PlainState, Query, Row, RowKey, Rows, Some, StillOwns, TookPart, TxId, Value, [], act, ap, arith, by_item, cond, content_in, content_of, ended, false, free_after, func_called, has_finish, head_key, if◌then◌else◌, invoke_key, is_data, is_eq, is_shadow, is_some, item_cmp, item_same, key_cmp, key_in, key_same, key_self, kinds_apart, known_set, lockset_key, log_key, no_tx, note_after, note_at, note_pushed, option_map, or_null, or_old, place_eq, place_same, plain_set, refl, row_got, rows_after, same_some, set_if, set_others, set_row, shadow_key, shadow_same, subst, sym, true, turned, tx_end, value_at, ℕ, ◌++◌, ◌∙◌, ◌∷◌, ◌≡◌}
-use Rattle.beldi_laws.proofs.Names.kinds
-use Rattle.beldi_laws.proofs.Names.map
-use Rattle.beldi_laws.proofs.Names.query
-use Rattle.beldi_laws.proofs.Names.rows
 use Rattle.beldi_laws.proofs.Cases.{false_by}
+use Rattle.beldi_laws.proofs.Names.map
 
 -- ---- what an open transaction owns has its plain value still
 abbrev pub ValuesStay : Deployment → Rows → PlainState → PlainState → Known → Type 0
@@ -21,28 +18,28 @@ item_stays d m p q next y o same free t x open_still own = ap (λ f. or_null (ma
 
 -- ---- rows of which one changed
 abbrev pub is_lockset : Kind → Bool
-is_lockset (kinds.Lockset i b t k) = true
+is_lockset (Kind.Lockset i b t k) = true
 is_lockset k = false
 
 -- the kinds of rows that are no item's, no shadow's and no lock's
 abbrev pub is_entry : Kind → Bool
-is_entry (kinds.Intent i) = true
-is_entry (kinds.ReadLog a) = true
-is_entry (kinds.Invoke a) = true
+is_entry (Kind.Intent i) = true
+is_entry (Kind.ReadLog a) = true
+is_entry (Kind.Invoke a) = true
 is_entry k = false
 
 -- the transaction of such a row
 abbrev intent_in : IntentId → Kind → IntentId
-intent_in j (kinds.Lockset i b t k) = i
+intent_in j (Kind.Lockset i b t k) = i
 intent_in j k = j
 
 abbrev begin_in : Kind → ℕ
-begin_in (kinds.Lockset i b t k) = b
+begin_in (Kind.Lockset i b t k) = b
 begin_in k = 0
 
 -- the intent of an intent's row
 abbrev intent_of : IntentId → Kind → IntentId
-intent_of j (kinds.Intent i) = i
+intent_of j (Kind.Intent i) = i
 intent_of j k = j
 
 no_item : (k : Kind) → is_entry k ≡ true → (is_data k ≡ false) × (is_shadow k ≡ false) × (is_lockset k ≡ false)
@@ -71,8 +68,8 @@ module _ (m n : Rows) (k : RowKey) (same : (l : RowKey) → is_eq (key_cmp l k) 
 
 -- no query takes a row away
 pub query_keeps : (q : Query) (now : ℕ) (m : Rows) (l : RowKey) → is_some (map.get m l) ≡ true → is_some (map.get (rows_after q now m) l) ≡ true
-query_keeps (query.After k) now m l there = there
-query_keeps (query.Act k a) now m l there = ap is_some (row_got m k l (act a now (map.get m k)).0) ∙ by_key (is_eq (key_cmp l k)) refl
+query_keeps (Query.After k) now m l there = there
+query_keeps (Query.Act k a) now m l there = ap is_some (row_got m k l (act a now (map.get m k)).0) ∙ by_key (is_eq (key_cmp l k)) refl
   where
     acted : (r : Option Row) → is_some r ≡ true → is_some (act a now r).0 ≡ true
     acted r h = grind arith
@@ -83,11 +80,11 @@ query_keeps (query.Act k a) now m l there = ap is_some (row_got m k l (act a now
 
 -- ---- finishes and calls, where one row changed
 abbrev pub is_intent : Kind → Bool
-is_intent (kinds.Intent i) = true
+is_intent (Kind.Intent i) = true
 is_intent k = false
 
 abbrev pub is_invoke : Kind → Bool
-is_invoke (kinds.Invoke a) = true
+is_invoke (Kind.Invoke a) = true
 is_invoke k = false
 
 -- a finish stays, and what was called
@@ -267,20 +264,20 @@ module _ (d : Deployment) (m : Rows) (p q : PlainState) (known next : Known) (va
   frame_log home a v there = let k = log_key home a in frame_of (set_row m k v) k (set_others m k v) (ap is_some (row_there k v) ∙ there) refl (finishes_off m (set_row m k v) k (set_others m k v) refl) (calls_off m (set_row m k v) k (set_others m k v) refl)
 
   -- that a member asks for a lock, of no transaction that has ended
-  pub frame_lockset : (j : IntentId) (b : ℕ) (y : Item) → ((t : TxId) (z : ℕ × Bool) → tx_end d next t ≡ Some z → IsOf next t j → t.begin ≡ b → ⊥) → Frame d m (set_row m (lockset_key j b y) (Some rows.Lockset)) p q known next
-  frame_lockset j b y none = frame_apart asked key same (ap is_some (row_there key (Some rows.Lockset))) refl (λ t x apart. shadow_off m asked key same refl t x)
+  pub frame_lockset : (j : IntentId) (b : ℕ) (y : Item) → ((t : TxId) (z : ℕ × Bool) → tx_end d next t ≡ Some z → IsOf next t j → t.begin ≡ b → ⊥) → Frame d m (set_row m (lockset_key j b y) (Some Row.Lockset)) p q known next
+  frame_lockset j b y none = frame_apart asked key same (ap is_some (row_there key (Some Row.Lockset))) refl (λ t x apart. shadow_off m asked key same refl t x)
       (λ t z i x e is here. by_key t z i x e is here (is_eq (key_cmp (lockset_key i t.begin x) key)) refl) (finishes_off m asked key same refl) (calls_off m asked key same refl)
     where
       key : RowKey
       key = lockset_key j b y
 
       asked : Rows
-      asked = set_row m (lockset_key j b y) (Some rows.Lockset)
+      asked = set_row m (lockset_key j b y) (Some Row.Lockset)
 
-      same : (l : RowKey) → is_eq (key_cmp l (lockset_key j b y)) ≡ false → map.get (set_row m (lockset_key j b y) (Some rows.Lockset)) l ≡ map.get m l
-      same l other = set_others m (lockset_key j b y) (Some rows.Lockset) l other
+      same : (l : RowKey) → is_eq (key_cmp l (lockset_key j b y)) ≡ false → map.get (set_row m (lockset_key j b y) (Some Row.Lockset)) l ≡ map.get m l
+      same l other = set_others m (lockset_key j b y) (Some Row.Lockset) l other
 
-      by_key : (t : TxId) (z : ℕ × Bool) (i : IntentId) (x : Item) → tx_end d next t ≡ Some z → IsOf next t i → is_some (map.get (set_row m (lockset_key j b y) (Some rows.Lockset)) (lockset_key i t.begin x)) ≡ true → (c : Bool)
+      by_key : (t : TxId) (z : ℕ × Bool) (i : IntentId) (x : Item) → tx_end d next t ≡ Some z → IsOf next t i → is_some (map.get (set_row m (lockset_key j b y) (Some Row.Lockset)) (lockset_key i t.begin x)) ≡ true → (c : Bool)
           → is_eq (key_cmp (lockset_key i t.begin x) (lockset_key j b y)) ≡ c → is_some (map.get m (lockset_key i t.begin x)) ≡ true
       by_key t z i x e is here true g = let one = key_same (lockset_key i t.begin x) (lockset_key j b y) g in
           absurd (none t z e (subst (IsOf next t) (λ k. intent_in j (one k).kind) is) (λ k. begin_in (one k).kind))

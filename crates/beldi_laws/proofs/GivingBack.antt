@@ -1,26 +1,12 @@
 -- The turns at which a run that returns tells its caller: the outcome, where the caller waits for it, and else that it is registered.
-use Rattle.beldi_laws.proofs.Names.{Answer, Begins, Begun, Call, CallBack, CallMatches, Caller, Cause, Core, Deployment, Entry, Goes, Grows, Inside, Instance, IntentId, InvokeRow, IsCalled, Item, Known, Knows, List, Matches, None, NoteRegistered, On, Option, Outcome, PlainState, Return, Right, Row, RowKey, Rows, Run, RunAt, Sane, Some, Step, Tell, TxId, Waited, [], act, after_act, ahead_set, answer_of, answered, answers_waiter, ap, arith, at_stage, back_asks, back_of, back_says, call_answered, call_back_to, called_by, callee_of, child_of, commit_in, effect_after, effect_of, elsewhere, eq-eqb, false, given_back, grown_end, grows_self, grows_through, here, if◌then◌else◌, inr, intent_key, invoke_key, is_begin, is_some, is_waited, known_set, last, length, listed, looked, moved, moved_one, no_own_callee, no_root_key, none_by, none_out, op_of, opens_are_open, or_own, outside_parts, owed_call, place_of, refl, result_of, returned_cause, returns_go, root_key, row_added, same_some, set_others, set_row, stands_at_call, subst, sym, tell_asks, touched, true, turn_next, turned_by, tx_after, tx_at, tx_by, tx_here, tx_now, txs_after, unlocked_elsewhere, value_at, with_instance, within, within_by, ℕ, ◌++◌, ◌∙◌, ◌∷◌, ◌≡◌}
-use Rattle.beldi_laws.proofs.Names.kinds
-use Rattle.beldi_laws.proofs.Names.map
-use Rattle.beldi_laws.proofs.Names.mark
-use Rattle.beldi_laws.proofs.Names.rows
-use Rattle.beldi_laws.proofs.Names.stage
 use Rattle.std.specs.Prelude.{take}
-use Rattle.beldi_invokelog.specs.declared.invoke_log.Back.TheVariants as back
-use Rattle.beldi_lang.specs.declared.effect.Answer.TheVariants as answers
-use Rattle.beldi_laws.proofs.CallsHere.{goes_answered_then}
-use Rattle.beldi_laws.proofs.Frames.{NobodyJoins, nobody_set, nobody_then}
-use Rattle.beldi_laws.proofs.Settling.{settled_moved}
-use Rattle.beldi_laws.proofs.Grown.{grows_moved}
-use Rattle.beldi_laws.proofs.Keeping.{SameShadows, as_it_was}
-use Rattle.beldi_laws.proofs.KeptSane.{returned_kept}
+use Rattle.beldi_invokelog.specs.declared.invoke_log.Back.{Back}
+use Rattle.beldi_laws.proofs.Names.{Answer, Begins, Begun, Call, CallBack, CallMatches, Caller, Cause, Core, Deployment, Entry, Goes, Grows, Inside, Instance, IntentId, InvokeRow, IsCalled, Item, Known, Knows, List, Matches, None, NoteRegistered, On, Option, Outcome, PlainState, Return, Right, Row, RowKey, Rows, Run, RunAt, Sane, Some, Step, Tell, TxId, Waited, [], act, after_act, ahead_set, answer_of, answered, answers_waiter, ap, arith, at_stage, back_asks, back_of, back_says, call_answered, call_back_to, called_by, callee_of, child_of, commit_in, effect_after, effect_of, elsewhere, eq-eqb, false, given_back, grown_end, grows_self, grows_through, here, if◌then◌else◌, inr, intent_key, invoke_key, is_begin, is_some, is_waited, known_set, last, length, listed, looked, moved, moved_one, no_own_callee, no_root_key, none_by, none_out, op_of, opens_are_open, or_own, outside_parts, owed_call, place_of, refl, result_of, returned_cause, returns_go, root_key, row_added, same_some, set_others, set_row, stands_at_call, subst, sym, tell_asks, touched, true, turn_next, turned_by, tx_after, tx_at, tx_by, tx_here, tx_now, txs_after, unlocked_elsewhere, value_at, with_instance, within, within_by, ℕ, ◌++◌, ◌∙◌, ◌∷◌, ◌≡◌, Kind, Mark, Stage}
 use Rattle.beldi_laws.proofs.Moves.{AfterQuery, SameRoots, Kept, Stays, entered, quiet, AfterAct, still}
-use Rattle.beldi_laws.proofs.Outside.{outside_more, plain_here}
-use Rattle.beldi_laws.proofs.Others.{kept_moving}
 use Rattle.beldi_laws.proofs.Registered.{log_frame, log_shadows, log_stays, marked_registered, no_intent, stays_call, stays_marked}
-use Rattle.beldi_laws.proofs.Shown.{Settled, log_values, legal_sane, sound}
-use Rattle.beldi_laws.proofs.Turns.{at_other, goes_on, stands_on}
 use Rattle.beldi_laws.proofs.Returns.{HasCaller, Left, ahead_over, aborted_by, done, goes_over, grows_over, has_caller, leads, over, returns_now, settled_over, state, tx, unlocked}
+use Rattle.beldi_laws.proofs.{CallsHere.goes_answered_then, Frames.NobodyJoins, Frames.nobody_set, Frames.nobody_then, Settling.settled_moved, Grown.grows_moved, Keeping.SameShadows, Keeping.as_it_was, KeptSane.returned_kept, Outside.outside_more, Outside.plain_here, Others.kept_moving, Shown.Settled, Shown.log_values, Shown.legal_sane, Shown.sound, Turns.at_other, Turns.goes_on, Turns.stands_on}
+use Rattle.beldi_laws.proofs.Names.map
 
 module _ (d : Deployment) (c : Core) (m : Rows) (i : ℕ) (r : Run) (g : Begun) (h : Right d c m) (live : map.get c.runs i ≡ Some r) (k : Knows d h.known r g) (finds : Inside m h.plain c.book k g.stage) (o : Outcome) (is : g.machine.effect ≡ Return o) where
   returning : effect_of d k.instance ≡ Return o
@@ -45,11 +31,11 @@ module _ (d : Deployment) (c : Core) (m : Rows) (i : ℕ) (r : Run) (g : Begun) 
         ∙ ap (λ t. if t then Some (k.instance.func, result_of k.instance) else None) (eq-eqb called.caller.func b.func called.func)
         ∙ ap (λ z. Some (k.instance.func, (if z then k.instance.outcome else None))) waited_here
 
-    closes_on : is_some k.instance.outcome ≡ true → Left h i r g (On stage.Close None) m
-    closes_on there = stands_on d c m i r g h live k finds is refl stage.Close m h.locked (λ t. refl) (as_it_was h) (λ inner. ap is_waited from ∙ waits, λ w. there)
+    closes_on : is_some k.instance.outcome ≡ true → Left h i r g (On Stage.Close None) m
+    closes_on there = stands_on d c m i r g h live k finds is refl Stage.Close m h.locked (λ t. refl) (as_it_was h) (λ inner. ap is_waited from ∙ waits, λ w. there)
 
     -- it was given back now: its caller stands at the call
-    module _ (x : InvokeRow) (at : map.get m back_key ≡ Some (rows.Invoke x)) (open_still : k.instance.outcome ≡ None) where
+    module _ (x : InvokeRow) (at : map.get m back_key ≡ Some (Row.Invoke x)) (open_still : k.instance.outcome ≡ None) where
       abbrev caller : IntentId
       caller = b.place.intent
 
@@ -66,7 +52,7 @@ module _ (d : Deployment) (c : Core) (m : Rows) (i : ℕ) (r : Run) (g : Begun) 
       next = map.insert (over k o) caller caller_on
 
       abbrev new : Option Row
-      new = Some (rows.Invoke (record x { result = Some o }))
+      new = Some (Row.Invoke (record x { result = Some o }))
 
       abbrev rows_now : Rows
       rows_now = set_row m back_key new
@@ -119,7 +105,7 @@ module _ (d : Deployment) (c : Core) (m : Rows) (i : ℕ) (r : Run) (g : Begun) 
       nobody_given = nobody_then d h.known (over k o) next (λ j. known_set h.known r.id (done k o) (λ j u. is_some u ≡ true → is_some (map.get h.known j) ≡ true) (λ e. ap is_some k.made) (λ j other e. e) j) (nobody_set d (over k o) caller caller_on (ap is_some caller_still))
 
       -- an abort that is passed on was told to it: so its holder was made
-      passed : (q : PlainState) → Settled d m q (over k o) → (u : Cause) (j : IntentId) → is_some (tx_now d caller waiter) ≡ true → answer ≡ answers.Aborted u → u.holder ≡ Some j → is_some (map.get q.made j) ≡ true
+      passed : (q : PlainState) → Settled d m q (over k o) → (u : Cause) (j : IntentId) → is_some (tx_now d caller waiter) ≡ true → answer ≡ Answer.Aborted u → u.holder ≡ Some j → is_some (map.get q.made j) ≡ true
       passed q s u j inside told holder = by_within k.instance.within refl
         where
           by_within : (w : Option TxId) → k.instance.within ≡ w → is_some (map.get q.made j) ≡ true
@@ -138,16 +124,16 @@ module _ (d : Deployment) (c : Core) (m : Rows) (i : ℕ) (r : Run) (g : Begun) 
           (no_intent d m back_key new next refl)
 
       roots : SameRoots m rows_now
-      roots u = ap is_some (set_others m back_key new (root_key u) (no_root_key u b.func (kinds.Invoke b.place) refl))
+      roots u = ap is_some (set_others m back_key new (root_key u) (no_root_key u b.func (Kind.Invoke b.place) refl))
 
-      then_closes : (more : List Entry) (q : PlainState) → Kept h rows_now q next h.locked → RunAt d rows_now q more next (Some (record r { at = Begins (at_stage g stage.Close) }))
-      then_closes more q kept = at_other d c m i r g h live k finds is refl stage.Close more rows_now q next h.locked (done k o) itself (grown_end k.instance o open_still) kept (λ inner. ap is_waited from ∙ waits, λ w. refl)
+      then_closes : (more : List Entry) (q : PlainState) → Kept h rows_now q next h.locked → RunAt d rows_now q more next (Some (record r { at = Begins (at_stage g Stage.Close) }))
+      then_closes more q kept = at_other d c m i r g h live k finds is refl Stage.Close more rows_now q next h.locked (done k o) itself (grown_end k.instance o open_still) kept (λ inner. ap is_waited from ∙ waits, λ w. refl)
 
       same_shadows : SameShadows m rows_now
       same_shadows = log_shadows d m back_key new refl
 
       -- outside, by an entry
-      given_outside : k.instance.within ≡ None → Left h i r g (On stage.Close (Some mark.Step)) rows_now
+      given_outside : k.instance.within ≡ None → Left h i r g (On Stage.Close (Some Mark.Step)) rows_now
       given_outside own =
           let caller_out : tx_now d caller waiter ≡ None = sym same_tx ∙ own in
           let parts = outside_parts d caller waiter waiter.answers caller_out in
@@ -168,42 +154,42 @@ module _ (d : Deployment) (c : Core) (m : Rows) (i : ℕ) (r : Run) (g : Begun) 
           let goes = subst (λ z. Goes d rows_now z next h.locked) comes_to (goes_answered_then h rows_now same_shadows caller waiter answer called.made caller_unlocked (λ e. let clash = sym stands ∙ e in cc)
           (outside_more d caller waiter waiter.answers parts.0 (ap is_begin stands) answer) r.id is_callee (done k o) (done k o) caller_still (goes_over d c m i r g h live k finds o is own rows_now same_shadows)) in
           let kept = kept_given (state k o h.plain) steps.grows (ap (λ (z : PlainState). z.items) (sym comes_to)) (subst (λ z. (x : Item) → listed rows_now x ≡ value_at z x) comes_to (log_values h back_key new refl)) goes in
-          entered d c m rows_now i r h live roots (turned_by d r g (On stage.Close (Some mark.Step))) mark.Step (state k o h.plain) next h.locked refl steps (λ u told. cc) (then_closes (c.book ++ Step r.id ∷ []) (state k o h.plain) kept) (λ e. cc) kept
+          entered d c m rows_now i r h live roots (turned_by d r g (On Stage.Close (Some Mark.Step))) Mark.Step (state k o h.plain) next h.locked refl steps (λ u told. cc) (then_closes (c.book ++ Step r.id ∷ []) (state k o h.plain) kept) (λ e. cc) kept
 
       -- inside, by none
-      given_inside : (t : TxId) → k.instance.within ≡ Some t → Left h i r g (On stage.Close None) rows_now
+      given_inside : (t : TxId) → k.instance.within ≡ Some t → Left h i r g (On Stage.Close None) rows_now
       given_inside t in_it =
           let now : tx_now d r.id k.instance ≡ Some t = ap (λ z. or_own z (tx_by r.id k.instance.func (length k.instance.answers) (effect_of d k.instance) (txs_after d k.instance k.instance.answers).begun)) in_it in
           let goes = subst (λ z. Goes d rows_now h.plain (map.insert (map.insert h.known z (done k o)) caller caller_on) h.locked) (sym called.is_callee)
           (returns_go d m rows_now h.plain h.known h.locked caller waiter k.instance b.place.step t o (opens_are_open d m h.plain h.known h.locked r.id k.instance t (sound h) k.made open_still now) called.made callee_here in_it open_still returning same_shadows) in
           let kept = kept_given h.plain (grows_self h.plain.made) refl (log_values h back_key new refl) goes in
-          quiet d c m rows_now i r h live roots (turned_by d r g (On stage.Close None)) next h.locked refl refl (then_closes c.book h.plain kept) (λ e. cc) kept
+          quiet d c m rows_now i r h live roots (turned_by d r g (On Stage.Close None)) next h.locked refl refl (then_closes c.book h.plain kept) (λ e. cc) kept
 
-      given_now : Left h i r g (back_says (within k.instance.within) back.Set) rows_now
+      given_now : Left h i r g (back_says (within k.instance.within) Back.Set) rows_now
       given_now = by_within k.instance.within refl
         where
-          by_within : (w : Option TxId) → k.instance.within ≡ w → Left h i r g (back_says (within w) back.Set) rows_now
+          by_within : (w : Option TxId) → k.instance.within ≡ w → Left h i r g (back_says (within w) Back.Set) rows_now
           by_within None own = given_outside own
           by_within (Some t) in_it = given_inside t in_it
 
     AfterBack : Option Row × Tell → Type 0
     AfterBack z = AfterAct d h.plain m back_key (λ t. turn_next c i r (turned_by d r g (back_says (within k.instance.within) (back_of t)))) z
 
-    back_open : (x : InvokeRow) → x.result ≡ None → map.get m back_key ≡ Some (rows.Invoke x) → CallMatches (Some (rows.Invoke x)) (owed_call h.known b.func b.place) → AfterBack (Some (rows.Invoke (call_back_to o x None).0), (call_back_to o x None).1)
+    back_open : (x : InvokeRow) → x.result ≡ None → map.get m back_key ≡ Some (Row.Invoke x) → CallMatches (Some (Row.Invoke x)) (owed_call h.known b.func b.place) → AfterBack (Some (Row.Invoke (call_back_to o x None).0), (call_back_to o x None).1)
     unfolding AfterBack
     back_open x none at matches = given_now x at (let both = same_some (sym owed_there ∙ matches) in ap (λ z. z.1) both ∙ none)
 
-    back_closed : (x : InvokeRow) (u : Outcome) → x.result ≡ Some u → map.get m back_key ≡ Some (rows.Invoke x) → CallMatches (Some (rows.Invoke x)) (owed_call h.known b.func b.place) → AfterBack (Some (rows.Invoke (call_back_to o x (Some u)).0), (call_back_to o x (Some u)).1)
+    back_closed : (x : InvokeRow) (u : Outcome) → x.result ≡ Some u → map.get m back_key ≡ Some (Row.Invoke x) → CallMatches (Some (Row.Invoke x)) (owed_call h.known b.func b.place) → AfterBack (Some (Row.Invoke (call_back_to o x (Some u)).0), (call_back_to o x (Some u)).1)
     unfolding AfterBack
-    back_closed x u some at matches = still d h.plain m back_key (Some (rows.Invoke x)) (sym at) (closes_on (let both = same_some (sym owed_there ∙ matches) in ap (λ z. is_some z.1) both ∙ ap is_some some))
+    back_closed x u some at matches = still d h.plain m back_key (Some (Row.Invoke x)) (sym at) (closes_on (let both = same_some (sym owed_there ∙ matches) in ap (λ z. is_some z.1) both ∙ ap is_some some))
 
-    back_by : (x : InvokeRow) (u : Option Outcome) → x.result ≡ u → map.get m back_key ≡ Some (rows.Invoke x) → CallMatches (Some (rows.Invoke x)) (owed_call h.known b.func b.place) → AfterBack (Some (rows.Invoke (call_back_to o x u).0), (call_back_to o x u).1)
+    back_by : (x : InvokeRow) (u : Option Outcome) → x.result ≡ u → map.get m back_key ≡ Some (Row.Invoke x) → CallMatches (Some (Row.Invoke x)) (owed_call h.known b.func b.place) → AfterBack (Some (Row.Invoke (call_back_to o x u).0), (call_back_to o x u).1)
     back_by x None result at matches = back_open x result at matches
     back_by x (Some u) result at matches = back_closed x u result at matches
 
     back_at : (w : Option Row) → map.get m back_key ≡ w → CallMatches w (owed_call h.known b.func b.place) → AfterBack (act (CallBack o) c.now w)
     back_at None at matches = let clash = sym owed_there ∙ matches in cc
-    back_at (Some (rows.Invoke x)) at matches = back_by x x.result refl at matches
+    back_at (Some (Row.Invoke x)) at matches = back_by x x.result refl at matches
     back_at (Some w) at matches = absurd matches
 
     back_here : AfterQuery d h.plain c.now m (λ t. turn_next c i r (turned_by d r g (back_says (within k.instance.within) (back_of t)))) (back_asks b.func b.place o)
@@ -215,13 +201,13 @@ module _ (d : Deployment) (c : Core) (m : Rows) (i : ℕ) (r : Run) (g : Begun) 
 
   -- ---- it tells its caller, which does not wait, that it is registered
   module _ (out : tx_after d r.id k.instance k.answers ≡ None) where
-    tells_on : (n : Rows) → SameRoots m n → Stays h n → is_waited g.caller ≡ false → Left h i r g (On stage.Close None) n
-    tells_on n roots rows idle = goes_on d c m i r g h live k finds out (Return o) is n stage.Close roots rows (λ inner. cc, λ w. let clash = sym idle ∙ w in cc)
+    tells_on : (n : Rows) → SameRoots m n → Stays h n → is_waited g.caller ≡ false → Left h i r g (On Stage.Close None) n
+    tells_on n roots rows idle = goes_on d c m i r g h live k finds out (Return o) is n Stage.Close roots rows (λ inner. cc, λ w. let clash = sym idle ∙ w in cc)
 
-    pub tell_turn : (b : Option Caller) → is_waited g.caller ≡ false → AfterQuery d h.plain c.now m (λ t. turn_next c i r (turned_by d r g (On stage.Close None))) (tell_asks r.id r.func b)
-    tell_turn None idle = subst (Left h i r g (On stage.Close None)) (sym (looked c.now (intent_key r.id r.func) m)) (tells_on m (λ t. refl) (as_it_was h) idle)
+    pub tell_turn : (b : Option Caller) → is_waited g.caller ≡ false → AfterQuery d h.plain c.now m (λ t. turn_next c i r (turned_by d r g (On Stage.Close None))) (tell_asks r.id r.func b)
+    tell_turn None idle = subst (Left h i r g (On Stage.Close None)) (sym (looked c.now (intent_key r.id r.func) m)) (tells_on m (λ t. refl) (as_it_was h) idle)
     tell_turn (Some b) idle =
         let at = invoke_key b.func b.place in
         let row = (act NoteRegistered c.now (map.get m at)).0 in
-        tells_on (after_act NoteRegistered c.now at m) (λ u. ap is_some (set_others m at row (root_key u) (no_root_key u b.func (kinds.Invoke b.place) refl)))
+        tells_on (after_act NoteRegistered c.now at m) (λ u. ap is_some (set_others m at row (root_key u) (no_root_key u b.func (Kind.Invoke b.place) refl)))
         (log_stays d m at row refl c h (stays_marked c.now (map.get m at)) (no_intent d m at row h.known refl) (marked_registered d m h.known h.locked b.func b.place c.now h.rows)) idle

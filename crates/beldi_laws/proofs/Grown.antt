@@ -1,7 +1,7 @@
 -- Instances that are known go on, with an answer and what takes no turn.
+use Rattle.beldi_known.proofs.Goes.{GoesOn}
 use Rattle.beldi_laws.proofs.Names.{Answer, Body, Deployment, Grown, Grows, Instance, IntentId, Known, List, Some, [], answered, ap, append-nil, append_assoc, arith, at_once_same, goes_then, grows_at, length, length-append, moved, once, once_goes, refl, sym, tx_after, ◌++◌, ◌<◌, ◌∙◌, ◌∷◌, ◌≡◌}
 use Rattle.beldi_laws.proofs.Names.map
-use Rattle.beldi_known.proofs.Goes.{GoesOn}
 
 pub moved_more : (d : Deployment) (id : IntentId) (q : Instance) (a : Answer) → GoesOn (answered q a) (moved d id q a)
 moved_more d id q a = goes_then (answered q a) (once d id (answered q a)) (moved d id q a) (once_goes d id (answered q a)) (once_goes d id (once d id (answered q a)))

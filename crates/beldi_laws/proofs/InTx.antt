@@ -1,16 +1,8 @@
 -- An operation of a run inside a transaction: where it stands among the answers that are known, and in which transaction.
-use Rattle.beldi_laws.proofs.Names.{Answer, Begun, Bool, ByTx, Core, Deployment, Effect, Fits, InItem, InOperation, Inside, Instance, IntentId, IsAnswer, IsBehind, IsFront, IsOf, IsOpen, IsTrue, Item, Kind, Knows, List, LocksetMatches, None, Option, Right, Row, Rows, Run, RunTx, Some, TookPart, TxAt, TxId, Txs, [], ahead_by, ap, arith, begin_of, content_of, effect_after, effect_before, effect_of, ended_by, false, few_answers, got_before, got_by, inl, inr, is_begin, is_eq, is_intent_key, is_item, is_on, is_some, is_tx, item_total, known_set, last_step, length, length-append, moved, moved_one, no_root, note_at, note_is_ahead, now_open, opens_are_open, or_own, own_is, place_of, refl, root_key, same_some, set_others, set_row, subst, sym, take, tied_itself, touched, true, tx_after, tx_by, tx_end, tx_now, tx_of, tx_self, txs_after, txs_by, wants_answer, ℕ, ◌&&◌, ◌++◌, ◌<◌, ◌||◌, ◌∙◌, ◌∷◌, ◌≡◌}
-use Rattle.beldi_laws.proofs.Names.map
-use Rattle.beldi_laws.proofs.Names.note
-use Rattle.beldi_laws.proofs.Names.rows
-use Rattle.beldi_laws.proofs.Names.says
-use Rattle.beldi_laws.proofs.Names.stage
-use Rattle.beldi_laws.proofs.Grown.{grown_same}
-use Rattle.beldi_laws.proofs.Moves.{Kept, SameRoots, Stays}
-use Rattle.beldi_laws.proofs.OpenOf.{open_begun, open_in, own_begin}
-use Rattle.beldi_laws.proofs.Ended.{ended_at}
-use Rattle.beldi_laws.proofs.Shown.{sound}
+use Rattle.beldi_laws.proofs.Names.{Answer, Begun, Bool, ByTx, Core, Deployment, Effect, Fits, InItem, InOperation, Inside, Instance, IntentId, IsAnswer, IsBehind, IsFront, IsOf, IsOpen, IsTrue, Item, Kind, Knows, List, LocksetMatches, None, Option, Right, Row, Rows, Run, RunTx, Some, TookPart, TxAt, TxId, Txs, [], ahead_by, ap, arith, begin_of, content_of, effect_after, effect_before, effect_of, ended_by, false, few_answers, got_before, got_by, inl, inr, is_begin, is_eq, is_intent_key, is_item, is_on, is_some, is_tx, item_total, known_set, last_step, length, length-append, moved, moved_one, no_root, note_at, note_is_ahead, now_open, opens_are_open, or_own, own_is, place_of, refl, root_key, same_some, set_others, set_row, subst, sym, take, tied_itself, touched, true, tx_after, tx_by, tx_end, tx_now, tx_of, tx_self, txs_after, txs_by, wants_answer, ℕ, ◌&&◌, ◌++◌, ◌<◌, ◌||◌, ◌∙◌, ◌∷◌, ◌≡◌, Note, Says, Stage}
 use Rattle.beldi_laws.proofs.Turns.{Freed, Leaves, by_answer, known_prefix, answers_on, not_over, sane_instance, stands_on, at_steps, wanted_here, front_here, effect_here, answer_here, all_here, effect_next}
+use Rattle.beldi_laws.proofs.{Grown.grown_same, Moves.Kept, Moves.SameRoots, Moves.Stays, OpenOf.open_begun, OpenOf.open_in, OpenOf.own_begin, Ended.ended_at, Shown.sound}
+use Rattle.beldi_laws.proofs.Names.map
 
 -- an operation on an item wants an answer, and is no begin
 pub wants_one : (e : Effect) (x : ℕ × List ℕ) → touched e ≡ Some x → IsTrue (wants_answer e)
@@ -32,7 +24,7 @@ ends_same : (n : ℕ) (e : Effect) (s : Txs) (b : ℕ) (x : ℕ × List ℕ) →
 ends_same n e s b x touch = grind arith
 
 -- a lockset row that is there is one
-pub lockset_is : (r : Option Row) (owed ahead : Bool) → LocksetMatches r owed ahead → is_some r ≡ true → r ≡ Some rows.Lockset
+pub lockset_is : (r : Option Row) (owed ahead : Bool) → LocksetMatches r owed ahead → is_some r ≡ true → r ≡ Some Row.Lockset
 lockset_is r owed ahead h there = grind arith
 
 -- where a row was set that is no intent's, the roots are as they were
@@ -154,7 +146,7 @@ module _ (d : Deployment) (c : Core) (m : Rows) (r : Run) (g : Begun) (h : Right
     short_now = subst (λ (ts : List Answer). length ts < last_step) (all_here k left) short
 
     -- where its place has the lock, that is ahead of the answer
-    pub was_locked : note_at (content_of m its_item).notes (place_of r.id (length k.instance.answers)) ≡ Some note.Got → h.locked r.id ≡ true
+    pub was_locked : note_at (content_of m its_item).notes (place_of r.id (length k.instance.answers)) ≡ Some Note.Got → h.locked r.id ≡ true
     was_locked got = by_lock (h.locked r.id) refl
       where
         none : (u : Option TxId) → ahead_by its_item k.instance.func u (effect_of d k.instance) false ≡ None
@@ -168,15 +160,15 @@ module _ (d : Deployment) (c : Core) (m : Rows) (r : Run) (g : Begun) (h : Right
 module _ (d : Deployment) (c : Core) (m : Rows) (i : ℕ) (r : Run) (g : Begun) (h : Right d c m) (live : map.get c.runs i ≡ Some r) (k : Knows d h.known r g) (finds : Inside m h.plain c.book k g.stage)
     (o : RunTx) (tx : g.tx ≡ Some o) (here : tx_after d r.id k.instance k.answers ≡ Some (tx_of r.id r.func o)) (e : Effect) (is : g.machine.effect ≡ e) (x : ℕ × List ℕ) (touch : touched e ≡ Some x) where
   -- it goes on in the operation; a lock may be ahead that was not
-  pub goes_at : (b : TxAt) (n : Rows) (after : IntentId → Bool) → SameRoots m n → Kept h n h.plain h.known after → Fits e b → InOperation d n h.plain h.known r.id r.func o g.machine.steps e b x → Leaves d c m i r g h live k (says.On (stage.Tx b) None) n
+  pub goes_at : (b : TxAt) (n : Rows) (after : IntentId → Bool) → SameRoots m n → Kept h n h.plain h.known after → Fits e b → InOperation d n h.plain h.known r.id r.func o g.machine.steps e b x → Leaves d c m i r g h live k (Says.On (Stage.Tx b) None) n
   goes_at b n after roots kept fits at =
-      stands_on d c m i r g h live k finds is tx (stage.Tx b) n after roots kept (fits, subst (InItem d n h.plain h.known r.id r.func o g.machine.steps e b) (sym touch) at)
+      stands_on d c m i r g h live k finds is tx (Stage.Tx b) n after roots kept (fits, subst (InItem d n h.plain h.known r.id r.func o g.machine.steps e b) (sym touch) at)
 
   -- it ends no transaction
   pub frees_none : (n : Rows) → Freed d c m i r g h live k n
   frees_none n u commit y begun ends owned = let clash = sym touch ∙ ap touched (sym is ∙ ends) in cc
 
   -- it has the answer that is known
-  pub replays : (n : Rows) (a : Answer) (rest : List Answer) → k.later ≡ a ∷ rest → SameRoots m n → Stays h n → Leaves d c m i r g h live k (says.Answers a None) n
+  pub replays : (n : Rows) (a : Answer) (rest : List Answer) → k.later ≡ a ∷ rest → SameRoots m n → Stays h n → Leaves d c m i r g h live k (Says.Answers a None) n
   replays n a rest left roots kept = answers_on d c m i r g h live k finds a rest n h.known h.locked k.instance roots kept k.made (grown_same k.instance)
       (known_prefix k a rest left) (wants_here d c m r g h k o here e is x touch) (frees_none n)

@@ -1,11 +1,7 @@
 -- What a turn outside transactions keeps, over rows whose shadows are as before.
 use Rattle.beldi_laws.proofs.Names.{Act, Answer, Apart, Core, Deployment, Frame, Goes, Instance, IntentId, IsOutside, Item, Items, Matches, None, Option, Right, Row, RowKey, Rows, Some, Tx, TxId, [], act, answered, arith, at_once, content_of, false, goes_one, goes_set, got_new, got_next, grows_self, id_cmp, is_eq, is_shadow, is_some, listed, log_elsewhere, moved, outside_no_end, outside_parts, refl, rows_go, set_new, set_next, set_row, shadow_key, true, tx_begun, tx_now, value_at, value_of, with_instance, ℕ, ◌≡◌}
+use Rattle.beldi_laws.proofs.{Frames.NoFinish, Frames.frame_still, Frames.items_stay, Frames.nobody_new, Moves.Stays, Outside.outside_more, Others.kept_by, Others.kept_moving, Shown.legal_sane, Shown.settled, Shown.shown}
 use Rattle.beldi_laws.proofs.Names.map
-use Rattle.beldi_laws.proofs.Frames.{NoFinish, frame_still, items_stay, nobody_new}
-use Rattle.beldi_laws.proofs.Moves.{Stays}
-use Rattle.beldi_laws.proofs.Outside.{outside_more}
-use Rattle.beldi_laws.proofs.Others.{kept_by, kept_moving}
-use Rattle.beldi_laws.proofs.Shown.{legal_sane, settled, shown}
 
 -- rows as they were
 pub as_it_was : {d : Deployment} {c : Core} {m : Rows} (h : Right d c m) → Stays h m

@@ -1,9 +1,7 @@
 -- What is known stays sane, as turns outside transactions move it, and calls and returns.
 use Rattle.beldi_laws.proofs.Names.{Answer, Bool, Caller, Deployment, Effect, Instance, IntentId, IsAnswer, IsOutside, Known, List, None, Option, Outcome, Sane, Some, TxId, Value, aborts_inside, answer_of, ap, arith, at_once, call_of, callee_of, calls_at, child_of, effect_after, effect_of, end_is, ended, false, inside_is, is_begin, is_some, is_waited, length, moved, new_instance, not_waited, place_of, refl, root_of, sane_answered, sane_bound, sane_called, sane_ended, sane_returned, sane_sent, subst, sym, true, tx_now, txs_after, ℕ, ◌||◌, ◌∙◌, ◌≡◌}
-use Rattle.beldi_laws.proofs.Names.answer
-use Rattle.beldi_laws.proofs.Names.effect
-use Rattle.beldi_laws.proofs.Names.map
 use Rattle.beldi_laws.proofs.Outside.{is_call, is_of_tx}
+use Rattle.beldi_laws.proofs.Names.map
 
 -- ---- of bodies
 -- an End and an Abort stand in a transaction, and a Begin outside
@@ -14,9 +12,9 @@ outside_effect d q given out apart = by_effect (effect_after d q given) refl apa
     none = ap is_some out.1
 
     by_effect : (e : Effect) → effect_after d q given ≡ e → is_begin e ≡ false → is_of_tx e ≡ false
-    by_effect effect.Begin is g = cc
-    by_effect (effect.End c) is g = let clash = sym none ∙ end_is d q given c is in cc
-    by_effect effect.Abort is g = let clash = sym (inside_is d q given ∙ (λ i. none i || is_some (out.0 i))) ∙ aborts_inside d q.func q.args (is_some q.within) given is in cc
+    by_effect Effect.Begin is g = cc
+    by_effect (Effect.End c) is g = let clash = sym none ∙ end_is d q given c is in cc
+    by_effect Effect.Abort is g = let clash = sym (inside_is d q given ∙ (λ i. none i || is_some (out.0 i))) ∙ aborts_inside d q.func q.args (is_some q.within) given is in cc
     by_effect e is g = refl
 
 -- ---- of what is known
@@ -37,19 +35,19 @@ module _ (d : Deployment) (known : Known) (sane : Sane d known) where
   answered_kept id q a is none outside apart ok = sane_answered d known sane id q is a (subst (λ t. IsAnswer (place_of id (length q.answers)) t (effect_of d q) a) (sym outside) ok) (λ w f v e. no_call w f v (ap is_call (sym e) ∙ apart))
 
   -- a callee is made that its caller waits for, in the transaction of the call, or one that nobody waits for: then the caller is answered
-  pub called_kept : (t : Option TxId) (id : IntentId) (q : Instance) (f : ℕ) (v : Value) → map.get known id ≡ Some q → t ≡ tx_now d id q → effect_of d q ≡ effect.Call f v → map.get known (callee_of id q) ≡ None
+  pub called_kept : (t : Option TxId) (id : IntentId) (q : Instance) (f : ℕ) (v : Value) → map.get known id ≡ Some q → t ≡ tx_now d id q → effect_of d q ≡ Effect.Call f v → map.get known (callee_of id q) ≡ None
       → Sane d (map.insert known (callee_of id q) (at_once d (callee_of id q) (called_with t f v (calls_at id q true))))
   called_kept t id q f v is within calls new = sane_called d known sane id q is f v new t within calls
 
-  pub sent_kept : (id : IntentId) (q : Instance) (f : ℕ) (v : Value) → map.get known id ≡ Some q → tx_now d id q ≡ None → effect_of d q ≡ effect.Async f v → map.get known (callee_of id q) ≡ None
-      → Sane d (map.insert (map.insert known (callee_of id q) (at_once d (callee_of id q) (new_instance f v (Some (calls_at id q false))))) id (moved d id q answer.Done))
+  pub sent_kept : (id : IntentId) (q : Instance) (f : ℕ) (v : Value) → map.get known id ≡ Some q → tx_now d id q ≡ None → effect_of d q ≡ Effect.Async f v → map.get known (callee_of id q) ≡ None
+      → Sane d (map.insert (map.insert known (callee_of id q) (at_once d (callee_of id q) (new_instance f v (Some (calls_at id q false))))) id (moved d id q Answer.Done))
   sent_kept id q f v is outside sends new = sane_sent d known sane id q is f v new outside sends
 
   -- a callee that its caller waits for ends, and the caller is answered
-  pub returned_kept : (id : IntentId) (i j : Instance) (n : ℕ) (o : Outcome) → map.get known id ≡ Some i → map.get known (child_of id n) ≡ Some j → j.outcome ≡ None → is_waited j.from ≡ true → effect_of d j ≡ effect.Return o
+  pub returned_kept : (id : IntentId) (i j : Instance) (n : ℕ) (o : Outcome) → map.get known id ≡ Some i → map.get known (child_of id n) ≡ Some j → j.outcome ≡ None → is_waited j.from ≡ true → effect_of d j ≡ Effect.Return o
       → Sane d (map.insert (map.insert known (child_of id n) (ended j o)) id (moved d id i (answer_of o)))
   returned_kept id i j n o is made none waited returns = sane_returned d known sane id i j n is made none waited o returns
 
   -- who nobody waits for ends
-  pub ended_kept : (id : IntentId) (q : Instance) (o : Outcome) → map.get known id ≡ Some q → effect_of d q ≡ effect.Return o → is_waited q.from ≡ false → Sane d (map.insert known id (ended q o))
+  pub ended_kept : (id : IntentId) (q : Instance) (o : Outcome) → map.get known id ≡ Some q → effect_of d q ≡ Effect.Return o → is_waited q.from ≡ false → Sane d (map.insert known id (ended q o))
   ended_kept id q o is returns idle = sane_ended d known sane id q is o returns (not_waited q.from idle)

@@ -1,9 +1,7 @@
 -- The listing of the rows is that of the plain state.
 use Rattle.beldi_laws.proofs.Names.{Bool, Core, Deployment, Item, KeepsNoNull, Kind, List, None, Null, Option, Ordering, PlainState, Right, Row, RowKey, Rows, Some, T, Value, [], ap, arith, below_all, cond, content_in, entries_sorted, false, find, flat_map, get-entries, head_key, is_eq, is_lt, is_sorted, item_cmp, item_exact, item_text, item_total, key_cmp, key_same, line_at, listed, listed_under, listing_of, no_null, or_null, refl, row_line, run_of, same_entries, shown_under, subst, sym, tables_text, tied_itself, true, value_line, zero, ℕ, ◌&&◌, ◌++◌, ◌∙◌, ◌∷◌, ◌≡◌}
-use Rattle.beldi_laws.proofs.Names.kinds
-use Rattle.beldi_laws.proofs.Names.map
-use Rattle.beldi_laws.proofs.Names.rows
 use Rattle.beldi_laws.proofs.Standing.{same_run}
+use Rattle.beldi_laws.proofs.Names.map
 
 -- ---- the entries of rows, as entries of items
 not_null : Value → Option Value
@@ -16,7 +14,7 @@ valued x v = Some (x, v)
 
 -- the item whose first row it is, with the value that is shown, where that is not null
 abbrev item_entry : Rows → ℕ → Kind → Row → Option (Item × Value)
-item_entry m f (kinds.Data t k zero) (rows.Cell c) = valued (record { func = f; table = t; key = k }) (shown_under m f t k c.owner c.value)
+item_entry m f (Kind.Data t k zero) (Row.Cell c) = valued (record { func = f; table = t; key = k }) (shown_under m f t k c.owner c.value)
 item_entry m f k r = None
 
 abbrev cons_some : {X : Type 0} → Option X → List X → List X
@@ -64,7 +62,7 @@ sorted_valued : (y : Item) (v : Value) (zs : List (Item × Value)) → T (below_
 sorted_valued y v zs h g = grind arith
 
 sorted_entry : (m : Rows) (f : ℕ) (k : Kind) (r : Row) (es : List (RowKey × Row)) → T (below_all key_cmp (record { home = f; kind = k }) es) → T (is_sorted item_cmp (items_in m es)) → T (is_sorted item_cmp (cons_some (item_entry m f k r) (items_in m es)))
-sorted_entry m f (kinds.Data t k zero) (rows.Cell c) es h g = sorted_valued (record { func = f; table = t; key = k }) (shown_under m f t k c.owner c.value) (items_in m es) (below_items m (record { func = f; table = t; key = k }) es h) g
+sorted_entry m f (Kind.Data t k zero) (Row.Cell c) es h g = sorted_valued (record { func = f; table = t; key = k }) (shown_under m f t k c.owner c.value) (items_in m es) (below_items m (record { func = f; table = t; key = k }) es h) g
 sorted_entry m f k r es h g = g
 
 sorted_items : (m : Rows) (es : List (RowKey × Row)) → T (is_sorted key_cmp es) → T (is_sorted item_cmp (items_in m es))
@@ -97,9 +95,9 @@ unfolding not_null
 own_valued x Null zs h = h
 own_valued x v zs h = ap (λ o. cond (is_eq o) (Some v) (find item_cmp x zs)) (tied_itself item_total x)
 
-own_entry : (m : Rows) (x : Item) (r : Row) (zs : List (Item × Value)) → find item_cmp x zs ≡ None → find item_cmp x (cons_some (item_entry m x.func (kinds.Data x.table x.key 0) r) zs) ≡ shown_in m x (Some r)
+own_entry : (m : Rows) (x : Item) (r : Row) (zs : List (Item × Value)) → find item_cmp x zs ≡ None → find item_cmp x (cons_some (item_entry m x.func (Kind.Data x.table x.key 0) r) zs) ≡ shown_in m x (Some r)
 unfolding shown_in not_null
-own_entry m x (rows.Cell c) zs h = own_valued x (listed_under m x c.owner c.value) zs h
+own_entry m x (Row.Cell c) zs h = own_valued x (listed_under m x c.owner c.value) zs h
 own_entry m x r zs h = h
 
 found : (m : Rows) (x : Item) (es : List (RowKey × Row)) → T (is_sorted key_cmp es) → find item_cmp x (items_in m es) ≡ shown_in m x (find key_cmp (head_key x) es)

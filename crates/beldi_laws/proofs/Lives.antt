@@ -1,14 +1,10 @@
 -- Live runs, and what they know when the book has grown.
+use borrow.Author.Tests.{ltb-true}
+use Rattle.std.proofs.Common.{◌-◌}
 use Rattle.beldi_laws.proofs.Names.{Answer, Begins, Begun, Body, Bool, Caller, Deployment, Entry, Equal-is, FinMap, Grown, GrownAt, Grows, Inside, Instance, IntentId, IsAt, IsBodyOf, IsKeptLate, IsLast, IsTrue, Item, Keeps, Known, Knows, KnowsAt, List, Looks, Machine, None, Option, PlainState, Read, Registers, Rows, Run, RunAt, RunTx, RunsMatch, Some, StandsAt, Value, WasThere, [], answered, ap, append-nil, append_assoc, arith, changed, changes_more, changes_of, cond, count_changes, elsewhere, false, get-insert, get-remove, here, is_eq, is_some, len-insert, len-remove, length, length-append, ltb-false, most_runs, moved, nat_cmp, nat_cmp-IsAntisymmetric, nat_cmp_total, nat_lt, open_of, put_got, put_run, refl, subst, sym, true, with_answer, ℕ, ◌++◌, ◌+◌, ◌<◌, ◌∙◌, ◌∷◌, ◌≡◌, ◌≤◌}
-use Rattle.beldi_laws.proofs.Names.answer
-use Rattle.beldi_laws.proofs.Names.entry
+use Rattle.beldi_laws.proofs.{Grown.moved_longer, Outside.grown_there, Cases.by_option, Cases.false_by}
 use Rattle.beldi_laws.proofs.Names.map
 use Rattle.beldi_laws.proofs.Names.standing
-use Rattle.std.proofs.Common.{◌-◌}
-use borrow.Author.Tests.{ltb-true}
-use Rattle.beldi_laws.proofs.Grown.{moved_longer}
-use Rattle.beldi_laws.proofs.Outside.{grown_there}
-use Rattle.beldi_laws.proofs.Cases.{by_option, false_by}
 
 -- ---- a run knows what it knew, when the book and the plain state have grown
 answers_of : Option Instance → List Answer
@@ -108,18 +104,18 @@ places_last d book e known next q last id answers later before x v s back h = re
 -- a read that is kept late leaves the places of all others as they are
 module _ (d : Deployment) (book : List Entry) (p : PlainState) (id : IntentId) (s : ℕ) (a : Instance) (v : Value) (known : Known) (made : map.get known id ≡ Some a) (late : IsKeptLate d book p id s a v) where
   abbrev more : List Entry
-  more = book ++ entry.Read id s ∷ []
+  more = book ++ Entry.Read id s ∷ []
 
   abbrev then_so : Known
-  then_so = map.insert known id (moved d id a (answer.Value v))
+  then_so = map.insert known id (moved d id a (Answer.Value v))
 
   answered_since : (j : IntentId) → id ≡ j → NotAnswered known then_so j → ⊥
   unfolding NotAnswered answers_of
   answered_since j same h =
       let was = ap (λ i. answers_of (map.get known i)) (sym same) ∙ ap answers_of made in
-      let is = ap (λ i. answers_of (map.get then_so i)) (sym same) ∙ ap answers_of (here known id (moved d id a (answer.Value v))) in
+      let is = ap (λ i. answers_of (map.get then_so i)) (sym same) ∙ ap answers_of (here known id (moved d id a (Answer.Value v))) in
       let n = ap length (sym was ∙ h ∙ is) in
-      let k = moved_longer d id a (answer.Value v) in
+      let k = moved_longer d id a (Answer.Value v) in
       omega (arith, n, k)
 
   there_late : (other : IntentId) (answers : List Answer) (x : Item) (u : Value) (t : ℕ) → (id ≡ other → ⊥) → WasThere d book other answers x u t → WasThere d more other answers x u t
@@ -129,7 +125,7 @@ module _ (d : Deployment) (book : List Entry) (p : PlainState) (id : IntentId) (
       state = with_answer w.state id a v;
       is_state = late.since t w.state (ltb-false t s e) w.is_state;
       instance = w.instance;
-      made = elsewhere w.state.made id other (answered a (answer.Value v)) apart ∙ w.made;
+      made = elsewhere w.state.made id other (answered a (Answer.Value v)) apart ∙ w.made;
       same = w.same;
       value = w.value;
       unlocked = λ j held. w.unlocked j (sym (late.locks t w.state (ltb-false t s e) w.is_state x j) ∙ held);
@@ -139,7 +135,7 @@ module _ (d : Deployment) (book : List Entry) (p : PlainState) (id : IntentId) (
   pub places_late : PlacesOn d book more known then_so
   unfolding PlacesOn
   places_late j answers later before x u t back h = record {
-    few = more_changes book (entry.Read id s) t h.few;
+    few = more_changes book (Entry.Read id s) t h.few;
     was_there = λ none. there_late j answers x u t (λ same. answered_since j same (back none).1) (h.was_there (back none).0);
   }
 

@@ -1,60 +1,38 @@
 -- The turns of an operation of a transaction up to its lock: a read looks whether a value was kept for it, the row is put that says that
 -- the lock is asked for, and the lock of the item is tried.
-use Rattle.beldi_laws.proofs.Names.{Act, Answer, AtItem, Begun, Bool, ByTx, Cause, Content, Core, Deployment, DidAs, DidOnce, Effect, Fits, Found, Frame, Goes, HasLock, InOperation, Inside, IntentId, IsAnswer, IsDeath, IsFreePlace, IsFront, Item, Known, Knows, List, Lock, LockAt, LockTold, Lockset, LoggedTurn, Logs, Look, Make, MakeCell, Matches, None, Note, OfBegin, Option, Owner, Place, Plain, PutLockset, Query, Released, Right, Row, RowKey, Rows, Run, RunTx, Sane, Says, Some, SoundAt, TxAt, TxId, Value, WriteAt, WriteGoes, WriteWalk, [], act, age_of, ahead_by, ahead_front, ahead_set, ap, arith, asks_of, begin_of, behind_asks, behind_locks, behind_looks, behind_looks_dead, by_op, content_apart, content_here, content_in, content_of, death_answer, death_in, death_is_older, deaths_go, decision_key, did_lists, died, died_at, died_lists, dies, dies_inside, done_to, effect_after, effect_of, end_place, ended_by, false, given_goes, given_in, given_of, grows_self, has_asked, head_key, held, id_cmp, if◌then◌else◌, inl, inr, inserted, is_data, is_eq, is_item, is_log, is_shadow, is_some, item_asks, item_goes, item_of, key_cmp, kinds_apart, last_step, length, listed, lists_same, lock_answer, lock_did, lock_in, lock_is_there, lock_leads, lock_on, lock_or, locked_goes, lockset_ahead, lockset_key, lockset_put, log_key, looked, moved, no_row, none_out, note_at, note_goes, note_here, note_is_ahead, note_pushed, noted, noted_or, notes_stay, op_act, other_owner, owed_lockset, place_eq, place_of, place_same, put_goes, put_lockset, refl, rows_after, rows_go, said, same_some, sane_died, set_here, set_others, set_row, shadow_key, subst, sym, told, told_by, touched, true, true_false, turn_next, turned_by, tx_after, tx_end, tx_here_asks, tx_here_says, tx_now, tx_of, tx_says, unchanged, undecided, value_at, walk_so, with_note, write_asks, write_goes, ℕ, ◌++◌, ◌<◌, ◌∙◌, ◌∷◌, ◌≡◌}
-use Rattle.beldi_laws.proofs.Names.answer
-use Rattle.beldi_laws.proofs.Names.at
-use Rattle.beldi_laws.proofs.Names.effect
-use Rattle.beldi_laws.proofs.Names.kinds
-use Rattle.beldi_laws.proofs.Names.map
-use Rattle.beldi_laws.proofs.Names.rows
-use Rattle.beldi_laws.proofs.Names.says
-use Rattle.beldi_laws.proofs.Names.stage
-use Rattle.beldi_laws.proofs.Names.value
-use Rattle.beldi_laws.proofs.Names.wait
-use Rattle.beldi_laws.proofs.Names.writes
-use Rattle.beldi_row.specs.declared.notes.Note.TheVariants as notes
 use Rattle.beldi_daal.specs.declared.cell.WriteAt.TheVariants.{Try}
-use Rattle.beldi_known.specs.Acts.{Told}
-use Rattle.beldi_known.proofs.Lists.{elsewhere}
-use Rattle.beldi_laws.proofs.Ages.{Holder, dies_so, free_of, holder_made, only_one}
+use Rattle.beldi_known.{specs.Acts.Told, proofs.Lists.elsewhere}
+use Rattle.beldi_laws.proofs.Names.{Act, Answer, AtItem, Begun, Bool, ByTx, Cause, Content, Core, Deployment, DidAs, DidOnce, Effect, Fits, Found, Frame, Goes, HasLock, InOperation, Inside, IntentId, IsAnswer, IsDeath, IsFreePlace, IsFront, Item, Known, Knows, List, Lock, LockAt, LockTold, Lockset, LoggedTurn, Logs, Look, Make, MakeCell, Matches, None, Note, OfBegin, Option, Owner, Place, Plain, PutLockset, Query, Released, Right, Row, RowKey, Rows, Run, RunTx, Sane, Says, Some, SoundAt, TxAt, TxId, Value, WriteAt, WriteGoes, WriteWalk, [], act, age_of, ahead_by, ahead_front, ahead_set, ap, arith, asks_of, begin_of, behind_asks, behind_locks, behind_looks, behind_looks_dead, by_op, content_apart, content_here, content_in, content_of, death_answer, death_in, death_is_older, deaths_go, decision_key, did_lists, died, died_at, died_lists, dies, dies_inside, done_to, effect_after, effect_of, end_place, ended_by, false, given_goes, given_in, given_of, grows_self, has_asked, head_key, held, id_cmp, if◌then◌else◌, inl, inr, inserted, is_data, is_eq, is_item, is_log, is_shadow, is_some, item_asks, item_goes, item_of, key_cmp, kinds_apart, last_step, length, listed, lists_same, lock_answer, lock_did, lock_in, lock_is_there, lock_leads, lock_on, lock_or, locked_goes, lockset_ahead, lockset_key, lockset_put, log_key, looked, moved, no_row, none_out, note_at, note_goes, note_here, note_is_ahead, note_pushed, noted, noted_or, notes_stay, op_act, other_owner, owed_lockset, place_eq, place_of, place_same, put_goes, put_lockset, refl, rows_after, rows_go, said, same_some, sane_died, set_here, set_others, set_row, shadow_key, subst, sym, told, told_by, touched, true, true_false, turn_next, turned_by, tx_after, tx_end, tx_here_asks, tx_here_says, tx_now, tx_of, tx_says, unchanged, undecided, value_at, walk_so, with_note, write_asks, write_goes, ℕ, ◌++◌, ◌<◌, ◌∙◌, ◌∷◌, ◌≡◌, Kind, Stage, Wait}
 use Rattle.beldi_laws.proofs.Frames.{NoFinish, frame_held, frame_item, frame_lockset, is_lockset, items_stay, no_finish, nobody_new, nobody_set}
-use Rattle.beldi_laws.proofs.Settling.{settled_operated}
-use Rattle.beldi_laws.proofs.Grown.{grown_moved, grows_moved, moved_more}
+use Rattle.beldi_laws.proofs.{Ages.Holder, Ages.dies_so, Ages.free_of, Ages.holder_made, Ages.only_one, Settling.settled_operated, Grown.grown_moved, Grown.grows_moved, Grown.moved_more, Keeping.act_stays, Keeping.as_it_was, Keeping.set_shadows, Keeping.stays_by, Moves.AfterQuery, Moves.Kept, Moves.SameRoots, Moves.Stays, Others.kept_moving, Owed.content_kept, Owed.contents_kept, Owed.others_list, Ended.ended_at, Shown.holds_here, Shown.settled, Turns.Freed, Turns.Leaves, Cases.false_by}
+use Rattle.beldi_laws.proofs.Names.map
 use Rattle.beldi_laws.proofs.InTx as in_tx
-use Rattle.beldi_laws.proofs.Keeping.{act_stays, as_it_was, set_shadows, stays_by}
-use Rattle.beldi_laws.proofs.Moves.{AfterQuery, Kept, SameRoots, Stays}
-use Rattle.beldi_laws.proofs.Others.{kept_moving}
-use Rattle.beldi_laws.proofs.Owed.{content_kept, contents_kept, others_list}
-use Rattle.beldi_laws.proofs.Ended.{ended_at}
-use Rattle.beldi_laws.proofs.Shown.{holds_here, settled}
 use Rattle.beldi_laws.proofs.Turns as turns
-use Rattle.beldi_laws.proofs.Turns.{Freed, Leaves}
-use Rattle.beldi_laws.proofs.Cases.{false_by}
 
 -- ---- where an operation may stand
-fits_lock : (e : Effect) (l j : LockAt) → Fits e (at.Lock l) → Fits e (at.Lock j)
+fits_lock : (e : Effect) (l j : LockAt) → Fits e (TxAt.Lock l) → Fits e (TxAt.Lock j)
 fits_lock e l j h = grind arith
 
 -- a read alone looks for a kept value
-looks_lock : (e : Effect) (l : LockAt) → Fits e at.Log → Fits e (at.Lock l)
+looks_lock : (e : Effect) (l : LockAt) → Fits e TxAt.Log → Fits e (TxAt.Lock l)
 looks_lock e l h = grind arith
 
 -- its item, as its stage asks for it
 item_touched : (e : Effect) → item_of e ≡ touched e
 item_touched e = grind arith
 
-looks_read : (e : Effect) (x : ℕ × List ℕ) → Fits e at.Log → touched e ≡ Some x → e ≡ effect.Read x.0 x.1
+looks_read : (e : Effect) (x : ℕ × List ℕ) → Fits e TxAt.Log → touched e ≡ Some x → e ≡ Effect.Read x.0 x.1
 looks_read e x h on = grind arith
 
 -- before its lock it found nothing
-none_found : (e : Effect) (l : LockAt) (r : Option Row) (v : Value) → Found e (at.Lock l) r v
+none_found : (e : Effect) (l : LockAt) (r : Option Row) (v : Value) → Found e (TxAt.Lock l) r v
 none_found e l r v = grind arith
 
 -- ---- a note that was told was there
 told_note : (p : Place) (t : TxId) (c x : Content) (w : Note) → lock_on p t c ≡ (x, noted w) → note_at c.notes p ≡ Some w
 told_note p t c x w h = by_note (note_at c.notes p) h
   where
-    by_age : (o : Owner) (b : Bool) → ◌≡◌ {A = Content × Told} (if b then (c, held o) else (with_note c p (notes.Died (age_of o)), died (age_of o))) (x, noted w) → ⊥
+    by_age : (o : Owner) (b : Bool) → ◌≡◌ {A = Content × Told} (if b then (c, held o) else (with_note c p (Note.Died (age_of o)), died (age_of o))) (x, noted w) → ⊥
     by_age o b g = grind arith
 
     by_owner : (o : Option Owner) → lock_or p t c o ≡ (x, noted w) → ⊥
@@ -65,36 +43,36 @@ told_note p t c x w h = by_note (note_at c.notes p) h
 
 -- a new note is that of the lock, or of the death
 abbrev IsNew : Option IntentId → Note → Type 0
-IsNew None u = u ≡ notes.Got
-IsNew (Some j) u = u ≡ notes.Died j
+IsNew None u = u ≡ Note.Got
+IsNew (Some j) u = u ≡ Note.Died j
 
 new_note : (p : Place) (who : Owner) (c b : Content) (j : Option IntentId) (u : Note) → DidAs p who Lock j c b → note_at c.notes p ≡ None → note_at b.notes p ≡ Some u → IsNew j u
-new_note p who c b None u did none there = same_some (sym there ∙ ap (λ (z : Content). note_at z.notes p) did.1 ∙ note_here c.notes p notes.Got none)
-new_note p who c b (Some j) u did none there = same_some (sym there ∙ ap (λ (z : Content). note_at z.notes p) did ∙ note_here c.notes p (notes.Died j) none)
+new_note p who c b None u did none there = same_some (sym there ∙ ap (λ (z : Content). note_at z.notes p) did.1 ∙ note_here c.notes p Note.Got none)
+new_note p who c b (Some j) u did none there = same_some (sym there ∙ ap (λ (z : Content). note_at z.notes p) did ∙ note_here c.notes p (Note.Died j) none)
 
 -- .. and no other
 abbrev is_locks : Note → Bool
-is_locks notes.Got = true
-is_locks (notes.Died j) = true
+is_locks Note.Got = true
+is_locks (Note.Died j) = true
 is_locks u = false
 
 not_new : (j : Option IntentId) (u : Note) → is_locks u ≡ false → IsNew j u → ⊥
 not_new j u off new = grind arith
 
-one_death : {i j : IntentId} → notes.Died j ≡ notes.Died i → i ≡ j
+one_death : {i j : IntentId} → Note.Died j ≡ Note.Died i → i ≡ j
 one_death same = cc
 
-one_cause : {b c : Cause} → answer.Aborted b ≡ answer.Aborted c → b ≡ c
+one_cause : {b c : Cause} → Answer.Aborted b ≡ Answer.Aborted c → b ≡ c
 one_cause same = cc
 
 -- a lock that is ahead is no death
-none_dead : (y : Item) (f : ℕ) (t : Option TxId) (e : Effect) (b : Bool) (j : IntentId) → ahead_by y f t e b ≡ Some (notes.Died j) → ⊥
+none_dead : (y : Item) (f : ℕ) (t : Option TxId) (e : Effect) (b : Bool) (j : IntentId) → ahead_by y f t e b ≡ Some (Note.Died j) → ⊥
 none_dead y f None e b j same = cc
 none_dead y f (Some t) e false j same = cc
 none_dead y f (Some t) e true j same = grind (arith, same)
 
 -- a death that was noted is the answer
-noted_death : (p : Place) (a : Answer) (j : IntentId) → Some (answer.Aborted (record { place = p; holder = Some j })) ≡ death_in a → answer.Aborted (record { place = p; holder = Some j }) ≡ a
+noted_death : (p : Place) (a : Answer) (j : IntentId) → Some (Answer.Aborted (record { place = p; holder = Some j })) ≡ death_in a → Answer.Aborted (record { place = p; holder = Some j }) ≡ a
 noted_death p a j h = grind arith
 
 -- ---- the turns
@@ -122,15 +100,15 @@ module _ (d : Deployment) (c : Core) (m : Rows) (i : ℕ) (r : Run) (g : Begun) 
   asks_it a z = subst (λ y. AfterQuery d h.plain c.now m (λ u. turn_next c i r (turned_by d r g (tx_here_says r.id g.machine.steps e a (Some o) u))) (asks_of r.func place own e a y)) (sym (item_touched e ∙ touch)) z
 
   -- what it finds where it asks for its lock
-  in_lock : (n : Rows) (l : LockAt) → OfBegin (begin_of o) (at.Lock l) → (has_asked (at.Lock l) ≡ true → is_some (map.get n (lockset_key r.id (begin_of o) item)) ≡ true) → InOperation d n h.plain h.known r.id r.func o g.machine.steps e (at.Lock l) x
+  in_lock : (n : Rows) (l : LockAt) → OfBegin (begin_of o) (TxAt.Lock l) → (has_asked (TxAt.Lock l) ≡ true → is_some (map.get n (lockset_key r.id (begin_of o) item)) ≡ true) → InOperation d n h.plain h.known r.id r.func o g.machine.steps e (TxAt.Lock l) x
   in_lock n l begin asked = record { begin = begin; asked = asked; locked = tt; found = λ q made same. none_found e l (map.get n (shadow_key own item)) (value_at h.plain item) }
 
   -- it goes on in its operation, or has the answer that is known
-  goes_at : (b : TxAt) (n : Rows) (after : IntentId → Bool) → SameRoots m n → Kept h n h.plain h.known after → Fits e b → InOperation d n h.plain h.known r.id r.func o g.machine.steps e b x → Comes (says.On (stage.Tx b) None) n
+  goes_at : (b : TxAt) (n : Rows) (after : IntentId → Bool) → SameRoots m n → Kept h n h.plain h.known after → Fits e b → InOperation d n h.plain h.known r.id r.func o g.machine.steps e b x → Comes (Says.On (Stage.Tx b) None) n
   unfolding Comes
   goes_at = in_tx.goes_at d c m i r g h live k finds o tx here e is x touch
 
-  replays : (n : Rows) (a : Answer) (rest : List Answer) → k.later ≡ a ∷ rest → SameRoots m n → Stays h n → Comes (says.Answers a None) n
+  replays : (n : Rows) (a : Answer) (rest : List Answer) → k.later ≡ a ∷ rest → SameRoots m n → Stays h n → Comes (Says.Answers a None) n
   unfolding Comes
   replays = in_tx.replays d c m i r g h live k finds o tx here e is x touch
 
@@ -197,44 +175,44 @@ module _ (d : Deployment) (c : Core) (m : Rows) (i : ℕ) (r : Run) (g : Begun) 
     -- without a note the lock is not ahead
     not_locked : note_at (content_of m item).notes place ≡ None → h.locked r.id ≡ false
     not_locked none = false_by (h.locked r.id) (λ z.
-        let got = as_run (λ y q. note_at (content_of m y).notes q ≡ Some notes.Got) (lock_is_there d m h.known h.locked h.rows r.id k.instance k.made few_now its_item own tx_is (ap (is_item its_item k.instance.func) front.touch ∙ in_tx.item_self k.instance.func x.0 x.1) z) in
+        let got = as_run (λ y q. note_at (content_of m y).notes q ≡ Some Note.Got) (lock_is_there d m h.known h.locked h.rows r.id k.instance k.made few_now its_item own tx_is (ap (is_item its_item k.instance.func) front.touch ∙ in_tx.item_self k.instance.func x.0 x.1) z) in
         let clash = sym none ∙ got in cc)
 
   -- ---- what was kept for a read
-  module _ (fits : Fits e at.Log) where
+  module _ (fits : Fits e TxAt.Log) where
     abbrev log_row : RowKey
     log_row = log_key r.func place
 
-    is_read : effect_after d k.instance k.answers ≡ effect.Read x.0 x.1
+    is_read : effect_after d k.instance k.answers ≡ Effect.Read x.0 x.1
     is_read = in_tx.effect_so d c m r g h k o here e is x touch ∙ looks_read e x fits touch
 
     -- its row, as its instance has it
     its_row : (n : ℕ) → g.machine.steps ≡ n → map.get m (log_key k.instance.func (place_of r.id n)) ≡ map.get m log_row
     its_row n same = ap (map.get m) (λ j. log_key (k.func j) (place_of r.id (sym same j)))
 
-    behind_row : (a : Answer) (rest : List Answer) → k.later ≡ a ∷ rest → (w : Row) → map.get m log_row ≡ Some w → answer.Value (given_in w) ≡ a
+    behind_row : (a : Answer) (rest : List Answer) → k.later ≡ a ∷ rest → (w : Row) → map.get m log_row ≡ Some w → Answer.Value (given_in w) ≡ a
     behind_row a rest left w there = by_answer a left (subst (λ z. IsAnswer place (Some own) z a) (looks_read e x fits touch) (in_tx.answers_so d c m r g h k o here e is x touch a rest left))
       where
-        by_answer : (b : Answer) → k.later ≡ b ∷ rest → IsAnswer place (Some own) (effect.Read x.0 x.1) b → answer.Value (given_in w) ≡ b
-        by_answer (answer.Value v) left ok =
-            let row = behind_looks d m h.known h.locked h.rows r.id k.instance k.made (turns.sane_instance h k) k.answers (answer.Value v) rest (all (answer.Value v) rest left)
+        by_answer : (b : Answer) → k.later ≡ b ∷ rest → IsAnswer place (Some own) (Effect.Read x.0 x.1) b → Answer.Value (given_in w) ≡ b
+        by_answer (Answer.Value v) left ok =
+            let row = behind_looks d m h.known h.locked h.rows r.id k.instance k.made (turns.sane_instance h k) k.answers (Answer.Value v) rest (all (Answer.Value v) rest left)
             few x.0 x.1 v is_read refl in
-            ap (λ z. answer.Value (given_in z)) (same_some (sym there ∙ sym (its_row (length k.answers) (turns.at_steps k)) ∙ row))
-        by_answer (answer.Aborted z) left ok =
-            let row = behind_looks_dead d m h.known h.locked h.rows r.id k.instance k.made (turns.sane_instance h k) k.answers (answer.Aborted z) rest (all (answer.Aborted z) rest left)
+            ap (λ z. Answer.Value (given_in z)) (same_some (sym there ∙ sym (its_row (length k.answers) (turns.at_steps k)) ∙ row))
+        by_answer (Answer.Aborted z) left ok =
+            let row = behind_looks_dead d m h.known h.locked h.rows r.id k.instance k.made (turns.sane_instance h k) k.answers (Answer.Aborted z) rest (all (Answer.Aborted z) rest left)
             few x.0 x.1 z is_read refl in
             let clash = sym there ∙ sym (its_row (length k.answers) (turns.at_steps k)) ∙ row in cc
         by_answer b left ok = absurd ok
 
-    by_row : (v : Option Row) → map.get m log_row ≡ v → Comes (tx_says at.Log (given_goes (begin_of o) (given_of (said (act Look c.now v).1)))) m
-    by_row None there = goes_at (at.Lock (Lockset (begin_of o))) m h.locked (λ t. refl) (as_it_was h) (looks_lock e (Lockset (begin_of o)) fits) (in_lock m (Lockset (begin_of o)) refl (λ asked. cc))
+    by_row : (v : Option Row) → map.get m log_row ≡ v → Comes (tx_says TxAt.Log (given_goes (begin_of o) (given_of (said (act Look c.now v).1)))) m
+    by_row None there = goes_at (TxAt.Lock (Lockset (begin_of o))) m h.locked (λ t. refl) (as_it_was h) (looks_lock e (Lockset (begin_of o)) fits) (in_lock m (Lockset (begin_of o)) refl (λ asked. cc))
     by_row (Some w) there = turns.by_answer k
         (λ left. let clash = sym there ∙ sym (its_row (length k.instance.answers) (turns.step_here k left)) ∙ no_row d m h.known h.locked h.rows r.id k.instance k.made in cc)
-        (λ a rest left. subst (λ z. Comes (says.Answers z None) m) (sym (behind_row a rest left w there)) (replays m a rest left (λ t. refl) (as_it_was h)))
+        (λ a rest left. subst (λ z. Comes (Says.Answers z None) m) (sym (behind_row a rest left w there)) (replays m a rest left (λ t. refl) (as_it_was h)))
 
-    pub log_turn : Turns at.Log
+    pub log_turn : Turns TxAt.Log
     unfolding Comes
-    log_turn = asks_it at.Log (subst (λ n. Comes (tx_says at.Log (given_goes (begin_of o) (given_of (said (act Look c.now (map.get m log_row)).1)))) n) (sym (looked c.now log_row m)) (by_row (map.get m log_row) refl))
+    log_turn = asks_it TxAt.Log (subst (λ n. Comes (tx_says TxAt.Log (given_goes (begin_of o) (given_of (said (act Look c.now (map.get m log_row)).1)))) n) (sym (looked c.now log_row m)) (by_row (map.get m log_row) refl))
 
   -- ---- the row that says that the lock is asked for
   abbrev lock_row : RowKey
@@ -242,35 +220,35 @@ module _ (d : Deployment) (c : Core) (m : Rows) (i : ℕ) (r : Run) (g : Begun) 
 
   module _ (left : k.later ≡ []) where
     abbrev asked_now : Rows
-    asked_now = set_row m lock_row (Some rows.Lockset)
+    asked_now = set_row m lock_row (Some Row.Lockset)
 
     asked_matches : Matches d asked_now h.known h.locked
-    asked_matches = subst (λ l. Matches d (set_row m l (Some rows.Lockset)) h.known h.locked) (λ j. lockset_key r.id ((in_tx.begin_is r.id r.func o) j) (same_item j))
+    asked_matches = subst (λ l. Matches d (set_row m l (Some Row.Lockset)) h.known h.locked) (λ j. lockset_key r.id ((in_tx.begin_is r.id r.func o) j) (same_item j))
         (lockset_put d h.known h.locked m h.rows r.id k.instance own x k.made (in_tx.open_still d c m r g h k o here e is x touch left) (tx_is left) (not_ended left) (front left).touch)
 
     asked_lists : (y : Item) → listed asked_now y ≡ listed m y
-    asked_lists y = lists_same m asked_now y (content_apart m lock_row (Some rows.Lockset) y (kinds_apart is_data (head_key y) lock_row refl refl))
-        (λ t. elsewhere m lock_row (Some rows.Lockset) is_log (decision_key t) refl refl) (λ t. elsewhere m lock_row (Some rows.Lockset) is_shadow (shadow_key t y) refl refl)
+    asked_lists y = lists_same m asked_now y (content_apart m lock_row (Some Row.Lockset) y (kinds_apart is_data (head_key y) lock_row refl refl))
+        (λ t. elsewhere m lock_row (Some Row.Lockset) is_log (decision_key t) refl refl) (λ t. elsewhere m lock_row (Some Row.Lockset) is_shadow (shadow_key t y) refl refl)
 
     asked_kept : Stays h asked_now
-    asked_kept = stays_by h asked_now (set_shadows m lock_row (Some rows.Lockset) refl) asked_matches (λ y. asked_lists y ∙ h.values y) (frame_lockset d m h.plain h.plain h.known h.known (items_stay d m h.plain h.plain h.known refl) (nobody_new d h.known) r.id (begin_of o) item (in_tx.asks_alone d c m r g h k o here e is x touch left))
-        (no_finish m asked_now lock_row (set_others m lock_row (Some rows.Lockset)) d h.known refl)
+    asked_kept = stays_by h asked_now (set_shadows m lock_row (Some Row.Lockset) refl) asked_matches (λ y. asked_lists y ∙ h.values y) (frame_lockset d m h.plain h.plain h.known h.known (items_stay d m h.plain h.plain h.known refl) (nobody_new d h.known) r.id (begin_of o) item (in_tx.asks_alone d c m r g h k o here e is x touch left))
+        (no_finish m asked_now lock_row (set_others m lock_row (Some Row.Lockset)) d h.known refl)
 
-  module _ (fits : Fits e (at.Lock (Lockset (begin_of o)))) where
-    by_lockset : (v : Option Row) → map.get m lock_row ≡ v → Comes (tx_says (at.Lock (Lockset (begin_of o))) (lock_leads place e (put_goes (begin_of o) (said (act PutLockset c.now v).1)))) (set_row m lock_row (act PutLockset c.now v).0)
+  module _ (fits : Fits e (TxAt.Lock (Lockset (begin_of o)))) where
+    by_lockset : (v : Option Row) → map.get m lock_row ≡ v → Comes (tx_says (TxAt.Lock (Lockset (begin_of o))) (lock_leads place e (put_goes (begin_of o) (said (act PutLockset c.now v).1)))) (set_row m lock_row (act PutLockset c.now v).0)
     by_lockset None there = turns.by_answer k
-        (λ left. goes_at (at.Lock (AtItem Try)) (set_row m lock_row (Some rows.Lockset)) h.locked (in_tx.set_roots m r.func (kinds.Lockset r.id (begin_of o) x.0 x.1) (Some rows.Lockset) refl) (asked_kept left)
-        (fits_lock e (Lockset (begin_of o)) (AtItem Try) fits) (in_lock (set_row m lock_row (Some rows.Lockset)) (AtItem Try) tt (λ asked. ap is_some (set_here m lock_row (Some rows.Lockset)))))
+        (λ left. goes_at (TxAt.Lock (AtItem Try)) (set_row m lock_row (Some Row.Lockset)) h.locked (in_tx.set_roots m r.func (Kind.Lockset r.id (begin_of o) x.0 x.1) (Some Row.Lockset) refl) (asked_kept left)
+        (fits_lock e (Lockset (begin_of o)) (AtItem Try) fits) (in_lock (set_row m lock_row (Some Row.Lockset)) (AtItem Try) tt (λ asked. ap is_some (set_here m lock_row (Some Row.Lockset)))))
         (λ a rest left. absurd (lockset_there a rest left there))
-    by_lockset (Some w) there = subst (λ n. Comes (says.On (stage.Tx (at.Lock (AtItem Try))) None) n) (sym (unchanged m lock_row (Some w) (sym there)))
-        (goes_at (at.Lock (AtItem Try)) m h.locked (λ t. refl) (as_it_was h) (fits_lock e (Lockset (begin_of o)) (AtItem Try) fits) (in_lock m (AtItem Try) tt (λ asked. ap is_some there)))
+    by_lockset (Some w) there = subst (λ n. Comes (Says.On (Stage.Tx (TxAt.Lock (AtItem Try))) None) n) (sym (unchanged m lock_row (Some w) (sym there)))
+        (goes_at (TxAt.Lock (AtItem Try)) m h.locked (λ t. refl) (as_it_was h) (fits_lock e (Lockset (begin_of o)) (AtItem Try) fits) (in_lock m (AtItem Try) tt (λ asked. ap is_some there)))
 
-  pub lockset_turn : (b : ℕ) → OfBegin (begin_of o) (at.Lock (Lockset b)) → Fits e (at.Lock (Lockset b)) → Turns (at.Lock (Lockset b))
+  pub lockset_turn : (b : ℕ) → OfBegin (begin_of o) (TxAt.Lock (Lockset b)) → Fits e (TxAt.Lock (Lockset b)) → Turns (TxAt.Lock (Lockset b))
   unfolding Comes
-  lockset_turn b same fits = subst (λ z. Turns (at.Lock (Lockset z))) (sym same) (asks_it (at.Lock (Lockset (begin_of o))) (by_lockset (fits_lock e (Lockset b) (Lockset (begin_of o)) fits) (map.get m lock_row) refl))
+  lockset_turn b same fits = subst (λ z. Turns (TxAt.Lock (Lockset z))) (sym same) (asks_it (TxAt.Lock (Lockset (begin_of o))) (by_lockset (fits_lock e (Lockset b) (Lockset (begin_of o)) fits) (map.get m lock_row) refl))
 
   -- ---- the lock of the item
-  module _ (w : WriteAt) (fits : Fits e (at.Lock (AtItem w))) (asked : is_some (map.get m lock_row) ≡ true) (v : Option Row)
+  module _ (w : WriteAt) (fits : Fits e (TxAt.Lock (AtItem w))) (asked : is_some (map.get m lock_row) ≡ true) (v : Option Row)
       (stay : (p : Place) (u : Note) → note_at (content_of m item).notes p ≡ Some u → note_at (content_in v).notes p ≡ Some u) (there : is_some (map.get m (head_key item)) ≡ true → is_some v ≡ true) where
     abbrev n : Rows
     n = set_row m (head_key item) v
@@ -279,7 +257,7 @@ module _ (d : Deployment) (c : Core) (m : Rows) (i : ℕ) (r : Run) (g : Begun) 
     same = set_others m (head_key item) v
 
     roots : SameRoots m n
-    roots = in_tx.set_roots m r.func (kinds.Data x.0 x.1 0) v refl
+    roots = in_tx.set_roots m r.func (Kind.Data x.0 x.1 0) v refl
 
     asked_still : is_some (map.get n lock_row) ≡ true
     asked_still = ap is_some (elsewhere m (head_key item) v is_lockset lock_row refl refl) ∙ asked
@@ -307,22 +285,22 @@ module _ (d : Deployment) (c : Core) (m : Rows) (i : ℕ) (r : Run) (g : Begun) 
       as_held whole = stays_by h n (set_shadows m (head_key item) v refl) (content_kept d m n item same h.known h.locked sound whole h.rows) (λ y. others_list m n item same y (contents_kept d m n item same whole y) ∙ h.values y)
           (frame_held d m h.plain h.plain h.known h.known (items_stay d m h.plain h.plain h.known refl) (nobody_new d h.known) n item same row_there whole) (unfinished h.known)
 
-      tries : (u : WriteAt) → content_of n item ≡ content_of m item → Comes (says.On (stage.Tx (at.Lock (AtItem u))) None) n
-      tries u whole = goes_at (at.Lock (AtItem u)) n h.locked roots (as_held whole) (fits_lock e (AtItem w) (AtItem u) fits) (in_lock n (AtItem u) tt (λ past. asked_still))
+      tries : (u : WriteAt) → content_of n item ≡ content_of m item → Comes (Says.On (Stage.Tx (TxAt.Lock (AtItem u))) None) n
+      tries u whole = goes_at (TxAt.Lock (AtItem u)) n h.locked roots (as_held whole) (fits_lock e (AtItem w) (AtItem u) fits) (in_lock n (AtItem u) tt (λ past. asked_still))
 
       -- a note of another kind is not of the lock: it stays where it is
-      other_note : (u : Note) (first : Bool) → is_locks u ≡ false → note_at (content_of n item).notes place ≡ Some u → DidOnce place (ByTx own) Lock first (content_of m item) (content_of n item) → Comes (says.On (stage.Tx (at.Lock (AtItem w))) None) n
+      other_note : (u : Note) (first : Bool) → is_locks u ≡ false → note_at (content_of n item).notes place ≡ Some u → DidOnce place (ByTx own) Lock first (content_of m item) (content_of n item) → Comes (Says.On (Stage.Tx (TxAt.Lock (AtItem w))) None) n
       other_note u true off there l = absurd (not_new (dies (ByTx own) Lock (content_of m item).owner) u off (new_note place (ByTx own) (content_of m item) (content_of n item) (dies (ByTx own) Lock (content_of m item).owner) u l.1 l.0 there))
       other_note u false off there whole = tries w whole
 
       -- with its lock it goes on
-      goes_past : (after : IntentId → Bool) → Kept h n h.plain h.known after → note_at (content_of n item).notes place ≡ Some notes.Got → Comes (tx_says (at.Lock (AtItem w)) (locked_goes e)) n
+      goes_past : (after : IntentId → Bool) → Kept h n h.plain h.known after → note_at (content_of n item).notes place ≡ Some Note.Got → Comes (tx_says (TxAt.Lock (AtItem w)) (locked_goes e)) n
       goes_past after kept got = by_effect e refl
         where
-          by_effect : (f : Effect) → f ≡ e → Comes (tx_says (at.Lock (AtItem w)) (locked_goes f)) n
-          by_effect (effect.Read t y) f = goes_at at.Shadow n after roots kept (subst (λ z. Fits z at.Shadow) f tt) (in_past at.Shadow tt got (λ z u. subst (λ q. Found q at.Shadow z u) f tt))
-          by_effect (effect.Write t y u) f = goes_at (at.Write Try) n after roots kept (subst (λ z. Fits z (at.Write Try)) f tt) (in_past (at.Write Try) tt got (λ z u. subst (λ q. Found q (at.Write Try) z u) f tt))
-          by_effect (effect.CondWrite t y l p u) f = goes_at at.Shadow n after roots kept (subst (λ z. Fits z at.Shadow) f tt) (in_past at.Shadow tt got (λ z u. subst (λ q. Found q at.Shadow z u) f tt))
+          by_effect : (f : Effect) → f ≡ e → Comes (tx_says (TxAt.Lock (AtItem w)) (locked_goes f)) n
+          by_effect (Effect.Read t y) f = goes_at TxAt.Shadow n after roots kept (subst (λ z. Fits z TxAt.Shadow) f tt) (in_past TxAt.Shadow tt got (λ z u. subst (λ q. Found q TxAt.Shadow z u) f tt))
+          by_effect (Effect.Write t y u) f = goes_at (TxAt.Write Try) n after roots kept (subst (λ z. Fits z (TxAt.Write Try)) f tt) (in_past (TxAt.Write Try) tt got (λ z u. subst (λ q. Found q (TxAt.Write Try) z u) f tt))
+          by_effect (Effect.CondWrite t y l p u) f = goes_at TxAt.Shadow n after roots kept (subst (λ z. Fits z TxAt.Shadow) f tt) (in_past TxAt.Shadow tt got (λ z u. subst (λ q. Found q TxAt.Shadow z u) f tt))
           by_effect f same = let clash = ap touched same ∙ touch in cc
 
       -- ---- at the front, where the place had no note
@@ -346,7 +324,7 @@ module _ (d : Deployment) (c : Core) (m : Rows) (i : ℕ) (r : Run) (g : Begun) 
 
           taken_matches : Matches d n h.known taken
           taken_matches = as_run left (λ y p. note_at (content_of m y).notes p ≡ None → other_owner (ByTx own) (content_of m y).owner ≡ None
-              → content_in v ≡ record { value = (content_of m y).value; owner = Some (ByTx own); notes = (content_of m y).notes ++ (p, notes.Got) ∷ [] } → Matches d (set_row m (head_key y) v) h.known taken)
+              → content_in v ≡ record { value = (content_of m y).value; owner = Some (ByTx own); notes = (content_of m y).notes ++ (p, Note.Got) ∷ [] } → Matches d (set_row m (head_key y) v) h.known taken)
               (λ none free did. lock_did d h.known h.locked r.id k.instance k.made unlocked own (tx_is left) x (front left).touch m v fits_row none free did h.rows) none free row_did
 
           taken_frame : Frame d m n h.plain h.plain h.known h.known
@@ -373,7 +351,7 @@ module _ (d : Deployment) (c : Core) (m : Rows) (i : ℕ) (r : Run) (g : Begun) 
           cause = record { place = place_now left; holder = Some j }
 
           abbrev a : Answer
-          a = answer.Aborted cause
+          a = Answer.Aborted cause
 
           abbrev next : Known
           next = map.insert h.known r.id (moved d r.id k.instance a)
@@ -393,8 +371,8 @@ module _ (d : Deployment) (c : Core) (m : Rows) (i : ℕ) (r : Run) (g : Begun) 
           died_matches : Matches d n next h.locked
           died_matches = subst (λ y. Matches d (set_row m (head_key y) v) next h.locked) same_item
               (dies_inside d h.known h.locked h.locked r.id k.instance k.made (none_out h.locked r.id unlocked) own (tx_is left) m h.rows x.0 x.1 j v (front left).touch
-              (subst (λ l. map.get m l ≡ Some rows.Lockset) (λ j. lockset_key r.id (sym (in_tx.begin_is r.id r.func o) j) (sym same_item j)) (in_tx.lockset_is (map.get m lock_row) (owed_lockset d (begin_of o) item r.id (map.get h.known r.id)) (lockset_ahead d h.known (begin_of o) item r.id (map.get h.known r.id)) (h.rows.keys lock_row) asked))
-              unlocked fits_row (back (λ y p. note_at (content_of m y).notes p ≡ None) none) (back (λ y p. content_in v ≡ with_note (content_of m y) p (notes.Died j)) row_died))
+              (subst (λ l. map.get m l ≡ Some Row.Lockset) (λ j. lockset_key r.id (sym (in_tx.begin_is r.id r.func o) j) (sym same_item j)) (in_tx.lockset_is (map.get m lock_row) (owed_lockset d (begin_of o) item r.id (map.get h.known r.id)) (lockset_ahead d h.known (begin_of o) item r.id (map.get h.known r.id)) (h.rows.keys lock_row) asked))
+              unlocked fits_row (back (λ y p. note_at (content_of m y).notes p ≡ None) none) (back (λ y p. content_in v ≡ with_note (content_of m y) p (Note.Died j)) row_died))
             where
               back : (P : Item → Place → Type 0) → P item place → P its_item (place_now left)
               back P z = subst (λ y. P y (place_now left)) (sym same_item) (subst (P item) (sym (at_place left)) z)
@@ -418,10 +396,10 @@ module _ (d : Deployment) (c : Core) (m : Rows) (i : ℕ) (r : Run) (g : Begun) 
           died_frame = frame_item d m h.plain h.plain h.known next (items_stay d m h.plain h.plain next refl) (nobody_set d h.known r.id (moved d r.id k.instance a) (ap is_some k.made)) n item same row_there notes_on
               (λ t z ended owned. record {
                 owner = ap (λ (y : Content). y.owner) (sym did) ∙ owned;
-                notes = λ p free. ap (λ (y : Content). note_at y.notes p) did ∙ note_pushed (content_of m item).notes place p (notes.Died j) none ∙ off t z p ended free (place_eq place p) refl;
+                notes = λ p free. ap (λ (y : Content). note_at y.notes p) did ∙ note_pushed (content_of m item).notes place p (Note.Died j) none ∙ off t z p ended free (place_eq place p) refl;
               })
             where
-              off : (t : TxId) (z : ℕ × Bool) (p : Place) → tx_end d next t ≡ Some z → IsFreePlace next t z.0 p → (b : Bool) → place_eq place p ≡ b → (if b then Some (notes.Died j) else note_at (content_of m item).notes p) ≡ note_at (content_of m item).notes p
+              off : (t : TxId) (z : ℕ × Bool) (p : Place) → tx_end d next t ≡ Some z → IsFreePlace next t z.0 p → (b : Bool) → place_eq place p ≡ b → (if b then Some (Note.Died j) else note_at (content_of m item).notes p) ≡ note_at (content_of m item).notes p
               off t z p ended free true here = absurd (not_free t z p ended free (place_same place p here))
               off t z p ended free false other = refl
 
@@ -435,10 +413,10 @@ module _ (d : Deployment) (c : Core) (m : Rows) (i : ℕ) (r : Run) (g : Begun) 
               (λ z u same by. subst (λ y. is_some (map.get h.plain.made y) ≡ true) (same_some (ap (λ (y : Cause). y.holder) (one_cause same) ∙ by)) (holder_made d m h.known h.locked h.rows h.sane h.plain h.beside item j (holds_here h item j) holder)) (settled h))
               (grows_moved d h.known r.id k.instance a k.made) died_frame (unfinished next)
 
-          dies_now : Comes (says.Answers (answer.Aborted (record { place = place; holder = Some j })) None) n
+          dies_now : Comes (Says.Answers (Answer.Aborted (record { place = place; holder = Some j })) None) n
           unfolding Comes
           dies_now = let more = moved_more d r.id k.instance a in
-              subst (λ p. Comes (says.Answers (answer.Aborted (record { place = p; holder = Some j })) None) n) (at_place left)
+              subst (λ p. Comes (Says.Answers (Answer.Aborted (record { place = p; holder = Some j })) None) n) (at_place left)
               (turns.answers_on d c m i r g h live k finds a more.more n next h.locked (moved d r.id k.instance a) roots died_kept (inserted h.known r.id (moved d r.id k.instance a)) (grown_moved d r.id k.instance a)
               (ap (λ ts. (ts ++ a ∷ []) ++ more.more) (turns.all_here k left) ∙ more.same) (in_tx.wants_here d c m r g h k o here e is x touch) (in_tx.frees_none d c m i r g h live k finds o tx here e is x touch n))
 
@@ -448,64 +426,64 @@ module _ (d : Deployment) (c : Core) (m : Rows) (i : ℕ) (r : Run) (g : Begun) 
       at_front none = turns.by_answer k (λ left. left) (λ a rest left. let clash = sym none ∙ note_here_is a rest left in cc)
 
       taken_now : note_at (content_of m item).notes place ≡ None → (j : Option IntentId) → dies (ByTx own) Lock (content_of m item).owner ≡ j → DidAs place (ByTx own) Lock j (content_of m item) (content_of n item)
-          → note_at (content_of n item).notes place ≡ Some notes.Got → Comes (tx_says (at.Lock (AtItem w)) (locked_goes e)) n
+          → note_at (content_of n item).notes place ≡ Some Note.Got → Comes (tx_says (TxAt.Lock (AtItem w)) (locked_goes e)) n
       taken_now none None alive did got = let left = at_front none in goes_past (lock_in h.locked r.id) (taken_kept left none (free_of own (content_of m item).owner did.0 alive) did.1) got
-      taken_now none (Some j) dead did got = let clash : notes.Got ≡ notes.Died j = new_note place (ByTx own) (content_of m item) (content_of n item) (Some j) notes.Got did none got in cc
+      taken_now none (Some j) dead did got = let clash : Note.Got ≡ Note.Died j = new_note place (ByTx own) (content_of m item) (content_of n item) (Some j) Note.Got did none got in cc
 
       died_now : note_at (content_of m item).notes place ≡ None → (j : IntentId) (b : Option IntentId) → dies (ByTx own) Lock (content_of m item).owner ≡ b → DidAs place (ByTx own) Lock b (content_of m item) (content_of n item)
-          → note_at (content_of n item).notes place ≡ Some (notes.Died j) → Comes (says.Answers (answer.Aborted (record { place = place; holder = Some j })) None) n
-      died_now none j None alive did there = let clash : notes.Died j ≡ notes.Got = new_note place (ByTx own) (content_of m item) (content_of n item) None (notes.Died j) did none there in cc
-      died_now none j (Some i) dead did there = subst (λ z. Comes (says.Answers (answer.Aborted (record { place = place; holder = Some z })) None) n)
-          (one_death (new_note place (ByTx own) (content_of m item) (content_of n item) (Some i) (notes.Died j) did none there)) (dies_now (at_front none) none i dead did)
+          → note_at (content_of n item).notes place ≡ Some (Note.Died j) → Comes (Says.Answers (Answer.Aborted (record { place = place; holder = Some j })) None) n
+      died_now none j None alive did there = let clash : Note.Died j ≡ Note.Got = new_note place (ByTx own) (content_of m item) (content_of n item) None (Note.Died j) did none there in cc
+      died_now none j (Some i) dead did there = subst (λ z. Comes (Says.Answers (Answer.Aborted (record { place = place; holder = Some z })) None) n)
+          (one_death (new_note place (ByTx own) (content_of m item) (content_of n item) (Some i) (Note.Died j) did none there)) (dies_now (at_front none) none i dead did)
 
       -- a death that was there is the known answer
-      died_before : (j : IntentId) → content_of n item ≡ content_of m item → note_at (content_of m item).notes place ≡ Some (notes.Died j) → Comes (says.Answers (answer.Aborted (record { place = place; holder = Some j })) None) n
+      died_before : (j : IntentId) → content_of n item ≡ content_of m item → note_at (content_of m item).notes place ≡ Some (Note.Died j) → Comes (Says.Answers (Answer.Aborted (record { place = place; holder = Some j })) None) n
       died_before j whole there = turns.by_answer k
           (λ left. absurd (none_dead its_item k.instance.func (tx_now d r.id k.instance) (effect_of d k.instance) (h.locked r.id) j
           (sym (note_is_ahead d m h.known h.locked h.rows r.id k.instance k.made (few_now left) its_item) ∙ (λ i. note_at (content_of m (same_item i)).notes (at_place left i)) ∙ there)))
           (λ a rest left.
-          let noted_so : (told_here a rest left).note ≡ notes.Died j = same_some (sym (note_here_is a rest left) ∙ there) in
-          let same : answer.Aborted (record { place = place_of r.id (length k.answers); holder = Some j }) ≡ a = noted_death (place_of r.id (length k.answers)) a j (ap (λ u. lock_answer (place_of r.id (length k.answers)) (noted u)) (sym noted_so) ∙ (told_here a rest left).says) in
-          subst (λ z. Comes (says.Answers z None) n) (sym same ∙ ap (λ q. answer.Aborted (record { place = place_of r.id q; holder = Some j })) (sym (turns.at_steps k))) (replays n a rest left roots (as_held whole)))
+          let noted_so : (told_here a rest left).note ≡ Note.Died j = same_some (sym (note_here_is a rest left) ∙ there) in
+          let same : Answer.Aborted (record { place = place_of r.id (length k.answers); holder = Some j }) ≡ a = noted_death (place_of r.id (length k.answers)) a j (ap (λ u. lock_answer (place_of r.id (length k.answers)) (noted u)) (sym noted_so) ∙ (told_here a rest left).says) in
+          subst (λ z. Comes (Says.Answers z None) n) (sym same ∙ ap (λ q. Answer.Aborted (record { place = place_of r.id q; holder = Some j })) (sym (turns.at_steps k))) (replays n a rest left roots (as_held whole)))
 
-      by_note : (u : Note) (first : Bool) → note_at (content_of n item).notes place ≡ Some u → DidOnce place (ByTx own) Lock first (content_of m item) (content_of n item) → Comes (tx_says (at.Lock (AtItem w)) (lock_leads place e (note_goes w u first))) n
-      by_note notes.Got true got l = taken_now l.0 (dies (ByTx own) Lock (content_of m item).owner) refl l.1 got
-      by_note notes.Got false got whole = goes_past h.locked (as_held whole) got
-      by_note (notes.Died j) true there l = died_now l.0 j (dies (ByTx own) Lock (content_of m item).owner) refl l.1 there
-      by_note (notes.Died j) false there whole = died_before j whole (ap (λ (z : Content). note_at z.notes place) (sym whole) ∙ there)
-      by_note notes.Wrote first there l = other_note notes.Wrote first refl there l
-      by_note (notes.Cond b) first there l = other_note (notes.Cond b) first refl there l
-      by_note notes.Freed first there l = other_note notes.Freed first refl there l
+      by_note : (u : Note) (first : Bool) → note_at (content_of n item).notes place ≡ Some u → DidOnce place (ByTx own) Lock first (content_of m item) (content_of n item) → Comes (tx_says (TxAt.Lock (AtItem w)) (lock_leads place e (note_goes w u first))) n
+      by_note Note.Got true got l = taken_now l.0 (dies (ByTx own) Lock (content_of m item).owner) refl l.1 got
+      by_note Note.Got false got whole = goes_past h.locked (as_held whole) got
+      by_note (Note.Died j) true there l = died_now l.0 j (dies (ByTx own) Lock (content_of m item).owner) refl l.1 there
+      by_note (Note.Died j) false there whole = died_before j whole (ap (λ (z : Content). note_at z.notes place) (sym whole) ∙ there)
+      by_note Note.Wrote first there l = other_note Note.Wrote first refl there l
+      by_note (Note.Cond b) first there l = other_note (Note.Cond b) first refl there l
+      by_note Note.Freed first there l = other_note Note.Freed first refl there l
 
-      waits : (u : Owner) → Stays h n → Comes (says.Waits (wait.Held u)) n
+      waits : (u : Owner) → Stays h n → Comes (Says.Waits (Wait.Held u)) n
       unfolding Comes
       waits u kept = turns.held d c m i r g h live k u n roots kept
 
-      by_goes : (z : WriteGoes) → Logs place (ByTx own) Lock (walk_so z) (content_of m item) (content_of n item) → Comes (tx_says (at.Lock (AtItem w)) (lock_leads place e (item_goes w z))) n
-      by_goes (writes.On u) whole = tries u whole
-      by_goes (writes.Done u first) l = by_note u first l.0 l.1
-      by_goes writes.NotOwner l = tries w l.2
-      by_goes (writes.Held u) l = waits u (as_held l.2)
+      by_goes : (z : WriteGoes) → Logs place (ByTx own) Lock (walk_so z) (content_of m item) (content_of n item) → Comes (tx_says (TxAt.Lock (AtItem w)) (lock_leads place e (item_goes w z))) n
+      by_goes (WriteGoes.On u) whole = tries u whole
+      by_goes (WriteGoes.Done u first) l = by_note u first l.0 l.1
+      by_goes WriteGoes.NotOwner l = tries w l.2
+      by_goes (WriteGoes.Held u) l = waits u (as_held l.2)
 
   -- .. by the act of its walk
-  module _ (w : WriteAt) (fits : Fits e (at.Lock (AtItem w))) (asked : is_some (map.get m lock_row) ≡ true) where
+  module _ (w : WriteAt) (fits : Fits e (TxAt.Lock (AtItem w))) (asked : is_some (map.get m lock_row) ≡ true) where
     abbrev walk : WriteWalk
     walk = record { home = r.func; item = Plain x.0 x.1; place = place; who = ByTx own; op = Lock; at = w }
 
     abbrev item_row : Option Row
     item_row = map.get m (head_key item)
 
-    acts : (b : Act) → (z : WriteGoes) → LoggedTurn walk m (set_row m (head_key item) (act b c.now item_row).0) (walk_so z) → Comes (tx_says (at.Lock (AtItem w)) (lock_leads place e (item_goes w z))) (set_row m (head_key item) (act b c.now item_row).0)
+    acts : (b : Act) → (z : WriteGoes) → LoggedTurn walk m (set_row m (head_key item) (act b c.now item_row).0) (walk_so z) → Comes (tx_says (TxAt.Lock (AtItem w)) (lock_leads place e (item_goes w z))) (set_row m (head_key item) (act b c.now item_row).0)
     acts b z logged = by_goes w fits asked (act b c.now item_row).0 (notes_stay b c.now item_row) (act_stays b c.now item_row) logged.sound z logged.logs
 
     abbrev asked_of : WriteAt → Query
     asked_of u = write_asks (head_key item) place (ByTx own) Lock u
 
-    by_try : (u : WriteAt) → Comes (tx_says (at.Lock (AtItem w)) (lock_leads place e (item_goes w (write_goes notes.Got (told_by (asked_of u) c.now m))))) (rows_after (asked_of u) c.now m)
-    by_try Try = acts (op_act place (ByTx own) Lock) (write_goes notes.Got (told_by (asked_of Try) c.now m)) (by_op walk m (rows_after (asked_of Try) c.now m) (h.rows.keys (head_key item)) Try c.now refl)
-    by_try Make = acts (MakeCell value.Null None) (write_goes notes.Got (told_by (asked_of Make) c.now m)) (by_op walk m (rows_after (asked_of Make) c.now m) (h.rows.keys (head_key item)) Make c.now refl)
+    by_try : (u : WriteAt) → Comes (tx_says (TxAt.Lock (AtItem w)) (lock_leads place e (item_goes w (write_goes Note.Got (told_by (asked_of u) c.now m))))) (rows_after (asked_of u) c.now m)
+    by_try Try = acts (op_act place (ByTx own) Lock) (write_goes Note.Got (told_by (asked_of Try) c.now m)) (by_op walk m (rows_after (asked_of Try) c.now m) (h.rows.keys (head_key item)) Try c.now refl)
+    by_try Make = acts (MakeCell Value.Null None) (write_goes Note.Got (told_by (asked_of Make) c.now m)) (by_op walk m (rows_after (asked_of Make) c.now m) (h.rows.keys (head_key item)) Make c.now refl)
 
-  pub lock_turn : (l : LockAt) → Fits e (at.Lock l) → InOperation d m h.plain h.known r.id r.func o g.machine.steps e (at.Lock l) x → Turns (at.Lock l)
+  pub lock_turn : (l : LockAt) → Fits e (TxAt.Lock l) → InOperation d m h.plain h.known r.id r.func o g.machine.steps e (TxAt.Lock l) x → Turns (TxAt.Lock l)
   unfolding Comes
   lock_turn (Lockset b) fits found = lockset_turn b found.begin fits
-  lock_turn (AtItem w) fits found = asks_it (at.Lock (AtItem w)) (by_try w fits (found.asked refl) w)
+  lock_turn (AtItem w) fits found = asks_it (TxAt.Lock (AtItem w)) (by_try w fits (found.asked refl) w)

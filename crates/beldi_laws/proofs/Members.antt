@@ -1,12 +1,11 @@
 -- Who took part in a transaction that has ended is who its end visits: the rows of calls lead from its owner to each of them, and to
 -- nobody else.
-use Rattle.beldi_laws.proofs.Names.{AllShort, AtEnd, Bool, CallMatches, Called, CalledBy, CallerOf, Deployment, Done, Instance, IntentId, IsAnswer, IsCall, IsCalled, IsMember, IsWay, IsWithin, Known, List, Matches, Member, None, Option, Outcome, Row, Rows, Sane, Some, TookPart, TxId, [], all_called, answer_given, ap, arith, begun_before, call_key, call_of, called_at, called_by, caller_in, child_of, effect_before, ended_by, eq-eqb, false, first_end, func_called, has_callees, has_no_hops, if◌then◌else◌, intent_key, is_some, key_in, length, length-append, lt-ltb, member_at, member_more, option_map, or_own, place_of, refl, result_of, same_some, subst, sym, take, true, tx_at, tx_by, tx_end, txs_after, visited_by, way_more, within_by, ℕ, ◌++◌, ◌<◌, ◌==◌, ◌∙◌, ◌∷◌, ◌≡◌, ◌≤◌}
-use Rattle.beldi_laws.proofs.Names.kinds
-use Rattle.beldi_laws.proofs.Names.map
 use Rattle.beldi_value.proofs.Callees.{no_root}
 use Rattle.beldi_txn.specs.Way.{callee_of}
 use Rattle.beldi_known.proofs.OwnTx.{Own}
+use Rattle.beldi_laws.proofs.Names.{AllShort, AtEnd, Bool, CallMatches, Called, CalledBy, CallerOf, Deployment, Done, Instance, IntentId, IsAnswer, IsCall, IsCalled, IsMember, IsWay, IsWithin, Known, List, Matches, Member, None, Option, Outcome, Row, Rows, Sane, Some, TookPart, TxId, [], all_called, answer_given, ap, arith, begun_before, call_key, call_of, called_at, called_by, caller_in, child_of, effect_before, ended_by, eq-eqb, false, first_end, func_called, has_callees, has_no_hops, if◌then◌else◌, intent_key, is_some, key_in, length, length-append, lt-ltb, member_at, member_more, option_map, or_own, place_of, refl, result_of, same_some, subst, sym, take, true, tx_at, tx_by, tx_end, txs_after, visited_by, way_more, within_by, ℕ, ◌++◌, ◌<◌, ◌==◌, ◌∙◌, ◌∷◌, ◌≡◌, ◌≤◌, Kind}
 use Rattle.beldi_laws.proofs.Ended.{before_end, tx_between}
+use Rattle.beldi_laws.proofs.Names.map
 
 -- ---- ids
 pub callee_is : (p : Member) (c : Called) → has_callees p.0 ≡ true → callee_of p c ≡ (child_of p.0 c.step, c.func)
@@ -158,4 +157,4 @@ module _ (d : Deployment) (known : Known) (sane : Sane d known) where
   part_below t i part = let c = caller_in d known sane t i part.instance part.made part.within in ap (λ (y : IntentId). has_no_hops y.hops) c.is ∙ no_root c.caller c.step
 
   pub part_key : (t : TxId) (i : IntentId) (func : ℕ) → TookPart known t i → intent_key i func ≡ key_in func i
-  part_key t i func part = ap (λ b. record { home = if b then 0 else func; kind = kinds.Intent i }) (part_below t i part)
+  part_key t i func part = ap (λ b. record { home = if b then 0 else func; kind = Kind.Intent i }) (part_below t i part)

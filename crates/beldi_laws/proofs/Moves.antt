@@ -1,16 +1,14 @@
 -- The host after an event: what it makes of the table, and how the book and the runs went on.
-use Rattle.beldi_laws.proofs.Names.{AllocError, Bool, Core, Deployment, Entry, Err, Frame, Grows, IntentId, IsFree, IsGuarded, IsLast, Known, KnowsAt, List, Mark, None, Ok, Option, Outcome, PlainState, Query, Result, Right, Row, RowKey, Rows, Run, RunAt, RunsMatch, Seen, SeenBounded, Some, Tell, Told, TurnSays, Turned, Wait, [], after, after_grows, after_turn, ap, append-nil, arith, change_last, changed, entry_of, false, got, grows_self, has_run, if◌then◌else◌, inl, inr, is_crowded, is_gone, is_some, key_exact, leb-false, linear, made, marked, may_start, most_runs, nat_le, nat_lt, nothing, option_map, or_parts, put_run, refl, remove_put, reply_of, root_key, rows_after, run_of, said, says_of, seen_of, set_row, started, subst, sym, told_by, told_outcome, true, turn_next, turned_core, unchanged, with_run, without_run, ℕ, ◌&&◌, ◌++◌, ◌||◌, ◌∙◌, ◌∷◌, ◌≡◌, ◌⊎◌}
-use Rattle.beldi_laws.proofs.Names.map
-use Rattle.beldi_laws.proofs.Names.seen
-use Rattle.beldi_laws.proofs.Names.wait
 use Rattle.beldi_step.specs.Run.{callee_of}
+use Rattle.beldi_laws.proofs.Names.{AllocError, Bool, Core, Deployment, Entry, Err, Frame, Grows, IntentId, IsFree, IsGuarded, IsLast, Known, KnowsAt, List, Mark, None, Ok, Option, Outcome, PlainState, Query, Result, Right, Row, RowKey, Rows, Run, RunAt, RunsMatch, Seen, SeenBounded, Some, Tell, Told, TurnSays, Turned, Wait, [], after, after_grows, after_turn, ap, append-nil, arith, change_last, changed, entry_of, false, got, grows_self, has_run, if◌then◌else◌, inl, inr, is_crowded, is_gone, is_some, key_exact, leb-false, linear, made, marked, may_start, most_runs, nat_le, nat_lt, nothing, option_map, or_parts, put_run, refl, remove_put, reply_of, root_key, rows_after, run_of, said, says_of, seen_of, set_row, started, subst, sym, told_by, told_outcome, true, turn_next, turned_core, unchanged, with_run, without_run, ℕ, ◌&&◌, ◌++◌, ◌||◌, ◌∙◌, ◌∷◌, ◌≡◌, ◌⊎◌}
 use Rattle.beldi_laws.proofs.Lives.{InsideOn, PlacesOn, places_last, places_same, runs_on, runs_put, runs_more, runs_less, runs_before, numbers_put}
 use Rattle.beldi_laws.proofs.Shown.{Shows, shown}
+use Rattle.beldi_laws.proofs.Names.map
 
 -- what an event came to, as an answer: out of memory it tells no more than one that was lost
 abbrev pub seen_by : Result Seen AllocError → Seen
 seen_by (Ok x) = x
-seen_by (Err w) = seen.Dropped
+seen_by (Err w) = Seen.Dropped
 
 -- it is right; what was made before, in the plain state p, goes on; and an outcome that the answer tells is the plain one
 pub record After (d : Deployment) (p : PlainState) (b : Core) (n : Rows) (x : Seen) : Type 0 where
@@ -130,8 +128,8 @@ if_plan S b p q g h = grind arith
 -- a turn that may start a run of what its run calls
 abbrev starts_by : Option Wait → Bool → Bool
 starts_by None starts = starts
-starts_by (Some (wait.Held o)) starts = false
-starts_by (Some (wait.Result j)) starts = true
+starts_by (Some (Wait.Held o)) starts = false
+starts_by (Some (Wait.Result j)) starts = true
 
 -- that run knows what it has to
 abbrev pub KnowsCallee : Deployment → Rows → PlainState → List Entry → Known → Run → Turned → Option Wait → Type 0
@@ -167,10 +165,10 @@ module _ (d : Deployment) (p : PlainState) (c : Core) (m : Rows) (r : Run) (s : 
   pub followed : (w : Option Wait) → KnowsCallee d m h.plain c.book h.known r s w → let z = after_turn c (callee_of r) r.id (says_of s) w in After d p z.0 m z.1
   unfolding AfterThat
   followed None knows = if_plan AfterMade s.starts _ _ (λ t. after_opened (callee_of r) (knows t)) (λ t. none_more)
-  followed (Some (wait.Held u)) knows = silent (seen.Held u) refl refl
-  followed (Some (wait.Result j)) knows =
-      if_plan AfterThat (has_run c.runs j) _ _ (λ t. silent (seen.NotYet j) refl refl)
-      (λ t. if_plan AfterThat (is_crowded c) _ _ (λ u. silent seen.Crowded refl refl) (λ u. after_started (callee_of r) (knows refl) u))
+  followed (Some (Wait.Held u)) knows = silent (Seen.Held u) refl refl
+  followed (Some (Wait.Result j)) knows =
+      if_plan AfterThat (has_run c.runs j) _ _ (λ t. silent (Seen.NotYet j) refl refl)
+      (λ t. if_plan AfterThat (is_crowded c) _ _ (λ u. silent Seen.Crowded refl refl) (λ u. after_started (callee_of r) (knows refl) u))
 
 -- ---- a run turned
 module _ (d : Deployment) (c : Core) (m n : Rows) (i : ℕ) (r : Run) (h : Right d c m) (live : map.get c.runs i ≡ Some r) (roots : SameRoots m n) where
@@ -211,8 +209,8 @@ module _ (c : Core) where
   after_so : (o : Option Run) (id : IntentId) (x : TurnSays) (w : Option Wait) → MaybeStarted c (after_turn c o id x w).0
   unfolding MaybeStarted
   after_so o id x None = if_plan (λ (q : Core × Option ℕ). MaybeStarted c q.0) x.starts _ _ (λ t. opened_so o) (λ t. inl refl)
-  after_so o id x (Some (wait.Held u)) = inl refl
-  after_so o id x (Some (wait.Result j)) =
+  after_so o id x (Some (Wait.Held u)) = inl refl
+  after_so o id x (Some (Wait.Result j)) =
       if_plan (λ (z : Core × Seen). MaybeStarted c z.0) (has_run c.runs j) _ _ (λ t. inl refl)
       (λ t. if_plan (λ (z : Core × Seen). MaybeStarted c z.0) (is_crowded c) _ _ (λ u. inl refl) (λ u. started_so o))
 
@@ -226,7 +224,7 @@ module _ (d : Deployment) (c : Core) (m n : Rows) (i : ℕ) (r : Run) (h : Right
   not_started : (k : Run) (g : Right d (with_run core k) n) → Right d core n
   not_started k g = with_runs g core refl refl (runs_before d n g.plain core.book g.known core.runs core.last_run k (numbers_put c.runs c.last_run i s.next (ap is_some live) (λ j t. (h.runs.numbers j t).1)) g.runs)
 
-  lost_by : (b : Core) → MaybeStarted core b → After d h.plain b n (turn_next c i r s).1 → After d h.plain (without_run c i r.id s.mark) n seen.Dropped
+  lost_by : (b : Core) → MaybeStarted core b → After d h.plain b n (turn_next c i r s).1 → After d h.plain (without_run c i r.id s.mark) n Seen.Dropped
   unfolding MaybeStarted run_over not_started
   lost_by b (inl same) a =
       let g : After d h.plain core n (turn_next c i r s).1 = subst (λ z. After d h.plain z n (turn_next c i r s).1) same a in
@@ -235,5 +233,5 @@ module _ (d : Deployment) (c : Core) (m n : Rows) (i : ℕ) (r : Run) (h : Right
       let g : After d h.plain (with_run core k.0) n (turn_next c i r s).1 = subst (λ z. After d h.plain z n (turn_next c i r s).1) k.1 a in
       record { right = run_over (not_started k.0 g.right); goes_on = g.goes_on; there = refl; reply = λ t o e. cc }
 
-  pub unheard : AfterTurn d h.plain c i r s n → After d h.plain (without_run c i r.id s.mark) n seen.Dropped
+  pub unheard : AfterTurn d h.plain c i r s n → After d h.plain (without_run c i r.id s.mark) n Seen.Dropped
   unheard a = lost_by (turn_next c i r s).0 (after_so core (callee_of r) r.id (says_of s) s.wait) a

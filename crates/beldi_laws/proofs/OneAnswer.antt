@@ -1,11 +1,8 @@
 -- Where the host and its rows are right, each step of an instance has one answer; and it stays, whatever comes.
-use Rattle.beldi_laws.proofs.Names.{Abort, Act, Answer, AnswersOf, AnswersStay, Async, Begin, Begins, Begun, Call, CallGoesOn, CondWrite, Core, Deployment, Died, Done, Effect, End, GoesOn, Got, HeldAnswersStay, Instance, IntentId, InvokeRow, Item, Knows, KnowsAt, None, Note, OnItem, OneAnswerPerStep, OneRowChanged, Option, Outcome, Place, Read, Right, RightHasOneAnswer, Row, RowKey, Rows, Run, RunAt, Some, TxId, Value, WasGiven, Write, act, after_act, answer_aside, answer_of, ap, arith, at_each, call_in, calls_stay, content_in, decides, given, given_in, head_key, held_answer, held_inside, held_note, held_outside, inl, inr, invoke_key, item_in, log_key, note_at, note_of_lock, noted_answer, notes_stay, on, op_of, option_and_then, option_map, refl, result_in, shadow_key, subst, sym, ℕ, ◌∙◌, ◌≡◌}
-use Rattle.beldi_laws.proofs.Names.answer
-use Rattle.beldi_laws.proofs.Names.map
-use Rattle.beldi_laws.proofs.Names.query
 use Rattle.beldi_known.specs.Stands.{told_by}
-use Rattle.beldi_laws.proofs.OneEvent.{one_row}
-use Rattle.beldi_laws.proofs.Standing.{held_here, same_run}
+use Rattle.beldi_laws.proofs.Names.{Abort, Act, Answer, AnswersOf, AnswersStay, Async, Begin, Begins, Begun, Call, CallGoesOn, CondWrite, Core, Deployment, Died, Done, Effect, End, GoesOn, Got, HeldAnswersStay, Instance, IntentId, InvokeRow, Item, Knows, KnowsAt, None, Note, OnItem, OneAnswerPerStep, OneRowChanged, Option, Outcome, Place, Read, Right, RightHasOneAnswer, Row, RowKey, Rows, Run, RunAt, Some, TxId, Value, WasGiven, Write, act, after_act, answer_aside, answer_of, ap, arith, at_each, call_in, calls_stay, content_in, decides, given, given_in, head_key, held_answer, held_inside, held_note, held_outside, inl, inr, invoke_key, item_in, log_key, note_at, note_of_lock, noted_answer, notes_stay, on, op_of, option_and_then, option_map, refl, result_in, shadow_key, subst, sym, ℕ, ◌∙◌, ◌≡◌, Query}
+use Rattle.beldi_laws.proofs.{OneEvent.one_row, Standing.held_here, Standing.same_run}
+use Rattle.beldi_laws.proofs.Names.map
 
 -- ---- one answer
 module _ (d : Deployment) (c : Core) (m : Rows) (h : Right d c m) (id : IntentId) where
@@ -56,7 +53,7 @@ call_stays x o u goes held = grind arith
 module _ (a : Act) (now : ℕ) (k : RowKey) (m : Rows) where
   -- what every act keeps of a row
   at_key : (P : Option Row → Type 0) → ((b : Act) (t : ℕ) (o : Option Row) → P o → P (act b t o).0) → (l : RowKey) → P (map.get m l) → P (map.get (after_act a now k m) l)
-  at_key P stays l = at_each (λ o u. P o → P u) (λ o held. held) stays (query.Act k a) now m l
+  at_key P stays l = at_each (λ o u. P o → P u) (λ o held. held) stays (Query.Act k a) now m l
 
   notes_keep : (at : Place) (func : ℕ) (o : Option OnItem) (x : Answer) → held_note m at func o ≡ Some x → held_note (after_act a now k m) at func o ≡ Some x
   notes_keep at func None x held = cc
@@ -70,9 +67,9 @@ module _ (a : Act) (now : ℕ) (k : RowKey) (m : Rows) where
   value_keeps l f none x held = at_key (λ o. f (option_map given_in o) ≡ Some x) (λ b t. value_stays f none b t x) l held
 
   outside_keeps : (p : Place) (func : ℕ) (e : Effect) (x : Answer) → held_outside m p func e ≡ Some x → held_outside (after_act a now k m) p func e ≡ Some x
-  outside_keeps p func (Read t key) x held = value_keeps (log_key func p) (option_map answer.Value) refl x held
-  outside_keeps p func (Call f v) x held = let l = invoke_key func p in back_stays x (map.get m l) (map.get (after_act a now k m) l) (calls_stay (query.Act k a) now m l) held
-  outside_keeps p func (Async f v) x held = let l = invoke_key func p in call_stays x (map.get m l) (map.get (after_act a now k m) l) (calls_stay (query.Act k a) now m l) held
+  outside_keeps p func (Read t key) x held = value_keeps (log_key func p) (option_map Answer.Value) refl x held
+  outside_keeps p func (Call f v) x held = let l = invoke_key func p in back_stays x (map.get m l) (map.get (after_act a now k m) l) (calls_stay (Query.Act k a) now m l) held
+  outside_keeps p func (Async f v) x held = let l = invoke_key func p in call_stays x (map.get m l) (map.get (after_act a now k m) l) (calls_stay (Query.Act k a) now m l) held
   outside_keeps p func e x held = notes_keep p func (op_of e) x held
 
   told_keeps : (p : Place) (i : Item) (v w : Option Answer) (x : Answer) → (v ≡ Some x → w ≡ Some x) → told_by p (note_of_lock m p i) v ≡ Some x → told_by p (note_of_lock (after_act a now k m) p i) w ≡ Some x
@@ -91,7 +88,7 @@ module _ (a : Act) (now : ℕ) (k : RowKey) (m : Rows) where
   inside_keeps s p func Begin x held = held
   inside_keeps s p func Abort x held = held
   inside_keeps s p func (End c) x held = value_keeps (log_key s.func (record { intent = s.intent; step = s.begin })) (option_and_then (decides c)) refl x held
-  inside_keeps s p func (Read t key) x held = told_keeps p (record { func = func; table = t; key = key }) (option_map answer.Value (given m (log_key func p))) (option_map answer.Value (given (after_act a now k m) (log_key func p))) x (value_keeps (log_key func p) (option_map answer.Value) refl x) held
+  inside_keeps s p func (Read t key) x held = told_keeps p (record { func = func; table = t; key = key }) (option_map Answer.Value (given m (log_key func p))) (option_map Answer.Value (given (after_act a now k m) (log_key func p))) x (value_keeps (log_key func p) (option_map Answer.Value) refl x) held
   inside_keeps s p func (Write t key v) x held = let i : Item = record { func = func; table = t; key = key } in told_keeps p i (answer_aside m s p i) (answer_aside (after_act a now k m) s p i) x (shadow_keeps s p i x) held
   inside_keeps s p func (CondWrite t key r u v) x held = let i : Item = record { func = func; table = t; key = key } in told_keeps p i (answer_aside m s p i) (answer_aside (after_act a now k m) s p i) x (shadow_keeps s p i x) held
   inside_keeps s p func e x held = outside_keeps p func e x held

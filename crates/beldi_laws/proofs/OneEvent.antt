@@ -1,19 +1,13 @@
 -- What one event changes: at most one row, never past the room, and at most one entry of the book, which its answer tells.
-use Rattle.beldi_laws.proofs.Names.{After, AllocError, Begins, Begun, Binding, Body, BookGrew, Bool, Caller, CameOn, ChangesOneRow, Core, Crash, Deployment, DropsHaveCause, Err, Event, EventBy, Failed, Followed, Full, Func, Ic, IfOk, IntentId, IsTrue, KeepsRoom, Looks, Lost, Machine, Mark, None, Ok, OneRowChanged, Option, OutOfMemory, Plan, Query, Registers, Request, Restart, Result, Rose, Row, RowAct, RowKey, Rows, Run, RunTx, Says, Seen, Some, Stage, Start, StepBy, TableErr, TableState, Tick, Ticket, Told, Turn, Turned, Value, Wait, WritesWhatIsTold, [], act, after_act, after_turn, ap, arith, asks, at_once_of, begin_in, binding_of, body_registered, body_told, bound_by, bound_of, collect_next, collect_says, collected, cond, content_in, content_of, count_changes, counted, crash_plan, ended_run, entries_told, entry_of, false, first_stage, func_at, goes_from, goes_to, has_run, head_key, heard, if_lent, if◌then◌else◌, inl, inr, is_added, is_crowded, is_dropped, is_lost, is_some, key_total, last_moment, launched, least_key, len-insert, len-remove, lends, made, marked, may_start, most_events, no_memory, no_run, not, off, option_map, option_to_list, passed, plan, plan_of, query_adds, refl, refused, refused_by, refused_stand, request_next, rows_after, run_next, run_plan, run_told, same_some, says_of, set_others, set_row, stage_says, started, starts_of, subst, sym, takes, ticket_next, told_at, true, turn_next, turned_by, turned_core, unbound, unheard_next, ℕ, ◌+◌, ◌-◌, ◌<◌, ◌==◌, ◌^◌, ◌||◌, ◌∙◌, ◌≡◌, ◌≤◌}
-use Rattle.beldi_laws.proofs.Names.binding
-use Rattle.beldi_laws.proofs.Names.collect
-use Rattle.beldi_laws.proofs.Names.map
-use Rattle.beldi_laws.proofs.Names.seen
-use Rattle.beldi_laws.proofs.Names.wait
+use Rattle.std.specs.Prelude.{◌&&◌}
 use Rattle.std.proofs.Common.{nat_lt}
 use Rattle.std.proofs.lemmas.List.{append-nil}
-use Rattle.std.specs.Prelude.{◌&&◌}
 use Rattle.beldi_walk.specs.declared.query.Query.TheVariants.{Act}
-use Rattle.beldi_step.specs.declared.run.RunAt.{RunAt}
-use Rattle.beldi_step.specs.Run.{callee_of}
-use Rattle.beldi_step.specs.Host.{at_once}
-use Rattle.beldi_laws.proofs.Moves.{if_plan}
 use Rattle.beldi_collect.specs.declared.cursor.Found.{Found}
+use Rattle.beldi_step.specs.{declared.run.RunAt.RunAt, Run.callee_of, Host.at_once}
+use Rattle.beldi_laws.proofs.Names.{After, AllocError, Begins, Begun, Binding, Body, BookGrew, Bool, Caller, CameOn, ChangesOneRow, Core, Crash, Deployment, DropsHaveCause, Err, Event, EventBy, Failed, Followed, Full, Func, Ic, IfOk, IntentId, IsTrue, KeepsRoom, Looks, Lost, Machine, Mark, None, Ok, OneRowChanged, Option, OutOfMemory, Plan, Query, Registers, Request, Restart, Result, Rose, Row, RowAct, RowKey, Rows, Run, RunTx, Says, Seen, Some, Stage, Start, StepBy, TableErr, TableState, Tick, Ticket, Told, Turn, Turned, Value, Wait, WritesWhatIsTold, [], act, after_act, after_turn, ap, arith, asks, at_once_of, begin_in, binding_of, body_registered, body_told, bound_by, bound_of, collect_next, collect_says, collected, cond, content_in, content_of, count_changes, counted, crash_plan, ended_run, entries_told, entry_of, false, first_stage, func_at, goes_from, goes_to, has_run, head_key, heard, if_lent, if◌then◌else◌, inl, inr, is_added, is_crowded, is_dropped, is_lost, is_some, key_total, last_moment, launched, least_key, len-insert, len-remove, lends, made, marked, may_start, most_events, no_memory, no_run, not, off, option_map, option_to_list, passed, plan, plan_of, query_adds, refl, refused, refused_by, refused_stand, request_next, rows_after, run_next, run_plan, run_told, same_some, says_of, set_others, set_row, stage_says, started, starts_of, subst, sym, takes, ticket_next, told_at, true, turn_next, turned_by, turned_core, unbound, unheard_next, ℕ, ◌+◌, ◌-◌, ◌<◌, ◌==◌, ◌^◌, ◌||◌, ◌∙◌, ◌≡◌, ◌≤◌}
+use Rattle.beldi_laws.proofs.Moves.{if_plan}
+use Rattle.beldi_laws.proofs.Names.map
 
 -- ---- rows
 same_rows : (c : Core) (m n : Rows) → n ≡ m → OneRowChanged c m n
@@ -73,8 +67,8 @@ act_starts_none id k = grind arith
 
 -- an answer that tells no entry
 abbrev is_silent : Seen → Bool
-is_silent (seen.Bound t run) = false
-is_silent (seen.Acted entry started over reply) = false
+is_silent (Seen.Bound t run) = false
+is_silent (Seen.Acted entry started over reply) = false
 is_silent x = true
 
 told_none : (e : Event) (x : Seen) → is_silent x ≡ true → (entries_told e x ≡ []) × (bound_of e x ≡ [])
@@ -96,7 +90,7 @@ abbrev PlanTells : Core → Plan → Type 0
 PlanTells c (at_once b y) = (b.book ≡ c.book) × (is_silent y ≡ true) × (is_dropped y ≡ false)
 PlanTells c (asks q) = Unit {0}
 
-no_run_tells : (c : Core) (b : Bool) → PlanTells c (at_once c (if b then seen.NoRun else seen.RunOver))
+no_run_tells : (c : Core) (b : Bool) → PlanTells c (at_once c (if b then Seen.NoRun else Seen.RunOver))
 no_run_tells c b = grind arith
 
 run_tells : (c : Core) (i : ℕ) (o : Option Run) → PlanTells c (run_plan c i o)
@@ -165,12 +159,12 @@ module _ (i : ℕ) (id : IntentId) (s : Turned) (c : Core) where
 
   turn_tells : (o : Option Run) (w : Option Wait) → s.wait ≡ w → Unmarked s → TurnTells i id s c (after_turn c o id (says_of s) w)
   turn_tells o None is unmarked = if_plan MadeTells s.starts _ _ (λ t. opened_tells o) (λ t. unmoved (c, None) refl)
-  turn_tells o (Some (wait.Held w)) is unmarked = waits_tells (unmarked (wait.Held w) is) (seen.Held w) refl refl
-  turn_tells o (Some (wait.Result callee)) is unmarked =
-      let none = unmarked (wait.Result callee) is in
+  turn_tells o (Some (Wait.Held w)) is unmarked = waits_tells (unmarked (Wait.Held w) is) (Seen.Held w) refl refl
+  turn_tells o (Some (Wait.Result callee)) is unmarked =
+      let none = unmarked (Wait.Result callee) is in
       if_plan (TurnTells i id s c) (has_run c.runs callee) _ _
-      (λ t. waits_tells none (seen.NotYet callee) refl refl)
-      (λ t. if_plan (TurnTells i id s c) (is_crowded c) _ _ (λ u. waits_tells none seen.Crowded refl refl) (λ u. started_tells o))
+      (λ t. waits_tells none (Seen.NotYet callee) refl refl)
+      (λ t. if_plan (TurnTells i id s c) (is_crowded c) _ _ (λ u. waits_tells none Seen.Crowded refl refl) (λ u. started_tells o))
 
 made_tells : (d : Deployment) (c : Core) (i : ℕ) (r : Run) (t : Told) → let s = run_told d (count_changes c.book) r t in TurnTells i r.id s (turned_core c i r.id s) (turn_next c i r s)
 made_tells d c i r t = let s = run_told d (count_changes c.book) r t in turn_tells i r.id s (turned_core c i r.id s) (callee_of r) s.wait refl (waits_unmarked d (count_changes c.book) r r.at t)
@@ -186,11 +180,11 @@ act_grew e c b r id k book none told = record { entry = option_map (entry_of id)
 
 module _ (d : Deployment) (c : Core) where
   ticket_grew : (b : Bool) → BookGrew Ticket c (ticket_next c b).0 (Ok (ticket_next c b).1)
-  ticket_grew true = none Ticket c (record c { newest = c.newest + 1 }) (seen.Issued (c.newest + 1)) refl refl
-  ticket_grew false = none Ticket c c (seen.Gone (c.newest + 1)) refl refl
+  ticket_grew true = none Ticket c (record c { newest = c.newest + 1 }) (Seen.Issued (c.newest + 1)) refl refl
+  ticket_grew false = none Ticket c c (Seen.Gone (c.newest + 1)) refl refl
 
   request_grew : (t f : ℕ) (a : Value) (u : Binding) → BookGrew (Request t f a) c (request_next d c t f a u).0 (Ok (request_next d c t f a u).1)
-  request_grew t f a binding.Bound = record { entry = Some (Start t f a); book = refl; starts = refl; told = λ l. refl }
+  request_grew t f a Binding.Bound = record { entry = Some (Start t f a); book = refl; starts = refl; told = λ l. refl }
   request_grew t f a u = none (Request t f a) c c (unbound t u) refl refl
 
   run_grew : (i : ℕ) (t : Told) (o : Option Run) → BookGrew (Turn i) c (run_next d c i t o).0 (Ok (run_next d c i t o).1)
@@ -202,9 +196,9 @@ module _ (d : Deployment) (c : Core) where
       act_grew (Turn i) c y.0 (Ok y.1) r.id s.mark g.book (turn_unbound i y.1) (λ l. g.told)
 
   -- nobody hears
-  lost_grew : (i : ℕ) (t : Told) (o : Option Run) → BookGrew (Lost i) c (unheard_next d c i t o) (Ok seen.Dropped)
-  lost_grew i t None = none (Lost i) c c seen.Dropped refl refl
-  lost_grew i t (Some r) = act_grew (Lost i) c (unheard_next d c i t (Some r)) (Ok seen.Dropped) r.id (run_told d (count_changes c.book) r t).mark refl refl (λ l. cc)
+  lost_grew : (i : ℕ) (t : Told) (o : Option Run) → BookGrew (Lost i) c (unheard_next d c i t o) (Ok Seen.Dropped)
+  lost_grew i t None = none (Lost i) c c Seen.Dropped refl refl
+  lost_grew i t (Some r) = act_grew (Lost i) c (unheard_next d c i t (Some r)) (Ok Seen.Dropped) r.id (run_told d (count_changes c.book) r t).mark refl refl (λ l. cc)
 
   unheard_grew : (i : ℕ) (t : Told) (w : AllocError) (o : Option Run) → BookGrew (Turn i) c (unheard_next d c i t o) (Err w)
   unheard_grew i t w None = none_told (Turn i) c c w refl
@@ -213,25 +207,25 @@ module _ (d : Deployment) (c : Core) where
   -- the collector makes no entry
   collected_grew : (k : RowKey) (id : IntentId) (f : ℕ) → BookGrew Ic c (collected d c k id f).0 (Ok (collected d c k id f).1)
   collected_grew k id f = if_plan (λ (y : Core × Seen). BookGrew Ic c y.0 (Ok y.1)) (has_run c.runs id) _ _
-      (λ t. none Ic c (passed c k).0 seen.Passed refl refl)
+      (λ t. none Ic c (passed c k).0 Seen.Passed refl refl)
       (λ t. if_plan (λ (y : Core × Seen). BookGrew Ic c y.0 (Ok y.1)) (is_crowded c) _ _
-      (λ u. none Ic c c seen.Crowded refl refl)
-      (λ u. none Ic c (launched d (record c { cursor = k }) id f).0 (seen.Launched (c.last_run + 1) id) refl refl))
+      (λ u. none Ic c c Seen.Crowded refl refl)
+      (λ u. none Ic c (launched d (record c { cursor = k }) id f).0 (Seen.Launched (c.last_run + 1) id) refl refl))
 
   collect_grew : (o : Found) → BookGrew Ic c (collect_next d c o).0 (Ok (collect_next d c o).1)
-  collect_grew collect.Round = none Ic c (record c { cursor = least_key }) seen.Round refl refl
-  collect_grew (collect.Passed k) = none Ic c (passed c k).0 seen.Passed refl refl
-  collect_grew (collect.Unended k id f) = collected_grew k id f
+  collect_grew Found.Round = none Ic c (record c { cursor = least_key }) Seen.Round refl refl
+  collect_grew (Found.Passed k) = none Ic c (passed c k).0 Seen.Passed refl refl
+  collect_grew (Found.Unended k id f) = collected_grew k id f
 
   heard_grew : (e : Event) (t : Told) → BookGrew e c (heard d e c t).0 (Ok (heard d e c t).1)
   heard_grew Ticket t = ticket_grew (is_added t)
   heard_grew (Request u f a) t = request_grew u f a (binding_of t)
   heard_grew (Turn i) t = run_grew i t (map.get c.runs i)
   heard_grew (Lost i) t = lost_grew i t (map.get c.runs i)
-  heard_grew (Crash i) t = none (Crash i) c c seen.Crashed refl refl
-  heard_grew (Restart id f) t = none (Restart id f) c c seen.Crowded refl refl
+  heard_grew (Crash i) t = none (Crash i) c c Seen.Crashed refl refl
+  heard_grew (Restart id f) t = none (Restart id f) c c Seen.Crowded refl refl
   heard_grew Ic t = collect_grew (collect_says t)
-  heard_grew (Tick n) t = none (Tick n) c c seen.ClockEnd refl refl
+  heard_grew (Tick n) t = none (Tick n) c c Seen.ClockEnd refl refl
 
   no_memory_grew : (e : Event) (t : Told) (w : AllocError) (b : Core) → no_memory d e c t ≡ Some b → BookGrew e c b (Err w)
   no_memory_grew (Turn i) t w b is = subst (λ z. BookGrew (Turn i) c z (Err w)) (same_some is) (unheard_grew i t w (map.get c.runs i))
@@ -241,14 +235,14 @@ module _ (d : Deployment) (c : Core) where
 
   error_grew : (e : Event) (b : Core) (v : TableErr) → b.book ≡ c.book → BookGrew e c b (refused_by v)
   error_grew e b OutOfMemory same = none_told e c b (record {}) same
-  error_grew e b Failed same = none e c b seen.Dropped same refl
-  error_grew e b (Full live most) same = none e c b (seen.Full live most) same refl
+  error_grew e b Failed same = none e c b Seen.Dropped same refl
+  error_grew e b (Full live most) same = none e c b (Seen.Full live most) same refl
 
   refused_grew : (e : Event) (v : TableErr) → BookGrew e c (refused e c v).0 (refused e c v).1
-  refused_grew (Turn i) (Full live most) = none (Turn i) c c (seen.Full live most) refl refl
+  refused_grew (Turn i) (Full live most) = none (Turn i) c c (Seen.Full live most) refl refl
   refused_grew (Turn i) v = error_grew (Turn i) (ended_run c i) v refl
   refused_grew (Lost i) OutOfMemory = none_told (Lost i) c (ended_run c i) (record {}) refl
-  refused_grew (Lost i) v = none (Lost i) c (ended_run c i) seen.Dropped refl refl
+  refused_grew (Lost i) v = none (Lost i) c (ended_run c i) Seen.Dropped refl refl
   refused_grew e v = error_grew e c v refl
 
   came_grew : (e : Event) (b : Core) (w : Result Told TableErr) (r : Result Seen AllocError) → Followed d e c w b r → BookGrew e c b r
@@ -294,10 +288,10 @@ module _ (d : Deployment) (c : Core) where
   refused_heard : (e : Event) (v : TableErr) → is_lost e ≡ false → says_dropped (refused e c v).1 ≡ true → v ≡ Failed
   refused_heard e v lost h = grind arith
 
-  came_heard : (e : Event) (b : Core) (w : Result Told TableErr) → is_lost e ≡ false → Followed d e c w b (Ok seen.Dropped) → w ≡ Err Failed
+  came_heard : (e : Event) (b : Core) (w : Result Told TableErr) → is_lost e ≡ false → Followed d e c w b (Ok Seen.Dropped) → w ≡ Err Failed
   came_heard e b w lost s = grind arith
 
-  plan_heard : (e : Event) (b : Core) (old new : TableState) (p : Plan) → is_lost e ≡ false → PlanTells c p → StepBy d e c p b old new (Ok seen.Dropped) → Rose old.faults new.faults
+  plan_heard : (e : Event) (b : Core) (old new : TableState) (p : Plan) → is_lost e ≡ false → PlanTells c p → StepBy d e c p b old new (Ok Seen.Dropped) → Rose old.faults new.faults
   plan_heard e b old new p lost g s = grind arith
 
 pub drops_have_cause : DropsHaveCause

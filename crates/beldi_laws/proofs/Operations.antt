@@ -1,24 +1,13 @@
 -- The turns of an operation on an item: they rest on the law that a chain is a logged cell, and on what each operation is.
-use Rattle.beldi_laws.proofs.Names.{Answer, Answers, Begun, CellOp, Core, Deployment, DidOnce, DoneRows, Effect, Frame, Grows, Inside, Instance, IntentId, IsAnswer, IsFree, IsTrue, Item, Known, Knows, List, LoggedTurn, Logs, Matches, None, Note, OnItem, Place, Plain, PlainState, Query, Right, RowKey, Rows, Run, Sane, Says, Some, SoundAt, Step, TxId, Value, WriteAt, WriteGoes, WriteWalk, [], ahead_set, answer_after, answer_noted, answers_it, ap, arith, by_op, cell_key, cell_of, cell_op, commit_in, content_of, does_so, done_note, done_says, effect_before, effect_of, enabled_step, false, free_at_operation, head_key, holds, if_answers, if◌then◌else◌, is_begin, is_eq, is_shadow, is_some, item_in, item_total, item_touched, key_cmp, kind_of, kinds_apart, length, moved, moved_one, no_root, no_tx, nobody_else, none_out, note_after, note_at, note_done, note_here, note_of, note_of_op, noted_answer, op_of, operate, operation_answers, operation_done, operation_step, option_and_then, place_of, put_asks, put_says, refl, root_key, rows_after, same_some, set_agrees, sets, shadow_key, slice_get, subst, sym, tied_itself, told_by, touched_by, true, turn_next, turned_by, tx_after, tx_now, unbarred, value_at, walk_so, wants_answer, write_asks, write_goes, write_says, ℕ, ◌∙◌, ◌∷◌, ◌≡◌}
-use Rattle.beldi_laws.proofs.Names.kind
-use Rattle.beldi_laws.proofs.Names.kinds
-use Rattle.beldi_laws.proofs.Names.map
-use Rattle.beldi_laws.proofs.Names.mark
-use Rattle.beldi_laws.proofs.Names.owner
-use Rattle.beldi_laws.proofs.Names.stage
-use Rattle.beldi_laws.proofs.Names.writes
+use Rattle.beldi_plain.specs.declared.kind.Kind.{Kind}
+use Rattle.beldi_row.specs.declared.key.Kind.TheVariants as kinds
 use Rattle.beldi_known.specs.Owed.{noted}
+use Rattle.beldi_laws.proofs.Names.{Answer, Answers, Begun, CellOp, Core, Deployment, DidOnce, DoneRows, Effect, Frame, Grows, Inside, Instance, IntentId, IsAnswer, IsFree, IsTrue, Item, Known, Knows, List, LoggedTurn, Logs, Matches, None, Note, OnItem, Place, Plain, PlainState, Query, Right, RowKey, Rows, Run, Sane, Says, Some, SoundAt, Step, TxId, Value, WriteAt, WriteGoes, WriteWalk, [], ahead_set, answer_after, answer_noted, answers_it, ap, arith, by_op, cell_key, cell_of, cell_op, commit_in, content_of, does_so, done_note, done_says, effect_before, effect_of, enabled_step, false, free_at_operation, head_key, holds, if_answers, if◌then◌else◌, is_begin, is_eq, is_shadow, is_some, item_in, item_total, item_touched, key_cmp, kind_of, kinds_apart, length, moved, moved_one, no_root, no_tx, nobody_else, none_out, note_after, note_at, note_done, note_here, note_of, note_of_op, noted_answer, op_of, operate, operation_answers, operation_done, operation_step, option_and_then, place_of, put_asks, put_says, refl, root_key, rows_after, same_some, set_agrees, sets, shadow_key, slice_get, subst, sym, tied_itself, told_by, touched_by, true, turn_next, turned_by, tx_after, tx_now, unbarred, value_at, walk_so, wants_answer, write_asks, write_goes, write_says, ℕ, ◌∙◌, ◌∷◌, ◌≡◌, Mark, Owner, Stage}
 use Rattle.beldi_laws.proofs.Moves.{AfterTurn, AfterQuery, SameRoots, change_entered, Entered, Kept, Stays}
 use Rattle.beldi_laws.proofs.Frames.{frame_done, frame_held, item_stays, items_stay, no_finish, nobody_new, nobody_set, query_keeps}
-use Rattle.beldi_laws.proofs.Settling.{settled_grown, settled_outside}
-use Rattle.beldi_laws.proofs.Others.{kept_moving}
-use Rattle.beldi_laws.proofs.Keeping.{SameShadows, goes_answered, stays_by}
 use Rattle.beldi_laws.proofs.Turns.{effect_here, answer_here, step_here, effect_next, wants_it, fits, not_over, goes_on, held, ends, replays, steps_on, outside_here, tx_step, tx_next, plain_there, unlocked_there}
-use Rattle.beldi_laws.proofs.Shown.{value_here, holds_here, legal_sane, settled}
-use Rattle.beldi_laws.proofs.Owed.{note_if, note_there, content_kept, contents_kept, others_list, done_lists}
-use Rattle.beldi_laws.proofs.KeptSane.{answered_kept}
-use Rattle.beldi_laws.proofs.Outside.{is_call}
-use Rattle.beldi_laws.proofs.Grown.{grows_moved}
+use Rattle.beldi_laws.proofs.{Settling.settled_grown, Settling.settled_outside, Others.kept_moving, Keeping.SameShadows, Keeping.goes_answered, Keeping.stays_by, Shown.value_here, Shown.holds_here, Shown.legal_sane, Shown.settled, Owed.note_if, Owed.note_there, Owed.content_kept, Owed.contents_kept, Owed.others_list, Owed.done_lists, KeptSane.answered_kept, Outside.is_call, Grown.grows_moved}
+use Rattle.beldi_laws.proofs.Names.map
 
 -- what is answered to an operation is what its note reads as, and of its kind
 abbrev ReadsAs : Effect → OnItem → Answer → Type 0
@@ -35,7 +24,7 @@ its_cell : (e : Effect) (o : OnItem) → op_of e ≡ Some o → IsCell e o
 its_cell e o h = grind arith
 
 -- ---- an effect that is an operation on an item: how it is entered, what it touches, and where it may stand
-is_change : (id : IntentId) (e : Effect) (o : OnItem) → op_of e ≡ Some o → kind_of id e ≡ kind.Change
+is_change : (id : IntentId) (e : Effect) (o : OnItem) → op_of e ≡ Some o → kind_of id e ≡ Kind.Change
 is_change id e o h = grind arith
 
 touches_it : (e : Effect) (o : OnItem) (q : Instance) → op_of e ≡ Some o → item_touched q e ≡ Some (item_in q.func o)
@@ -62,10 +51,10 @@ module _ (d : Deployment) (c : Core) (m : Rows) (i : ℕ) (r : Run) (g : Begun) 
   place = place_of r.id g.machine.steps
 
   abbrev walk : WriteWalk
-  walk = record { home = r.func; item = Plain o.table o.key; place = place; who = owner.Intent r.id; op = op; at = at }
+  walk = record { home = r.func; item = Plain o.table o.key; place = place; who = Owner.Intent r.id; op = op; at = at }
 
   abbrev asks : Query
-  asks = write_asks (cell_key r.func o.table o.key) place (owner.Intent r.id) op at
+  asks = write_asks (cell_key r.func o.table o.key) place (Owner.Intent r.id) op at
 
   -- the rows after it
   abbrev n : Rows
@@ -99,7 +88,7 @@ module _ (d : Deployment) (c : Core) (m : Rows) (i : ℕ) (r : Run) (g : Begun) 
         (no_finish m n (head_key item) same d h.known refl)
 
     -- it was done now: it is the instance's next
-    module _ (left : k.later ≡ []) (did : DidOnce place (owner.Intent r.id) op true (content_of m item) (content_of n item)) where
+    module _ (left : k.later ≡ []) (did : DidOnce place (Owner.Intent r.id) op true (content_of m item) (content_of n item)) where
       abbrev old : Value
       old = value_at h.plain (item_in k.instance.func o)
 
@@ -158,7 +147,7 @@ module _ (d : Deployment) (c : Core) (m : Rows) (i : ℕ) (r : Run) (g : Begun) 
           ∙ ap Some (operation_step h.plain r.id k.instance (effect_of d k.instance) o wants_op)) free_here
 
       -- no transaction owns its item
-      unowned : (t : TxId) → (content_of m y).owner ≡ Some (owner.Tx t) → ⊥
+      unowned : (t : TxId) → (content_of m y).owner ≡ Some (Owner.Tx t) → ⊥
       unowned = no_tx r.id (content_of m y).owner (unbarred op r.id (content_of m y).owner did_here.free)
 
       unlocked : h.locked r.id ≡ false
@@ -182,14 +171,14 @@ module _ (d : Deployment) (c : Core) (m : Rows) (i : ℕ) (r : Run) (g : Begun) 
           (ahead_set d h.known h.locked h.locked_at_ends h.locked r.id (moved d r.id k.instance a) (none_out h.locked r.id unlocked)) sane_now rows_now (done_lists m n h.plain y o.does (place_of r.id (length k.instance.answers)) did_here h.values)
           (settled_grown d m h.plain state next leads.grows (settled_outside d m h.plain h.known r.id k.instance k.made a outside (settled h))) grows frame (no_finish m n (head_key item) same d next refl)
 
-      steps : After (Answers a (Some mark.Step))
-      steps = steps_on d c m i r g h live k finds out e is a mark.Step state n left answers_so leads roots kept_done
+      steps : After (Answers a (Some Mark.Step))
+      steps = steps_on d c m i r g h live k finds out e is a Mark.Step state n left answers_so leads roots kept_done
 
     -- the step is done now, or was done before, by what it has been answered; the other two cannot be
     abbrev DidNow : Type 0
-    DidNow = DidOnce place (owner.Intent r.id) op true (content_of m item) (content_of n item)
+    DidNow = DidOnce place (Owner.Intent r.id) op true (content_of m item) (content_of n item)
 
-    now_first : k.later ≡ [] → (w : Note) → note_at (content_of n item).notes place ≡ Some w → DidNow → After (write_says e (writes.Done w true))
+    now_first : k.later ≡ [] → (w : Note) → note_at (content_of n item).notes place ≡ Some w → DidNow → After (write_says e (WriteGoes.Done w true))
     now_first left w there did = subst (λ x. After (done_says true x)) (sym (told_back e o w (a left did) (noted_back place e o (a left did) so (answers_so left did)) (told left did w there))) (steps left did)
 
     fits_back : (b : Answer) (rest : List Answer) → k.later ≡ b ∷ rest → ReadsAs e o b
@@ -198,26 +187,26 @@ module _ (d : Deployment) (c : Core) (m : Rows) (i : ℕ) (r : Run) (g : Begun) 
     not_again : (b : Answer) (rest : List Answer) → k.later ≡ b ∷ rest → DidNow → ⊥
     not_again b rest left did = let clash = sym (fits_back b rest left).0 ∙ ap (option_and_then noted_answer) (sym (note_read b rest left) ∙ did.0) in cc
 
-    done_now : (later : List Answer) → k.later ≡ later → (w : Note) → note_at (content_of n item).notes place ≡ Some w → DidNow → After (write_says e (writes.Done w true))
+    done_now : (later : List Answer) → k.later ≡ later → (w : Note) → note_at (content_of n item).notes place ≡ Some w → DidNow → After (write_says e (WriteGoes.Done w true))
     done_now [] left w noted did = now_first left w noted did
     done_now (b ∷ rest) left w noted did = absurd (not_again b rest left did)
 
     not_yet : k.later ≡ [] → (w : Note) → note_at (content_of m item).notes place ≡ Some w → ⊥
     not_yet left w there = let clash = sym there ∙ note_is [] left in cc
 
-    again : (b : Answer) (rest : List Answer) → k.later ≡ b ∷ rest → (w : Note) → note_at (content_of m item).notes place ≡ Some w → content_of n item ≡ content_of m item → After (write_says e (writes.Done w false))
+    again : (b : Answer) (rest : List Answer) → k.later ≡ b ∷ rest → (w : Note) → note_at (content_of m item).notes place ≡ Some w → content_of n item ≡ content_of m item → After (write_says e (WriteGoes.Done w false))
     again b rest left w there same = subst (λ x. After (done_says false x)) (sym (told_back e o w b (fits_back b rest left) (sym (note_read b rest left) ∙ there))) (replays d c m i r g h live k finds out e is n b rest roots (kept same) left)
 
-    done_before : (later : List Answer) → k.later ≡ later → (w : Note) → note_at (content_of m item).notes place ≡ Some w → content_of n item ≡ content_of m item → After (write_says e (writes.Done w false))
+    done_before : (later : List Answer) → k.later ≡ later → (w : Note) → note_at (content_of m item).notes place ≡ Some w → content_of n item ≡ content_of m item → After (write_says e (WriteGoes.Done w false))
     done_before [] left w noted same = absurd (not_yet left w noted)
     done_before (b ∷ rest) left w noted same = again b rest left w noted same
 
-    by_says : (z : WriteGoes) → Logs place (owner.Intent r.id) op (walk_so z) (content_of m item) (content_of n item) → After (write_says e z)
-    by_says (writes.On to) held = goes_on d c m i r g h live k finds out e is n (stage.Write to) roots (kept held) (ap is_some so)
-    by_says (writes.Done w true) l = done_now k.later refl w l.0 l.1
-    by_says (writes.Done w false) l = done_before k.later refl w (ap (λ x. note_at x.notes place) (sym l.1) ∙ l.0) l.1
-    by_says writes.NotOwner l = ends d c m i r g h live k n roots (kept l.2)
-    by_says (writes.Held w) l = held d c m i r g h live k w n roots (kept l.2)
+    by_says : (z : WriteGoes) → Logs place (Owner.Intent r.id) op (walk_so z) (content_of m item) (content_of n item) → After (write_says e z)
+    by_says (WriteGoes.On to) held = goes_on d c m i r g h live k finds out e is n (Stage.Write to) roots (kept held) (ap is_some so)
+    by_says (WriteGoes.Done w true) l = done_now k.later refl w l.0 l.1
+    by_says (WriteGoes.Done w false) l = done_before k.later refl w (ap (λ x. note_at x.notes place) (sym l.1) ∙ l.0) l.1
+    by_says WriteGoes.NotOwner l = ends d c m i r g h live k n roots (kept l.2)
+    by_says (WriteGoes.Held w) l = held d c m i r g h live k w n roots (kept l.2)
 
   pub operation_turn : AfterQuery d h.plain c.now m (λ u. turn_next c i r (turned_by d r g (put_says e (note_done e) u))) (put_asks r.id r.func g.machine.steps at (cell_op e))
   operation_turn =

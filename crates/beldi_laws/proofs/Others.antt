@@ -1,22 +1,9 @@
 -- What the runs of others have found in the rows stays, through an event that keeps its frame.
+use Rattle.beldi_txn.specs.Tx.{op_of}
 use Rattle.beldi_laws.proofs.Names.{Answer, Async, AtStage, Begun, Beside, Bool, ByTx, Call, CondWrite, Content, Core, Decide, DecidedAt, Deployment, Effect, End, EndAt, EndWalk, Entry, Found, Frame, Goes, Grown, Grows, HasLock, InItem, InOperation, Inside, Instance, IntentId, IsDecided, IsWriting, Item, Known, Knows, List, LockedAtEnds, Matches, None, Note, OpenTx, Option, Outcome, Own, Place, PlainState, Read, Released, Return, Right, Row, Rows, Run, RunTx, Sane, Some, Stage, TxAt, TxId, Txs, Value, Visit, Visited, [], ahead_by, along, along_append, ap, append-nil, append_assoc, arith, begin_of, child_of, content_of, effect_after, effect_of, end_of, end_walk, ended_by, ended_stays, eq-eqb, false, few_answers, front_is, got_before, got_by, if◌then◌else◌, in_tx, is_at, is_begin, is_eq, is_item, is_on, is_opened, is_past, is_sent, is_some, item_total, key_in, last_step, length, length-append, listed, lockset_key, log_key, no_decision, none_begun, note_at, note_is_ahead, now_open, place_of, plain_owner, refl, same_some, shadow_key, subst, sym, tied_itself, touched, true, true_false, tx_after, tx_end, tx_now, tx_of, tx_self, txs_after, txs_by, txs_pushed, value_at, value_in, wants, ℕ, ◌&&◌, ◌++◌, ◌<◌, ◌||◌, ◌∙◌, ◌∷◌, ◌≡◌}
-use Rattle.beldi_laws.proofs.Names.at
-use Rattle.beldi_laws.proofs.Names.effect
+use Rattle.beldi_laws.proofs.{Closing.settled_after, Frames.NoFinish, Grown.tx_stays, InTx.no_begin, InTx.wants_one, Lives.PlacesOn, Lives.keeps_still, Lives.made_stays, Lives.no_more, Lives.outcome_stays, Lives.stands_still, OpenOf.open_begun, OpenOf.own_begin, OpenOf.tx_open, Moves.Kept, Shown.Settled, Shown.Shows, Shown.legal_sane, Turns.all_here, Turns.at_steps, Turns.by_answer, Turns.effect_next, Turns.step_here, Turns.wanted_here, Visits.visit_stays}
 use Rattle.beldi_laws.proofs.Names.map
 use Rattle.beldi_laws.proofs.Names.plain
-use Rattle.beldi_laws.proofs.Names.stage
-use Rattle.beldi_row.specs.declared.notes.Note.TheVariants as notes
-use Rattle.beldi_txn.specs.Tx.{op_of}
-use Rattle.beldi_laws.proofs.Closing.{settled_after}
-use Rattle.beldi_laws.proofs.Frames.{NoFinish}
-use Rattle.beldi_laws.proofs.Grown.{tx_stays}
-use Rattle.beldi_laws.proofs.InTx.{no_begin, wants_one}
-use Rattle.beldi_laws.proofs.Lives.{PlacesOn, keeps_still, made_stays, no_more, outcome_stays, stands_still}
-use Rattle.beldi_laws.proofs.OpenOf.{open_begun, own_begin, tx_open}
-use Rattle.beldi_laws.proofs.Moves.{Kept}
-use Rattle.beldi_laws.proofs.Shown.{Settled, Shows, legal_sane}
-use Rattle.beldi_laws.proofs.Turns.{all_here, at_steps, by_answer, effect_next, step_here, wanted_here}
-use Rattle.beldi_laws.proofs.Visits.{visit_stays}
 
 -- ---- small facts
 none_later : (xs ys : List Answer) → length (xs ++ ys) ≡ length xs → ys ≡ []
@@ -58,11 +45,11 @@ effects_stay d i j given w = λ k. effect_after d (record i { func = sym w.func 
 -- ---- an operation
 -- what stands past the lock
 abbrev past_lock : TxAt → Bool
-past_lock at.Log = false
-past_lock (at.Lock l) = false
+past_lock TxAt.Log = false
+past_lock (TxAt.Lock l) = false
 past_lock a = true
 
-lock_noted : (a : TxAt) (p : Place) (c : Content) → past_lock a ≡ true → HasLock a p c → note_at c.notes p ≡ Some notes.Got
+lock_noted : (a : TxAt) (p : Place) (c : Content) → past_lock a ≡ true → HasLock a p c → note_at c.notes p ≡ Some Note.Got
 lock_noted a p c h g = grind arith
 
 lock_stays : (a : TxAt) (p : Place) (c e : Content) → ((w : Note) → note_at c.notes p ≡ Some w → note_at e.notes p ≡ Some w) → HasLock a p c → HasLock a p e
@@ -70,10 +57,10 @@ lock_stays a p c e stay h = grind arith
 
 -- what it found stays, where the shadow does, but of a write, and the plain value does, past the lock
 found_stays : (e : Effect) (a : TxAt) (s u : Option Row) (v w : Value) → (is_some (op_of e) ≡ false → u ≡ s) → (is_some s ≡ true → is_some u ≡ true) → (past_lock a ≡ true → w ≡ v) → Found e a s v → Found e a u w
-found_stays (Read t k) at.Item s u v w same there keeps h = same refl ∙ h
-found_stays (Read t k) (at.Keep x) s u v w same there keeps h = (λ i. value_in (same refl i) (keeps refl i)) ∙ h
-found_stays (CondWrite t k r o y) (at.Head x) s u v w same there keeps h = λ none. keeps refl ∙ h (grind (arith, none, there))
-found_stays (CondWrite t k r o y) (at.Write x) s u v w same there keeps h = there h
+found_stays (Read t k) TxAt.Item s u v w same there keeps h = same refl ∙ h
+found_stays (Read t k) (TxAt.Keep x) s u v w same there keeps h = (λ i. value_in (same refl i) (keeps refl i)) ∙ h
+found_stays (CondWrite t k r o y) (TxAt.Head x) s u v w same there keeps h = λ none. keeps refl ∙ h (grind (arith, none, there))
+found_stays (CondWrite t k r o y) (TxAt.Write x) s u v w same there keeps h = there h
 found_stays e a s u v w same there keeps h = tt
 
 -- who writes touches one
@@ -81,7 +68,7 @@ writes_touch : (e : Effect) → is_some (op_of e) ≡ true → is_some (touched 
 writes_touch e h = grind arith
 
 -- an effect that gives back the outcome touches no item, and ends none
-no_outcome : (e : Effect) (o : Option Outcome) → (is_some (touched e) ≡ true) → ((u : Outcome) → o ≡ Some u → e ≡ effect.Return u) → o ≡ None
+no_outcome : (e : Effect) (o : Option Outcome) → (is_some (touched e) ≡ true) → ((u : Outcome) → o ≡ Some u → e ≡ Effect.Return u) → o ≡ None
 no_outcome e o h over = grind arith
 
 -- ---- the step of an instance that is to be answered
@@ -99,7 +86,7 @@ one_steps d p known legal sane beside s i j y z is there on over touch touches n
     front_is d p known legal s.intent o.owner o.made o.begun tx k w (in_tx d p known legal s.intent o.owner o.made o.begun tx sane k w known_so (inside ∙ ap Some o.is)) known_so none (λ f v call. absurd (no_call f v call touched_so)) in
     sym (front i y is on touch now) ∙ front j z there over touches after
   where
-    no_call : {e : Effect} (f : ℕ) (v : Value) → e ≡ effect.Call f v → is_some (touched e) ≡ true → ⊥
+    no_call : {e : Effect} (f : ℕ) (v : Value) → e ≡ Effect.Call f v → is_some (touched e) ≡ true → ⊥
     no_call f v call touched_so = let clash = sym (ap (λ e. is_some (touched e)) call) ∙ touched_so in cc
 
 -- past its decision an end is decided
@@ -170,21 +157,21 @@ module _ (d : Deployment) (c : Core) (m n : Rows) (h : Right d c m) (q : PlainSt
         open_after = now_open d next shows.sane r.id j tx made (no_outcome (effect_of d j) j.outcome (ap is_some (ap touched (now_then left ∙ is) ∙ touch)) (shows.sane.each r.id j made).over) then_in
 
         -- where its place has the lock, it owns the item
-        owned : note_at (content_of m item).notes (place_of r.id g.machine.steps) ≡ Some notes.Got → (content_of m item).owner ≡ Some (ByTx tx)
+        owned : note_at (content_of m item).notes (place_of r.id g.machine.steps) ≡ Some Note.Got → (content_of m item).owner ≡ Some (ByTx tx)
         owned noted = (h.rows.txs item).got_is_owned tx (record {
           member = r.id;
           got = ap (got_by d tx item r.id (h.locked r.id)) k.made ∙ (λ z. got_before d tx item r.id k.instance || (ahead z && is_on tx item k.instance.func (now_in z) (effect_of d k.instance)))
               ∙ (λ z. got_before d tx item r.id k.instance || (tx_self tx z && is_item item (k.func z) (ap touched (now left ∙ is) z))) ∙ (λ z. got_before d tx item r.id k.instance || is_item item r.func (touch z)) ∙ (λ z. got_before d tx item r.id k.instance || is_eq (tied_itself item_total item z)) ∙ or_true (got_before d tx item r.id k.instance);
         }) (now_open d h.known h.sane r.id k.instance tx k.made going now_in)
           where
-            here : note_at (content_of m item).notes (place_of r.id (length k.instance.answers)) ≡ Some notes.Got
+            here : note_at (content_of m item).notes (place_of r.id (length k.instance.answers)) ≡ Some Note.Got
             here = ap (λ z. note_at (content_of m item).notes (place_of r.id z)) (sym (step_here k (left_before left))) ∙ noted
 
             few : length k.instance.answers < last_step
             few = let n = few_answers d k.instance.func k.instance.args (is_some k.instance.within) k.instance.answers (wants_one (effect_of d k.instance) i (ap touched (now left ∙ is) ∙ touch)) in omega (arith, n)
 
             ahead : h.locked r.id ≡ true
-            ahead = is_ahead item k.instance.func (tx_now d r.id k.instance) (effect_of d k.instance) (h.locked r.id) notes.Got (sym (note_is_ahead d m h.known h.locked h.rows r.id k.instance k.made few item) ∙ here)
+            ahead = is_ahead item k.instance.func (tx_now d r.id k.instance) (effect_of d k.instance) (h.locked r.id) Note.Got (sym (note_is_ahead d m h.known h.locked h.rows r.id k.instance k.made few item) ∙ here)
 
         -- it stands at no write
         unwritten : is_some (op_of e) ≡ false → IsWriting d h.known tx → ⊥
@@ -243,18 +230,18 @@ module _ (d : Deployment) (c : Core) (m n : Rows) (h : Right d c m) (q : PlainSt
   callee_stays step b was e = made_stays (map.get h.known (child_of r.id step)) (map.get next (child_of r.id step)) (grows (child_of r.id step)) (was e)
 
   at_stage : (more : List Entry) → PlacesOn d c.book more h.known next → (s : Stage) (e : Effect) (o : Option RunTx) → g.machine.effect ≡ e → g.tx ≡ o → AtStage m h.plain c.book k s e o → AtStage n q more (stands_still k j made w) s e o
-  at_stage more on stage.Ask (Read t x) None is open_now s = s
-  at_stage more on stage.Walk (Read t x) None is open_now s = s
-  at_stage more on (stage.Keep v seen) (Read t x) None is open_now s = keeps_still next k j made w c.book more on (record { func = r.func; table = t; key = x }) v seen s
-  at_stage more on (stage.Write at) e None is open_now s = s
-  at_stage more on (stage.Call at) (Call f a) o is open_now s = (s.0, callee_stays g.machine.steps (is_opened at) s.1)
-  at_stage more on (stage.Async at) (Async f a) None is open_now s = (s.0, callee_stays g.machine.steps (is_sent at) s.1)
-  at_stage more on stage.Back (Return u) o is open_now s = s
-  at_stage more on stage.Tell (Return u) None is open_now s = s
-  at_stage more on stage.Close (Return u) o is open_now s = (s.0, λ waited. outcome_stays k.instance j w (s.1 waited))
-  at_stage more on (stage.Tx a) e (Some o) is open_now s = (s.0, in_item o open_now e is a (touched e) refl s.1)
-  at_stage more on (stage.Decide b) (End commit) (Some (Own o)) is open_now s = s
-  at_stage more on (stage.End v) (End commit) (Some (Own o)) is open_now s = (s.0, visited o open_now commit is v s.0 s.1)
+  at_stage more on Stage.Ask (Read t x) None is open_now s = s
+  at_stage more on Stage.Walk (Read t x) None is open_now s = s
+  at_stage more on (Stage.Keep v seen) (Read t x) None is open_now s = keeps_still next k j made w c.book more on (record { func = r.func; table = t; key = x }) v seen s
+  at_stage more on (Stage.Write at) e None is open_now s = s
+  at_stage more on (Stage.Call at) (Call f a) o is open_now s = (s.0, callee_stays g.machine.steps (is_opened at) s.1)
+  at_stage more on (Stage.Async at) (Async f a) None is open_now s = (s.0, callee_stays g.machine.steps (is_sent at) s.1)
+  at_stage more on Stage.Back (Return u) o is open_now s = s
+  at_stage more on Stage.Tell (Return u) None is open_now s = s
+  at_stage more on Stage.Close (Return u) o is open_now s = (s.0, λ waited. outcome_stays k.instance j w (s.1 waited))
+  at_stage more on (Stage.Tx a) e (Some o) is open_now s = (s.0, in_item o open_now e is a (touched e) refl s.1)
+  at_stage more on (Stage.Decide b) (End commit) (Some (Own o)) is open_now s = s
+  at_stage more on (Stage.End v) (End commit) (Some (Own o)) is open_now s = (s.0, visited o open_now commit is v s.0 s.1)
   at_stage more on z e o is open_now s = absurd s
 
   found : (more : List Entry) → PlacesOn d c.book more h.known next → Inside m h.plain c.book k g.stage → Inside n q more (stands_still k j made w) g.stage

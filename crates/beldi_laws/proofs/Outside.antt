@@ -1,12 +1,10 @@
 -- Steps outside transactions: where no Begin is open. There what is known of an instance is what the plain state has.
-use Rattle.beldi_laws.proofs.Names.{Answer, Beside, Bool, Deployment, Effect, FinMap, Grown, GrownAt, Instance, IntentId, IsOutside, Item, Known, Line, List, None, Option, PlainState, Sane, Some, TxId, Txs, [], ap, arith, begins_parts, effect_after, effect_of, false, from_begin, holds, id_cmp, in_line, inl, inside_holds_none, is_begin, is_some, length, line_opened, next, none_by, opened_grows, or_own, outcome_of, owner_is, refl, same_some, subst, sym, top, true, tx_begun, tx_by, txs_after, txs_pushed, ◌++◌, ◌∙◌, ◌∷◌, ◌≡◌}
-use Rattle.beldi_laws.proofs.Names.effect
-use Rattle.beldi_laws.proofs.Names.map
-use Rattle.beldi_laws.proofs.Names.plain
 use Rattle.beldi_plain.specs.Piece.{opened}
 use Rattle.beldi_known.specs.Beside.{begins}
-use Rattle.beldi_laws.proofs.Grown.{grown_same}
-use Rattle.beldi_laws.proofs.Cases.{by_option}
+use Rattle.beldi_laws.proofs.Names.{Answer, Beside, Bool, Deployment, Effect, FinMap, Grown, GrownAt, Instance, IntentId, IsOutside, Item, Known, Line, List, None, Option, PlainState, Sane, Some, TxId, Txs, [], ap, arith, begins_parts, effect_after, effect_of, false, from_begin, holds, id_cmp, in_line, inl, inside_holds_none, is_begin, is_some, length, line_opened, next, none_by, opened_grows, or_own, outcome_of, owner_is, refl, same_some, subst, sym, top, true, tx_begun, tx_by, txs_after, txs_pushed, ◌++◌, ◌∙◌, ◌∷◌, ◌≡◌}
+use Rattle.beldi_laws.proofs.{Grown.grown_same, Cases.by_option}
+use Rattle.beldi_laws.proofs.Names.map
+use Rattle.beldi_laws.proofs.Names.plain
 
 module _ (d : Deployment) (id : IntentId) (q : Instance) (given : List Answer) where
   -- an answer to it opens none
@@ -15,14 +13,14 @@ module _ (d : Deployment) (id : IntentId) (q : Instance) (given : List Answer) w
 
 -- the effects that begin and end a transaction
 abbrev pub is_of_tx : Effect → Bool
-is_of_tx effect.Begin = true
-is_of_tx (effect.End c) = true
-is_of_tx effect.Abort = true
+is_of_tx Effect.Begin = true
+is_of_tx (Effect.End c) = true
+is_of_tx Effect.Abort = true
 is_of_tx e = false
 
 abbrev pub is_call : Effect → Bool
-is_call (effect.Call f v) = true
-is_call (effect.Async f v) = true
+is_call (Effect.Call f v) = true
+is_call (Effect.Async f v) = true
 is_call e = false
 
 -- ---- beside the plain state

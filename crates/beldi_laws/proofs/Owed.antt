@@ -1,9 +1,8 @@
 -- What the rows have of a step outside transactions: what its answer owes, or nothing where it has none.
-use Rattle.beldi_laws.proofs.Names.{Answer, Bool, Content, Deployment, DoneRows, Effect, Instance, IntentId, IsFreeFor, Item, ItemMatches, Known, List, LogMatches, Matches, None, Note, Operation, Option, Place, PlainState, RowKey, RowMatches, Rows, ShadowMatches, Some, SoundAt, TxsMatch, Value, [], ahead_by, answered_note, ap, append-nil, arith, at_step, begins, by_item, cell_of, commit_in, cond, content_in, content_of, decision_by, decision_key, does_so, effect_after, effect_before, effect_of, end_of, eq-eqb, eq_by_cmp_equiv, eqb-true, false, free_after, head_key, if◌then◌else◌, is_decided, is_eq, is_log, is_mark, is_shadow, is_some, item_total, key_cmp, keys_at, kinds_apart, last_step, length, listed, lists_same, log_key, no_tx, none_by, note_at, note_by, note_of, note_or, op_of, or_none, or_null, or_old, owed_note, owed_value, own_value, place_of, plain_set, read_at, refl, row_at, set_if, sets, shadow_key, slice_get, subst, sym, take_front, tied_itself, true, turned, tx_after, tx_at, tx_now, unbarred, value_at, value_for, value_or, ℕ, ◌&&◌, ◌==◌, ◌||◌, ◌∙◌, ◌≡◌}
-use Rattle.beldi_laws.proofs.Names.effect
-use Rattle.beldi_laws.proofs.Names.map
 use Rattle.std.specs.Prelude.{take}
+use Rattle.beldi_laws.proofs.Names.{Answer, Bool, Content, Deployment, DoneRows, Effect, Instance, IntentId, IsFreeFor, Item, ItemMatches, Known, List, LogMatches, Matches, None, Note, Operation, Option, Place, PlainState, RowKey, RowMatches, Rows, ShadowMatches, Some, SoundAt, TxsMatch, Value, [], ahead_by, answered_note, ap, append-nil, arith, at_step, begins, by_item, cell_of, commit_in, cond, content_in, content_of, decision_by, decision_key, does_so, effect_after, effect_before, effect_of, end_of, eq-eqb, eq_by_cmp_equiv, eqb-true, false, free_after, head_key, if◌then◌else◌, is_decided, is_eq, is_log, is_mark, is_shadow, is_some, item_total, key_cmp, keys_at, kinds_apart, last_step, length, listed, lists_same, log_key, no_tx, none_by, note_at, note_by, note_of, note_or, op_of, or_none, or_null, or_old, owed_note, owed_value, own_value, place_of, plain_set, read_at, refl, row_at, set_if, sets, shadow_key, slice_get, subst, sym, take_front, tied_itself, true, turned, tx_after, tx_at, tx_now, unbarred, value_at, value_for, value_or, ℕ, ◌&&◌, ◌==◌, ◌||◌, ◌∙◌, ◌≡◌}
 use Rattle.beldi_laws.proofs.Outside.{is_of_tx}
+use Rattle.beldi_laws.proofs.Names.map
 
 -- the note and the value of an answer, if there is one
 abbrev pub note_if : Item → ℕ → Effect → Option Answer → Option Note
@@ -19,7 +18,7 @@ no_end e h = grind arith
 
 module _ (d : Deployment) (m : Rows) (known : Known) (locked : IntentId → Bool) (h : Matches d m known locked) (id : IntentId) (q : Instance) (is : map.get known id ≡ Some q) (n : ℕ) where
   -- a read's row
-  pub read_there : (t : ℕ) (k : List ℕ) → effect_before d q n ≡ effect.Read t k → LogMatches (map.get m (log_key q.func (place_of id n))) (value_if (effect.Read t k) (slice_get q.answers n))
+  pub read_there : (t : ℕ) (k : List ℕ) → effect_before d q n ≡ Effect.Read t k → LogMatches (map.get m (log_key q.func (place_of id n))) (value_if (Effect.Read t k) (slice_get q.answers n))
   read_there t k wants = subst (LogMatches (map.get m (log_key q.func (place_of id n))))
       (ap (owed_value d q.func n) is ∙ ap (λ b. if b then row_at d q n else None) (eq-eqb q.func q.func refl) ∙ ap (λ o. value_or (decision_by o) (read_at d q n)) no_decision ∙ by_answer (slice_get q.answers n) ∙ ap (λ e. value_if e (slice_get q.answers n)) wants)
       (h.keys (log_key q.func (place_of id n)))

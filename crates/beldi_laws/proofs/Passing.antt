@@ -1,11 +1,8 @@
 -- The turns of an effect that is carried out inside a transaction as outside, a call or a return: what its run is in, and how it goes on.
-use Rattle.beldi_laws.proofs.Names.{Answer, Begun, Call, Caller, Core, Deployment, Effect, Inside, IntentId, IsTrue, Known, Knows, List, Machine, None, Option, Outcome, Return, Right, Rows, Run, RunTx, Some, StandsAt, TxId, Value, [], ap, effect_after, false, is_begin, is_some, none_by, open_of, outside_so, refl, run_tx, subst, sym, tx_after, tx_at, tx_now, tx_of, txs_after, wants_answer, within, ℕ, ◌∙◌, ◌∷◌, ◌≡◌}
-use Rattle.beldi_laws.proofs.Names.map
-use Rattle.beldi_laws.proofs.Names.says
-use Rattle.beldi_laws.proofs.Grown.{grown_same}
-use Rattle.beldi_laws.proofs.Moves.{SameRoots, Stays}
-use Rattle.beldi_laws.proofs.OpenOf.{open_in, open_none, open_tx, tx_open}
+use Rattle.beldi_laws.proofs.Names.{Answer, Begun, Call, Caller, Core, Deployment, Effect, Inside, IntentId, IsTrue, Known, Knows, List, Machine, None, Option, Outcome, Return, Right, Rows, Run, RunTx, Some, StandsAt, TxId, Value, [], ap, effect_after, false, is_begin, is_some, none_by, open_of, outside_so, refl, run_tx, subst, sym, tx_after, tx_at, tx_now, tx_of, txs_after, wants_answer, within, ℕ, ◌∙◌, ◌∷◌, ◌≡◌, Says}
 use Rattle.beldi_laws.proofs.Turns.{Leaves, all_here, answers_on, front_here, known_prefix, no_return, wanted_here}
+use Rattle.beldi_laws.proofs.{Grown.grown_same, Moves.SameRoots, Moves.Stays, OpenOf.open_in, OpenOf.open_none, OpenOf.open_tx, OpenOf.tx_open}
+use Rattle.beldi_laws.proofs.Names.map
 
 -- ---- where its run stands
 module _ {d : Deployment} {known : Known} {id : IntentId} {home : ℕ} {c : Option Caller} {s : Machine} {z : Option RunTx} (k : StandsAt d known id home c s z) where
@@ -42,7 +39,7 @@ module _ {d : Deployment} {known : Known} {id : IntentId} {home : ℕ} {c : Opti
 -- ---- its stages
 module _ (d : Deployment) (c : Core) (m : Rows) (i : ℕ) (r : Run) (g : Begun) (h : Right d c m) (live : map.get c.runs i ≡ Some r) (k : Knows d h.known r g) (finds : Inside m h.plain c.book k g.stage) (e : Effect) (is : g.machine.effect ≡ e) where
   -- a call replays: the answer is the one that its instance has
-  pub replays_call : (f : ℕ) (v : Value) → e ≡ Call f v → (n : Rows) (a : Answer) (rest : List Answer) → SameRoots m n → Stays h n → k.later ≡ a ∷ rest → Leaves d c m i r g h live k (says.Answers a None) n
+  pub replays_call : (f : ℕ) (v : Value) → e ≡ Call f v → (n : Rows) (a : Answer) (rest : List Answer) → SameRoots m n → Stays h n → k.later ≡ a ∷ rest → Leaves d c m i r g h live k (Says.Answers a None) n
   replays_call f v call n a rest roots kept left =
       answers_on d c m i r g h live k finds a rest n h.known h.locked k.instance roots kept k.made (grown_same k.instance) (known_prefix k a rest left)
       (subst (λ z. IsTrue (wants_answer z)) (sym (is ∙ call)) refl) (λ o commit x open_there ends owned. let clash = sym (is ∙ call) ∙ ends in cc)

@@ -1,26 +1,8 @@
 -- The turns of a read.
-use Rattle.beldi_laws.proofs.Names.{Answer, Answers, Begun, BelongsEarlier, Core, Deployment, Frame, Grows, Inside, IsAnswer, IsKeptLate, IsStateAt, Item, Keeps, Known, Knows, List, LogMatches, Look, Matches, None, On, Option, Place, Plain, PlainState, PutRead, Read, ReadGoes, ReadWalk, ReadsContent, Right, Row, RowKey, Rows, Run, Sane, Says, Some, Stage, Tell, TxId, Value, WasThere, [], act, ahead_set, answered, ap, arith, ask_says, back, begun_lists, by_row, commit_in, content_of, count_changes, effect_of, false, front, front_all, front_back, given_in, given_of, got_begun, grown_answer, grows_at, head_key, holds, in_the_way, inl, is_some, item_touched, keep_says, kept_late, kept_of, length, linear, linear_changes, listed, log_key, looked, moved, moved_one, no_root, no_tx, nobody_else, none_out, not_moved, nothing, op_of, option_map, or_null, owed_read, place_of, read_added, read_goes, read_so, refl, root_key, row_added, run_from, run_grows, runs_on, said, same_some, set_others, set_row, slice_get, stage_says, subst, sym, touched_by, turn_next, turned_by, tx_after, tx_now, txs_after, unchanged, unowned, value_at, walk_says, wants_answer, with_answer, ℕ, ◌∙◌, ◌∷◌, ◌≡◌, ◌≤◌}
-use Rattle.beldi_laws.proofs.Names.answer
-use Rattle.beldi_laws.proofs.Names.entry
-use Rattle.beldi_laws.proofs.Names.kinds
-use Rattle.beldi_laws.proofs.Names.map
-use Rattle.beldi_laws.proofs.Names.mark
-use Rattle.beldi_laws.proofs.Names.owner
-use Rattle.beldi_laws.proofs.Names.reads
-use Rattle.beldi_laws.proofs.Names.rows
-use Rattle.beldi_laws.proofs.Names.stage
-use Rattle.beldi_laws.proofs.Lives.{places_late}
-use Rattle.beldi_laws.proofs.Moves.{AfterAct, AfterTurn, Entered, Kept}
-use Rattle.beldi_laws.proofs.Frames.{frame_log, items_stay, no_finish, nobody_set}
-use Rattle.beldi_laws.proofs.Settling.{settled_grown, settled_outside}
-use Rattle.beldi_laws.proofs.Others.{kept_moving}
-use Rattle.beldi_laws.proofs.Grown.{grows_moved}
-use Rattle.beldi_laws.proofs.Keeping.{as_it_was, goes_answered, set_shadows}
+use Rattle.beldi_laws.proofs.Names.{Answer, Answers, Begun, BelongsEarlier, Core, Deployment, Frame, Grows, Inside, IsAnswer, IsKeptLate, IsStateAt, Item, Keeps, Known, Knows, List, LogMatches, Look, Matches, None, On, Option, Place, Plain, PlainState, PutRead, Read, ReadGoes, ReadWalk, ReadsContent, Right, Row, RowKey, Rows, Run, Sane, Says, Some, Stage, Tell, TxId, Value, WasThere, [], act, ahead_set, answered, ap, arith, ask_says, back, begun_lists, by_row, commit_in, content_of, count_changes, effect_of, false, front, front_all, front_back, given_in, given_of, got_begun, grown_answer, grows_at, head_key, holds, in_the_way, inl, is_some, item_touched, keep_says, kept_late, kept_of, length, linear, linear_changes, listed, log_key, looked, moved, moved_one, no_root, no_tx, nobody_else, none_out, not_moved, nothing, op_of, option_map, or_null, owed_read, place_of, read_added, read_goes, read_so, refl, root_key, row_added, run_from, run_grows, runs_on, said, same_some, set_others, set_row, slice_get, stage_says, subst, sym, touched_by, turn_next, turned_by, tx_after, tx_now, txs_after, unchanged, unowned, value_at, walk_says, wants_answer, with_answer, ℕ, ◌∙◌, ◌∷◌, ◌≡◌, ◌≤◌, Entry, Kind, Mark, Owner}
 use Rattle.beldi_laws.proofs.Turns.{effect_here, answer_here, all_here, step_here, effect_next, fits, not_over, goes_on, held, replays, steps_on, tx_next, plain_there, unlocked_there}
-use Rattle.beldi_laws.proofs.Shown.{value_here, holds_here, settled}
-use Rattle.beldi_laws.proofs.Owed.{value_if, read_there}
-use Rattle.beldi_laws.proofs.KeptSane.{answered_kept}
-use Rattle.beldi_laws.proofs.Outside.{is_call}
+use Rattle.beldi_laws.proofs.{Lives.places_late, Moves.AfterAct, Moves.AfterTurn, Moves.Entered, Moves.Kept, Frames.frame_log, Frames.items_stay, Frames.no_finish, Frames.nobody_set, Settling.settled_grown, Settling.settled_outside, Others.kept_moving, Grown.grows_moved, Keeping.as_it_was, Keeping.goes_answered, Keeping.set_shadows, Shown.value_here, Shown.holds_here, Shown.settled, Owed.value_if, Owed.read_there, KeptSane.answered_kept, Outside.is_call}
+use Rattle.beldi_laws.proofs.Names.map
 
 -- what a log gives is what it owes
 pub given_owed : (w : Option Row) (o : Option Value) → LogMatches w o → option_map given_in w ≡ o
@@ -53,27 +35,27 @@ module _ (d : Deployment) (c : Core) (m : Rows) (i : ℕ) (r : Run) (g : Begun) 
   left_still s l v at a = subst (Left s) (sym (unchanged m l v (sym at))) a
 
   -- a value that is there is the answer
-  replays_it : (u v : Value) (rest : List Answer) → k.later ≡ answer.Value u ∷ rest → Some v ≡ Some u → Left (Answers (answer.Value v) None) m
+  replays_it : (u v : Value) (rest : List Answer) → k.later ≡ Answer.Value u ∷ rest → Some v ≡ Some u → Left (Answers (Answer.Value v) None) m
   unfolding Left
-  replays_it u v rest left same = replays d c m i r g h live k finds out (Read t key) is m (answer.Value v) rest (λ u. refl) (as_it_was h) (left ∙ ap (λ w. answer.Value w ∷ rest) (sym (same_some same)))
+  replays_it u v rest left same = replays d c m i r g h live k finds out (Read t key) is m (Answer.Value v) rest (λ u. refl) (as_it_was h) (left ∙ ap (λ w. Answer.Value w ∷ rest) (sym (same_some same)))
 
   -- ---- it asks for what was given
-  walks : Left (On stage.Walk None) m
+  walks : Left (On Stage.Walk None) m
   unfolding Left
-  walks = goes_on d c m i r g h live k finds out (Read t key) is m stage.Walk (λ u. refl) (as_it_was h) tt
+  walks = goes_on d c m i r g h live k finds out (Read t key) is m Stage.Walk (λ u. refl) (as_it_was h) tt
 
   abbrev asked : Option Row → Type 0
   asked w = let z = act Look c.now w in Left (ask_says (given_of (said z.1))) (set_row m (log_key r.func place) z.0)
 
   ask_by : (later : List Answer) → k.later ≡ later → (w : Option Row) → map.get m (log_key r.func place) ≡ w → asked w
-  ask_by [] left None at = left_still (On stage.Walk None) (log_key r.func place) None at walks
+  ask_by [] left None at = left_still (On Stage.Walk None) (log_key r.func place) None at walks
   ask_by [] left (Some w) at = let clash = given_here [] left (Some w) at in cc
-  ask_by (answer.Value u ∷ rest) left None at = let clash = given_here (answer.Value u ∷ rest) left None at in cc
-  ask_by (answer.Value u ∷ rest) left (Some w) at =
-      left_still (Answers (answer.Value (given_in w)) None) (log_key r.func place) (Some w) at (replays_it u (given_in w) rest left (given_here (answer.Value u ∷ rest) left (Some w) at))
+  ask_by (Answer.Value u ∷ rest) left None at = let clash = given_here (Answer.Value u ∷ rest) left None at in cc
+  ask_by (Answer.Value u ∷ rest) left (Some w) at =
+      left_still (Answers (Answer.Value (given_in w)) None) (log_key r.func place) (Some w) at (replays_it u (given_in w) rest left (given_here (Answer.Value u ∷ rest) left (Some w) at))
   ask_by (a ∷ rest) left w at = absurd (fits d c m i r g h live k finds out (Read t key) is a rest left)
 
-  pub ask_turn : AfterRead stage.Ask (log_key r.func place) (act Look c.now (map.get m (log_key r.func place)))
+  pub ask_turn : AfterRead Stage.Ask (log_key r.func place) (act Look c.now (map.get m (log_key r.func place)))
   unfolding Left
   ask_turn = ask_by k.later refl (map.get m (log_key r.func place)) refl
 
@@ -84,8 +66,8 @@ module _ (d : Deployment) (c : Core) (m : Rows) (i : ℕ) (r : Run) (g : Begun) 
       few : count_changes (linear c.book) ≤ count_changes c.book
       few = let n = ap length (linear_changes c.book) in omega (arith, n)
 
-  found : (o : Option Value) → value_at h.plain item ≡ or_null o → in_the_way (Some (owner.Intent r.id)) (content_of m item).owner ≡ None → AfterTurn d h.plain c i r (turned_by d r g (walk_says (count_changes c.book) (reads.Got o))) m
-  found o same free = goes_on d c m i r g h live k finds out (Read t key) is m (stage.Keep (or_null o) (count_changes c.book)) (λ u. refl) (as_it_was h) (record {
+  found : (o : Option Value) → value_at h.plain item ≡ or_null o → in_the_way (Some (Owner.Intent r.id)) (content_of m item).owner ≡ None → AfterTurn d h.plain c i r (turned_by d r g (walk_says (count_changes c.book) (ReadGoes.Got o))) m
+  found o same free = goes_on d c m i r g h live k finds out (Read t key) is m (Stage.Keep (or_null o) (count_changes c.book)) (λ u. refl) (as_it_was h) (record {
     few = omega arith;
     was_there = λ none. record {
       state = h.plain;
@@ -98,19 +80,19 @@ module _ (d : Deployment) (c : Core) (m : Rows) (i : ℕ) (r : Run) (g : Begun) 
     };
   })
 
-  none_owns : in_the_way (Some (owner.Intent r.id)) (content_of m item).owner ≡ None → (t : TxId) → (content_of m item).owner ≡ Some (owner.Tx t) → ⊥
+  none_owns : in_the_way (Some (Owner.Intent r.id)) (content_of m item).owner ≡ None → (t : TxId) → (content_of m item).owner ≡ Some (Owner.Tx t) → ⊥
   none_owns free = no_tx r.id (content_of m item).owner (unowned r.id (content_of m item).owner free)
 
   abbrev walk : ReadWalk
-  walk = record { home = r.func; item = Plain t key; who = Some (owner.Intent r.id) }
+  walk = record { home = r.func; item = Plain t key; who = Some (Owner.Intent r.id) }
 
   walked : (z : ReadGoes) → ReadsContent walk.who (read_so z) (content_of m item) → AfterTurn d h.plain c i r (turned_by d r g (walk_says (count_changes c.book) z)) m
-  walked reads.On never = absurd never
-  walked (reads.Got None) empty = found None (sym (value_here h item (none_owns (ap (λ x. in_the_way (Some (owner.Intent r.id)) x.owner) empty))) ∙ ap (λ x. x.value) empty) (ap (λ x. in_the_way (Some (owner.Intent r.id)) x.owner) empty)
-  walked (reads.Got (Some v)) there = found (Some v) (sym (value_here h item (none_owns there.0)) ∙ sym there.1) there.0
-  walked (reads.Held o) way = held d c m i r g h live k o m (λ u. refl) (as_it_was h)
+  walked ReadGoes.On never = absurd never
+  walked (ReadGoes.Got None) empty = found None (sym (value_here h item (none_owns (ap (λ x. in_the_way (Some (Owner.Intent r.id)) x.owner) empty))) ∙ ap (λ x. x.value) empty) (ap (λ x. in_the_way (Some (Owner.Intent r.id)) x.owner) empty)
+  walked (ReadGoes.Got (Some v)) there = found (Some v) (sym (value_here h item (none_owns there.0)) ∙ sym there.1) there.0
+  walked (ReadGoes.Held o) way = held d c m i r g h live k o m (λ u. refl) (as_it_was h)
 
-  pub walk_turn : AfterRead stage.Walk (head_key item) (act Look c.now (map.get m (head_key item)))
+  pub walk_turn : AfterRead Stage.Walk (head_key item) (act Look c.now (map.get m (head_key item)))
   walk_turn =
       let z = read_goes walk.who (said (act Look c.now (map.get m (head_key item))).1) in
       subst (AfterTurn d h.plain c i r (turned_by d r g (walk_says (count_changes c.book) z))) (sym (looked c.now (head_key item) m)) (walked z (by_row walk c.now (map.get m (head_key item)) (h.rows.keys (head_key item))))
@@ -160,19 +142,19 @@ module _ (d : Deployment) (c : Core) (m : Rows) (i : ℕ) (r : Run) (g : Begun) 
       state = with_answer h.plain r.id k.instance v
 
       abbrev next : Known
-      next = map.insert h.known r.id (moved d r.id k.instance (answer.Value v))
+      next = map.insert h.known r.id (moved d r.id k.instance (Answer.Value v))
 
       late : IsKeptLate d c.book h.plain r.id seen k.instance v
       late = kept_late d c.book h.plain r.id seen k.instance v belongs
 
-      read_entered : Entered d c h.plain h.known (entry.Read r.id seen) state next
-      read_entered = record { grows = grows_at h.plain.made r.id k.instance (answered k.instance (answer.Value v)) made (grown_answer k.instance (answer.Value v)); bounded = late.bounded; legal = late.legal; guarded = late.guarded; places = places_late d c.book h.plain r.id seen k.instance v h.known k.made late }
+      read_entered : Entered d c h.plain h.known (Entry.Read r.id seen) state next
+      read_entered = record { grows = grows_at h.plain.made r.id k.instance (answered k.instance (Answer.Value v)) made (grown_answer k.instance (Answer.Value v)); bounded = late.bounded; legal = late.legal; guarded = late.guarded; places = places_late d c.book h.plain r.id seen k.instance v h.known k.made late }
 
       outside : tx_now d r.id k.instance ≡ None
       outside = tx_next k out left
 
       abbrev n : Rows
-      n = set_row m (log_key r.func place) (Some (rows.ReadLog v))
+      n = set_row m (log_key r.func place) (Some (Row.ReadLog v))
 
       unlocked : h.locked r.id ≡ false
       unlocked = unlocked_there d c m i r g h live k finds out (Read t key) is left
@@ -181,44 +163,44 @@ module _ (d : Deployment) (c : Core) (m : Rows) (i : ℕ) (r : Run) (g : Begun) 
       own_key = λ i. log_key (k.func i) (place_of r.id (sym (step_here k left) i))
 
       frame : Frame d m n h.plain state h.known next
-      frame = frame_log d m h.plain state h.known next (items_stay d m h.plain state next refl) (nobody_set d h.known r.id (moved d r.id k.instance (answer.Value v)) (ap is_some k.made)) r.func place (Some (rows.ReadLog v)) refl
+      frame = frame_log d m h.plain state h.known next (items_stay d m h.plain state next refl) (nobody_set d h.known r.id (moved d r.id k.instance (Answer.Value v)) (ap is_some k.made)) r.func place (Some (Row.ReadLog v)) refl
 
       sane_now : Sane d next
-      sane_now = answered_kept d h.known h.sane r.id k.instance (answer.Value v) k.made open_still outside (ap is_call now) (subst (λ e. IsAnswer (place_of r.id (length k.instance.answers)) None e (answer.Value v)) (sym now) tt)
+      sane_now = answered_kept d h.known h.sane r.id k.instance (Answer.Value v) k.made open_still outside (ap is_call now) (subst (λ e. IsAnswer (place_of r.id (length k.instance.answers)) None e (Answer.Value v)) (sym now) tt)
 
       rows_now : Matches d n next h.locked
-      rows_now = subst (λ z. Matches d (set_row m z (Some (rows.ReadLog v))) next h.locked) own_key
-          (read_added d h.known h.locked r.id k.instance (moved d r.id k.instance (answer.Value v)) (answer.Value v) k.made unlocked (inl outside) (ap commit_in now) (moved_one d r.id k.instance (answer.Value v))
-          m v (ap op_of now) (ap (λ e. row_added (length k.instance.answers) (txs_after d k.instance k.instance.answers).begun e (answer.Value v)) now) h.rows)
+      rows_now = subst (λ z. Matches d (set_row m z (Some (Row.ReadLog v))) next h.locked) own_key
+          (read_added d h.known h.locked r.id k.instance (moved d r.id k.instance (Answer.Value v)) (Answer.Value v) k.made unlocked (inl outside) (ap commit_in now) (moved_one d r.id k.instance (Answer.Value v))
+          m v (ap op_of now) (ap (λ e. row_added (length k.instance.answers) (txs_after d k.instance k.instance.answers).begun e (Answer.Value v)) now) h.rows)
 
       grows : Grows h.known next
-      grows = grows_moved d h.known r.id k.instance (answer.Value v) k.made
+      grows = grows_moved d h.known r.id k.instance (Answer.Value v) k.made
 
       kept_rows : Kept h n state next h.locked
-      kept_rows = kept_moving h n state next h.locked (goes_answered h n (set_shadows m (log_key r.func place) (Some (rows.ReadLog v)) refl) r.id k.instance (answer.Value v) k.made unlocked outside h.plain.items (λ j z other x owned. refl))
-          (ahead_set d h.known h.locked h.locked_at_ends h.locked r.id (moved d r.id k.instance (answer.Value v)) (none_out h.locked r.id unlocked)) sane_now rows_now
-          (λ x. subst (λ z. listed (set_row m z (Some (rows.ReadLog v))) x ≡ value_at h.plain x) own_key (begun_lists d m h.known h.locked h.rows.txs (λ u y got. got_begun d h.known h.sane h.locked u y got) r.id k.instance k.made (Some (rows.ReadLog v)) x ∙ h.values x))
-          (settled_grown d m h.plain state next read_entered.grows (settled_outside d m h.plain h.known r.id k.instance k.made (answer.Value v) outside (settled h))) grows frame
-          (no_finish m n (log_key r.func place) (set_others m (log_key r.func place) (Some (rows.ReadLog v))) d next refl)
+      kept_rows = kept_moving h n state next h.locked (goes_answered h n (set_shadows m (log_key r.func place) (Some (Row.ReadLog v)) refl) r.id k.instance (Answer.Value v) k.made unlocked outside h.plain.items (λ j z other x owned. refl))
+          (ahead_set d h.known h.locked h.locked_at_ends h.locked r.id (moved d r.id k.instance (Answer.Value v)) (none_out h.locked r.id unlocked)) sane_now rows_now
+          (λ x. subst (λ z. listed (set_row m z (Some (Row.ReadLog v))) x ≡ value_at h.plain x) own_key (begun_lists d m h.known h.locked h.rows.txs (λ u y got. got_begun d h.known h.sane h.locked u y got) r.id k.instance k.made (Some (Row.ReadLog v)) x ∙ h.values x))
+          (settled_grown d m h.plain state next read_entered.grows (settled_outside d m h.plain h.known r.id k.instance k.made (Answer.Value v) outside (settled h))) grows frame
+          (no_finish m n (log_key r.func place) (set_others m (log_key r.func place) (Some (Row.ReadLog v))) d next refl)
 
-    keeps : k.later ≡ [] → Left (Answers (answer.Value v) (Some (mark.Read seen))) (set_row m (log_key r.func place) (Some (rows.ReadLog v)))
+    keeps : k.later ≡ [] → Left (Answers (Answer.Value v) (Some (Mark.Read seen))) (set_row m (log_key r.func place) (Some (Row.ReadLog v)))
     unfolding Left
-    keeps left = steps_on d c m i r g h live k finds out (Read t key) is (answer.Value v) (mark.Read seen) (state left) (set_row m (log_key r.func place) (Some (rows.ReadLog v))) left tt (read_entered left)
-        (λ u. ap is_some (set_others m (log_key r.func place) (Some (rows.ReadLog v)) (root_key u) (no_root u r.func (kinds.ReadLog place) refl))) (kept_rows left)
+    keeps left = steps_on d c m i r g h live k finds out (Read t key) is (Answer.Value v) (Mark.Read seen) (state left) (set_row m (log_key r.func place) (Some (Row.ReadLog v))) left tt (read_entered left)
+        (λ u. ap is_some (set_others m (log_key r.func place) (Some (Row.ReadLog v)) (root_key u) (no_root u r.func (Kind.ReadLog place) refl))) (kept_rows left)
 
     abbrev kept_as : Option Row → Type 0
     kept_as w = let z = act (PutRead v) c.now w in Left (keep_says seen (kept_of v (said z.1))) (set_row m (log_key r.func place) z.0)
 
     keep_by : (later : List Answer) → k.later ≡ later → (w : Option Row) → map.get m (log_key r.func place) ≡ w → LogMatches w (owed_read d h.known r.func place) → kept_as w
     keep_by [] left None is_there f = keeps left
-    keep_by [] left (Some (rows.ReadLog u)) is_there f = let clash = given_here [] left (Some (rows.ReadLog u)) is_there in cc
-    keep_by (answer.Value u ∷ rest) left None is_there f = let clash = given_here (answer.Value u ∷ rest) left None is_there in cc
-    keep_by (answer.Value u ∷ rest) left (Some (rows.ReadLog w)) is_there f =
-        left_still (Answers (answer.Value w) None) (log_key r.func place) (Some (rows.ReadLog w)) is_there (replays_it u w rest left (given_here (answer.Value u ∷ rest) left (Some (rows.ReadLog w)) is_there))
-    keep_by (answer.Value u ∷ rest) left (Some w) is_there f = absurd f
+    keep_by [] left (Some (Row.ReadLog u)) is_there f = let clash = given_here [] left (Some (Row.ReadLog u)) is_there in cc
+    keep_by (Answer.Value u ∷ rest) left None is_there f = let clash = given_here (Answer.Value u ∷ rest) left None is_there in cc
+    keep_by (Answer.Value u ∷ rest) left (Some (Row.ReadLog w)) is_there f =
+        left_still (Answers (Answer.Value w) None) (log_key r.func place) (Some (Row.ReadLog w)) is_there (replays_it u w rest left (given_here (Answer.Value u ∷ rest) left (Some (Row.ReadLog w)) is_there))
+    keep_by (Answer.Value u ∷ rest) left (Some w) is_there f = absurd f
     keep_by [] left (Some w) is_there f = absurd f
     keep_by (a ∷ rest) left w is_there f = absurd (fits d c m i r g h live k finds out (Read t key) is a rest left)
 
-    pub keep_turn : AfterRead (stage.Keep v seen) (log_key r.func place) (act (PutRead v) c.now (map.get m (log_key r.func place)))
+    pub keep_turn : AfterRead (Stage.Keep v seen) (log_key r.func place) (act (PutRead v) c.now (map.get m (log_key r.func place)))
     unfolding Left
     keep_turn = keep_by k.later refl (map.get m (log_key r.func place)) refl (h.rows.keys (log_key r.func place))

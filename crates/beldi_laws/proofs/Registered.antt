@@ -1,12 +1,8 @@
 -- A row of an intent or of a call was set: rows match what is known, after the row of a callee was put or a call was marked as registered, and a turn that does no more keeps all.
 use Rattle.beldi_laws.proofs.Names.{Body, Bool, CallMatches, CalleeMatches, Core, Deployment, FinishMatches, Frame, HasNoRow, IntentId, IntentMatches, InvokeRow, IsBodyOf, Kind, Known, Matches, None, NoteRegistered, Option, OutcomeMatches, Place, PlainState, Right, Row, RowKey, Rows, Some, TxId, act, after_act, ap, arith, callee_put, cond, false, func_called, got, has_ended, has_finish, has_no_hops, invoke_key, is_row_log, is_shadow, is_some, is_waited, issued_at, key_self, option_map, owed_call, refl, register_to, row_put, set_others, set_row, subst, sym, true, unchanged, ℕ, ◌∙◌, ◌≡◌}
-use Rattle.beldi_laws.proofs.Names.kinds
-use Rattle.beldi_laws.proofs.Names.map
-use Rattle.beldi_laws.proofs.Names.rows
 use Rattle.beldi_laws.proofs.Frames.{NobodyJoins, NoFinish, is_entry, is_intent, frame_still, frame_row, items_stay, no_finish, no_new_finish, nobody_new}
-use Rattle.beldi_laws.proofs.Keeping.{SameShadows, set_shadows, stays_by}
-use Rattle.beldi_laws.proofs.Moves.{Stays}
-use Rattle.beldi_laws.proofs.Shown.{log_values}
+use Rattle.beldi_laws.proofs.{Keeping.SameShadows, Keeping.set_shadows, Keeping.stays_by, Moves.Stays, Shown.log_values}
+use Rattle.beldi_laws.proofs.Names.map
 
 -- ---- a row of an intent or of a call was set, and nothing else
 log_kind : (k : Kind) → is_row_log k ≡ true → (is_shadow k ≡ false) × (is_entry k ≡ true)
@@ -30,14 +26,14 @@ stays_new r v none = record {
 }
 
 -- .. a call that is marked, or has its result
-pub stays_call : (r : Option Row) (x y : InvokeRow) → r ≡ Some (rows.Invoke x) → y.func ≡ x.func → StaysRow r (Some (rows.Invoke y))
+pub stays_call : (r : Option Row) (x y : InvokeRow) → r ≡ Some (Row.Invoke x) → y.func ≡ x.func → StaysRow r (Some (Row.Invoke y))
 stays_call r x y is func = record { there = λ e. refl; finish = λ e. let clash = sym (ap has_finish is) ∙ e in cc; calls = λ g e. ap Some func ∙ sym (ap (option_map func_called) is) ∙ e }
 
 pub stays_marked : (now : ℕ) (r : Option Row) → StaysRow r (act NoteRegistered now r).0
 stays_marked now None = stays_same None
-stays_marked now (Some (rows.Invoke x)) = by_mark x x.registered
+stays_marked now (Some (Row.Invoke x)) = by_mark x x.registered
   where
-    by_mark : (x : InvokeRow) (b : Bool) → StaysRow (Some (rows.Invoke x)) (Some (rows.Invoke (register_to x b).0))
+    by_mark : (x : InvokeRow) (b : Bool) → StaysRow (Some (Row.Invoke x)) (Some (Row.Invoke (register_to x b).0))
     by_mark x b = grind arith
 stays_marked now (Some w) = stays_same (Some w)
 
@@ -72,11 +68,11 @@ unfinished ended t = grind arith
 
 -- ---- a callee was registered: its row, which was not there, has its body
 pub callee_registered : (d : Deployment) (m : Rows) (known : Known) (locked : IntentId → Bool) (id : IntentId) (b : Body) (now : ℕ) → has_no_hops id.hops ≡ false → IsBodyOf b (map.get known id) → Matches d m known locked
-    → let key : RowKey = record { home = b.func; kind = kinds.Intent id } in map.get m key ≡ None → Matches d (set_row m key (Some (rows.Intent (issued_at now (Some b))))) known locked
+    → let key : RowKey = record { home = b.func; kind = Kind.Intent id } in map.get m key ≡ None → Matches d (set_row m key (Some (Row.Intent (issued_at now (Some b))))) known locked
 callee_registered d m known locked id b now hops body h none = callee_put d known locked m id b.func (issued_at now (Some b)) hops (record { finishes = unfinished (has_ended d known) b.tx; body = (body, refl, by_wait (is_waited b.from) refl) }) h
   where
     absent : HasNoRow b.func (map.get known id)
-    absent = subst (λ r. CalleeMatches (has_ended d known) b.func r (map.get known id)) none (subst (λ t. IntentMatches (has_ended d known) t b.func (map.get m (record { home = b.func; kind = kinds.Intent id })) (map.get known id)) hops (h.keys (record { home = b.func; kind = kinds.Intent id })))
+    absent = subst (λ r. CalleeMatches (has_ended d known) b.func r (map.get known id)) none (subst (λ t. IntentMatches (has_ended d known) t b.func (map.get m (record { home = b.func; kind = Kind.Intent id })) (map.get known id)) hops (h.keys (record { home = b.func; kind = Kind.Intent id })))
 
     by_wait : (t : Bool) → is_waited b.from ≡ t → OutcomeMatches t None body.instance.outcome
     by_wait t e = grind arith
@@ -86,19 +82,19 @@ module _ (d : Deployment) (m : Rows) (known : Known) (locked : IntentId → Bool
   abbrev mark_key : RowKey
   mark_key = invoke_key home a
 
-  put : (r : InvokeRow) → CallMatches (Some (rows.Invoke r)) (owed_call known home a) → Matches d (set_row m mark_key (Some (rows.Invoke r))) known locked
-  put r there = row_put d known locked m mark_key (Some (rows.Invoke r)) refl there h
+  put : (r : InvokeRow) → CallMatches (Some (Row.Invoke r)) (owed_call known home a) → Matches d (set_row m mark_key (Some (Row.Invoke r))) known locked
+  put r there = row_put d known locked m mark_key (Some (Row.Invoke r)) refl there h
 
   stays : (w : Option Row) → map.get m mark_key ≡ w → Matches d (set_row m mark_key w) known locked
   stays w at = subst (λ n. Matches d n known locked) (sym (unchanged m mark_key w (sym at))) h
 
-  by_mark : (x : InvokeRow) (b : Bool) → x.registered ≡ b → map.get m mark_key ≡ Some (rows.Invoke x) → CallMatches (Some (rows.Invoke x)) (owed_call known home a) → Matches d (set_row m mark_key (Some (rows.Invoke (register_to x b).0))) known locked
-  by_mark x true is at there = stays (Some (rows.Invoke x)) at
+  by_mark : (x : InvokeRow) (b : Bool) → x.registered ≡ b → map.get m mark_key ≡ Some (Row.Invoke x) → CallMatches (Some (Row.Invoke x)) (owed_call known home a) → Matches d (set_row m mark_key (Some (Row.Invoke (register_to x b).0))) known locked
+  by_mark x true is at there = stays (Some (Row.Invoke x)) at
   by_mark x false is at there = put (record x { registered = true }) there
 
   by_row : (w : Option Row) → map.get m mark_key ≡ w → CallMatches w (owed_call known home a) → Matches d (set_row m mark_key (act NoteRegistered now (map.get m mark_key)).0) known locked
   by_row None at there = subst (λ z. Matches d (set_row m mark_key (act NoteRegistered now z).0) known locked) (sym at) (stays None at)
-  by_row (Some (rows.Invoke x)) at there = subst (λ z. Matches d (set_row m mark_key (act NoteRegistered now z).0) known locked) (sym at) (by_mark x x.registered refl at there)
+  by_row (Some (Row.Invoke x)) at there = subst (λ z. Matches d (set_row m mark_key (act NoteRegistered now z).0) known locked) (sym at) (by_mark x x.registered refl at there)
   by_row (Some w) at there = absurd there
 
   pub marked_registered : Matches d (after_act NoteRegistered now (invoke_key home a) m) known locked

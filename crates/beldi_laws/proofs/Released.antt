@@ -1,9 +1,7 @@
 -- Past the end of a transaction it owns nothing: so it is of each number of steps that a run comes to.
 use Rattle.beldi_laws.proofs.Names.{Answer, Bool, ByTx, Deployment, Effect, Inherited, Instance, IntentId, Item, Known, List, Matches, None, OpenTx, Option, Own, Prefix, Released, Rows, RunTx, Sane, Some, TxId, [], and_once, answer_at_once, ap, append_assoc, arith, content_of, effect_after, ended_by, eq-eqb, eqb-true, false, got_begun, length, length-append, open_of, own_tx, refl, run_on, run_once, same_some, sym, take, take_front, true, txs_after, ℕ, ◌++◌, ◌==◌, ◌∙◌, ◌∷◌, ◌≡◌}
-use Rattle.beldi_laws.proofs.Names.effect
+use Rattle.beldi_laws.proofs.{Ended.EndedAt, Ended.ended_at, OpenOf.own_begin, OpenOf.open_begun}
 use Rattle.beldi_laws.proofs.Names.map
-use Rattle.beldi_laws.proofs.Ended.{EndedAt, ended_at}
-use Rattle.beldi_laws.proofs.OpenOf.{own_begin, open_begun}
 
 -- ---- a run's own transactions
 module _ (d : Deployment) (n : Rows) (known : Known) (locked : IntentId → Bool) (rows : Matches d n known locked) (sane : Sane d known) (id : IntentId) (q : Instance) (made : map.get known id ≡ Some q) where
@@ -14,7 +12,7 @@ module _ (d : Deployment) (n : Rows) (known : Known) (locked : IntentId → Bool
 
   -- an answer more: where it ended a transaction, that owns nothing
   pub released_next : (given : List Answer) (a : Answer) → Prefix (given ++ a ∷ []) q → Released d n known id (length given)
-      → ((o : OpenTx) (commit : Bool) (x : Item) → open_of d q given ≡ Some (Own o) → effect_after d q given ≡ effect.End commit → (content_of n x).owner ≡ Some (ByTx (own_tx id q.func o)) → ⊥) → Released d n known id (length (given ++ a ∷ []))
+      → ((o : OpenTx) (commit : Bool) (x : Item) → open_of d q given ≡ Some (Own o) → effect_after d q given ≡ Effect.End commit → (content_of n x).owner ≡ Some (ByTx (own_tx id q.func o)) → ⊥) → Released d n known id (length (given ++ a ∷ []))
   released_next given a prefix before freed t z mine ended less x owned = by_step (z.0 == length given) refl
     where
       at : EndedAt d q q.answers t.begin z
@@ -23,7 +21,7 @@ module _ (d : Deployment) (n : Rows) (known : Known) (locked : IntentId → Bool
       front : take (length given) q.answers ≡ given
       front = ap (take (length given)) (sym prefix.all ∙ append_assoc given (a ∷ []) prefix.later) ∙ take_front given (a ∷ prefix.later)
 
-      by_open : (o : Option RunTx) → open_of d q given ≡ o → own_begin o ≡ Some t.begin → effect_after d q given ≡ effect.End z.1 → ⊥
+      by_open : (o : Option RunTx) → open_of d q given ≡ o → own_begin o ≡ Some t.begin → effect_after d q given ≡ Effect.End z.1 → ⊥
       by_open None e begin ends = cc
       by_open (Some (Inherited y)) e begin ends = cc
       by_open (Some (Own o)) e begin ends = freed o z.1 x e ends (owned ∙ λ i. Some (ByTx (record { intent = mine i; begin = sym (same_some begin) i; func = owner_func t x owned mine i })))
@@ -48,7 +46,7 @@ module _ (d : Deployment) (n : Rows) (known : Known) (locked : IntentId → Bool
       front ts None p = p
       front ts (Some a) p = record { later = a ∷ p.later; all = sym (append_assoc ts (a ∷ []) p.later) ∙ p.all }
 
-      no_end : (k : ℕ) (e : Effect) (a : Answer) (c : Bool) → answer_at_once id k e ≡ Some a → e ≡ effect.End c → ⊥
+      no_end : (k : ℕ) (e : Effect) (a : Answer) (c : Bool) → answer_at_once id k e ≡ Some a → e ≡ Effect.End c → ⊥
       no_end k e a c at ends = let clash = sym (ap (answer_at_once id k) ends) ∙ at in cc
 
       past : (ts : List Answer) (o : Option Answer) → Prefix (and_once ts o) q → Released d n known id (length ts) → answer_at_once id (length ts) (effect_after d q ts) ≡ o → Released d n known id (length (and_once ts o))

@@ -1,16 +1,7 @@
 -- A run at its return: who called its instance, and how that ends.
 use Rattle.beldi_laws.proofs.Names.{Answer, Begun, Caller, Cause, Core, Deployment, Goes, Grows, Inside, Instance, IntentId, IsAnswer, IsCalled, Known, Knows, List, LockedAtEnds, Machine, None, Option, Outcome, Place, PlainState, Return, Right, Rows, Run, RunTx, Sane, Says, Some, StandsAt, Step, TxId, [], ahead_set, answer_of, ap, arith, caller_in, child_of, effect_of, enabled_step, ended, false, goes_one, got_ended, grown_end, grows_at, has_no_hops, inl, inr, is_begin, is_some, is_waited, item_touched, key_in, kind_of, none_by, none_out, place_of, refl, root_of, root_or_called, run_tx, same_some, set_over, step_by, subst, sym, touched, touched_by, true, turned_by, tx_after, tx_at, unlocked_elsewhere, waits_at, with_instance, within, ℕ, ◌∙◌, ◌∷◌, ◌≡◌}
+use Rattle.beldi_laws.proofs.{Frames.NobodyJoins, Frames.nobody_set, Settling.settled_ended, Settling.settled_grown, Keeping.SameShadows, Moves.AfterTurn, Moves.change_entered, Moves.Entered, Passing.returns_in, Passing.tx_is, Shown.Settled, Shown.settled, Shown.legal_sane, Turns.answer_here, Turns.effect_here, Turns.effect_next, Turns.sane_instance, Turns.plain_there, Turns.outside_there, Cases.false_by}
 use Rattle.beldi_laws.proofs.Names.map
-use Rattle.beldi_laws.proofs.Names.outcome
-use Rattle.beldi_lang.specs.declared.effect.Answer.TheVariants as answers
-use Rattle.beldi_laws.proofs.Frames.{NobodyJoins, nobody_set}
-use Rattle.beldi_laws.proofs.Settling.{settled_ended, settled_grown}
-use Rattle.beldi_laws.proofs.Keeping.{SameShadows}
-use Rattle.beldi_laws.proofs.Moves.{AfterTurn, change_entered, Entered}
-use Rattle.beldi_laws.proofs.Passing.{returns_in, tx_is}
-use Rattle.beldi_laws.proofs.Shown.{Settled, settled, legal_sane}
-use Rattle.beldi_laws.proofs.Turns.{answer_here, effect_here, effect_next, sane_instance, plain_there, outside_there}
-use Rattle.beldi_laws.proofs.Cases.{false_by}
 
 -- the caller of an instance, if it has one, made it at this step
 pub record HasCaller (d : Deployment) (known : Known) (id : IntentId) (q : Instance) (c : Caller) : Type 0 where
@@ -56,7 +47,7 @@ unanswered : (p : Place) (t : Option TxId) (o : Outcome) (a : Answer) → IsAnsw
 unanswered p t o a h = grind arith
 
 -- an outcome that was aborted
-pub aborted_by : (o : Outcome) (c : Cause) → answer_of o ≡ answers.Aborted c → o ≡ outcome.Aborted c
+pub aborted_by : (o : Outcome) (c : Cause) → answer_of o ≡ Answer.Aborted c → o ≡ Outcome.Aborted c
 aborted_by o c e = grind arith
 
 module _ (d : Deployment) (c : Core) (m : Rows) (i : ℕ) (r : Run) (g : Begun) (h : Right d c m) (live : map.get c.runs i ≡ Some r) (k : Knows d h.known r g) (finds : Inside m h.plain c.book k g.stage) (o : Outcome) (is : g.machine.effect ≡ Return o) where

@@ -1,12 +1,7 @@
 -- What rows keep of transactions is kept: where the plain state grows, where rows move by a frame, and where an instance is set.
 use Rattle.beldi_laws.proofs.Names.{AllShort, Answer, Bool, ByTx, Cause, Deployment, Effect, Frame, Grows, HoldersInsideAreMade, Instance, IntentId, IsBelow, IsFreePlace, Item, Known, List, None, Option, Outcome, OwnedAreUnmarked, OwnersCallNobody, ParticipantsAreReleased, ParticipantsHaveRows, Place, PlainState, Rows, Some, TookPart, TxId, Txs, [], answer_at_once, answered, answered_if, ap, arith, at_once, content_of, effect_of, end_of, ended, ended_by, inl, inr, is_some, key_in, known_set, length, moved, once, once_if, outside_parts, place_of, pushed_cases, refl, same_some, slice_get, subst, sym, touched, true, tx_after, tx_at, tx_end, tx_now, txs_after, txs_pushed, ℕ, ◌∙◌, ◌≡◌, ◌≤◌}
-use Rattle.beldi_laws.proofs.Names.answer
-use Rattle.beldi_laws.proofs.Names.effect
+use Rattle.beldi_laws.proofs.{KeptSane.outside_effect, Lives.made_stays, Outside.is_of_tx, Shown.Settled}
 use Rattle.beldi_laws.proofs.Names.map
-use Rattle.beldi_laws.proofs.KeptSane.{outside_effect}
-use Rattle.beldi_laws.proofs.Lives.{made_stays}
-use Rattle.beldi_laws.proofs.Outside.{is_of_tx}
-use Rattle.beldi_laws.proofs.Shown.{Settled}
 
 -- the plain state grows
 pub settled_grown : (d : Deployment) (m : Rows) (p q : PlainState) (known : Known) → Grows p.made q.made → Settled d m p known → Settled d m q known
@@ -36,7 +31,7 @@ module _ (d : Deployment) (m n : Rows) (p q : PlainState) (known next : Known) (
 
 -- what it wants of an instance: who let a step die was made, who took part and has its outcome has its row, and its id is short
 pub record IsSettled (d : Deployment) (m : Rows) (p : PlainState) (id : IntentId) (s : Instance) : Type 0 where
-  pub holders : (n : ℕ) (c : Cause) (i : IntentId) → is_some (tx_at d id s n) ≡ true → slice_get s.answers n ≡ Some (answer.Aborted c) → c.holder ≡ Some i → is_some (map.get p.made i) ≡ true
+  pub holders : (n : ℕ) (c : Cause) (i : IntentId) → is_some (tx_at d id s n) ≡ true → slice_get s.answers n ≡ Some (Answer.Aborted c) → c.holder ≡ Some i → is_some (map.get p.made i) ≡ true
   pub seated : (t : TxId) → s.within ≡ Some t → is_some s.outcome ≡ true → is_some (map.get m (key_in s.func id)) ≡ true
   pub short : length id.hops ≤ 63
 
@@ -52,7 +47,7 @@ module _ (d : Deployment) (m : Rows) (p : PlainState) (known : Known) (id : Inte
   module _ (one : IsSettled d m p id s) (h : Settled d m p known) where
     pub holders_set : HoldersInsideAreMade d p (map.insert known id s)
     holders_set j k n c i is inside dead holder = known_set known id s (λ j o. o ≡ Some k → is_some (tx_at d j k n) ≡ true → is_some (map.get p.made i) ≡ true)
-        (λ e g. one.holders n c i (subst (λ (y : Instance). is_some (tx_at d id y n) ≡ true) (sym (same_some e)) g) (subst (λ (y : Instance). slice_get y.answers n ≡ Some (answer.Aborted c)) (sym (same_some e)) dead) holder)
+        (λ e g. one.holders n c i (subst (λ (y : Instance). is_some (tx_at d id y n) ≡ true) (sym (same_some e)) g) (subst (λ (y : Instance). slice_get y.answers n ≡ Some (Answer.Aborted c)) (sym (same_some e)) dead) holder)
         (λ j other e g. h.holders j k n c i e g dead holder) j is inside
 
     pub seated_set : ParticipantsHaveRows m (map.insert known id s)
@@ -116,18 +111,18 @@ one_ended d m p id s o there h = record { holders = h.holders; seated = λ t wit
 
 -- what it wants of an answer to an effect: the effect is no End, and a death has a holder that was made
 pub record IsFit (d : Deployment) (p : PlainState) (t : Option TxId) (e : Effect) (a : Answer) : Type 0 where
-  pub no_end : (c : Bool) → e ≡ effect.End c → ⊥
-  pub holder : (c : Cause) (i : IntentId) → is_some t ≡ true → a ≡ answer.Aborted c → c.holder ≡ Some i → is_some (map.get p.made i) ≡ true
+  pub no_end : (c : Bool) → e ≡ Effect.End c → ⊥
+  pub holder : (c : Cause) (i : IntentId) → is_some t ≡ true → a ≡ Answer.Aborted c → c.holder ≡ Some i → is_some (map.get p.made i) ≡ true
 
 -- who let a step die, by its answer
 abbrev holder_in : Answer → Option IntentId
-holder_in (answer.Aborted c) = c.holder
+holder_in (Answer.Aborted c) = c.holder
 holder_in a = None
 
 -- one that was answered so
-pub one_answered : (d : Deployment) (m : Rows) (p : PlainState) (id : IntentId) (s : Instance) (a : Answer) → ((c : Cause) (i : IntentId) → is_some (tx_now d id s) ≡ true → a ≡ answer.Aborted c → c.holder ≡ Some i → is_some (map.get p.made i) ≡ true) → IsSettled d m p id s → IsSettled d m p id (answered s a)
+pub one_answered : (d : Deployment) (m : Rows) (p : PlainState) (id : IntentId) (s : Instance) (a : Answer) → ((c : Cause) (i : IntentId) → is_some (tx_now d id s) ≡ true → a ≡ Answer.Aborted c → c.holder ≡ Some i → is_some (map.get p.made i) ≡ true) → IsSettled d m p id s → IsSettled d m p id (answered s a)
 one_answered d m p id s a made h = record {
-  holders = λ n c i inside dead holder. elim (pushed_cases s.answers a (answer.Aborted c) n dead) [
+  holders = λ n c i inside dead holder. elim (pushed_cases s.answers a (Answer.Aborted c) n dead) [
     | inl e ↦ made c i (sym (ap (λ ts. is_some (tx_after d id s ts)) e.1) ∙ inside) (sym e.2) holder
     | inr e ↦ h.holders n c i (sym (ap (λ ts. is_some (tx_after d id s ts)) e.0) ∙ inside) e.1 holder
   ];
@@ -136,7 +131,7 @@ one_answered d m p id s a made h = record {
 }
 
 -- an answer to no End ends no transaction
-same_ends : (d : Deployment) (s : Instance) (a : Answer) → ((c : Bool) → effect_of d s ≡ effect.End c → ⊥) → (b : ℕ) → end_of d (answered s a) b ≡ end_of d s b
+same_ends : (d : Deployment) (s : Instance) (a : Answer) → ((c : Bool) → effect_of d s ≡ Effect.End c → ⊥) → (b : ℕ) → end_of d (answered s a) b ≡ end_of d s b
 same_ends d s a none b = ap (λ (t : Txs). t.ends b) (txs_pushed d s s.answers a) ∙ grind (arith, none)
 
 -- .. and what takes no turn, which ends none
@@ -149,15 +144,15 @@ pub record SameBut (d : Deployment) (m : Rows) (p : PlainState) (id : IntentId) 
 pub one_at_once : (d : Deployment) (m : Rows) (p : PlainState) (id : IntentId) (s : Instance) → IsSettled d m p id s → SameBut d m p id s (at_once d id s)
 one_at_once d m p id s h = let k = once_more s h in let l = once_more (once d id s) k.settled in record { settled = l.settled; within = l.within ∙ k.within; outcome = l.outcome ∙ k.outcome; ends = λ b. l.ends b ∙ k.ends b }
   where
-    by_answer : (s : Instance) (a : Answer) → ((c : Bool) → effect_of d s ≡ effect.End c → ⊥) → ((c : Cause) (i : IntentId) → a ≡ answer.Aborted c → c.holder ≡ Some i → ⊥) → IsSettled d m p id s → SameBut d m p id s (answered s a)
+    by_answer : (s : Instance) (a : Answer) → ((c : Bool) → effect_of d s ≡ Effect.End c → ⊥) → ((c : Cause) (i : IntentId) → a ≡ Answer.Aborted c → c.holder ≡ Some i → ⊥) → IsSettled d m p id s → SameBut d m p id s (answered s a)
     by_answer s a none dead h = record { settled = one_answered d m p id s a (λ c i inside e holder. absurd (dead c i e holder)) h; within = refl; outcome = refl; ends = same_ends d s a none }
 
     as_was : (s : Instance) → IsSettled d m p id s → SameBut d m p id s s
     as_was s h = record { settled = h; within = refl; outcome = refl; ends = λ b. refl }
 
     by_effect : (s : Instance) (e : Effect) → effect_of d s ≡ e → IsSettled d m p id s → SameBut d m p id s (answered_if s (answer_at_once id (length s.answers) e))
-    by_effect s effect.Begin is h = by_answer s answer.Done (λ c g. let clash = sym is ∙ g in cc) (λ c i dead. cc) h
-    by_effect s effect.Abort is h = by_answer s (answer.Aborted (record { place = place_of id (length s.answers); holder = None })) (λ c g. let clash = sym is ∙ g in cc)
+    by_effect s Effect.Begin is h = by_answer s Answer.Done (λ c g. let clash = sym is ∙ g in cc) (λ c i dead. cc) h
+    by_effect s Effect.Abort is h = by_answer s (Answer.Aborted (record { place = place_of id (length s.answers); holder = None })) (λ c g. let clash = sym is ∙ g in cc)
         (λ c i dead holder. let clash : None ≡ Some i = ap holder_in dead ∙ holder in cc) h
     by_effect s e is h = as_was s h
 
@@ -198,5 +193,5 @@ module _ (d : Deployment) (m : Rows) (p : PlainState) (known : Known) (id : Inte
   }) h
 
   -- .. or at an operation inside, of whose death the holder was made
-  pub settled_operated : (o : ℕ × List ℕ) → touched (effect_of d k) ≡ Some o → ((c : Cause) (i : IntentId) → a ≡ answer.Aborted c → c.holder ≡ Some i → is_some (map.get p.made i) ≡ true) → Settled d m p known → Settled d m p (map.insert known id (moved d id k a))
+  pub settled_operated : (o : ℕ × List ℕ) → touched (effect_of d k) ≡ Some o → ((c : Cause) (i : IntentId) → a ≡ Answer.Aborted c → c.holder ≡ Some i → is_some (map.get p.made i) ≡ true) → Settled d m p known → Settled d m p (map.insert known id (moved d id k a))
   settled_operated o touch dead h = settled_moved (record { no_end = λ c g. let clash = sym (ap touched g) ∙ touch in cc; holder = λ c i inside. dead c i }) h

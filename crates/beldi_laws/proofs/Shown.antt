@@ -1,9 +1,8 @@
 -- What rows show of a plain state: what is known beside it, and that they match that. An event keeps it as the two move together.
-use Rattle.beldi_laws.proofs.Names.{AllShort, Bool, Core, Deployment, Goes, HoldersInsideAreMade, IntentId, IsSound, Item, Known, LockedAtEnds, Matches, Option, OwnedAreUnmarked, OwnersCallNobody, ParticipantsAreReleased, ParticipantsHaveRows, PlainState, Right, Row, RowKey, Rows, Sane, Some, TxId, content_of, holds, is_row_log, legal_is_sane, listed, log_lists, own_value, set_row, sym, true, value_at, ◌∙◌, ◌≡◌}
-use Rattle.beldi_laws.proofs.Names.map
-use Rattle.beldi_laws.proofs.Names.owner
-use Rattle.beldi_laws.proofs.Names.plain
+use Rattle.beldi_laws.proofs.Names.{AllShort, Bool, Core, Deployment, Goes, HoldersInsideAreMade, IntentId, IsSound, Item, Known, LockedAtEnds, Matches, Option, OwnedAreUnmarked, OwnersCallNobody, ParticipantsAreReleased, ParticipantsHaveRows, PlainState, Right, Row, RowKey, Rows, Sane, Some, TxId, content_of, holds, is_row_log, legal_is_sane, listed, log_lists, own_value, set_row, sym, true, value_at, ◌∙◌, ◌≡◌, Owner}
 use Rattle.beldi_laws.proofs.Outside.{holds_known}
+use Rattle.beldi_laws.proofs.Names.map
+use Rattle.beldi_laws.proofs.Names.plain
 
 -- what the rows keep of transactions
 pub record Settled (d : Deployment) (m : Rows) (p : PlainState) (known : Known) : Type 0 where
@@ -37,7 +36,7 @@ module _ {d : Deployment} {c : Core} {m : Rows} (h : Right d c m) where
   sound = record { shadows = h.shadows; beside = h.beside; matches = h.rows; sane = h.sane; plain_sane = legal_sane }
 
   -- an item that no transaction owns has its plain value
-  pub value_here : (x : Item) → ((t : TxId) → (content_of m x).owner ≡ Some (owner.Tx t) → ⊥) → (content_of m x).value ≡ value_at h.plain x
+  pub value_here : (x : Item) → ((t : TxId) → (content_of m x).owner ≡ Some (Owner.Tx t) → ⊥) → (content_of m x).value ≡ value_at h.plain x
   value_here x free = sym (own_value m x free) ∙ h.values x
 
   -- a row of an intent or of a call leaves the values

@@ -1,26 +1,10 @@
 -- Where the host and its rows are right, the rows stand for the run of the book.
+use Rattle.std.specs.Prelude.{zero, suc, take}
+use Rattle.beldi_known.specs.{Stands.told_by, Owed.noted}
 use Rattle.beldi_laws.proofs.Names.{Answer, Async, Body, BodyMatches, Bool, Call, CallMatches, CalledBy, Cause, Cond, CondWrite, Core, Deployment, Died, Done, Effect, End, Got, HasNotEnded, Instance, IntentId, IntentMatches, IntentRow, IsAnswer, IsBodyOf, IsCalled, IsDeath, IsMade, IsOutside, IsRowOf, Item, Known, List, LogMatches, Matches, None, Note, OnItem, Option, Outcome, Place, PlainState, Read, Right, RootMatches, Row, Rows, Sane, Some, Stands, TxId, Value, Write, Wrote, [], ahead_note, answer_aside, answer_given, answer_of, answered_note, ap, arith, at_step, call_in, call_of, child_of, commit_in, decides, decision_there, effect_after, effect_before, ended_at, eq-eqb, eqb-true, false, given, has_ended, has_no_hops, has_place, head_key, held_answer, held_inside, held_note, held_outside, if◌then◌else◌, invoke_key, is_begin, is_decided, is_ended, is_eq, is_item, is_mark, is_some, item_in, item_total, key_in, last_step, length, lock_owed, log_key, note_at, note_by, note_of, note_of_lock, note_or, noted_answer, op_of, option_and_then, option_map, or_own, outside_parts, owed_call, owed_note, owed_shadow, owed_value, place_of, refl, result_in, root_key, root_of, row_at, row_of, run_of, same_some, shadow_by, shadow_key, shadow_of, slice_get, slice_get_within, subst, sym, tied_itself, touched, true, tx_after, tx_at, tx_by, tx_self, txs_after, value_for, wants, write_op, ℕ, ◌&&◌, ◌++◌, ◌==◌, ◌||◌, ◌∙◌, ◌∷◌, ◌≡◌}
-use Rattle.beldi_laws.proofs.Names.answer
-use Rattle.beldi_laws.proofs.Names.effect
+use Rattle.beldi_laws.proofs.{Readings.given_owed, Operations.noted_back, CallsHere.same_call, Outside.is_of_tx, Outside.known_of, Owed.note_if, Owed.value_if, Owed.note_there, Owed.read_there, Owed.no_end, Grown.tx_stays, Shown.Shows, Shown.legal_sane, Shown.shown, Committed.placed, Committed.unplaced, Ended.ends_outside, Widths.answered_small, KeptSane.outside_effect, Cases.false_by}
 use Rattle.beldi_laws.proofs.Names.map
 use Rattle.beldi_laws.proofs.Names.plain
-use Rattle.beldi_laws.proofs.Names.rows
-use Rattle.beldi_laws.proofs.Names.value
-use Rattle.std.specs.Prelude.{zero, suc, take}
-use Rattle.beldi_known.specs.Stands.{told_by}
-use Rattle.beldi_laws.proofs.Readings.{given_owed}
-use Rattle.beldi_laws.proofs.Operations.{noted_back}
-use Rattle.beldi_laws.proofs.CallsHere.{same_call}
-use Rattle.beldi_known.specs.Owed.{noted}
-use Rattle.beldi_laws.proofs.Outside.{is_of_tx, known_of}
-use Rattle.beldi_laws.proofs.Owed.{note_if, value_if, note_there, read_there, no_end}
-use Rattle.beldi_laws.proofs.Grown.{tx_stays}
-use Rattle.beldi_laws.proofs.Shown.{Shows, legal_sane, shown}
-use Rattle.beldi_laws.proofs.Committed.{placed, unplaced}
-use Rattle.beldi_laws.proofs.Ended.{ends_outside}
-use Rattle.beldi_laws.proofs.Widths.{answered_small}
-use Rattle.beldi_laws.proofs.KeptSane.{outside_effect}
-use Rattle.beldi_laws.proofs.Cases.{false_by}
 
 -- the row of a root without outcome has none
 no_outcome : (b : Option Body) (o : Option Outcome) (q : Instance) → BodyMatches b o (Some q) → q.outcome ≡ None → o ≡ None
@@ -30,7 +14,7 @@ never_ended : (i : IntentRow) → i.outcome ≡ None → is_some i.finish ≡ is
 never_ended i none finishes = ap (λ o. is_some o || is_some i.finish) none ∙ finishes ∙ ap is_some none
 
 -- an answer to a read is its value
-read_back : (p : Place) (t : ℕ) (k : List ℕ) (a : Answer) → IsAnswer p None (Read t k) a → option_map answer.Value (value_for (Read t k) a) ≡ Some a
+read_back : (p : Place) (t : ℕ) (k : List ℕ) (a : Answer) → IsAnswer p None (Read t k) a → option_map Answer.Value (value_for (Read t k) a) ≡ Some a
 read_back p t k a ok = grind arith
 
 -- what a call gave back is what is owed
@@ -54,7 +38,7 @@ cut_at (x ∷ xs) zero a h = (xs, (ap (λ z. z ∷ xs) (sym (same_some h)), refl
 cut_at (x ∷ xs) (suc n) a h = let k = cut_at xs n a h in (k.0, (ap (λ zs. x ∷ zs) k.1.0, ap suc k.1.1))
 
 -- a decision is its own
-decided_so : (c : Bool) → decides c (value.Bool c) ≡ Some Done
+decided_so : (c : Bool) → decides c (Value.Bool c) ≡ Some Done
 decided_so c = grind arith
 
 -- a root without outcome has its row
@@ -120,13 +104,13 @@ module _ (d : Deployment) (m : Rows) (known : Known) (locked : IntentId → Bool
         operated z is o on ok = ap (held_note m place q.func) on ∙ held_op outside not_of_tx o (ap op_of is ∙ on) (subst (λ y. IsAnswer place None y a) (sym is) ok)
 
         by_effect : (z : Effect) → e ≡ z → is_of_tx z ≡ false → IsAnswer place None z a → held_outside m place q.func z ≡ Some a
-        by_effect (Read t k) is apart ok = ap (option_map answer.Value) (given_here t k is) ∙ read_back place t k a ok
+        by_effect (Read t k) is apart ok = ap (option_map Answer.Value) (given_here t k is) ∙ read_back place t k a ok
         by_effect (Call f v) is apart ok = held_call true f v is
         by_effect (Async f v) is apart ok = held_call false f v is
-        by_effect effect.Begin is apart ok = cc
+        by_effect Effect.Begin is apart ok = cc
         by_effect (End b) is apart ok = cc
-        by_effect effect.Abort is apart ok = cc
-        by_effect (effect.Return o) is apart ok = absurd ok
+        by_effect Effect.Abort is apart ok = cc
+        by_effect (Effect.Return o) is apart ok = absurd ok
         by_effect z is apart ok = operated z is _ refl ok
 
     -- ---- inside one
@@ -161,11 +145,11 @@ module _ (d : Deployment) (m : Rows) (known : Known) (locked : IntentId → Bool
           ∙ ap (λ o. shadow_by x i q.func o e a) inside ∙ ap (λ b. if b then note_of i q.func (write_op e) a else None) (tx_self x) ∙ ap (λ y. note_of i q.func (write_op y) a) is ∙ note
 
       -- a death
-      died_here : (z : Effect) (t : ℕ) (k : List ℕ) (c : Cause) (rest : Option Answer) → e ≡ z → touched z ≡ Some (t, k) → commit_in z ≡ None → a ≡ answer.Aborted c → IsDeath place x c
+      died_here : (z : Effect) (t : ℕ) (k : List ℕ) (c : Cause) (rest : Option Answer) → e ≡ z → touched z ≡ Some (t, k) → commit_in z ≡ None → a ≡ Answer.Aborted c → IsDeath place x c
           → told_by place (note_of_lock m place (record { func = q.func; table = t; key = k })) rest ≡ Some a
       died_here z t k c rest is touch apart died death =
           ap (λ o. told_by place o rest) (lock_here z t k is touch apart (Died death.holder) (ap lock_owed died ∙ ap (λ (y : Cause). option_map Died y.holder) death.cause))
-          ∙ ap (λ y. Some (answer.Aborted y)) (sym death.cause) ∙ ap Some (sym died)
+          ∙ ap (λ y. Some (Answer.Aborted y)) (sym death.cause) ∙ ap Some (sym died)
 
       -- or it got the lock
       got_here : (z : Effect) (t : ℕ) (k : List ℕ) (rest : Option Answer) → e ≡ z → touched z ≡ Some (t, k) → commit_in z ≡ None → lock_owed a ≡ Some Got → rest ≡ Some a
@@ -173,7 +157,7 @@ module _ (d : Deployment) (m : Rows) (known : Known) (locked : IntentId → Bool
       got_here z t k rest is touch apart got same = ap (λ o. told_by place o rest) (lock_here z t k is touch apart Got got) ∙ same
 
       -- an end's row is that of its begin
-      end_here : (commit : Bool) → e ≡ End commit → given m (log_key x.func (place_of x.intent x.begin)) ≡ Some (value.Bool commit)
+      end_here : (commit : Bool) → e ≡ End commit → given m (log_key x.func (place_of x.intent x.begin)) ≡ Some (Value.Bool commit)
       end_here commit is = by_begun (txs_after d q (take n q.answers)).begun refl (ap (λ o. or_own o (tx_by id q.func (length (take n q.answers)) e (txs_after d q (take n q.answers)).begun)) (sym own)
           ∙ inside)
         where
@@ -184,35 +168,35 @@ module _ (d : Deployment) (m : Rows) (known : Known) (locked : IntentId → Bool
           in_tx : (y : Effect) (o : Option ℕ) → e ≡ y → (txs_after d q (take n q.answers)).begun ≡ o → tx_by id q.func (length (take n q.answers)) y o ≡ Some x
           in_tx y o same begun = sym (λ j. or_own (own j) (tx_by id q.func (length (take n q.answers)) (same j) (begun j))) ∙ inside
 
-          by_begun : (o : Option ℕ) → (txs_after d q (take n q.answers)).begun ≡ o → or_own None (tx_by id q.func (length (take n q.answers)) e (txs_after d q (take n q.answers)).begun) ≡ Some x → given m (log_key x.func (place_of x.intent x.begin)) ≡ Some (value.Bool commit)
+          by_begun : (o : Option ℕ) → (txs_after d q (take n q.answers)).begun ≡ o → or_own None (tx_by id q.func (length (take n q.answers)) e (txs_after d q (take n q.answers)).begun) ≡ Some x → given m (log_key x.func (place_of x.intent x.begin)) ≡ Some (Value.Bool commit)
           by_begun None begun g = let clash = in_tx (End commit) None is begun in cc
           by_begun (Some b) begun g =
               let same : record { intent = id; begin = b; func = q.func } ≡ x = same_some (in_tx (End commit) (Some b) is begun) in
               let cut = cut_at q.answers n a at in
               let row = decision_there d id q (take n q.answers) a cut.0 cut.1.0 b commit is begun in
-              subst (λ (y : TxId). given m (log_key y.func (place_of y.intent y.begin)) ≡ Some (value.Bool commit)) same
-              (given_owed (map.get m (log_key q.func (place_of id b))) (Some (value.Bool commit))
+              subst (λ (y : TxId). given m (log_key y.func (place_of y.intent y.begin)) ≡ Some (Value.Bool commit)) same
+              (given_owed (map.get m (log_key q.func (place_of id b))) (Some (Value.Bool commit))
               (subst (LogMatches (map.get m (log_key q.func (place_of id b)))) (ap (owed_value d q.func b) made ∙ ap (λ c. if c then row_at d q b else None) (eq-eqb q.func q.func refl) ∙ row) (h.keys (log_key q.func (place_of id b)))))
 
       inside_here : (z : Effect) (y : Answer) → e ≡ z → a ≡ y → IsAnswer place (Some x) z y → held_inside m x place q.func z ≡ Some y
-      inside_here (Read t k) (answer.Value v) is got ok = subst (λ o. told_by place (note_of_lock m place (record { func = q.func; table = t; key = k })) (option_map answer.Value (given m (log_key q.func place))) ≡ Some o) got
-          (got_here (Read t k) t k (option_map answer.Value (given m (log_key q.func place))) is refl refl (ap lock_owed got) (ap (option_map answer.Value) (given_here t k is ∙ ap (value_for (Read t k)) got) ∙ ap Some (sym got)))
-      inside_here (Read t k) (answer.Aborted c) is died ok = subst (λ o. told_by place (note_of_lock m place (record { func = q.func; table = t; key = k })) (option_map answer.Value (given m (log_key q.func place))) ≡ Some o) died
-          (died_here (Read t k) t k c (option_map answer.Value (given m (log_key q.func place))) is refl refl died ok)
+      inside_here (Read t k) (Answer.Value v) is got ok = subst (λ o. told_by place (note_of_lock m place (record { func = q.func; table = t; key = k })) (option_map Answer.Value (given m (log_key q.func place))) ≡ Some o) got
+          (got_here (Read t k) t k (option_map Answer.Value (given m (log_key q.func place))) is refl refl (ap lock_owed got) (ap (option_map Answer.Value) (given_here t k is ∙ ap (value_for (Read t k)) got) ∙ ap Some (sym got)))
+      inside_here (Read t k) (Answer.Aborted c) is died ok = subst (λ o. told_by place (note_of_lock m place (record { func = q.func; table = t; key = k })) (option_map Answer.Value (given m (log_key q.func place))) ≡ Some o) died
+          (died_here (Read t k) t k c (option_map Answer.Value (given m (log_key q.func place))) is refl refl died ok)
       inside_here (Write t k v) Done is got ok = let i : Item = record { func = q.func; table = t; key = k } in subst (λ o. told_by place (note_of_lock m place i) (answer_aside m x place i) ≡ Some o) got
           (got_here (Write t k v) t k (answer_aside m x place i) is refl refl (ap lock_owed got)
           (ap (option_and_then noted_answer) (shadow_here (Write t k v) i Wrote is (ap (note_of i q.func (write_op (Write t k v))) got ∙ ap (λ b. if is_eq b then Some Wrote else None) (tied_itself item_total i))) ∙ ap Some (sym got)))
-      inside_here (Write t k v) (answer.Aborted c) is died ok = let i : Item = record { func = q.func; table = t; key = k } in subst (λ o. told_by place (note_of_lock m place i) (answer_aside m x place i) ≡ Some o) died
+      inside_here (Write t k v) (Answer.Aborted c) is died ok = let i : Item = record { func = q.func; table = t; key = k } in subst (λ o. told_by place (note_of_lock m place i) (answer_aside m x place i) ≡ Some o) died
           (died_here (Write t k v) t k c (answer_aside m x place i) is refl refl died ok)
-      inside_here (CondWrite t k r u v) (answer.Value (value.Bool b)) is got ok = let i : Item = record { func = q.func; table = t; key = k } in subst (λ o. told_by place (note_of_lock m place i) (answer_aside m x place i) ≡ Some o) got
+      inside_here (CondWrite t k r u v) (Answer.Value (Value.Bool b)) is got ok = let i : Item = record { func = q.func; table = t; key = k } in subst (λ o. told_by place (note_of_lock m place i) (answer_aside m x place i) ≡ Some o) got
           (got_here (CondWrite t k r u v) t k (answer_aside m x place i) is refl refl (ap lock_owed got)
           (ap (option_and_then noted_answer) (shadow_here (CondWrite t k r u v) i (Cond b) is (ap (note_of i q.func (write_op (CondWrite t k r u v))) got ∙ ap (λ c. if is_eq c then Some (Cond b) else None) (tied_itself item_total i))) ∙ ap Some (sym got)))
-      inside_here (CondWrite t k r u v) (answer.Aborted c) is died ok = let i : Item = record { func = q.func; table = t; key = k } in subst (λ o. told_by place (note_of_lock m place i) (answer_aside m x place i) ≡ Some o) died
+      inside_here (CondWrite t k r u v) (Answer.Aborted c) is died ok = let i : Item = record { func = q.func; table = t; key = k } in subst (λ o. told_by place (note_of_lock m place i) (answer_aside m x place i) ≡ Some o) died
           (died_here (CondWrite t k r u v) t k c (answer_aside m x place i) is refl refl died ok)
       inside_here (Call f v) y is got ok = held_call true f v is ∙ ap Some got
-      inside_here effect.Begin Done is got ok = refl
+      inside_here Effect.Begin Done is got ok = refl
       inside_here (End commit) Done is got ok = ap (option_and_then (decides commit)) (end_here commit is) ∙ decided_so commit
-      inside_here effect.Abort (answer.Aborted c) is got ok = ap (λ z. Some (answer.Aborted z)) (sym ok)
+      inside_here Effect.Abort (Answer.Aborted c) is got ok = ap (λ z. Some (Answer.Aborted z)) (sym ok)
       inside_here z y is got ok = absurd ok
 
     by_tx : (o : Option TxId) → tx_at d id q n ≡ o → held_answer m id q.func n o e ≡ Some a
@@ -225,7 +209,7 @@ module _ (d : Deployment) (m : Rows) (known : Known) (locked : IntentId → Bool
 -- ---- the rows stand for the plain state
 module _ (d : Deployment) (m : Rows) (p : PlainState) (known : Known) (locked : IntentId → Bool) (h : Shows d m p known locked) (legal : plain.Sane d p) where
   -- what an intent row says of its instance
-  module _ (home : ℕ) (id : IntentId) (i : IntentRow) (b : Body) (is : map.get m (key_in home id) ≡ Some (rows.Intent i)) (has : i.body ≡ Some b) where
+  module _ (home : ℕ) (id : IntentId) (i : IntentRow) (b : Body) (is : map.get m (key_in home id) ≡ Some (Row.Intent i)) (has : i.body ≡ Some b) where
     abbrev root : Bool
     root = has_no_hops id.hops
 

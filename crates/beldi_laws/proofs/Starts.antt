@@ -1,11 +1,8 @@
 -- The roots that a book starts are the requests that were bound; and the outcomes that were told stay.
-use Rattle.beldi_laws.proofs.Names.{Core, Deployment, Entry, GrownAt, Grows, HasReply, Instance, InstancesGoOn, List, Option, Outcome, OutcomesStay, Right, Rows, Seen, Some, Start, StartsAreBound, Step, Try, [], ap, arith, option_to_list, outcome_of, refl, reply_of, root_of, same_some, starts_of, subst, sym, ℕ, ◌++◌, ◌∙◌, ◌∷◌, ◌≡◌}
-use Rattle.beldi_laws.proofs.Names.map
 use Rattle.beldi_book.specs.declared.entry.Entry.TheVariants.{Read, Tx}
-use Rattle.beldi_laws.proofs.Events.{after_event}
-use Rattle.beldi_laws.proofs.Moves.{seen_by, After}
-use Rattle.beldi_laws.proofs.OneEvent.{book_grew}
-use Rattle.beldi_laws.proofs.Standing.{same_run}
+use Rattle.beldi_laws.proofs.Names.{Core, Deployment, Entry, GrownAt, Grows, HasReply, Instance, InstancesGoOn, List, Option, Outcome, OutcomesStay, Right, Rows, Seen, Some, Start, StartsAreBound, Step, Try, [], ap, arith, option_to_list, outcome_of, refl, reply_of, root_of, same_some, starts_of, subst, sym, ℕ, ◌++◌, ◌∙◌, ◌∷◌, ◌≡◌}
+use Rattle.beldi_laws.proofs.{Events.after_event, Moves.seen_by, Moves.After, OneEvent.book_grew, Standing.same_run}
+use Rattle.beldi_laws.proofs.Names.map
 
 starts_push : (es fs : List Entry) → starts_of (es ++ fs) ≡ starts_of es ++ starts_of fs
 starts_push [] fs = refl

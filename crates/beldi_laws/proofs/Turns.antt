@@ -1,23 +1,12 @@
 -- The turns of a run: where it stands, and what each thing that a stage says leaves.
-use Rattle.beldi_laws.proofs.Names.{Answer, Async, AtStage, Begins, Begun, Bool, ByTx, Call, Caller, CondWrite, Core, Deployment, Effect, End, Entry, Grown, Inherited, Inside, Instance, IntentId, IsAnswer, IsAt, IsOutside, IsTrue, Item, Known, Knows, KnowsAt, List, Machine, Mark, None, OpenTx, Option, Outcome, Own, Owner, Place, PlainState, Prefix, Read, Released, Return, Right, Rows, Run, RunAt, RunTx, SaneInstance, Says, Some, Stage, StandsAt, TxId, Unlock, Write, [], and_once, answer_at_once, ap, append-nil, append_assoc, arith, at, at_effect, at_next, at_stage, caller_in, content_of, effect_after, effect_before, effect_of, entry_of, false, first_stage, get_after, get_set, goes, goes_from, goes_to, going_now, has_callees, has_no_hops, id_exact, id_total, if◌then◌else◌, is_waited, key_in, last_stage, length, marked, moved, none_by, open_after, open_of, outside_parts, over, own_tx, place_of, refl, run_on, run_on_prefix, run_once, same_some, slice_get, stands, subst, sym, take, take-append_seam, takes, takes_if, true, turned_by, tx_after, tx_at, tx_now, txs_after, unlocked_outside, wants, wants_answer, ℕ, ◌++◌, ◌∙◌, ◌∷◌, ◌≡◌}
-use Rattle.beldi_laws.proofs.Names.async
-use Rattle.beldi_laws.proofs.Names.call
-use Rattle.beldi_laws.proofs.Names.map
-use Rattle.beldi_laws.proofs.Names.says
-use Rattle.beldi_laws.proofs.Names.stage
-use Rattle.beldi_laws.proofs.Names.step
-use Rattle.beldi_laws.proofs.Names.wait
 use Rattle.std.specs.Prelude.{is_some}
 use Rattle.beldi_lang.specs.declared.effect.Effect.TheVariants.{Lock}
 use Rattle.beldi_step.specs.Run.{callee_of}
-use Rattle.beldi_laws.proofs.Cases.{by_list}
+use Rattle.beldi_laws.proofs.Names.{Answer, Async, AtStage, Begins, Begun, Bool, ByTx, Call, Caller, CondWrite, Core, Deployment, Effect, End, Entry, Grown, Inherited, Inside, Instance, IntentId, IsAnswer, IsAt, IsOutside, IsTrue, Item, Known, Knows, KnowsAt, List, Machine, Mark, None, OpenTx, Option, Outcome, Own, Owner, Place, PlainState, Prefix, Read, Released, Return, Right, Rows, Run, RunAt, RunTx, SaneInstance, Says, Some, Stage, StandsAt, TxId, Unlock, Write, [], and_once, answer_at_once, ap, append-nil, append_assoc, arith, at, at_effect, at_next, at_stage, caller_in, content_of, effect_after, effect_before, effect_of, entry_of, false, first_stage, get_after, get_set, goes, goes_from, goes_to, going_now, has_callees, has_no_hops, id_exact, id_total, if◌then◌else◌, is_waited, key_in, last_stage, length, marked, moved, none_by, open_after, open_of, outside_parts, over, own_tx, place_of, refl, run_on, run_on_prefix, run_once, same_some, slice_get, stands, subst, sym, take, take-append_seam, takes, takes_if, true, turned_by, tx_after, tx_at, tx_now, txs_after, unlocked_outside, wants, wants_answer, ℕ, ◌++◌, ◌∙◌, ◌∷◌, ◌≡◌, AsyncAt, CallAt, Wait}
 use Rattle.beldi_laws.proofs.Moves.{AfterTurn, SameRoots, Kept, Led, Stays, Entered, led_still, turned, KnowsCallee, quiet, entered}
-use Rattle.beldi_laws.proofs.Shown.{Shows, legal_sane}
-use Rattle.beldi_laws.proofs.Lives.{places_same, run_on as live_on, stands_still}
-use Rattle.beldi_laws.proofs.OpenOf.{called_in, open_begun, open_none, open_pushed, own_begin}
-use Rattle.beldi_laws.proofs.Outside.{outside_more, plain_here}
-use Rattle.beldi_laws.proofs.Released.{released_next, released_on}
-use Rattle.beldi_laws.proofs.Grown.{grown_same, grown_moved, moved_more}
+use Rattle.beldi_laws.proofs.{Cases.by_list, Shown.Shows, Shown.legal_sane, Lives.places_same, Lives.run_on as live_on, Lives.stands_still, OpenOf.called_in, OpenOf.open_begun, OpenOf.open_none, OpenOf.open_pushed, OpenOf.own_begin, Outside.outside_more, Outside.plain_here, Released.released_next, Released.released_on, Grown.grown_same, Grown.grown_moved, Grown.moved_more}
+use Rattle.beldi_laws.proofs.Names.map
+use Rattle.beldi_laws.proofs.Names.step
 
 -- ---- where an effect begins is one of its stages, of which a run knows what it has to
 module _ {d : Deployment} (n : Rows) (p : PlainState) (book : List Entry) {known : Known} {id : IntentId} {home : ℕ} {c : Option Caller} {s : Machine} {o : Option RunTx} (k : StandsAt d known id home c s o) where
@@ -37,15 +26,15 @@ module _ {d : Deployment} (n : Rows) (p : PlainState) (book : List Entry) {known
   first_stands (CondWrite t x r u v) (Some a) w waits is = first (CondWrite t x r u v) (Some a) is (tt, record { begin = refl; asked = λ b. cc; locked = tt; found = λ q made same. tt })
   first_stands (Lock t x) None w waits is = first (Lock t x) None is refl
   first_stands (Unlock t x) None w waits is = first (Unlock t x) None is refl
-  first_stands (Call f a) z w waits is = by_hops (stage.Call call.Open) w (Call f a) z (λ h. (h, λ b. cc)) (has_callees id) refl is
-  first_stands (Async f a) None w waits is = by_hops (stage.Async async.Open) w (Async f a) None (λ h. (h, λ b. cc)) (has_callees id) refl is
+  first_stands (Call f a) z w waits is = by_hops (Stage.Call CallAt.Open) w (Call f a) z (λ h. (h, λ b. cc)) (has_callees id) refl is
+  first_stands (Async f a) None w waits is = by_hops (Stage.Async AsyncAt.Open) w (Async f a) None (λ h. (h, λ b. cc)) (has_callees id) refl is
   first_stands (End commit) (Some (Own y)) w waits is = first (End commit) (Some (Own y)) is refl
   first_stands (Return u) z w waits is = by_caller c refl is
     where
-      outside : (y : Option RunTx) → (is_some y ≡ true → ⊥) → is_waited c ≡ false → AtStage n p book k stage.Tell (Return u) y
+      outside : (y : Option RunTx) → (is_some y ≡ true → ⊥) → is_waited c ≡ false → AtStage n p book k Stage.Tell (Return u) y
       outside y none e = grind arith
 
-      by_wait : (b : Bool) → is_waited c ≡ b → Some (if b then stage.Back else stage.Tell) ≡ Some w → AtStage n p book k w (Return u) z
+      by_wait : (b : Bool) → is_waited c ≡ b → Some (if b then Stage.Back else Stage.Tell) ≡ Some w → AtStage n p book k w (Return u) z
       by_wait b e is = grind arith
 
       by_caller : (b : Option Caller) → c ≡ b → Some (last_stage b) ≡ Some w → AtStage n p book k w (Return u) z
@@ -237,15 +226,15 @@ module _ (d : Deployment) (c : Core) (m : Rows) (i : ℕ) (r : Run) (g : Begun) 
   stays_as n kept = live_on d m n h.plain h.plain c.book c.book h.known h.known kept.grows (places_same d c.book h.known h.known) kept.others (Some r) (subst (RunAt d m h.plain c.book h.known) live (h.runs.runs i))
 
   -- it waits where it stands: for an owner, or for a callee of which a run may be started
-  pub held : (o : Owner) (n : Rows) → SameRoots m n → Stays h n → Leaves (says.Waits (wait.Held o)) n
-  held o n roots kept = quiet d c m n i r h live roots (turned_by d r g (says.Waits (wait.Held o))) h.known h.locked refl refl (stays_as n kept) (λ e. cc) kept
+  pub held : (o : Owner) (n : Rows) → SameRoots m n → Stays h n → Leaves (Says.Waits (Wait.Held o)) n
+  held o n roots kept = quiet d c m n i r h live roots (turned_by d r g (Says.Waits (Wait.Held o))) h.known h.locked refl refl (stays_as n kept) (λ e. cc) kept
 
-  pub awaits : (j : IntentId) (n : Rows) → SameRoots m n → Stays h n → KnowsCallee d n h.plain c.book h.known r (turned_by d r g (says.Waits (wait.Result j))) (Some (wait.Result j)) → Leaves (says.Waits (wait.Result j)) n
-  awaits j n roots kept callee = quiet d c m n i r h live roots (turned_by d r g (says.Waits (wait.Result j))) h.known h.locked refl refl (stays_as n kept) callee kept
+  pub awaits : (j : IntentId) (n : Rows) → SameRoots m n → Stays h n → KnowsCallee d n h.plain c.book h.known r (turned_by d r g (Says.Waits (Wait.Result j))) (Some (Wait.Result j)) → Leaves (Says.Waits (Wait.Result j)) n
+  awaits j n roots kept callee = quiet d c m n i r h live roots (turned_by d r g (Says.Waits (Wait.Result j))) h.known h.locked refl refl (stays_as n kept) callee kept
 
   -- the run is over
-  pub ends : (n : Rows) → SameRoots m n → Stays h n → Leaves (says.Ends None None) n
-  ends n roots kept = quiet d c m n i r h live roots (turned_by d r g (says.Ends None None)) h.known h.locked refl refl tt (λ e. cc) kept
+  pub ends : (n : Rows) → SameRoots m n → Stays h n → Leaves (Says.Ends None None) n
+  ends n roots kept = quiet d c m n i r h live roots (turned_by d r g (Says.Ends None None)) h.known h.locked refl refl tt (λ e. cc) kept
 
   -- ---- of a run that has found what it has to
   module _ (finds : Inside m h.plain c.book k g.stage) where
@@ -254,7 +243,7 @@ module _ (d : Deployment) (c : Core) (m : Rows) (i : ℕ) (r : Run) (g : Begun) 
     finds_still n q next after kept = kept.others c.book (places_same d c.book h.known next) r g k finds
 
     -- it stays where it is
-    pub stays_on : (n : Rows) → SameRoots m n → Stays h n → Leaves says.Stays n
+    pub stays_on : (n : Rows) → SameRoots m n → Stays h n → Leaves Says.Stays n
     stays_on n roots kept = quiet d c m n i r h live roots (goes r g None) h.known h.locked refl refl (stands_still k k.instance k.made (grown_same k.instance), finds_still n h.plain h.known h.locked kept k.instance k.made (grown_same k.instance)) (λ e. cc) kept
 
     -- it goes on from this answer, the next that is known of its instance
@@ -272,7 +261,7 @@ module _ (d : Deployment) (c : Core) (m : Rows) (i : ℕ) (r : Run) (g : Begun) 
 
     -- it has this answer, before or since this turn; no entry is made
     pub answers_on : (a : Answer) (rest : List Answer) (n : Rows) (next : Known) (after : IntentId → Bool) (j : Instance) → SameRoots m n → Kept h n h.plain next after → map.get next r.id ≡ Some j → Grown k.instance j → (k.answers ++ a ∷ []) ++ rest ≡ j.answers
-        → IsTrue (wants_answer g.machine.effect) → Freed n → Leaves (says.Answers a None) n
+        → IsTrue (wants_answer g.machine.effect) → Freed n → Leaves (Says.Answers a None) n
     answers_on a rest n next after j roots kept made w prefix wanted freed =
         comes_quiet d c m n i r h live roots next after (takes d g.machine g.tx a) g.caller (takes_next c.book n h.plain next after j a rest None kept made w prefix wanted freed) kept
 
@@ -289,12 +278,12 @@ module _ (d : Deployment) (c : Core) (m : Rows) (i : ℕ) (r : Run) (g : Begun) 
           let still = finds_still n h.plain h.known after kept k.instance k.made (grown_same k.instance) in
           (k, record { here = subst {A = Effect × Option RunTx} (λ z. AtStage n h.plain c.book k s z.0 z.1) (λ i. (sym is i, sym tx i)) knows; released = still.released; row = still.row })
 
-      pub stands_on : (n : Rows) (after : IntentId → Bool) → SameRoots m n → Kept h n h.plain h.known after → AtStage n h.plain c.book k s e o → Leaves (says.On s None) n
+      pub stands_on : (n : Rows) (after : IntentId → Bool) → SameRoots m n → Kept h n h.plain h.known after → AtStage n h.plain c.book k s e o → Leaves (Says.On s None) n
       stands_on n after roots kept knows = quiet d c m n i r h live roots (goes r (at_stage g s) None) h.known after refl refl (stands_at n after kept knows) (λ e. cc) kept
 
       -- .. the act made its entry
       pub enters_on : (by : Mark) (n : Rows) (q : PlainState) (next : Known) (j : Instance) (made : map.get next r.id ≡ Some j) (w : Grown k.instance j) → SameRoots m n → Entered d c h.plain h.known (entry_of r.id by) q next → Kept h n q next h.locked
-          → AtStage n q (c.book ++ entry_of r.id by ∷ []) (stands_still k j made w) s e o → Leaves (says.On s (Some by)) n
+          → AtStage n q (c.book ++ entry_of r.id by ∷ []) (stands_still k j made w) s e o → Leaves (Says.On s (Some by)) n
       enters_on by n q next j made w roots leads kept knows =
           let more : List Entry = c.book ++ entry_of r.id by ∷ [] in
           entered d c m n i r h live roots (goes r (at_stage g s) (Some by)) by q next h.locked refl leads (λ u e. cc) (at_other more n q next h.locked j made w kept knows) (λ e. cc) kept
@@ -310,7 +299,7 @@ module _ (d : Deployment) (c : Core) (m : Rows) (i : ℕ) (r : Run) (g : Begun) 
       unlocked_there left = unlocked_outside d h.known h.locked h.locked_at_ends r.id k.instance k.made (tx_next k out left)
 
       -- another stage of its effect
-      pub goes_on : (n : Rows) (s : Stage) → SameRoots m n → Stays h n → AtStage n h.plain c.book k s e None → Leaves (says.On s None) n
+      pub goes_on : (n : Rows) (s : Stage) → SameRoots m n → Stays h n → AtStage n h.plain c.book k s e None → Leaves (Says.On s None) n
       goes_on n s roots kept knows = stands_on is (none_open k out) s n h.locked roots kept knows
 
       -- what the step was answered, where it was, is an answer to its effect
@@ -327,16 +316,16 @@ module _ (d : Deployment) (c : Core) (m : Rows) (i : ℕ) (r : Run) (g : Begun) 
       none_owned n o commit x open_there ends owned = let clash = sym (none_open k out) ∙ open_there in cc
 
       -- it replays: the answer is the one that its instance has
-      pub replays : (n : Rows) (a : Answer) (rest : List Answer) → SameRoots m n → Stays h n → k.later ≡ a ∷ rest → Leaves (says.Answers a None) n
+      pub replays : (n : Rows) (a : Answer) (rest : List Answer) → SameRoots m n → Stays h n → k.later ≡ a ∷ rest → Leaves (Says.Answers a None) n
       replays n a rest roots kept left = answers_on a rest n h.known h.locked k.instance roots kept k.made (grown_same k.instance) (known_prefix k a rest left) (answers_it a (fits a rest left)) (none_owned n)
 
       -- .. and a run of its callee, which has its row, may start
-      pub starts_one : (n : Rows) (a : Answer) (rest : List Answer) → SameRoots m n → Stays h n → k.later ≡ a ∷ rest → ((o : Run) → callee_of r ≡ Some o → KnowsAt d n h.plain c.book h.known o o.at) → Leaves (says.Starts a) n
+      pub starts_one : (n : Rows) (a : Answer) (rest : List Answer) → SameRoots m n → Stays h n → k.later ≡ a ∷ rest → ((o : Run) → callee_of r ≡ Some o → KnowsAt d n h.plain c.book h.known o o.at) → Leaves (Says.Starts a) n
       starts_one n a rest roots kept left callee = comes_with d c m n i r h live roots (takes d g.machine g.tx a) g.caller
           (takes_next c.book n h.plain h.known h.locked k.instance a rest None kept k.made (grown_same k.instance) (known_prefix k a rest left) (answers_it a (fits a rest left)) (none_owned n)) callee kept
 
       -- it steps on: the instance has the answer now
-      pub steps_on : (a : Answer) (by : Mark) (q : PlainState) (n : Rows) → k.later ≡ [] → IsAnswer (place_of r.id g.machine.steps) None e a → let known : Known = map.insert h.known r.id (moved d r.id k.instance a) in Entered d c h.plain h.known (entry_of r.id by) q known → SameRoots m n → Kept h n q known h.locked → Leaves (says.Answers a (Some by)) n
+      pub steps_on : (a : Answer) (by : Mark) (q : PlainState) (n : Rows) → k.later ≡ [] → IsAnswer (place_of r.id g.machine.steps) None e a → let known : Known = map.insert h.known r.id (moved d r.id k.instance a) in Entered d c h.plain h.known (entry_of r.id by) q known → SameRoots m n → Kept h n q known h.locked → Leaves (Says.Answers a (Some by)) n
       steps_on a by q n left ok leads roots kept =
           let j = moved d r.id k.instance a in
           let more = moved_more d r.id k.instance a in

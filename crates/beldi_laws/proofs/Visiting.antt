@@ -1,31 +1,12 @@
 -- The turns of a run at the end of its transaction, past the decision: it visits who took part, one after another; of each the items that
 -- it asked the locks of, and gives each back once; and gives each of them but its own instance a finish.
-use Rattle.beldi_laws.proofs.Names.{AllReleased, Answer, AreReleased, Begun, Body, Bool, Called, CalleeBodyMatches, CalleeMatches, Callees, Content, Core, Decide, Deployment, EndAt, EndGoes, EndWalk, FinishMatches, Frame, Free, FreeOp, GetsFinish, Inherited, Inside, Instance, IntentId, IntentMatches, IntentRow, IsAnswer, IsCalleeRow, IsMember, IsTrue, Item, Kind, Knows, Leads, List, Matches, Member, Next, None, Note, OpenTx, Option, Own, ParticipantsAreReleased, ParticipantsHaveRows, Place, Query, ReadGoes, Right, Row, RowKey, Rows, Run, RunTx, Shadow, Some, SoundAt, Stamp, Told, TookPart, Tx, TxId, Value, Visit, Visited, WriteAt, WriteGoes, [], ap, arith, asked, at_each, back_from, call_goes, calls_goes, commit_in, content_in, content_of, counts, decision_key, done_to, effect_after, end_by_asks, end_by_says, end_goes, end_walk, ended_at, ended_by, false, first_end, free_place, freed_goes, func_called, given_or, given_value, grows_self, has_callees, has_ended, has_finish, has_no_hops, head_key, if◌then◌else◌, inl, inr, intent_key, is_committed, is_decided, is_eq, is_mark, is_past, is_shadow, is_some, key_cmp, key_exact, key_in, key_same, key_total, keys_set, kinds_apart, last_goes, last_step, length, listed, log_key, next_goes, no_decision, no_root, note_at, notes_stay, option_map, own_tx, place_of, refl, release_lists, released, root_key, row_put, rows_after, same_map, same_some, set_row, shadow_key, shadow_value, stepped, subst, sym, told_by, true, turn_next, turned_by, turns, tx_after, tx_end, tx_eq, tx_in, tx_same, tx_self, txs_after, unchanged, value_goes, value_in, visit_asks, visit_says, visited_by, wants_answer, was_answered, ℕ, ◌&&◌, ◌++◌, ◌==◌, ◌||◌, ◌∙◌, ◌∷◌, ◌≡◌}
-use Rattle.beldi_laws.proofs.Names.answer
-use Rattle.beldi_laws.proofs.Names.effect
-use Rattle.beldi_laws.proofs.Names.goes
-use Rattle.beldi_laws.proofs.Names.kinds
-use Rattle.beldi_laws.proofs.Names.map
-use Rattle.beldi_laws.proofs.Names.rows
-use Rattle.beldi_laws.proofs.Names.says
-use Rattle.beldi_laws.proofs.Names.stage
-use Rattle.beldi_laws.proofs.Names.value
 use Rattle.beldi_txn.specs.End.{moved}
 use Rattle.beldi_known.proofs.Behind.{front}
-use Rattle.beldi_laws.proofs.Askers.{owns_none}
-use Rattle.beldi_laws.proofs.Closing.{at_key, closed_rows_of, owner_is}
+use Rattle.beldi_laws.proofs.Names.{AllReleased, Answer, AreReleased, Begun, Body, Bool, Called, CalleeBodyMatches, CalleeMatches, Callees, Content, Core, Decide, Deployment, EndAt, EndGoes, EndWalk, FinishMatches, Frame, Free, FreeOp, GetsFinish, Inherited, Inside, Instance, IntentId, IntentMatches, IntentRow, IsAnswer, IsCalleeRow, IsMember, IsTrue, Item, Kind, Knows, Leads, List, Matches, Member, Next, None, Note, OpenTx, Option, Own, ParticipantsAreReleased, ParticipantsHaveRows, Place, Query, ReadGoes, Right, Row, RowKey, Rows, Run, RunTx, Shadow, Some, SoundAt, Stamp, Told, TookPart, Tx, TxId, Value, Visit, Visited, WriteAt, WriteGoes, [], ap, arith, asked, at_each, back_from, call_goes, calls_goes, commit_in, content_in, content_of, counts, decision_key, done_to, effect_after, end_by_asks, end_by_says, end_goes, end_walk, ended_at, ended_by, false, first_end, free_place, freed_goes, func_called, given_or, given_value, grows_self, has_callees, has_ended, has_finish, has_no_hops, head_key, if◌then◌else◌, inl, inr, intent_key, is_committed, is_decided, is_eq, is_mark, is_past, is_shadow, is_some, key_cmp, key_exact, key_in, key_same, key_total, keys_set, kinds_apart, last_goes, last_step, length, listed, log_key, next_goes, no_decision, no_root, note_at, notes_stay, option_map, own_tx, place_of, refl, release_lists, released, root_key, row_put, rows_after, same_map, same_some, set_row, shadow_key, shadow_value, stepped, subst, sym, told_by, true, turn_next, turned_by, turns, tx_after, tx_end, tx_eq, tx_in, tx_same, tx_self, txs_after, unchanged, value_goes, value_in, visit_asks, visit_says, visited_by, wants_answer, was_answered, ℕ, ◌&&◌, ◌++◌, ◌==◌, ◌||◌, ◌∙◌, ◌∷◌, ◌≡◌, Effect, Says, Stage}
 use Rattle.beldi_laws.proofs.Frames.{NoFinish, frame_held, frame_item, frame_row, items_stay, no_finish, nobody_new}
-use Rattle.beldi_laws.proofs.Settling.{settled_rows}
-use Rattle.beldi_laws.proofs.Grown.{grown_same}
-use Rattle.beldi_laws.proofs.Keeping.{SameShadows, act_stays, as_it_was, goes_still, stays_by}
-use Rattle.beldi_laws.proofs.Members.{TakesPart, members_joined, part_below, part_key, took_part}
-use Rattle.beldi_laws.proofs.Moves.{AfterQuery, SameRoots, Stays}
-use Rattle.beldi_laws.proofs.OpenOf.{open_begun, own_begin}
-use Rattle.beldi_laws.proofs.Others.{decided_past, end_here, kept_by, or_true}
-use Rattle.beldi_laws.proofs.Owed.{content_kept, contents_kept, others_list}
-use Rattle.beldi_laws.proofs.Shown.{log_values, settled}
 use Rattle.beldi_laws.proofs.Turns.{at_steps, known_prefix, wanted_here, Leaves, all_here, stands_on, answers_on}
-use Rattle.beldi_laws.proofs.Widths.{finds_first}
+use Rattle.beldi_laws.proofs.{Askers.owns_none, Closing.at_key, Closing.closed_rows_of, Closing.owner_is, Settling.settled_rows, Grown.grown_same, Keeping.SameShadows, Keeping.act_stays, Keeping.as_it_was, Keeping.goes_still, Keeping.stays_by, Members.TakesPart, Members.members_joined, Members.part_below, Members.part_key, Members.took_part, Moves.AfterQuery, Moves.SameRoots, Moves.Stays, OpenOf.open_begun, OpenOf.own_begin, Others.decided_past, Others.end_here, Others.kept_by, Others.or_true, Owed.content_kept, Owed.contents_kept, Owed.others_list, Shown.log_values, Shown.settled, Widths.finds_first}
+use Rattle.beldi_laws.proofs.Names.map
 
 -- ---- past the decision
 -- a turn past it stays past it
@@ -43,7 +24,7 @@ module _ (cs : List Called) (af : Option ℕ) (y : Option (ℕ × List ℕ)) (u 
   calls_past commit end p None = refl
   calls_past commit end p (Some c) = by_test (counts end cs c)
     where
-      by_test : (b : Bool) → IsPast commit Callees (if b then call_goes (has_callees p.0) cs c else goes.On Next)
+      by_test : (b : Bool) → IsPast commit Callees (if b then call_goes (has_callees p.0) cs c else EndGoes.On Next)
       by_test b = grind arith
 
   last_past : (commit b : Bool) → IsPast commit Next (last_goes b)
@@ -77,16 +58,16 @@ given_so : (commit : Bool) (r : Option Row) (v : Value) → given_or (given_valu
 given_so commit r v = grind arith
 
 -- an End is answered by Done
-done_only : (p : Place) (t : Option TxId) (b : Bool) (a : Answer) → IsAnswer p t (effect.End b) a → a ≡ answer.Done
+done_only : (p : Place) (t : Option TxId) (b : Bool) (a : Answer) → IsAnswer p t (Effect.End b) a → a ≡ Answer.Done
 done_only p t b a h = grind arith
 
 -- the row of a root, and whose an intent's row is
 abbrev is_root : Kind → Bool
-is_root (kinds.Intent id) = has_no_hops id.hops
+is_root (Kind.Intent id) = has_no_hops id.hops
 is_root k = false
 
 abbrev id_in : IntentId → Kind → IntentId
-id_in j (kinds.Intent id) = id
+id_in j (Kind.Intent id) = id
 id_in j k = j
 
 -- ---- a turn that leaves the rows, gives an item back, or gives a finish
@@ -106,7 +87,7 @@ module _ (d : Deployment) (c : Core) (m : Rows) (h : Right d c m) where
     shadows t x = others (shadow_key t x) (kinds_apart is_shadow (shadow_key t x) (head_key y) refl refl)
 
     roots : SameRoots m n
-    roots t = ap is_some (others (root_key t) (no_root t y.func (kinds.Data y.table y.key 0) refl))
+    roots t = ap is_some (others (root_key t) (no_root t y.func (Kind.Data y.table y.key 0) refl))
 
     there : is_some (map.get m (head_key y)) ≡ true → is_some (map.get n (head_key y)) ≡ true
     there = at_each (λ r s. is_some r ≡ true → is_some s ≡ true) (λ r e. e) act_stays q c.now m (head_key y)
@@ -129,7 +110,7 @@ module _ (d : Deployment) (c : Core) (m : Rows) (h : Right d c m) where
     )
 
     -- it is given back: its transaction has ended, with this decision, and the place is a mark
-    module _ (s : TxId) (z : ℕ × Bool) (ended : tx_end d h.known s ≡ Some z) (decided : map.get m (decision_key s) ≡ Some (rows.ReadLog (value.Bool z.1))) (p : Place) (mark : is_mark d h.known p.step (map.get h.known p.intent) ≡ true) (u : Option Value) (gives : u ≡ given_value z.1 (map.get m (shadow_key s y))) where
+    module _ (s : TxId) (z : ℕ × Bool) (ended : tx_end d h.known s ≡ Some z) (decided : map.get m (decision_key s) ≡ Some (Row.ReadLog (Value.Bool z.1))) (p : Place) (mark : is_mark d h.known p.step (map.get h.known p.intent) ≡ true) (u : Option Value) (gives : u ≡ given_value z.1 (map.get m (shadow_key s y))) where
       given_back : note_at (content_of m y).notes p ≡ None → (content_of m y).owner ≡ Some (Tx s) → content_of n y ≡ done_to p (Tx s) (FreeOp u) (content_of m y) → Keeps n
       given_back none owned is = (
         stays_by h n shadows
@@ -157,10 +138,10 @@ module _ (d : Deployment) (c : Core) (m : Rows) (h : Right d c m) where
     abbrev finished : IntentRow
     finished = record g.intent { finish = Some g.finish }
 
-    all : set_row m key (Some (rows.Intent finished)) ≡ n
+    all : set_row m key (Some (Row.Intent finished)) ≡ n
     all = ap (set_row m key) (sym g.now) ∙ as_set m n key others
 
-    fits : CalleeMatches (has_ended d h.known) p.1 (Some (rows.Intent finished)) (map.get h.known p.0)
+    fits : CalleeMatches (has_ended d h.known) p.1 (Some (Row.Intent finished)) (map.get h.known p.0)
     fits =
         let was : IsCalleeRow (has_ended d h.known) p.1 g.intent (map.get h.known p.0) = subst (λ r. CalleeMatches (has_ended d h.known) p.1 r (map.get h.known p.0)) g.before (at_key d m h.known h.locked h.rows h.sane s p part) in
         record { finishes = by_body g.intent.body was.body; body = was.body }
@@ -169,11 +150,11 @@ module _ (d : Deployment) (c : Core) (m : Rows) (h : Right d c m) where
         by_body b body = grind arith
 
     put : Matches d n h.known h.locked
-    put = subst (λ l. Matches d l h.known h.locked) all (row_put d h.known h.locked m key (Some (rows.Intent finished)) refl
-        (subst (λ b. IntentMatches (has_ended d h.known) b p.1 (Some (rows.Intent finished)) (map.get h.known p.0)) (sym (part_below d h.known h.sane s p.0 (took_part part))) fits) h.rows)
+    put = subst (λ l. Matches d l h.known h.locked) all (row_put d h.known h.locked m key (Some (Row.Intent finished)) refl
+        (subst (λ b. IntentMatches (has_ended d h.known) b p.1 (Some (Row.Intent finished)) (map.get h.known p.0)) (sym (part_below d h.known h.sane s p.0 (took_part part))) fits) h.rows)
 
     same_frame : Frame d m n h.plain h.plain h.known h.known
-    same_frame = subst (λ l. Frame d m l h.plain h.plain h.known h.known) all (frame_row d m h.plain h.plain h.known h.known (items_stay d m h.plain h.plain h.known refl) (nobody_new d h.known) key (Some (rows.Intent finished)) refl refl (λ e. refl)
+    same_frame = subst (λ l. Frame d m l h.plain h.plain h.known h.known) all (frame_row d m h.plain h.plain h.known h.known (items_stay d m h.plain h.plain h.known refl) (nobody_new d h.known) key (Some (Row.Intent finished)) refl refl (λ e. refl)
         (λ f e. ap (option_map func_called) (sym g.before) ∙ e))
 
     -- of other transactions nobody gets a finish
@@ -207,14 +188,14 @@ module _ (d : Deployment) (c : Core) (m : Rows) (h : Right d c m) where
         locked_at_ends = h.locked_at_ends;
         sane = h.sane;
         rows = put;
-        values = λ x. ap (λ l. listed l x) (sym all) ∙ log_values h key (Some (rows.Intent finished)) refl x;
+        values = λ x. ap (λ l. listed l x) (sym all) ∙ log_values h key (Some (Row.Intent finished)) refl x;
         settled = settled_rows d m n h.plain h.plain h.known h.known same_frame given_all (settled h);
       }) (grows_self h.known) same_frame,
       λ t. ap is_some (others (root_key t) (kinds_apart is_root (root_key t) key refl (part_below d h.known h.sane s p.0 (took_part part)))),
     )
 
 -- ---- a run at the end of its transaction
-module _ (d : Deployment) (c : Core) (m : Rows) (r : Run) (g : Begun) (h : Right d c m) (k : Knows d h.known r g) (o : OpenTx) (tx : g.tx ≡ Some (Own o)) (commit : Bool) (is : g.machine.effect ≡ effect.End commit) where
+module _ (d : Deployment) (c : Core) (m : Rows) (r : Run) (g : Begun) (h : Right d c m) (k : Knows d h.known r g) (o : OpenTx) (tx : g.tx ≡ Some (Own o)) (commit : Bool) (is : g.machine.effect ≡ Effect.End commit) where
   abbrev end : ℕ
   end = g.machine.steps
 
@@ -224,7 +205,7 @@ module _ (d : Deployment) (c : Core) (m : Rows) (r : Run) (g : Begun) (h : Right
   steps_here : end ≡ length k.answers
   steps_here = at_steps k
 
-  wanted : effect_after d k.instance k.answers ≡ effect.End commit
+  wanted : effect_after d k.instance k.answers ≡ Effect.End commit
   wanted = wanted_here k ∙ is
 
   -- its Begin is the one that is open
@@ -234,11 +215,11 @@ module _ (d : Deployment) (c : Core) (m : Rows) (r : Run) (g : Begun) (h : Right
   -- past the decision its transaction has ended with this step
   record HasEnded : Type 0 where
     pub rest : List Answer
-    pub left : k.later ≡ answer.Done ∷ rest
+    pub left : k.later ≡ Answer.Done ∷ rest
     pub ended : tx_end d h.known s ≡ Some (end, commit)
     pub mark : is_mark d h.known end (map.get h.known r.id) ≡ true
 
-  has_ended_here : map.get m (decision_key s) ≡ Some (rows.ReadLog (value.Bool commit)) → HasEnded
+  has_ended_here : map.get m (decision_key s) ≡ Some (Row.ReadLog (Value.Bool commit)) → HasEnded
   has_ended_here decided = by_later k.later refl
     where
       by_later : (later : List Answer) → k.later ≡ later → HasEnded
@@ -249,7 +230,7 @@ module _ (d : Deployment) (c : Core) (m : Rows) (r : Run) (g : Begun) (h : Right
           let given = k.answers in
           let run : given ++ a ∷ rest ≡ q.answers = ap (λ ys. given ++ ys) (sym some) ∙ k.run_answers in
           let n = length given in
-          let is_done : a ≡ answer.Done = done_only (place_of r.id n) (tx_after d r.id q given) commit a
+          let is_done : a ≡ Answer.Done = done_only (place_of r.id n) (tx_after d r.id q given) commit a
           (subst (λ e. IsAnswer (place_of r.id n) (tx_after d r.id q given) e a) wanted
           (subst (λ ts. IsAnswer (place_of r.id n) (tx_after d r.id q ts) (effect_after d q ts) a) (front d r.id q given a rest run) ((h.sane.each r.id q k.made).past n a (was_answered d r.id q given a rest run)))) in
           let ends = end_here d q given a rest o.begin commit run wanted begun in
@@ -339,7 +320,7 @@ module _ (d : Deployment) (c : Core) (m : Rows) (r : Run) (g : Begun) (h : Right
 
 -- ---- the turn
 module _ (d : Deployment) (c : Core) (m : Rows) (i : ℕ) (r : Run) (g : Begun) (h : Right d c m) (live : map.get c.runs i ≡ Some r) (k : Knows d h.known r g) (finds : Inside m h.plain c.book k g.stage)
-    (o : OpenTx) (tx : g.tx ≡ Some (Own o)) (inside : tx_after d r.id k.instance k.answers ≡ Some (own_tx r.id r.func o)) (commit : Bool) (is : g.machine.effect ≡ effect.End commit) where
+    (o : OpenTx) (tx : g.tx ≡ Some (Own o)) (inside : tx_after d r.id k.instance k.answers ≡ Some (own_tx r.id r.func o)) (commit : Bool) (is : g.machine.effect ≡ Effect.End commit) where
   abbrev t : TxId
   t = own_tx r.id r.func o
 
@@ -354,13 +335,13 @@ module _ (d : Deployment) (c : Core) (m : Rows) (i : ℕ) (r : Run) (g : Begun) 
     has = has_ended_here d c m r g h k o tx commit is (decided_past v.at (end_walk r.id r.func o g.machine.steps commit v) m past visited.decided)
 
     -- it goes on past the decision
-    goes_on : (z : EndGoes) → is_past (moved commit v z).at ≡ true → Keeps d c m h rows_left → Leads t g.machine.steps commit v q m rows_left z → Leaves d c m i r g h live k (says.On (stage.End (moved commit v z)) None) rows_left
-    goes_on z on kept l = stands_on d c m i r g h live k finds is tx (stage.End (moved commit v z)) rows_left h.locked kept.1 kept.0 (on, l.visited)
+    goes_on : (z : EndGoes) → is_past (moved commit v z).at ≡ true → Keeps d c m h rows_left → Leads t g.machine.steps commit v q m rows_left z → Leaves d c m i r g h live k (Says.On (Stage.End (moved commit v z)) None) rows_left
+    goes_on z on kept l = stands_on d c m i r g h live k finds is tx (Stage.End (moved commit v z)) rows_left h.locked kept.1 kept.0 (on, l.visited)
 
     -- it is over, and answered: all have given back all
-    is_over : Keeps d c m h rows_left → AllReleased (end_walk r.id r.func o g.machine.steps commit v) rows_left → Leaves d c m i r g h live k (says.Answers answer.Done None) rows_left
-    is_over kept all = answers_on d c m i r g h live k finds answer.Done has.rest rows_left h.known h.locked k.instance kept.1 kept.0 k.made (grown_same k.instance)
-        (known_prefix k answer.Done has.rest has.left)
+    is_over : Keeps d c m h rows_left → AllReleased (end_walk r.id r.func o g.machine.steps commit v) rows_left → Leaves d c m i r g h live k (Says.Answers Answer.Done None) rows_left
+    is_over kept all = answers_on d c m i r g h live k finds Answer.Done has.rest rows_left h.known h.locked k.instance kept.1 kept.0 k.made (grown_same k.instance)
+        (known_prefix k Answer.Done has.rest has.left)
         (subst (λ e. IsTrue (wants_answer e)) (sym is) refl)
         (λ u b x opened ends owned. owns_none d rows_left h.known h.locked kept.0.shows.rows h.sane h.locked_at_ends t (g.machine.steps, commit) has.ended x h.short (record { owner = all.owner; closed = all.closed; freed = all.freed }) (owned ∙ ap (λ z. Some (Tx (own_tx r.id r.func z))) (own_same (sym opened ∙ tx))))
       where
@@ -373,14 +354,14 @@ module _ (d : Deployment) (c : Core) (m : Rows) (i : ℕ) (r : Run) (g : Begun) 
         own_same e = ap (own_in o) e
 
     by_goes : (z : EndGoes) → is_past (moved commit v z).at ≡ true → Keeps d c m h rows_left → Leads t g.machine.steps commit v q m rows_left z → Leaves d c m i r g h live k (visit_says commit v z) rows_left
-    by_goes goes.Done on kept l = is_over kept (l.done refl).1
-    by_goes (goes.On a) on kept l = goes_on (goes.On a) on kept l
-    by_goes (goes.Decided first) on kept l = goes_on (goes.Decided first) on kept l
-    by_goes (goes.Passed n) on kept l = goes_on (goes.Passed n) on kept l
-    by_goes (goes.Callee cs) on kept l = goes_on (goes.Callee cs) on kept l
-    by_goes (goes.Item y x) on kept l = goes_on (goes.Item y x) on kept l
-    by_goes (goes.Value u) on kept l = goes_on (goes.Value u) on kept l
-    by_goes goes.Back on kept l = goes_on goes.Back on kept l
+    by_goes EndGoes.Done on kept l = is_over kept (l.done refl).1
+    by_goes (EndGoes.On a) on kept l = goes_on (EndGoes.On a) on kept l
+    by_goes (EndGoes.Decided first) on kept l = goes_on (EndGoes.Decided first) on kept l
+    by_goes (EndGoes.Passed n) on kept l = goes_on (EndGoes.Passed n) on kept l
+    by_goes (EndGoes.Callee cs) on kept l = goes_on (EndGoes.Callee cs) on kept l
+    by_goes (EndGoes.Item y x) on kept l = goes_on (EndGoes.Item y x) on kept l
+    by_goes (EndGoes.Value u) on kept l = goes_on (EndGoes.Value u) on kept l
+    by_goes EndGoes.Back on kept l = goes_on EndGoes.Back on kept l
 
     pub visit_turn : AfterQuery d h.plain c.now m (λ u. turn_next c i r (turned_by d r g (end_by_says r.id r.func g.machine.steps commit v (Some (Own o)) u))) (end_by_asks r.id r.func g.machine.steps commit v (Some (Own o)))
     visit_turn =

@@ -1,15 +1,9 @@
 -- What is so of the visits of an end: it is so once the decision is there, and stays through what others do.
-use Rattle.beldi_laws.proofs.Names.{AreMarked, AreReleased, AreSound, AtEnd, Bool, ByTx, Called, Core, Deployment, EndWalk, Frame, Grows, Instance, IntentId, IsCall, IsDecided, IsFreePlace, IsMember, IsOf, IsWay, IsWithin, IsWriting, Item, Known, List, Matches, Member, None, Option, Outcome, OwnedAreUnmarked, Owner, ParticipantsAreReleased, PlainState, Right, Row, Rows, Sane, Some, TookPart, TxId, Visited, [], ahead_by, ap, arith, aside_row, at_calls, at_step, commit_in, content_of, decided_over, effect_after, effect_of, eqb-true, false, first_end, free_place, if◌then◌else◌, inl, inr, is_closed, is_decided, is_mark, is_own, is_some, item_row, last_step, length, lock_row, none_by, note_at, note_by, note_or, now_open, owed_note, owner_of, owns, refl, shadow_value, slice_get, slice_get_within, sym, take, true, tx_after, tx_end, tx_now, visited_by, visits_stand, ℕ, ◌&&◌, ◌==◌, ◌||◌, ◌∙◌, ◌∷◌, ◌≡◌}
-use Rattle.beldi_laws.proofs.Names.effect
-use Rattle.beldi_laws.proofs.Names.map
-use Rattle.beldi_txn.specs.Tx.{op_of}
-use Rattle.beldi_txn.specs.Visited.{Leaves, item_in}
-use Rattle.beldi_txn.specs.Way.{callee_of}
-use Rattle.beldi_laws.proofs.Closing.{before_part, closed_there, finish_there, owner_is, owns_it}
+use Rattle.beldi_txn.specs.{Tx.op_of, Visited.Leaves, Visited.item_in, Way.callee_of}
+use Rattle.beldi_laws.proofs.Names.{AreMarked, AreReleased, AreSound, AtEnd, Bool, ByTx, Called, Core, Deployment, EndWalk, Frame, Grows, Instance, IntentId, IsCall, IsDecided, IsFreePlace, IsMember, IsOf, IsWay, IsWithin, IsWriting, Item, Known, List, Matches, Member, None, Option, Outcome, OwnedAreUnmarked, Owner, ParticipantsAreReleased, PlainState, Right, Row, Rows, Sane, Some, TookPart, TxId, Visited, [], ahead_by, ap, arith, aside_row, at_calls, at_step, commit_in, content_of, decided_over, effect_after, effect_of, eqb-true, false, first_end, free_place, if◌then◌else◌, inl, inr, is_closed, is_decided, is_mark, is_own, is_some, item_row, last_step, length, lock_row, none_by, note_at, note_by, note_or, now_open, owed_note, owner_of, owns, refl, shadow_value, slice_get, slice_get_within, sym, take, true, tx_after, tx_end, tx_now, visited_by, visits_stand, ℕ, ◌&&◌, ◌==◌, ◌||◌, ◌∙◌, ◌∷◌, ◌≡◌, Effect}
 use Rattle.beldi_laws.proofs.Members.{IsKnownCall, TakesPart, call_known, call_there, callee_is, calls_joined, members_joined, took_part}
-use Rattle.beldi_laws.proofs.Shown.{Shows}
-use Rattle.beldi_laws.proofs.Widths.{answered_small}
-use Rattle.beldi_laws.proofs.Cases.{false_by}
+use Rattle.beldi_laws.proofs.{Closing.before_part, Closing.closed_there, Closing.finish_there, Closing.owner_is, Closing.owns_it, Shown.Shows, Widths.answered_small, Cases.false_by}
+use Rattle.beldi_laws.proofs.Names.map
 
 -- ---- small facts
 -- none that it owns
@@ -17,7 +11,7 @@ not_owned : (t : TxId) (o : Option Owner) → (o ≡ Some (ByTx t) → ⊥) → 
 not_owned t o none = false_by (owns (ByTx t) o) (λ e. none (owner_is t o e))
 
 -- an effect that gives back the outcome is a return
-no_outcome : (d : Deployment) (q : Instance) → ((o : Outcome) → effect_of d q ≡ effect.Return o → ⊥) → ((o : Outcome) → q.outcome ≡ Some o → effect_of d q ≡ effect.Return o) → q.outcome ≡ None
+no_outcome : (d : Deployment) (q : Instance) → ((o : Outcome) → effect_of d q ≡ Effect.Return o → ⊥) → ((o : Outcome) → q.outcome ≡ Some o → effect_of d q ≡ Effect.Return o) → q.outcome ≡ None
 no_outcome d q none over = none_by q.outcome (λ o e. none o (over o e))
 
 module _ (d : Deployment) (m : Rows) (known : Known) (locked : IntentId → Bool) (h : Matches d m known locked) (sane : Sane d known) where

@@ -1,14 +1,10 @@
 -- Ids that are known are as long as ids may be, and rows of locks and of calls are of steps that bodies have: so the end of a
 -- transaction finds the first of the rows of whom it visits.
-use Rattle.beldi_laws.proofs.Names.{AllShort, Answer, AreHops, Bool, Called, CalledBy, Core, Deployment, Effect, FindsFirstCall, FindsFirstLock, Instance, IntentId, IntentMatches, IsAnswer, IsApart, IsCalled, IsMember, IsNarrow, IsTrue, Item, Kind, Known, List, LocksetMatches, Matches, Member, None, Option, Place, Right, Row, Rows, Sane, SaneInstance, Some, TxId, Txs, Value, [], add-one, and_parts, ap, append-nil, arith, asks_lock, begin_is, begins, begins_at, call_of, called_begun, effect_after, effect_before, effect_of, ended_by, false, few_answers, first_apart, first_end, first_narrow, fits_at, func_called, gathered, get_or, has_ended, inl, inr, is_begin, is_item, is_none, is_open, is_some, length, length-append, length-take-le, lockset_ahead, lockset_key, lockset_of, most, nat_le, nat_lt, next_step, no_begin, option_map, owed_lockset, refl, root_key, root_of, root_or_called, same_some, slice_get, subst, suc, sym, take-append-le, take_more, touched, true, tx_after, tx_end, tx_now, txs_after, txs_by, txs_pushed, visited_by, wants_answer, zero, ℕ, ◌&&◌, ◌++◌, ◌+◌, ◌<◌, ◌||◌, ◌∙◌, ◌∷◌, ◌≡◌, ◌≤◌, ◌⊎◌}
-use Rattle.beldi_laws.proofs.Names.answer
-use Rattle.beldi_laws.proofs.Names.effect
-use Rattle.beldi_laws.proofs.Names.kinds
-use Rattle.beldi_laws.proofs.Names.map
 use Rattle.std.specs.Prelude.{take}
 use Rattle.beldi_lock.proofs.Firsts.{IsLast}
-use Rattle.beldi_laws.proofs.Ended.{owner_outside}
-use Rattle.beldi_laws.proofs.Members.{call_known, members_joined}
+use Rattle.beldi_laws.proofs.Names.{AllShort, Answer, AreHops, Bool, Called, CalledBy, Core, Deployment, Effect, FindsFirstCall, FindsFirstLock, Instance, IntentId, IntentMatches, IsAnswer, IsApart, IsCalled, IsMember, IsNarrow, IsTrue, Item, Kind, Known, List, LocksetMatches, Matches, Member, None, Option, Place, Right, Row, Rows, Sane, SaneInstance, Some, TxId, Txs, Value, [], add-one, and_parts, ap, append-nil, arith, asks_lock, begin_is, begins, begins_at, call_of, called_begun, effect_after, effect_before, effect_of, ended_by, false, few_answers, first_apart, first_end, first_narrow, fits_at, func_called, gathered, get_or, has_ended, inl, inr, is_begin, is_item, is_none, is_open, is_some, length, length-append, length-take-le, lockset_ahead, lockset_key, lockset_of, most, nat_le, nat_lt, next_step, no_begin, option_map, owed_lockset, refl, root_key, root_of, root_or_called, same_some, slice_get, subst, suc, sym, take-append-le, take_more, touched, true, tx_after, tx_end, tx_now, txs_after, txs_by, txs_pushed, visited_by, wants_answer, zero, ℕ, ◌&&◌, ◌++◌, ◌+◌, ◌<◌, ◌||◌, ◌∙◌, ◌∷◌, ◌≡◌, ◌≤◌, ◌⊎◌}
+use Rattle.beldi_laws.proofs.{Ended.owner_outside, Members.call_known, Members.members_joined}
+use Rattle.beldi_laws.proofs.Names.map
 
 -- ---- steps
 wanted_by : (p : Place) (t : Option TxId) (e : Effect) (a : Answer) → IsAnswer p t e a → IsTrue (wants_answer e)
@@ -149,33 +145,33 @@ module _ (d : Deployment) (m : Rows) (known : Known) (locked : IntentId → Bool
   pub record IsVisitor (t : TxId) (p : Member) : Type 0 where
     pub instance : Instance
     pub made : map.get known p.0 ≡ Some instance
-    pub role : ((instance.within ≡ None) × (effect_before d instance t.begin ≡ effect.Begin)) ⊎ (instance.within ≡ Some t)
+    pub role : ((instance.within ≡ None) × (effect_before d instance t.begin ≡ Effect.Begin)) ⊎ (instance.within ≡ Some t)
 
   module _ (fit : (j : IntentId) (z : Instance) → map.get known j ≡ Some z → (1 ≤ j.ticket) × AreHops 63 j.hops) (t : TxId) (p : Member) (v : IsVisitor t p) where
     abbrev own_fit : (1 ≤ p.0.ticket) × AreHops 63 p.0.hops
     own_fit = fit p.0 v.instance v.made
 
     -- a Begin comes directly after no Begin
-    not_next : (q : Instance) (c : ℕ) → c < length q.answers → effect_before d q c ≡ effect.Begin → effect_before d q (suc c) ≡ effect.Begin → ⊥
+    not_next : (q : Instance) (c : ℕ) → c < length q.answers → effect_before d q c ≡ Effect.Begin → effect_before d q (suc c) ≡ Effect.Begin → ⊥
     not_next q c less at next =
         let ts = take c q.answers in
-        let a = get_or q.answers c answer.Done in
-        let more : take (suc c) q.answers ≡ ts ++ a ∷ [] = ap (λ n. take n q.answers) (sym (add-one c)) ∙ take_more q.answers c answer.Done less in
+        let a = get_or q.answers c Answer.Done in
+        let more : take (suc c) q.answers ≡ ts ++ a ∷ [] = ap (λ n. take n q.answers) (sym (add-one c)) ∙ take_more q.answers c Answer.Done less in
         let open_there : is_some (txs_after d q (ts ++ a ∷ [])).begun ≡ true = ap (λ (s : Txs). is_some s.begun) (txs_pushed d q ts a) ∙ ap (λ e. is_some (txs_by (length ts) e (txs_after d q ts)).begun) at in
         let clash = sym open_there ∙ (begin_is d q (ts ++ a ∷ []) (ap (effect_after d q) (sym more) ∙ next)).1 in cc
 
     -- so no row of its own is of the step before the transaction's
     not_before : (c : ℕ) → t.begin ≡ suc c → (a : Asks d known p.0 c) → ⊥
-    not_before c next a = by_role (subst (λ (y : Instance). ((y.within ≡ None) × (effect_before d y t.begin ≡ effect.Begin)) ⊎ (y.within ≡ Some t)) (same_some (sym v.made ∙ a.made)) v.role)
+    not_before c next a = by_role (subst (λ (y : Instance). ((y.within ≡ None) × (effect_before d y t.begin ≡ Effect.Begin)) ⊎ (y.within ≡ Some t)) (same_some (sym v.made ∙ a.made)) v.role)
       where
-        by_role : ((a.instance.within ≡ None) × (effect_before d a.instance t.begin ≡ effect.Begin)) ⊎ (a.instance.within ≡ Some t) → ⊥
+        by_role : ((a.instance.within ≡ None) × (effect_before d a.instance t.begin ≡ Effect.Begin)) ⊎ (a.instance.within ≡ Some t) → ⊥
         by_role (inr inner) = let same = inherited p.0 c a t inner in omega (arith, same, next)
         by_role (inl own) =
             let q = a.instance in
             let begun = own_open p.0 c a own.0 in
             let less = (fits_at d q a.given).before c begun in
             let long : length a.given + length a.more ≡ length q.answers = sym (length-append a.given a.more) ∙ ap length a.all in
-            let there : effect_before d q c ≡ effect.Begin = ap (λ ts. effect_after d q (take c ts)) (sym a.all) ∙ ap (effect_after d q) (take-append-le c a.given a.more (omega (arith, less))) ∙ (begins d q a.given).begun c begun in
+            let there : effect_before d q c ≡ Effect.Begin = ap (λ ts. effect_after d q (take c ts)) (sym a.all) ∙ ap (effect_after d q) (take-append-le c a.given a.more (omega (arith, less))) ∙ (begins d q a.given).begun c begun in
             not_next q c (omega (arith, less, long)) there (ap (effect_before d q) (sym next) ∙ own.1)
 
     not_last : (home begin : ℕ) → t.begin ≡ begin → (i : IntentId) (b n : ℕ) (k : List ℕ) → Asks d known i b → IsLast home p.0 own_fit.0 own_fit.1 begin i b n k → ⊥
@@ -183,7 +179,7 @@ module _ (d : Deployment) (m : Rows) (known : Known) (locked : IntentId → Bool
     not_last home (suc c) same i b n k a l = not_before c same (subst (λ y. Asks d known y c) l.0 (subst (Asks d known i) l.1 a))
 
     apart : (home room : ℕ) (kind : Kind) (r : Row) → map.get m (record { home = room; kind = kind }) ≡ Some r → IsApart home p.0 own_fit.0 own_fit.1 t.begin kind
-    apart home room (kinds.Lockset i b n k) r there =
+    apart home room (Kind.Lockset i b n k) r there =
         let a = asked_lock room i b n k r there in
         let small = begin_small i b a in
         ((fit i a.instance a.made).1, omega (arith, small), not_last home t.begin refl i b n k a)
@@ -194,7 +190,7 @@ module _ (d : Deployment) (m : Rows) (known : Known) (locked : IntentId → Bool
 
     -- ---- rows of calls
     narrow : (room : ℕ) (kind : Kind) (r : Row) → map.get m (record { home = room; kind = kind }) ≡ Some r → IsNarrow kind
-    narrow room (kinds.Invoke a) r there =
+    narrow room (Kind.Invoke a) r there =
         let k = call_known d m known locked h (a.intent, room) (record { step = a.step; func = func_called r }) (ap (option_map func_called) there) in
         ((fit a.intent k.caller k.made).1, called_small d a.intent a.step k.callee k.caller (subst (λ o. CalledBy d a.intent o a.step k.callee) k.made (sane.called a.intent a.step k.callee k.there)))
     narrow room kind r there = tt

@@ -1,64 +1,39 @@
 -- What runs that carry a transaction out have found in the rows, and what the rows keep of transactions.
 use Rattle.std.specs.Prelude.{◌≡◌, ◌⊎◌, ℕ, ◌<◌, Bool, true, false, List, length, is_some, Option, Some, None}
-use Rattle.std.specs.FinMap as map
 use Rattle.std.specs.Option.{option_map}
-use Rattle.beldi_value.specs.declared.id.IntentId.{IntentId}
-use Rattle.beldi_value.specs.declared.place.Owner.TheVariants.{Tx as ByTx}
-use Rattle.beldi_value.specs.declared.place.Place.{Place}
-use Rattle.beldi_value.specs.declared.place.TxId.{TxId}
-use Rattle.beldi_value.specs.declared.value.Value.{Value}
+use Rattle.std.specs.FinMap as map
+use Rattle.beldi_value.specs.declared.{id.IntentId.IntentId, place.Owner.TheVariants.Tx as ByTx, place.Place.Place, place.TxId.TxId, value.Value.Value}
 use Rattle.beldi_tree.specs.declared.deployment.Deployment.{Deployment}
-use Rattle.beldi_lang.specs.declared.effect.Effect.{Effect}
-use Rattle.beldi_lang.specs.declared.effect.Effect.TheVariants.{Read, CondWrite}
-use Rattle.beldi_row.specs.Key.{RowKey}
-use Rattle.beldi_row.specs.declared.notes.Note.{Note}
-use Rattle.beldi_row.specs.declared.row.Row.{Row}
-use Rattle.beldi_row.specs.declared.row.Row.TheVariants as rows
-use Rattle.beldi_row.specs.Log.{note_at}
-use Rattle.beldi_row.specs.Table.{Rows}
+use Rattle.beldi_lang.specs.declared.effect.Effect.{Effect, TheVariants.Read, TheVariants.CondWrite}
+use Rattle.beldi_plain.specs.{Item.Item, Plain.Instance, Plain.PlainState, Plain.value_at, Plain.effect_of}
+use Rattle.beldi_order.specs.{Inside.IsBelow, Txs.tx_now}
+use Rattle.beldi_row.specs.{Key.RowKey, declared.notes.Note.Note, declared.row.Row.Row, Log.note_at, Table.Rows}
 use Rattle.beldi_daal.specs.Content.{Content}
 use Rattle.beldi_lock.specs.declared.lock.LockAt.TheVariants.{Lockset}
-use Rattle.beldi_txn.specs.declared.tx.TxAt.{TxAt}
-use Rattle.beldi_txn.specs.declared.tx.TxAt.TheVariants as at
-use Rattle.beldi_txn.specs.declared.end.Visit.{Visit}
-use Rattle.beldi_txn.specs.declared.end_walk.EndWalk.{EndWalk}
-use Rattle.beldi_txn.specs.Tx.{op_of}
-use Rattle.beldi_txn.specs.End.{end_place, first_end}
-use Rattle.beldi_txn.specs.Invokes.{func_called}
-use Rattle.beldi_txn.specs.TxTurn.{HasLock}
-use Rattle.beldi_txn.specs.Visited.{AreReleased}
 use Rattle.beldi_invokelog.specs.InvokeLog.{invoke_key}
-use Rattle.beldi_known.specs.Stands.{key_in}
-use Rattle.beldi_plain.specs.Item.{Item}
-use Rattle.beldi_plain.specs.Plain.{Instance, PlainState, value_at, effect_of}
-use Rattle.beldi_order.specs.Inside.{IsBelow}
-use Rattle.beldi_order.specs.Txs.{tx_now}
-use Rattle.beldi_step.specs.declared.run.OpenTx.{OpenTx}
-use Rattle.beldi_step.specs.declared.run.RunTx.{RunTx}
-use Rattle.beldi_step.specs.Run.{begin_of, own_tx, place_of, tx_of}
-use Rattle.beldi_step.specs.Tables.{value_in}
-use Rattle.beldi_known.specs.Contents.{content_of, lockset_key, shadow_key}
-use Rattle.beldi_known.specs.Known.{Known, last_step, tx_end}
+use Rattle.beldi_txn.specs.{declared.tx.TxAt.TxAt, declared.end.Visit.Visit, declared.end_walk.EndWalk.EndWalk, Tx.op_of, End.end_place, End.first_end, Invokes.func_called, TxTurn.HasLock, Visited.AreReleased}
+use Rattle.beldi_step.specs.{declared.run.OpenTx.OpenTx, declared.run.RunTx.RunTx, Run.begin_of, Run.own_tx, Run.place_of, Run.tx_of, Tables.value_in}
+use Rattle.beldi_known.specs.{Stands.key_in, Contents.content_of, Contents.lockset_key, Contents.shadow_key, Known.Known, Known.last_step, Known.tx_end}
 
 -- ---- an operation inside
 -- its begin, where it asks for the lock
 abbrev pub OfBegin : ℕ → TxAt → Type 0
-OfBegin b (at.Lock (Lockset c)) = c ≡ b
+OfBegin b (TxAt.Lock (Lockset c)) = c ≡ b
 OfBegin b a = Unit {0}
 
 -- the row that says that the lock is asked for was put
 abbrev pub has_asked : TxAt → Bool
-has_asked at.Log = false
-has_asked (at.Lock (Lockset b)) = false
+has_asked TxAt.Log = false
+has_asked (TxAt.Lock (Lockset b)) = false
 has_asked a = true
 
 -- what it found, by the first row of the shadow and the plain value of the item: a read keeps what the transaction sees, and the shadow
 -- of a condition is made with the plain value
 abbrev pub Found : Effect → TxAt → Option Row → Value → Type 0
-Found (Read t k) at.Item shadow v = shadow ≡ None
-Found (Read t k) (at.Keep u) shadow v = value_in shadow v ≡ u
-Found (CondWrite t k r o w) (at.Head u) shadow v = shadow ≡ None → v ≡ u
-Found (CondWrite t k r o w) (at.Write s) shadow v = is_some shadow ≡ true
+Found (Read t k) TxAt.Item shadow v = shadow ≡ None
+Found (Read t k) (TxAt.Keep u) shadow v = value_in shadow v ≡ u
+Found (CondWrite t k r o w) (TxAt.Head u) shadow v = shadow ≡ None → v ≡ u
+Found (CondWrite t k r o w) (TxAt.Write s) shadow v = is_some shadow ≡ true
 Found e a shadow v = Unit {0}
 
 pub record InOperation (d : Deployment) (m : Rows) (p : PlainState) (known : Known) (id : IntentId) (func : ℕ) (o : RunTx) (step : ℕ) (e : Effect) (a : TxAt) (i : ℕ × List ℕ) : Type 0 where
@@ -126,7 +101,7 @@ pub record StillOwns (known : Known) (c e : Content) (t : TxId) (end : ℕ) : Ty
   pub notes : (a : Place) → IsFreePlace known t end a → note_at e.notes a ≡ note_at c.notes a
 
 abbrev pub has_finish : Option Row → Bool
-has_finish (Some (rows.Intent i)) = is_some i.finish
+has_finish (Some (Row.Intent i)) = is_some i.finish
 has_finish r = false
 
 pub record Frame (d : Deployment) (m n : Rows) (p q : PlainState) (known next : Known) : Type 0 where

@@ -2,32 +2,16 @@
 use Rattle.std.specs.Prelude.{◌≡◌, ◌⊎◌, ◌&&◌, ◌≤◌, ℕ, Bool, true, false, option_to_list, List, [], ◌∷◌, ◌++◌, Option, Some, None, Result, Ok, Err, IfOk}
 use Rattle.std.specs.declared.alloc.AllocError.{AllocError}
 use Rattle.std.specs.FinMap as map
-use Rattle.beldi_value.specs.declared.value.Value.{Value}
-use Rattle.beldi_value.specs.declared.outcome.Outcome.{Outcome}
+use Rattle.beldi_value.specs.declared.{value.Value.Value, outcome.Outcome.Outcome}
 use Rattle.beldi_tree.specs.declared.deployment.Deployment.{Deployment}
-use Rattle.beldi_book.specs.declared.entry.Entry.{Entry}
-use Rattle.beldi_book.specs.declared.entry.Entry.TheVariants.{Start, Read, Step, Tx, Try}
-use Rattle.beldi_row.specs.Key.{RowKey}
-use Rattle.beldi_row.specs.declared.act.Act.{Act}
-use Rattle.beldi_row.specs.Table.{Rows, TableState, Rose, after_act}
-use Rattle.beldi_plain.specs.Item.{Item}
-use Rattle.beldi_plain.specs.Plain.{PlainState, reply_of}
-use Rattle.beldi_plain.specs.Legal.{IsLegal, run_of}
-use Rattle.beldi_plain.specs.Listing.{listing_of}
+use Rattle.beldi_book.specs.declared.entry.Entry.{Entry, TheVariants.Start, TheVariants.Read, TheVariants.Step, TheVariants.Tx, TheVariants.Try}
+use Rattle.beldi_plain.specs.{Item.Item, Plain.PlainState, Plain.reply_of, Legal.IsLegal, Legal.run_of, Listing.listing_of, Replies.starts_of, Replies.HasReply}
 use Rattle.beldi_order.specs.Grown.{Grows}
-use Rattle.beldi_step.specs.declared.event.Event.{Event}
+use Rattle.beldi_row.specs.{Key.RowKey, declared.act.Act.Act, Table.Rows, Table.TableState, Table.Rose, Table.after_act}
 use Rattle.beldi_step.specs.declared.event.Event.TheVariants.{Ticket, Request, Turn, Lost, Crash, Restart, Tick, Ic}
-use Rattle.beldi_step.specs.declared.event.Seen.{Seen}
-use Rattle.beldi_step.specs.declared.event.Seen.TheVariants as seen
-use Rattle.beldi_step.specs.Host.{Core, Stepped, EventOn, first_core}
-use Rattle.beldi_step.specs.Told.{is_lost, is_dropped}
-use Rattle.beldi_step.specs.Tables.{tables_text}
-use Rattle.beldi_known.specs.Stands.{Stands}
-use Rattle.beldi_laws.specs.Right.{Right}
-use Rattle.beldi_laws.specs.OneAnswer.{OneAnswerPerStep, AnswersStay}
-use Rattle.beldi_known.specs.Contents.{is_row_of, content_of}
-use Rattle.beldi_step.specs.Told.{told_outcome, bound_of, entries_told}
-use Rattle.beldi_plain.specs.Replies.{starts_of, HasReply}
+use Rattle.beldi_step.specs.{declared.event.Event.Event, declared.event.Seen.Seen, Host.Core, Host.Stepped, Host.EventOn, Host.first_core, Told.is_lost, Told.is_dropped, Told.told_outcome, Told.bound_of, Told.entries_told, Tables.tables_text}
+use Rattle.beldi_known.specs.{Stands.Stands, Contents.is_row_of, Contents.content_of}
+use Rattle.beldi_laws.specs.{Right.Right, OneAnswer.OneAnswerPerStep, OneAnswer.AnswersStay}
 
 -- a host that nothing has happened to is right, over no rows
 abbrev pub BeginsRight : Type 0
@@ -52,7 +36,7 @@ RepliesAreOutcomes = (d : Deployment) (room old new : ℕ) (e : Event) (c b : Co
 
 -- a ticket is answered that its row is absent
 abbrev pub is_gone : Seen → Bool
-is_gone (seen.Gone t) = true
+is_gone (Seen.Gone t) = true
 is_gone x = false
 
 -- where the host and its rows are right, no ticket is answered so
@@ -118,4 +102,4 @@ WritesWhatIsTold = (d : Deployment) (room old new : ℕ) (e : Event) (c b : Core
 
 -- an answer is dropped only where it was lost, or the table failed
 abbrev pub DropsHaveCause : Type 0
-DropsHaveCause = (d : Deployment) (e : Event) (c b : Core) (old new : TableState) → is_lost e ≡ false → Stepped d e c b old new (Ok seen.Dropped) → Rose old.faults new.faults
+DropsHaveCause = (d : Deployment) (e : Event) (c b : Core) (old new : TableState) → is_lost e ≡ false → Stepped d e c b old new (Ok Seen.Dropped) → Rose old.faults new.faults

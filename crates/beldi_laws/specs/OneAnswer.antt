@@ -1,23 +1,14 @@
 -- That each step of an instance has one answer, whichever run asks for it: the one that the rows hold.
 use Rattle.std.specs.Prelude.{◌≡◌, ℕ, List, ◌++◌, take, slice_get, Option, Some, None, is_some}
 use Rattle.std.specs.FinMap as map
-use Rattle.beldi_value.specs.declared.id.IntentId.{IntentId}
-use Rattle.beldi_value.specs.declared.place.TxId.{TxId}
+use Rattle.beldi_value.specs.declared.{id.IntentId.IntentId, place.TxId.TxId}
 use Rattle.beldi_tree.specs.declared.deployment.Deployment.{Deployment}
-use Rattle.beldi_lang.specs.declared.effect.Answer.{Answer}
-use Rattle.beldi_lang.specs.declared.effect.Effect.{Effect}
-use Rattle.beldi_lang.specs.Wants.{wants}
-use Rattle.beldi_lang.specs.Machine.{IsAt}
-use Rattle.beldi_row.specs.Table.{Rows}
+use Rattle.beldi_lang.specs.{declared.effect.Answer.Answer, declared.effect.Effect.Effect, Wants.wants, Machine.IsAt}
 use Rattle.beldi_plain.specs.Plain.{Instance, PlainState}
-use Rattle.beldi_step.specs.declared.run.Run.{Run}
-use Rattle.beldi_step.specs.declared.run.RunAt.TheVariants.{Begins}
-use Rattle.beldi_step.specs.declared.run.Begun.{Begun}
-use Rattle.beldi_step.specs.Host.{Core}
-use Rattle.beldi_known.specs.Stands.{held_answer}
-use Rattle.beldi_known.specs.Known.{Known}
 use Rattle.beldi_order.specs.Txs.{tx_at}
-use Rattle.beldi_known.specs.Beside.{Beside}
+use Rattle.beldi_row.specs.Table.{Rows}
+use Rattle.beldi_step.specs.{declared.run.Run.Run, declared.run.RunAt.TheVariants.Begins, declared.run.Begun.Begun, Host.Core}
+use Rattle.beldi_known.specs.{Stands.held_answer, Known.Known, Beside.Beside}
 
 -- a run is one of the instance, and was given the first of its answers
 pub record WasGiven (d : Deployment) (q : Instance) (r : Run) (g : Begun) : Type 0 where

@@ -1,60 +1,21 @@
 -- What every event keeps: the host and its rows are right.
 use Rattle.std.specs.Prelude.{ℕ, nat_lt, nat_le, true, false, List, length, Option, Some, None, is_some, IsTrue, ◌≡◌, ◌≤◌, ◌&&◌, ◌++◌, [], Bool}
+use Rattle.std.specs.{FinMap.FinMap, Ordering.nat_cmp}
 use Rattle.std.specs.FinMap as map
-use Rattle.std.specs.FinMap.{FinMap}
-use Rattle.std.specs.Ordering.{nat_cmp}
-use Rattle.beldi_value.specs.Id.{has_callees, has_no_hops, child_of}
-use Rattle.beldi_value.specs.declared.id.IntentId.{IntentId}
-use Rattle.beldi_value.specs.declared.place.Caller.{Caller}
-use Rattle.beldi_value.specs.declared.value.Value.{Value}
+use Rattle.beldi_value.specs.{Id.has_callees, Id.has_no_hops, Id.child_of, declared.id.IntentId.IntentId, declared.place.Caller.Caller, declared.value.Value.Value}
 use Rattle.beldi_tree.specs.declared.deployment.Deployment.{Deployment}
-use Rattle.beldi_lang.specs.declared.effect.Answer.{Answer}
-use Rattle.beldi_lang.specs.declared.effect.Effect.{Effect}
-use Rattle.beldi_lang.specs.declared.effect.Effect.TheVariants.{Read, Call, Async, End, Return}
-use Rattle.beldi_lang.specs.Machine.{IsAt}
-use Rattle.beldi_lang.specs.declared.machine.Machine.{Machine}
-use Rattle.beldi_row.specs.declared.row.Body.{Body}
-use Rattle.beldi_row.specs.Table.{Rows}
-use Rattle.beldi_book.specs.declared.entry.Entry.{Entry}
-use Rattle.beldi_book.specs.Order.{count_changes, linear, SeenBounded}
-use Rattle.beldi_order.specs.Laws.{IsStateAt}
-use Rattle.beldi_plain.specs.Item.{Item}
-use Rattle.beldi_plain.specs.Plain.{AllShort}
-use Rattle.beldi_plain.specs.Guard.{IsGuarded}
-use Rattle.beldi_plain.specs.Holds.{holds}
-use Rattle.beldi_plain.specs.Operation.{op_of, touched}
-use Rattle.beldi_plain.specs.Plain.{Instance, PlainState, nothing, value_at}
-use Rattle.beldi_plain.specs.Legal.{run_of}
-use Rattle.beldi_call.specs.declared.async_call.AsyncAt.{AsyncAt}
-use Rattle.beldi_call.specs.declared.async_call.AsyncAt.TheVariants as async
-use Rattle.beldi_call.specs.declared.call.CallAt.{CallAt}
-use Rattle.beldi_call.specs.declared.call.CallAt.TheVariants as call
-use Rattle.beldi_step.specs.declared.run.Run.{Run}
-use Rattle.beldi_step.specs.declared.run.RunAt as standing
-use Rattle.beldi_step.specs.declared.run.RunAt.TheVariants.{Looks, Registers, Begins}
-use Rattle.beldi_txn.specs.declared.end.EndAt.{EndAt}
-use Rattle.beldi_txn.specs.declared.end.EndAt.TheVariants.{Decide}
-use Rattle.beldi_txn.specs.TxTurn.{Fits}
-use Rattle.beldi_txn.specs.Visited.{Visited}
-use Rattle.beldi_step.specs.declared.run.RunTx.{RunTx}
-use Rattle.beldi_step.specs.declared.run.RunTx.TheVariants.{Own}
-use Rattle.beldi_step.specs.Run.{is_waited, open_after, end_mark, within}
-use Rattle.beldi_step.specs.declared.run.Begun.{Begun}
-use Rattle.beldi_step.specs.declared.run.Stage.{Stage}
-use Rattle.beldi_step.specs.declared.run.Stage.TheVariants as stage
+use Rattle.beldi_lang.specs.{declared.effect.Answer.Answer, declared.effect.Effect.Effect, declared.effect.Effect.TheVariants.Read, declared.effect.Effect.TheVariants.Call, declared.effect.Effect.TheVariants.Async, declared.effect.Effect.TheVariants.End, declared.effect.Effect.TheVariants.Return, Machine.IsAt, declared.machine.Machine.Machine}
+use Rattle.beldi_book.specs.{declared.entry.Entry.Entry, Order.count_changes, Order.linear, Order.SeenBounded}
+use Rattle.beldi_plain.specs.{Item.Item, Plain.AllShort, Plain.Instance, Plain.PlainState, Plain.nothing, Plain.value_at, Guard.IsGuarded, Holds.holds, Operation.op_of, Operation.touched, Legal.run_of}
+use Rattle.beldi_order.specs.{Laws.IsStateAt, Txs.along, Txs.effect_after}
+use Rattle.beldi_row.specs.{declared.row.Body.Body, Table.Rows}
 use Rattle.beldi_intent.specs.Intent.{root_key}
-use Rattle.beldi_step.specs.Host.{Core, most_runs}
-use Rattle.beldi_known.specs.Rows.{IsBodyOf}
-use Rattle.beldi_known.specs.Known.{Known}
-use Rattle.beldi_order.specs.Txs.{along, effect_after}
-use Rattle.beldi_known.specs.Matches.{Matches, LockedAtEnds}
-use Rattle.beldi_known.specs.Sane.{Sane}
-use Rattle.beldi_known.specs.Stands.{key_in}
+use Rattle.beldi_txn.specs.{declared.end.EndAt.EndAt, declared.end.EndAt.TheVariants.Decide, TxTurn.Fits, Visited.Visited}
+use Rattle.beldi_call.specs.declared.{async_call.AsyncAt.AsyncAt, call.CallAt.CallAt}
+use Rattle.beldi_step.specs.{declared.run.Run.Run, declared.run.RunAt.TheVariants.Looks, declared.run.RunAt.TheVariants.Registers, declared.run.RunAt.TheVariants.Begins, declared.run.RunTx.RunTx, declared.run.RunTx.TheVariants.Own, Run.is_waited, Run.open_after, Run.end_mark, Run.within, declared.run.Begun.Begun, declared.run.Stage.Stage, Host.Core, Host.most_runs}
+use Rattle.beldi_step.specs.declared.run.RunAt as standing
+use Rattle.beldi_known.specs.{Rows.IsBodyOf, Known.Known, Matches.Matches, Matches.LockedAtEnds, Sane.Sane, Stands.key_in, Beside.Beside, InsideLaws.HoldersInsideAreMade, Listed.listed, Shadows.Shadows}
 use Rattle.beldi_laws.specs.Inside.{InItem, Released, end_walk, OwnedAreUnmarked, OwnersCallNobody, ParticipantsAreReleased, ParticipantsHaveRows}
-use Rattle.beldi_known.specs.Beside.{Beside}
-use Rattle.beldi_known.specs.InsideLaws.{HoldersInsideAreMade}
-use Rattle.beldi_known.specs.Listed.{listed}
-use Rattle.beldi_known.specs.Shadows.{Shadows}
 
 -- ---- where a run stands
 -- what a run is in after these answers: the transaction that it was called in, or its own one, with what was aborted in it
@@ -102,33 +63,33 @@ is_past a = true
 
 -- a call was opened
 abbrev pub is_opened : CallAt → Bool
-is_opened call.Open = false
-is_opened call.Look = true
+is_opened CallAt.Open = false
+is_opened CallAt.Look = true
 
 -- .. that nobody waits for
 abbrev pub is_sent : AsyncAt → Bool
-is_sent async.Open = false
+is_sent AsyncAt.Open = false
 is_sent a = true
 
 -- ---- what a run knows and has found in the rows, at each stage of its effect
 module _ {d : Deployment} (m : Rows) (p : PlainState) (book : List Entry) {known : Known} {id : IntentId} {home : ℕ} {c : Option Caller} {s : Machine} {o : Option RunTx} (k : StandsAt d known id home c s o) where
   abbrev pub AtStage : Stage → Effect → Option RunTx → Type 0
   -- outside a transaction: where a value is to be kept, where its read belongs
-  AtStage stage.Ask (Read t x) None = Unit {0}
-  AtStage stage.Walk (Read t x) None = Unit {0}
-  AtStage (stage.Keep v seen) (Read t x) None = Keeps d book id k.answers k.later (record { func = home; table = t; key = x }) v seen
-  AtStage (stage.Write at) e None = is_some (op_of e) ≡ true
+  AtStage Stage.Ask (Read t x) None = Unit {0}
+  AtStage Stage.Walk (Read t x) None = Unit {0}
+  AtStage (Stage.Keep v seen) (Read t x) None = Keeps d book id k.answers k.later (record { func = home; table = t; key = x }) v seen
+  AtStage (Stage.Write at) e None = is_some (op_of e) ≡ true
   -- what it opened is known
-  AtStage (stage.Async at) (Async f a) None = (has_callees id ≡ true) × (is_sent at ≡ true → is_some (map.get known (child_of id s.steps)) ≡ true)
-  AtStage (stage.Call at) (Call f a) o = (has_callees id ≡ true) × (is_opened at ≡ true → is_some (map.get known (child_of id s.steps)) ≡ true)
+  AtStage (Stage.Async at) (Async f a) None = (has_callees id ≡ true) × (is_sent at ≡ true → is_some (map.get known (child_of id s.steps)) ≡ true)
+  AtStage (Stage.Call at) (Call f a) o = (has_callees id ≡ true) × (is_opened at ≡ true → is_some (map.get known (child_of id s.steps)) ≡ true)
   -- an outcome that a caller waits for was given back before the end
-  AtStage stage.Back (Return u) o = is_waited c ≡ true
-  AtStage stage.Tell (Return u) None = is_waited c ≡ false
-  AtStage stage.Close (Return u) o = (is_some o ≡ true → is_waited c ≡ true) × (is_waited c ≡ true → is_some k.instance.outcome ≡ true)
+  AtStage Stage.Back (Return u) o = is_waited c ≡ true
+  AtStage Stage.Tell (Return u) None = is_waited c ≡ false
+  AtStage Stage.Close (Return u) o = (is_some o ≡ true → is_waited c ≡ true) × (is_waited c ≡ true → is_some k.instance.outcome ≡ true)
   -- inside one: what the operation found, the mark of the decision, and what was visited
-  AtStage (stage.Tx a) e (Some o) = Fits e a × InItem d m p known id home o s.steps e a (touched e)
-  AtStage (stage.Decide w) (End commit) (Some (Own o)) = w ≡ end_mark id s.steps o.cause commit
-  AtStage (stage.End v) (End commit) (Some (Own o)) = (is_past v.at ≡ true) × Visited (end_walk id home o s.steps commit v) m
+  AtStage (Stage.Tx a) e (Some o) = Fits e a × InItem d m p known id home o s.steps e a (touched e)
+  AtStage (Stage.Decide w) (End commit) (Some (Own o)) = w ≡ end_mark id s.steps o.cause commit
+  AtStage (Stage.End v) (End commit) (Some (Own o)) = (is_past v.at ≡ true) × Visited (end_walk id home o s.steps commit v) m
   AtStage w e o = ⊥
 
   -- a run at a stage: past the ends of its transactions it owns nothing, and a callee's row was registered before it began

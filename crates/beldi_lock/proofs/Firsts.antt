@@ -1,27 +1,7 @@
 -- The first row of a transaction's locks.
-use Rattle.std.proofs.Common.{◌≡◌, ℕ, zero, suc, ◌-◌, ◌^◌, ◌<◌, ◌≤◌, List, [], ◌∷◌, ◌++◌, length, replicate, Option, None, Some, refl, ap, sym, ◌∙◌, subst, arith}
-use Rattle.std.specs.FinMap as map
-use Rattle.std.specs.Cmp.{ranks}
-use Rattle.std.specs.Cmp.Lexicographic.{slice_cmp}
-use Rattle.std.specs.Ordering.{nat_cmp, ordering_then, ordering_reverse, MatchOrdering}
-use Rattle.std.specs.declared.cmp.Ordering.{Ordering}
-use Rattle.std.specs.declared.cmp.Ordering.TheVariants.{Less, Equal, Greater}
-use Rattle.std.proofs.lemmas.Cmp.{tied_itself}
-use Rattle.std.specs.Cmp.{nat_cmp_total}
-use Rattle.beldi_value.specs.declared.id.IntentId.{IntentId}
-use Rattle.beldi_value.specs.Id.{id_cmp, id_total, id_exact}
-use Rattle.beldi_row.specs.Key.{RowKey, key_cmp}
-use Rattle.beldi_row.specs.KeyOrder.{key_total, key_exact}
-use Rattle.beldi_row.specs.declared.key.Kind.{Kind}
-use Rattle.beldi_row.specs.declared.key.Kind.TheVariants as kinds
-use Rattle.beldi_row.specs.declared.row.Row.{Row}
-use Rattle.beldi_row.specs.Table.{Rows, IsNext, next_row}
-use Rattle.beldi_row.proofs.Least.{next_row_least}
-use Rattle.beldi_walk.proofs.Promises.{promised}
-use Rattle.beldi_lock.specs.Lock.{lockset_key}
-use Rattle.beldi_lock.specs.Last.{onto_front, split_last}
-use Rattle.beldi_lock.specs.Lockset.{most, filled, before_last, before_split, id_before, begin_before, lockset_after, lockset_asks, lockset_found, AreHops, IsFit, AreFit, IsFirstFrom, FindsFirst, LocksetsBegin, FindsNext, LocksetsFollow}
+use Rattle.beldi_lock.proofs.Names.{AreFit, AreHops, Equal, FindsFirst, FindsNext, Greater, IntentId, IsFirstFrom, IsFit, IsNext, Kind, Less, List, LocksetsBegin, LocksetsFollow, MatchOrdering, None, Option, Ordering, Row, RowKey, Rows, Some, [], ap, arith, before_last, before_split, begin_before, filled, id_before, id_cmp, id_exact, id_total, key_cmp, key_exact, key_total, length, lockset_after, lockset_asks, lockset_found, lockset_key, most, nat_cmp, nat_cmp_total, next_row, next_row_least, onto_front, ordering_reverse, ordering_then, promised, ranks, refl, replicate, slice_cmp, split_last, subst, suc, sym, tied_itself, zero, ℕ, ◌++◌, ◌-◌, ◌<◌, ◌^◌, ◌∙◌, ◌∷◌, ◌≡◌, ◌≤◌}
 use Rattle.beldi_lock.proofs.IdBefore.{less_each}
+use Rattle.beldi_lock.proofs.Names.map
 
 -- ---- numbers
 pub below : (a b : ℕ) → nat_cmp a b ≡ Less → a < b
@@ -236,29 +216,29 @@ module _ (home : ℕ) (id : IntentId) (some : 1 ≤ id.ticket) (hops : AreHops 6
 
   -- a row that does not stand between the two
   abbrev pub IsApart : ℕ → Kind → Type 0
-  IsApart begin (kinds.Lockset i b t k) = AreHops 63 i.hops × (b ≤ most) × (IsLast begin i b t k → ⊥)
+  IsApart begin (Kind.Lockset i b t k) = AreHops 63 i.hops × (b ≤ most) × (IsLast begin i b t k → ⊥)
   IsApart begin kind = Unit {0}
 
   -- .. as no table of a row that is fit is the last one
   fit_apart : (begin : ℕ) (kind : Kind) → IsFit kind → IsApart begin kind
-  fit_apart begin (kinds.Lockset i b t k) fit = (fit.0, fit.1, λ z. no_table t k fit.2 z.2)
-  fit_apart begin (kinds.Intent i) fit = tt
-  fit_apart begin (kinds.ReadLog p) fit = tt
-  fit_apart begin (kinds.Invoke p) fit = tt
-  fit_apart begin (kinds.Data t k r) fit = tt
-  fit_apart begin (kinds.Shadow x t k r) fit = tt
+  fit_apart begin (Kind.Lockset i b t k) fit = (fit.0, fit.1, λ z. no_table t k fit.2 z.2)
+  fit_apart begin (Kind.Intent i) fit = tt
+  fit_apart begin (Kind.ReadLog p) fit = tt
+  fit_apart begin (Kind.Invoke p) fit = tt
+  fit_apart begin (Kind.Data t k r) fit = tt
+  fit_apart begin (Kind.Shadow x t k r) fit = tt
 
   none_passed : (begin : ℕ) (room : ℕ) (kind : Kind) → IsApart begin kind → key_cmp (start begin) (record { home = room; kind = kind }) ≡ Less → key_cmp (record { home = room; kind = kind }) (least begin) ≡ Less → ⊥
-  none_passed begin room (kinds.Lockset i b t k) fit h g =
+  none_passed begin room (Kind.Lockset i b t k) fit h g =
       let p = begin_before id begin in
       between home room home (ordering_then (id_cmp p.0 i) (rest p.1 b (2 ^ 16 - 1) t [] k)) (ordering_then (id_cmp i id) (rest b begin t 0 k [])) (irreflexive home)
       (sym (by_parts home room p.0 i p.1 b (2 ^ 16 - 1) t [] k) ∙ h) (sym (by_parts room home i id b begin t 0 k []) ∙ g) ⊥
       (λ e f r s. none_between begin i b t k fit.0 fit.1 fit.2 r s)
-  none_passed begin room (kinds.Intent i) fit h g = other_kind room _ h g
-  none_passed begin room (kinds.ReadLog p) fit h g = other_kind room _ h g
-  none_passed begin room (kinds.Invoke p) fit h g = other_kind room _ h g
-  none_passed begin room (kinds.Data t k r) fit h g = other_kind room _ h g
-  none_passed begin room (kinds.Shadow x t k r) fit h g = other_kind room _ h g
+  none_passed begin room (Kind.Intent i) fit h g = other_kind room _ h g
+  none_passed begin room (Kind.ReadLog p) fit h g = other_kind room _ h g
+  none_passed begin room (Kind.Invoke p) fit h g = other_kind room _ h g
+  none_passed begin room (Kind.Data t k r) fit h g = other_kind room _ h g
+  none_passed begin room (Kind.Shadow x t k r) fit h g = other_kind room _ h g
 
   -- what is not below the first key is past the start
   past : (begin : ℕ) (q : RowKey) → (key_cmp q (least begin) ≡ Less → ⊥) → key_cmp (start begin) q ≡ Less

@@ -1,9 +1,5 @@
 -- The id directly before another.
-use Rattle.std.proofs.Common.{◌≡◌, ℕ, zero, suc, ◌-◌, ◌<◌, List, [], ◌∷◌, ◌++◌, length, replicate, refl, ap, sym, ◌∙◌, arith}
-use Rattle.std.proofs.lemmas.List.{append-nil}
-use Rattle.beldi_value.specs.declared.id.IntentId.{IntentId}
-use Rattle.beldi_lock.specs.Last.{split_last}
-use Rattle.beldi_lock.specs.Lockset.{most, filled, before_split, id_before}
+use Rattle.beldi_lock.proofs.Names.{IntentId, List, [], ap, append-nil, arith, before_split, filled, id_before, length, most, refl, replicate, split_last, suc, sym, zero, ℕ, ◌++◌, ◌-◌, ◌<◌, ◌∙◌, ◌∷◌, ◌≡◌}
 use Rattle.beldi_lock.proofs.Last.{split_front}
 
 -- ---- hops with the greatest behind them

@@ -1,6 +1,5 @@
 -- A list that is taken apart at its last.
-use Rattle.std.proofs.Common.{◌≡◌, List, [], ◌∷◌, ◌++◌, Some, refl, ap}
-use Rattle.beldi_lock.specs.Last.{onto_front, split_last}
+use Rattle.beldi_lock.proofs.Names.{List, Some, [], ap, onto_front, refl, split_last, ◌++◌, ◌∷◌, ◌≡◌}
 
 pub split_front : {A : Type 0} (front : List A) (last : A) → split_last (front ++ last ∷ []) ≡ Some (front, last)
 split_front [] last = refl

@@ -2,3 +2,4 @@ pub mod Firsts
 mod IdBefore
 pub mod Last
 mod Locked
+mod Names

@@ -1,67 +1,27 @@
 -- What a walk says of a lock is what a logged cell says of it.
-use Rattle.std.proofs.Common.{◌≡◌, ℕ, Option, Some, None, Ok, Err, true, false, cond, refl, ap, sym, ◌∙◌, subst, if◌then◌else◌}
-use Rattle.std.specs.FinMap as map
-use Rattle.beldi_value.specs.declared.id.IntentId.{IntentId}
-use Rattle.beldi_value.specs.declared.place.Owner.{Owner}
-use Rattle.beldi_value.specs.declared.place.Owner.TheVariants as owner
-use Rattle.beldi_value.specs.declared.place.Place.{Place}
-use Rattle.beldi_value.specs.declared.place.TxId.{TxId}
-use Rattle.beldi_value.specs.Id.{age_of, is_older}
-use Rattle.beldi_value.specs.Spare.{spare}
-use Rattle.beldi_row.specs.declared.act.Act.TheVariants.{LockCell, PutLockset}
-use Rattle.beldi_row.specs.Key.{RowKey}
-use Rattle.beldi_row.specs.declared.notes.Note.{Note}
-use Rattle.beldi_row.specs.declared.notes.Note.TheVariants as note
-use Rattle.beldi_row.specs.declared.row.Cell.{Cell}
-use Rattle.beldi_row.specs.declared.row.Row.{Row}
-use Rattle.beldi_row.specs.declared.row.Row.TheVariants as rows
-use Rattle.beldi_row.specs.Act.{Tell, noted, no_row, did, entered, act, other_owner, noted_or, next_or, owned_or}
-use Rattle.beldi_row.specs.Log.{note_at}
-use Rattle.beldi_row.specs.Table.{Rows, after_act}
-use Rattle.beldi_row.proofs.Gets.{got, key_self}
-use Rattle.beldi_row.proofs.Logs.{note_here}
-use Rattle.beldi_row.proofs.Tells.{tells_map}
-use Rattle.beldi_walk.specs.Query.{said, told_by, rows_after, CameOn}
-use Rattle.beldi_daal.specs.declared.cell.CellOp.TheVariants.{Lock}
-use Rattle.beldi_daal.specs.declared.cell.WriteAt.{WriteAt}
-use Rattle.beldi_daal.specs.declared.cell.WriteAt.TheVariants.{Try}
-use Rattle.beldi_daal.specs.declared.cell.WriteGoes.{WriteGoes}
-use Rattle.beldi_daal.specs.declared.cell.WriteGoes.TheVariants as writes
-use Rattle.beldi_daal.specs.declared.walk.Item.TheVariants.{Plain}
-use Rattle.beldi_daal.specs.declared.walk.WriteWalk.{WriteWalk}
-use Rattle.beldi_daal.specs.Cell.{write_goes}
-use Rattle.beldi_daal.specs.Content.{Content, content_in, SoundAt}
-use Rattle.beldi_daal.specs.Logged.{waited, died_of, dies, barred, died_at, DidAs, Logs, LoggedTurn}
-use Rattle.beldi_daal.specs.Walk.{walk_so}
-use Rattle.beldi_daal.proofs.Bars.{free, taken}
-use Rattle.beldi_daal.proofs.Logged.{by_op}
-use Rattle.beldi_lock.specs.declared.lock.LockAt.{LockAt}
-use Rattle.beldi_lock.specs.declared.lock.LockAt.TheVariants.{Lockset, Item}
-use Rattle.beldi_lock.specs.declared.lock_walk.LockWalk.{LockWalk}
-use Rattle.beldi_lock.specs.declared.lock_walk.LockSays.TheVariants.{Going}
-use Rattle.beldi_lock.specs.Lock.{lockset_key, asks_at, item_goes, put_goes, lock_goes, lock_asks, lock_so, lock_says}
-use Rattle.beldi_lock.specs.Locked.{lock_key, Dies, Locks, HasNote, LockTurn, put_row, PutTurn, LeavesAt, LocksAreByTheRow, LocksStand}
+use Rattle.beldi_lock.proofs.Names.{CameOn, Cell, Content, DidAs, Dies, Err, Going, HasNote, IntentId, Item, LeavesAt, Lock, LockAt, LockCell, LockTurn, LockWalk, Locks, LocksAreByTheRow, LocksStand, Lockset, LoggedTurn, Logs, None, Note, Ok, Option, Owner, Place, Plain, PutLockset, PutTurn, Row, RowKey, Rows, Some, SoundAt, Tell, Try, TxId, WriteAt, WriteGoes, WriteWalk, act, after_act, age_of, ap, asks_at, barred, by_op, cond, content_in, did, died_at, died_of, dies, entered, false, free, got, if◌then◌else◌, is_older, item_goes, key_self, lock_asks, lock_goes, lock_key, lock_says, lock_so, lockset_key, next_or, no_row, note_at, note_here, noted, noted_or, other_owner, owned_or, put_goes, put_row, refl, rows_after, said, spare, subst, sym, taken, tells_map, told_by, true, waited, walk_so, write_goes, ℕ, ◌∙◌, ◌≡◌}
+use Rattle.beldi_lock.proofs.Names.map
 
 -- who neither waits nor dies meets no other owner
-by_age : (t : TxId) (o : Owner) (b : _) → is_older t.intent (age_of o) ≡ b → waited (owner.Tx t) (Some o) ≡ None → died_of (owner.Tx t) (Some o) ≡ None → Some o ≡ None
+by_age : (t : TxId) (o : Owner) (b : _) → is_older t.intent (age_of o) ≡ b → waited (Owner.Tx t) (Some o) ≡ None → died_of (Owner.Tx t) (Some o) ≡ None → Some o ≡ None
 by_age t o true older waits lives = let clash = sym (ap (λ x. if x then Some o else None) older) ∙ waits in cc
 by_age t o false older waits lives = let clash = sym (ap (λ x. if x then None else Some (age_of o)) older) ∙ lives in cc
 
-nobody : (t : TxId) (o : Option Owner) → waited (owner.Tx t) o ≡ None → died_of (owner.Tx t) o ≡ None → o ≡ None
+nobody : (t : TxId) (o : Option Owner) → waited (Owner.Tx t) o ≡ None → died_of (Owner.Tx t) o ≡ None → o ≡ None
 nobody t None waits lives = refl
 nobody t (Some o) waits lives = by_age t o (is_older t.intent (age_of o)) refl waits lives
 
 unheld : (who : Owner) (o : Option Owner) → barred Lock who o ≡ None → dies who Lock o ≡ None → other_owner who o ≡ None
-unheld (owner.Intent a) o bar lives = free (other_owner (owner.Intent a) o) bar
-unheld (owner.Tx t) o bar lives = nobody t (other_owner (owner.Tx t) o) (free (waited (owner.Tx t) (other_owner (owner.Tx t) o)) bar) lives
+unheld (Owner.Intent a) o bar lives = free (other_owner (Owner.Intent a) o) bar
+unheld (Owner.Tx t) o bar lives = nobody t (other_owner (Owner.Tx t) o) (free (waited (Owner.Tx t) (other_owner (Owner.Tx t) o)) bar) lives
 
 -- the age in a death, and what the death left
 abbrev age_in : Option Note → Option IntentId
-age_in (Some (note.Died a)) = Some a
+age_in (Some (Note.Died a)) = Some a
 age_in o = None
 
 abbrev left_by : Place → Content → Option Note → Content
-left_by p c (Some (note.Died a)) = died_at p a c
+left_by p c (Some (Note.Died a)) = died_at p a c
 left_by p c o = c
 
 module _ (p : Place) (who : Owner) (at : WriteAt) (c d : Content) where
@@ -69,32 +29,32 @@ module _ (p : Place) (who : Owner) (at : WriteAt) (c d : Content) where
   Says g = Locks p who (lock_so (item_goes at g)) c d × HasNote p (lock_so (item_goes at g)) d
 
   -- what was noted now, by whether who asked died
-  done_as : (a : Option IntentId) (n : Note) → dies who Lock c.owner ≡ a → note_at d.notes p ≡ Some n → note_at c.notes p ≡ None → DidAs p who Lock a c d → Says (writes.Done n true)
-  done_as None n lives is none made = by_note n (sym is ∙ ap (λ x. note_at x.notes p) made.1 ∙ note_here c.notes p note.Got none) is
+  done_as : (a : Option IntentId) (n : Note) → dies who Lock c.owner ≡ a → note_at d.notes p ≡ Some n → note_at c.notes p ≡ None → DidAs p who Lock a c d → Says (WriteGoes.Done n true)
+  done_as None n lives is none made = by_note n (sym is ∙ ap (λ x. note_at x.notes p) made.1 ∙ note_here c.notes p Note.Got none) is
     where
-      by_note : (n : Note) → Some n ≡ Some note.Got → note_at d.notes p ≡ Some n → Says (writes.Done n true)
-      by_note note.Got same is = ((none, unheld who c.owner made.0 lives, made.1), is)
+      by_note : (n : Note) → Some n ≡ Some Note.Got → note_at d.notes p ≡ Some n → Says (WriteGoes.Done n true)
+      by_note Note.Got same is = ((none, unheld who c.owner made.0 lives, made.1), is)
       by_note n same is = cc
-  done_as (Some a) n dead is none made = by_note n (sym is ∙ ap (λ x. note_at x.notes p) made ∙ note_here c.notes p (note.Died a) none) is
+  done_as (Some a) n dead is none made = by_note n (sym is ∙ ap (λ x. note_at x.notes p) made ∙ note_here c.notes p (Note.Died a) none) is
     where
-      by_note : (n : Note) → Some n ≡ Some (note.Died a) → note_at d.notes p ≡ Some n → Says (writes.Done n true)
-      by_note (note.Died b) same is =
+      by_note : (n : Note) → Some n ≡ Some (Note.Died a) → note_at d.notes p ≡ Some n → Says (WriteGoes.Done n true)
+      by_note (Note.Died b) same is =
           (subst (λ o. Dies p who b o c d) (sym none) (dead ∙ ap age_in (sym same), made ∙ ap (left_by p c) (sym same)), is)
       by_note n same is = cc
 
-  stood : (n : Note) → note_at c.notes p ≡ Some n → note_at d.notes p ≡ Some n → d ≡ c → Says (writes.Done n false)
-  stood note.Wrote was is same = (same, tt)
-  stood (note.Cond b) was is same = (same, tt)
-  stood note.Got was is same = ((was, same), is)
-  stood (note.Died a) was is same = (subst (λ o. Dies p who a o c d) (sym was) (refl, same), is)
-  stood note.Freed was is same = (same, tt)
+  stood : (n : Note) → note_at c.notes p ≡ Some n → note_at d.notes p ≡ Some n → d ≡ c → Says (WriteGoes.Done n false)
+  stood Note.Wrote was is same = (same, tt)
+  stood (Note.Cond b) was is same = (same, tt)
+  stood Note.Got was is same = ((was, same), is)
+  stood (Note.Died a) was is same = (subst (λ o. Dies p who a o c d) (sym was) (refl, same), is)
+  stood Note.Freed was is same = (same, tt)
 
   locked : (g : WriteGoes) → Logs p who Lock (walk_so g) c d → Says g
-  locked (writes.On next) l = (l, tt)
-  locked (writes.Done n true) l = done_as (dies who Lock c.owner) n refl l.0 l.1.0 l.1.1
-  locked (writes.Done n false) l = stood n (ap (λ x. note_at x.notes p) (sym l.1) ∙ l.0) l.0 l.1
-  locked writes.NotOwner l = (l.2, tt)
-  locked (writes.Held o) l = ((l.0, taken (waited who (other_owner who c.owner)) o l.1, l.2), tt)
+  locked (WriteGoes.On next) l = (l, tt)
+  locked (WriteGoes.Done n true) l = done_as (dies who Lock c.owner) n refl l.0 l.1.0 l.1.1
+  locked (WriteGoes.Done n false) l = stood n (ap (λ x. note_at x.notes p) (sym l.1) ∙ l.0) l.0 l.1
+  locked WriteGoes.NotOwner l = (l.2, tt)
+  locked (WriteGoes.Held o) l = ((l.0, taken (waited who (other_owner who c.owner)) o l.1, l.2), tt)
 
 abbrev as_write : LockWalk → WriteAt → WriteWalk
 as_write w at = record { home = w.home; item = Plain w.table w.key; place = w.place; who = w.who; op = Lock; at = at }
@@ -123,7 +83,7 @@ module _ (w : LockWalk) (m n : Rows) where
 
   by_at : (at : LockAt) (now : ℕ) → w.at ≡ at → n ≡ rows_after (lock_asks (record w { at = at })) now m → LeavesAt at w m n (lock_says (record w { at = at }) (told_by (lock_asks (record w { at = at })) now m))
   by_at (Lockset begin) now here is = by_put (lockset_key w.home w.place.intent begin w.table w.key) begin now is
-  by_at (Item at) now here is = λ sound. by_turn at (write_goes note.Got (told_by (lock_asks (record w { at = Item at })) now m)) (by_op (as_write w at) m n sound at now is)
+  by_at (Item at) now here is = λ sound. by_turn at (write_goes Note.Got (told_by (lock_asks (record w { at = Item at })) now m)) (by_op (as_write w at) m n sound at now is)
 
 pub locks_are_by_the_row : LocksAreByTheRow
 locks_are_by_the_row w x now old new s (Ok t, h, c) = tells_map {P = λ m n. CameOn (lock_asks w) now old.room (Ok t) m n} {Q = λ m n. LeavesAt w.at w m n s} old.rows new.rows
@@ -138,7 +98,7 @@ told_note (Some n) = noted n
 module _ (p : Place) (who : Owner) (now : ℕ) where
   told_so : (n : Note) (r : Option Row) → SoundAt r → note_at (content_in r).notes p ≡ Some n → (act (LockCell p who spare) now r).1 ≡ noted n
   told_so n None sound is = cc
-  told_so n (Some (rows.Cell c)) sound is = by_note (note_at c.log p) (next_or c c.next (owned_or p who c (other_owner who c.owner) (entered p note.Got c.value (Some who) c, did))) is
+  told_so n (Some (Row.Cell c)) sound is = by_note (note_at c.log p) (next_or c c.next (owned_or p who c (other_owner who c.owner) (entered p Note.Got c.value (Some who) c, did))) is
     where
       by_note : (o : Option Note) (z : Cell × Tell) → o ≡ Some n → (noted_or c o z).1 ≡ noted n
       by_note None z is = cc
@@ -149,4 +109,4 @@ pub locks_stand : LocksStand
 locks_stand w now m n here sound is =
     ap (λ at. lock_says w (told_by (asks_at w.home w.table w.key w.place w.who at) now m)) here
     ∙ ap (λ at. lock_so (lock_goes at (told_by (asks_at w.home w.table w.key w.place w.who (Item Try)) now m))) here
-    ∙ ap (λ t. lock_so (item_goes Try (write_goes note.Got (said t)))) (told_so w.place w.who now n (map.get m (lock_key w)) sound is)
+    ∙ ap (λ t. lock_so (item_goes Try (write_goes Note.Got (said t)))) (told_so w.place w.who now n (map.get m (lock_key w)) sound is)

@@ -1,52 +1,33 @@
 -- What a walk says of a lock is so of its item.
 use Rattle.std.specs.Prelude.{◌≡◌, ℕ, true, false, Option, Some, None, Ok}
-use Rattle.std.specs.FinMap as map
 use Rattle.std.specs.Ordering.{is_eq}
-use Rattle.beldi_value.specs.declared.id.IntentId.{IntentId}
-use Rattle.beldi_value.specs.declared.place.Owner.{Owner}
-use Rattle.beldi_value.specs.declared.place.Place.{Place}
-use Rattle.beldi_row.specs.declared.notes.Note.{Note}
-use Rattle.beldi_row.specs.declared.notes.Note.TheVariants as note
-use Rattle.beldi_row.specs.declared.row.Row.{Row}
-use Rattle.beldi_row.specs.declared.row.Row.TheVariants as rows
-use Rattle.beldi_row.specs.Act.{other_owner}
-use Rattle.beldi_row.specs.Key.{RowKey, key_cmp}
-use Rattle.beldi_row.specs.Log.{note_at}
-use Rattle.beldi_row.specs.Table.{Rows, TableState, Tells}
-use Rattle.beldi_walk.specs.Query.{told_by}
-use Rattle.beldi_walk.specs.Walk.{Turned}
-use Rattle.beldi_daal.specs.declared.cell.CellOp.TheVariants.{Lock}
-use Rattle.beldi_daal.specs.declared.cell.WriteAt.TheVariants.{Try}
-use Rattle.beldi_daal.specs.Cell.{cell_key}
-use Rattle.beldi_daal.specs.Content.{Content, content_in, SoundAt}
-use Rattle.beldi_daal.specs.Logged.{waited, dies, done_to, died_at}
-use Rattle.beldi_lock.specs.declared.lock.LockAt.{LockAt}
-use Rattle.beldi_lock.specs.declared.lock.LockAt.TheVariants.{Lockset, Item}
-use Rattle.beldi_lock.specs.declared.lock_walk.LockSays.{LockSays}
-use Rattle.beldi_lock.specs.declared.lock_walk.LockSays.TheVariants.{Going, Got, Died, Held, Worn}
-use Rattle.beldi_lock.specs.declared.lock_walk.LockWalk.{LockWalk}
-use Rattle.beldi_lock.specs.Lock.{lockset_key, note_goes, lock_asks, lock_next, lock_so, lock_says}
+use Rattle.std.specs.FinMap as map
+use Rattle.beldi_value.specs.declared.{id.IntentId.IntentId, place.Owner.Owner, place.Place.Place}
+use Rattle.beldi_row.specs.{declared.notes.Note.Note, declared.row.Row.Row, Act.other_owner, Key.RowKey, Key.key_cmp, Log.note_at, Table.Rows, Table.TableState, Table.Tells}
+use Rattle.beldi_walk.specs.{Query.told_by, Walk.Turned}
+use Rattle.beldi_daal.specs.{declared.cell.CellOp.TheVariants.Lock, declared.cell.WriteAt.TheVariants.Try, Cell.cell_key, Content.Content, Content.content_in, Content.SoundAt, Logged.waited, Logged.dies, Logged.done_to, Logged.died_at}
+use Rattle.beldi_lock.specs.{declared.lock.LockAt.LockAt, declared.lock.LockAt.TheVariants.Lockset, declared.lock.LockAt.TheVariants.Item, declared.lock_walk.LockSays.LockSays, declared.lock_walk.LockSays.TheVariants.Going, declared.lock_walk.LockSays.TheVariants.Got, declared.lock_walk.LockSays.TheVariants.Died, declared.lock_walk.LockSays.TheVariants.Held, declared.lock_walk.LockSays.TheVariants.Worn, declared.lock_walk.LockWalk.LockWalk, Lock.lockset_key, Lock.note_goes, Lock.lock_asks, Lock.lock_next, Lock.lock_so, Lock.lock_says}
 
 abbrev pub lock_key : LockWalk → RowKey
 lock_key w = cell_key w.home w.table w.key
 
 -- the note of what is said of a place
 abbrev pub HasNote : Place → LockSays → Content → Type 0
-HasNote p (Got first) d = note_at d.notes p ≡ Some note.Got
-HasNote p (Died a) d = note_at d.notes p ≡ Some (note.Died a)
+HasNote p (Got first) d = note_at d.notes p ≡ Some Note.Got
+HasNote p (Died a) d = note_at d.notes p ≡ Some (Note.Died a)
 HasNote p s d = Unit {0}
 
 -- by the note that the place had: it died in this turn, of the other owner, and the death was noted; or it had died before
 abbrev pub Dies : Place → Owner → IntentId → Option Note → Content → Content → Type 0
 Dies p who a None c d = (dies who Lock c.owner ≡ Some a) × (d ≡ died_at p a c)
-Dies p who a (Some n) c d = (n ≡ note.Died a) × (d ≡ c)
+Dies p who a (Some n) c d = (n ≡ Note.Died a) × (d ≡ c)
 
 -- by the content of the item before the turn, and after it. A lock was taken in this turn where the place had no note and no
 -- other owned the item. Otherwise, but for a death, the content stands, and what is said of the place or of the owner is so: who asks
 -- waits for that other owner.
 abbrev pub Locks : Place → Owner → LockSays → Content → Content → Type 0
 Locks p who (Got true) c d = (note_at c.notes p ≡ None) × (other_owner who c.owner ≡ None) × (d ≡ done_to p who Lock c)
-Locks p who (Got false) c d = (note_at c.notes p ≡ Some note.Got) × (d ≡ c)
+Locks p who (Got false) c d = (note_at c.notes p ≡ Some Note.Got) × (d ≡ c)
 Locks p who (Died a) c d = Dies p who a (note_at c.notes p) c d
 Locks p who (Held o) c d = (note_at c.notes p ≡ None) × (waited who (other_owner who c.owner) ≡ Some o) × (d ≡ c)
 Locks p who Going c d = d ≡ c
@@ -63,7 +44,7 @@ pub record LockTurn (w : LockWalk) (m n : Rows) (s : LockSays) : Type 0 where
 
 -- what a turn leaves that puts the row of a lockset: it is there, and all other rows are as before
 abbrev pub put_row : Option Row → Row
-put_row None = rows.Lockset
+put_row None = Row.Lockset
 put_row (Some r) = r
 
 pub record PutTurn (k : RowKey) (m n : Rows) (s : LockSays) : Type 0 where

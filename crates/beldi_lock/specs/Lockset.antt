@@ -1,21 +1,12 @@
 -- The rows of what a transaction asked the locks of, one after another.
 use Rattle.std.specs.Prelude.{◌≡◌, ◌≤◌, ◌<◌, ℕ, ◌-◌, ◌^◌, zero, suc, ◌&&◌, ◌==◌, List, [], ◌∷◌, ◌++◌, length, replicate, Option, Some, None, if◌then◌else◌}
-use Rattle.std.specs.FinMap as map
 use Rattle.std.specs.declared.cmp.Ordering.TheVariants.{Less}
 use denote.Bor.{Bor}
+use Rattle.std.specs.FinMap as map
 use Rattle.beldi_value.specs.declared.id.IntentId.{IntentId}
-use Rattle.beldi_row.specs.declared.key.Kind.{Kind}
-use Rattle.beldi_row.specs.declared.key.Kind.TheVariants as kinds
-use Rattle.beldi_row.specs.declared.row.Row.{Row}
-use Rattle.beldi_row.specs.Key.{RowKey, key_cmp}
-use Rattle.beldi_row.specs.Log.{id_eq}
-use Rattle.beldi_row.specs.Table.{Rows, IsNext}
-use Rattle.beldi_walk.specs.declared.query.Query.{Query}
-use Rattle.beldi_walk.specs.declared.query.Query.TheVariants.{After}
-use Rattle.beldi_walk.specs.Query.{Told, found}
-use Rattle.beldi_walk.specs.Walk.{Promises}
-use Rattle.beldi_lock.specs.Last.{split_last}
-use Rattle.beldi_lock.specs.Lock.{lockset_key}
+use Rattle.beldi_row.specs.{declared.key.Kind.Kind, declared.row.Row.Row, Key.RowKey, Key.key_cmp, Log.id_eq, Table.Rows, Table.IsNext}
+use Rattle.beldi_walk.specs.{declared.query.Query.Query, declared.query.Query.TheVariants.After, Query.Told, Query.found, Walk.Promises}
+use Rattle.beldi_lock.specs.{Last.split_last, Lock.lockset_key}
 
 -- ---- the id directly before one
 -- the greatest hop, and hops with the greatest behind them, as many as there is room for
@@ -54,7 +45,7 @@ lockset_asks home id begin after = After (lockset_after home id begin after)
 
 -- the item of a row, where it is one of the locks that the intent asked for in this transaction
 abbrev pub item_of : ℕ → IntentId → ℕ → RowKey → Kind → Option (ℕ × List ℕ)
-item_of home id begin k (kinds.Lockset i b t n) = if (id_eq i id && (b == begin)) && (k.home == home) then Some (t, n) else None
+item_of home id begin k (Kind.Lockset i b t n) = if (id_eq i id && (b == begin)) && (k.home == home) then Some (t, n) else None
 item_of home id begin k kind = None
 
 abbrev pub item_after : ℕ → IntentId → ℕ → Option (RowKey × Row) → Option (ℕ × List ℕ)
@@ -79,8 +70,8 @@ AreHops (suc room) (h ∷ hs) = (h ≤ most) × AreHops room hs
 
 -- the key of a row that a transaction put, or of a call: its numbers are of their widths, and no table has the greatest number
 abbrev pub IsFit : Kind → Type 0
-IsFit (kinds.Lockset i b t n) = AreHops 63 i.hops × (b ≤ most) × (t < 2 ^ 16 - 1)
-IsFit (kinds.Invoke p) = AreHops 63 p.intent.hops × (p.step ≤ most)
+IsFit (Kind.Lockset i b t n) = AreHops 63 i.hops × (b ≤ most) × (t < 2 ^ 16 - 1)
+IsFit (Kind.Invoke p) = AreHops 63 p.intent.hops × (p.step ≤ most)
 IsFit kind = Unit {0}
 
 abbrev pub AreFit : Rows → Type 0

@@ -1,12 +1,9 @@
 -- The moves of a transaction go by the items alone that they touch, and by the instances that are in it; and change no others.
 use Rattle.beldi_order.proofs.Names.{Alike, Answer, Beside, Bool, Deployment, Effect, FinMap, Going, InLine, Instance, IntentId, IsIn, Item, Leads, List, Move, MovesReadTheirItems, None, Null, OnItem, Option, PlainState, Some, TouchedBy, TouchedIn, TxId, Value, WrittenBy, WrittenIn, [], answer_after, answer_of, answered, ap, callee_of, calls_at, cond, effect_of, ended, false, fell, get-insert, get-remove, id_cmp, id_total, inl, inr, is_eq, item_cmp, item_in, item_total, moved, new_member, op_of, option_map, or_null, or_old, plain, refl, set_if, set_item, sets, subst, sym, test, touched_at, touched_item, true, value_at, with_instance, write, written_at, ℕ, ◌∙◌, ◌∷◌, ◌≡◌}
-use Rattle.beldi_order.proofs.Names.answer
-use Rattle.beldi_order.proofs.Names.effect
-use Rattle.beldi_order.proofs.Names.map
 use Rattle.beldi_order.proofs.Line.{all_in, callee_in, line_moved, in_line, returned, answers_who_waits, shorter, not_longer}
-use Rattle.beldi_order.proofs.Maps.{elsewhere as stays}
 use Rattle.beldi_order.proofs.Moved.{Items, answer_inside, answer_by, items_after, items_by, MoveIs, answers, calls, returns, move_is, mover, answers_so, calls_so, returns_so}
-use Rattle.beldi_order.proofs.Operations.{item_same, plain_set}
+use Rattle.beldi_order.proofs.{Maps.elsewhere as stays, Operations.item_same, Operations.plain_set}
+use Rattle.beldi_order.proofs.Names.map
 
 abbrev value_of : Items → Item → Value
 value_of m x = or_null (map.get m x)
@@ -75,16 +72,16 @@ module _ (d : Deployment) (t : TxId) where
 -- ---- only what is touched is read
 module _ (m other : Items) (q : Instance) where
   same_answer : (e : Effect) → ((y : Item) → touched_item q e ≡ Some y → value_of other y ≡ value_of m y) → answer_inside other q.func e ≡ answer_inside m q.func e
-  same_answer (effect.Read t k) agree = ap (λ w. Some (answer.Value w)) (agree (record { func = q.func; table = t; key = k }) refl)
-  same_answer (effect.Write t k v) agree = ap (λ w. Some (answer_after (write v) w)) (agree (record { func = q.func; table = t; key = k }) refl)
-  same_answer (effect.CondWrite t k r o v) agree = ap (λ w. Some (answer_after (test r o v) w)) (agree (record { func = q.func; table = t; key = k }) refl)
+  same_answer (Effect.Read t k) agree = ap (λ w. Some (Answer.Value w)) (agree (record { func = q.func; table = t; key = k }) refl)
+  same_answer (Effect.Write t k v) agree = ap (λ w. Some (answer_after (write v) w)) (agree (record { func = q.func; table = t; key = k }) refl)
+  same_answer (Effect.CondWrite t k r o v) agree = ap (λ w. Some (answer_after (test r o v) w)) (agree (record { func = q.func; table = t; key = k }) refl)
   same_answer e agree = refl
 
   -- an operation inside touches what it writes
   pub touches : (e : Effect) (a : Answer) (y : Item) → answer_inside m q.func e ≡ Some a → option_map (item_in q.func) (op_of e) ≡ Some y → touched_item q e ≡ Some y
-  touches (effect.Read t k) a y h is = cc
-  touches (effect.Write t k v) a y h is = is
-  touches (effect.CondWrite t k r o v) a y h is = is
+  touches (Effect.Read t k) a y h is = cc
+  touches (Effect.Write t k v) a y h is = is
+  touches (Effect.CondWrite t k r o v) a y h is = is
   touches e a y h is = cc
 
   same_after : (o : Option OnItem) → ((y : Item) → option_map (item_in q.func) o ≡ Some y → value_of other y ≡ value_of m y) → (x : Item) → value_of other x ≡ value_of m x → value_of (items_after other q.func o) x ≡ value_of (items_after m q.func o) x

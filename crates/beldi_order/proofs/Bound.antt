@@ -1,14 +1,10 @@
 -- The moves of a transaction are few: the address of the one that can step, from the owner on, read as a number of 64 digits,
 -- rises at each move.
-use Rattle.beldi_order.proofs.Names.{Answer, Deployment, Effect, FinMap, Going, InLine, Instance, IntentId, IsTrue, Leads, Line, List, Move, None, PlainState, Runs, Some, TxId, [], answer_of, answered, ap, append-nil, append_assoc, arith, callee_of, calls_at, effect_of, ended, fell, few_answers, id_cmp, inl, inr, length, length-append, ltb-true, moved, mul-le-mul_right, new_member, next, one-le-pow, opened, plain, pow-succ', refl, subst, suc, sym, top, true, tx_begun, wants_answer, zero, ℕ, ◌*◌, ◌++◌, ◌+◌, ◌<◌, ◌^◌, ◌∙◌, ◌∷◌, ◌≡◌, ◌≤◌}
-use Rattle.beldi_order.proofs.Names.answer
-use Rattle.beldi_order.proofs.Names.effect
-use Rattle.beldi_order.proofs.Names.map
 use Rattle.beldi_plain.specs.Piece.{enough}
-use Rattle.beldi_order.proofs.Line.{line_opened, last_of, line_moved, returned, shorter, longer}
-use Rattle.beldi_order.proofs.Maps.{same_some, here}
+use Rattle.beldi_order.proofs.Names.{Answer, Deployment, Effect, FinMap, Going, InLine, Instance, IntentId, IsTrue, Leads, Line, List, Move, None, PlainState, Runs, Some, TxId, [], answer_of, answered, ap, append-nil, append_assoc, arith, callee_of, calls_at, effect_of, ended, fell, few_answers, id_cmp, inl, inr, length, length-append, ltb-true, moved, mul-le-mul_right, new_member, next, one-le-pow, opened, plain, pow-succ', refl, subst, suc, sym, top, true, tx_begun, wants_answer, zero, ℕ, ◌*◌, ◌++◌, ◌+◌, ◌<◌, ◌^◌, ◌∙◌, ◌∷◌, ◌≡◌, ◌≤◌}
 use Rattle.beldi_order.proofs.Moved.{Items, answer_by, MoveIs, answers, calls, returns, move_is, mover}
-use Rattle.beldi_order.proofs.Rises.{Before, address, one_rises}
+use Rattle.beldi_order.proofs.{Line.line_opened, Line.last_of, Line.line_moved, Line.returned, Line.shorter, Line.longer, Maps.same_some, Maps.here, Rises.Before, Rises.address, Rises.one_rises}
+use Rattle.beldi_order.proofs.Names.map
 
 -- ---- a list read as a number
 -- of so many digits to a base, each digit one more than its item: what ends sooner is less
@@ -69,9 +65,9 @@ has_had : (d : Deployment) (q : Instance) (e : Effect) → effect_of d q ≡ e �
 has_had d q e is w = few_answers d q.func q.args _ q.answers (subst (λ z. IsTrue (wants_answer z)) (sym is) w)
 
 wants_it : (i : IntentId) (m : Items) (q : Instance) (e : Effect) (n : Move) (a : Answer) → answer_by i m q e n ≡ Some a → IsTrue (wants_answer e)
-wants_it i m q (effect.Return o) plain a h = cc
-wants_it i m q (effect.Return o) (fell None) a h = cc
-wants_it i m q (effect.Return o) (fell (Some k)) a h = cc
+wants_it i m q (Effect.Return o) plain a h = cc
+wants_it i m q (Effect.Return o) (fell None) a h = cc
+wants_it i m q (Effect.Return o) (fell (Some k)) a h = cc
 wants_it i m q e n a h = refl
 
 module _ (d : Deployment) (t : TxId) where
@@ -173,8 +169,8 @@ within n k h = less_of (30002 ^ 64) h
 pub few_moves : (d : Deployment) (p : PlainState) (id : IntentId) (q : Instance) (moves : List Move) (s : Going) → Runs d p id q moves s → length moves < enough
 few_moves d p id q moves s runs =
     let t = tx_begun id q in
-    let z = answered q answer.Done in
+    let z = answered q Answer.Done in
     let made = here p.made id z in
     let few = has_had d q _ runs.begins refl in
-    let n = length-append q.answers (answer.Done ∷ []) in
+    let n = length-append q.answers (Answer.Done ∷ []) in
     within _ (length moves) (counted d t moves (opened p id q) s (bounded d t (opened p id q) z (line_opened d p id q runs.open_still) (omega arith) made (omega (arith, few, n))) z made runs.leads)

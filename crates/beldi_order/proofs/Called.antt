@@ -1,9 +1,8 @@
 -- An instance and what it called at a step: what the next entry leaves of the two.
-use Rattle.beldi_order.proofs.Names.{Answer, Async, Bool, Call, CalledBy, Caller, Deployment, Done, FinMap, Instance, IntentId, IsCalled, List, None, Option, Outcome, Some, TxId, Value, [], answer_given, answer_of, answered, ap, arith, call_of, calls_at, child_of, child_same, effect_before, effect_of, end_of, ended, eq-or-lt_of_le, false, forgets, forgets_begun, has_no_hops, id_cmp, id_total, inl, inr, is_eq, is_forgotten, length, length-append, new_instance, no_root, refl, root_of, slice_get, slice_get_past, subst, suc, sym, take, take-append-le, take_all, tied_itself, true, tx_after, tx_at, tx_now, txs_after, wants, within_by, zero, ℕ, ◌++◌, ◌<◌, ◌∙◌, ◌∷◌, ◌≡◌, ◌≤◌, ◌⊎◌}
-use Rattle.beldi_order.proofs.Names.map
 use Rattle.std.proofs.Common.{is_some}
-use Rattle.beldi_order.proofs.Ends.{ends_go_on}
-use Rattle.beldi_order.proofs.Maps.{same_some, made_set, equal, elsewhere, here}
+use Rattle.beldi_order.proofs.Names.{Answer, Async, Bool, Call, CalledBy, Caller, Deployment, Done, FinMap, Instance, IntentId, IsCalled, List, None, Option, Outcome, Some, TxId, Value, [], answer_given, answer_of, answered, ap, arith, call_of, calls_at, child_of, child_same, effect_before, effect_of, end_of, ended, eq-or-lt_of_le, false, forgets, forgets_begun, has_no_hops, id_cmp, id_total, inl, inr, is_eq, is_forgotten, length, length-append, new_instance, no_root, refl, root_of, slice_get, slice_get_past, subst, suc, sym, take, take-append-le, take_all, tied_itself, true, tx_after, tx_at, tx_now, txs_after, wants, within_by, zero, ℕ, ◌++◌, ◌<◌, ◌∙◌, ◌∷◌, ◌≡◌, ◌≤◌, ◌⊎◌}
+use Rattle.beldi_order.proofs.{Ends.ends_go_on, Maps.same_some, Maps.made_set, Maps.equal, Maps.elsewhere, Maps.here}
+use Rattle.beldi_order.proofs.Names.map
 
 -- ---- ids
 -- an id is that of a root, or of a callee

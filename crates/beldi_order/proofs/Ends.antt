@@ -1,6 +1,5 @@
 -- The transactions of an instance: one that is open has not ended, and an End that is answered stays.
 use Rattle.beldi_order.proofs.Names.{Answer, Bool, Deployment, Effect, Instance, List, None, Option, Some, Txs, [], along, answered, ap, append-nil, append_assoc, arith, effect_after, end_of, eqb-true, false, if◌then◌else◌, is_at, length, length-append, none_begun, refl, subst, sym, true, txs_after, txs_by, ℕ, ◌++◌, ◌+◌, ◌<◌, ◌∙◌, ◌∷◌, ◌≡◌, ◌≤◌}
-use Rattle.beldi_order.proofs.Names.effect
 
 pub record Fits (n : ℕ) (s : Txs) : Type 0 where
   pub fresh : (b : ℕ) → n ≤ b → s.ends b ≡ None
@@ -16,13 +15,13 @@ later : (n : ℕ) (s : Txs) → Fits n s → Fits (n + 1) s
 later n s h = record { fresh = λ b g. h.fresh b (omega (arith, g)); before = λ b g. let k = h.before b g in omega (arith, k); not_ended = h.not_ended; below = λ b z g. let k = h.below b z g in omega (arith, k) }
 
 pub fits_by : (e : Effect) (n : ℕ) (s : Txs) → Fits n s → Fits (n + 1) (txs_by n e s)
-fits_by effect.Begin n s h = record {
+fits_by Effect.Begin n s h = record {
   fresh = λ b g. h.fresh b (omega (arith, g));
   before = λ b g. let k : n ≡ b = cc in omega (arith, k);
   not_ended = λ b g. let k : n ≡ b = cc in h.fresh b (omega (arith, k));
   below = λ b z g. let k = h.below b z g in omega (arith, k);
 }
-fits_by (effect.End c) n s h = record {
+fits_by (Effect.End c) n s h = record {
   fresh = λ b g. by_test b g (is_at b s.begun) refl;
   before = λ b g. cc;
   not_ended = λ b g. cc;
@@ -50,12 +49,12 @@ fits d q = subst (λ n. Fits n (txs_after d q q.answers)) (omega arith) (fits_al
 
 -- ---- an End that is answered stays
 pub ends_kept : (e : Effect) (n : ℕ) (s : Txs) (b : ℕ) (z : ℕ × Bool) → Fits n s → s.ends b ≡ Some z → (txs_by n e s).ends b ≡ Some z
-ends_kept (effect.End c) n s b z f h = by_test (is_at b s.begun) refl
+ends_kept (Effect.End c) n s b z f h = by_test (is_at b s.begun) refl
   where
     by_test : (t : Bool) → is_at b s.begun ≡ t → (if t then Some (n, c) else s.ends b) ≡ Some z
     by_test true e = let k = sym (f.not_ended b (at_of b s.begun e)) ∙ h in cc
     by_test false e = h
-ends_kept effect.Begin n s b z f h = h
+ends_kept Effect.Begin n s b z f h = h
 ends_kept e n s b z f h = h
 
 pub ends_stay : (d : Deployment) (q : Instance) (given rest : List Answer) (s : Txs) (b : ℕ) (z : ℕ × Bool) → Fits (length given) s → s.ends b ≡ Some z → (along (λ ts a s. txs_by (length ts) (effect_after d q ts) s) given rest s).ends b ≡ Some z

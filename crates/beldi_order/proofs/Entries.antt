@@ -1,14 +1,9 @@
 -- What every entry does, and what it keeps.
-use Rattle.beldi_order.proofs.Names.{Aborts, Answer, Bool, Caller, Commits, Deployment, Effect, Entry, FinMap, Going, Grown, GrownAt, Grows, InLine, Instance, IntentId, Kind, Leads, List, Move, None, OnItem, Option, Outcome, Place, PlainState, Read, Some, Start, Step, Try, Tx, TxId, Value, [], after, answer_after, answer_caller, answer_of, answered, ap, append-nil, append_assoc, callee_of, calls_at, can_step, effect_of, ended, false, give, has_callees, id_cmp, if_read, if◌then◌else◌, is_some, is_waiting, item_in, item_of, kind_of, moved, new_instance, new_member, op_of, opened, operated, option_and_then, refl, root_of, run_from, start, step_by, subst, suc, sym, true, tx_begun, value_at, waits_at, with_instance, zero, ℕ, ◌++◌, ◌∙◌, ◌∷◌, ◌≡◌}
-use Rattle.beldi_order.proofs.Names.answer
-use Rattle.beldi_order.proofs.Names.effect
-use Rattle.beldi_order.proofs.Names.kinds
-use Rattle.beldi_order.proofs.Names.map
-use Rattle.beldi_order.proofs.Line.{all_moves, line_opened, last_of, line_moved, returned, shorter, not_longer}
-use Rattle.beldi_order.proofs.Maps.{same_some, made_set, still_made, elsewhere}
-use Rattle.beldi_order.proofs.Moved.{MoveIs, answers, calls, returns, move_is, mover}
-use Rattle.beldi_order.proofs.Pieces.{can_step_is, steps_so, commits, aborts}
 use Rattle.beldi_plain.specs.Plain.{if_change}
+use Rattle.beldi_order.proofs.Names.{Aborts, Answer, Bool, Caller, Commits, Deployment, Effect, Entry, FinMap, Going, Grown, GrownAt, Grows, InLine, Instance, IntentId, Kind, Leads, List, Move, None, OnItem, Option, Outcome, Place, PlainState, Read, Some, Start, Step, Try, Tx, TxId, Value, [], after, answer_after, answer_caller, answer_of, answered, ap, append-nil, append_assoc, callee_of, calls_at, can_step, effect_of, ended, false, give, has_callees, id_cmp, if_read, if◌then◌else◌, is_some, is_waiting, item_in, item_of, kind_of, moved, new_instance, new_member, op_of, opened, operated, option_and_then, refl, root_of, run_from, start, step_by, subst, suc, sym, true, tx_begun, value_at, waits_at, with_instance, zero, ℕ, ◌++◌, ◌∙◌, ◌∷◌, ◌≡◌}
+use Rattle.beldi_order.proofs.Line.{all_moves, line_opened, last_of, line_moved, returned, shorter, not_longer}
+use Rattle.beldi_order.proofs.{Maps.same_some, Maps.made_set, Maps.still_made, Maps.elsewhere, Moved.MoveIs, Moved.answers, Moved.calls, Moved.returns, Moved.move_is, Moved.mover, Pieces.can_step_is, Pieces.steps_so, Pieces.commits, Pieces.aborts}
+use Rattle.beldi_order.proofs.Names.map
 
 -- ---- runs in parts
 pub run_append : (d : Deployment) (p : PlainState) (es fs : List Entry) → run_from d p (es ++ fs) ≡ option_and_then (λ q. run_from d q fs) (run_from d p es)
@@ -46,8 +41,8 @@ pub record Stepped (d : Deployment) (p : PlainState) (id : IntentId) (k : Kind) 
 
 abbrev pub Did : Deployment → PlainState → Entry → PlainState → Type 0
 Did d p (Start t f a) q = Started p t f a q
-Did d p (Read id s) q = Stepped d p id kinds.Read q
-Did d p (Step id) q = Stepped d p id kinds.Change q
+Did d p (Read id s) q = Stepped d p id Kind.Read q
+Did d p (Step id) q = Stepped d p id Kind.Change q
 Did d p (Tx id) q = Commits d p id q
 Did d p (Try id place holder) q = Aborts d p id place holder q
 
@@ -56,17 +51,17 @@ started p zero f a q o is h = cc
 started p (suc t) f a q None is h = record { absent = is; leads = same_some h }
 started p (suc t) f a q (Some i) is h = cc
 
-if_read_is : (k : Kind) (x q : PlainState) → if_read k x ≡ Some q → (k ≡ kinds.Read) × (x ≡ q)
-if_read_is kinds.Read x q h = (refl, same_some h)
-if_read_is kinds.Change x q h = cc
-if_read_is kinds.Inside x q h = cc
-if_read_is kinds.Unbuilt x q h = cc
+if_read_is : (k : Kind) (x q : PlainState) → if_read k x ≡ Some q → (k ≡ Kind.Read) × (x ≡ q)
+if_read_is Kind.Read x q h = (refl, same_some h)
+if_read_is Kind.Change x q h = cc
+if_read_is Kind.Inside x q h = cc
+if_read_is Kind.Unbuilt x q h = cc
 
-if_change_is : (k : Kind) (x q : PlainState) → if_change k x ≡ Some q → (k ≡ kinds.Change) × (x ≡ q)
-if_change_is kinds.Read x q h = cc
-if_change_is kinds.Change x q h = (refl, same_some h)
-if_change_is kinds.Inside x q h = cc
-if_change_is kinds.Unbuilt x q h = cc
+if_change_is : (k : Kind) (x q : PlainState) → if_change k x ≡ Some q → (k ≡ Kind.Change) × (x ≡ q)
+if_change_is Kind.Read x q h = cc
+if_change_is Kind.Change x q h = (refl, same_some h)
+if_change_is Kind.Inside x q h = cc
+if_change_is Kind.Unbuilt x q h = cc
 
 module _ (d : Deployment) (p : PlainState) (id : IntentId) (b : Kind) (q : PlainState) (enter : Kind → PlainState → Option PlainState)
     (enters : (k : Kind) (x y : PlainState) → enter k x ≡ Some y → (k ≡ b) × (x ≡ y)) where
@@ -81,27 +76,27 @@ module _ (d : Deployment) (p : PlainState) (id : IntentId) (b : Kind) (q : Plain
 
 pub did : (d : Deployment) (p : PlainState) (e : Entry) (q : PlainState) → after d p e ≡ Some q → Did d p e q
 did d p (Start t f a) q h = started p t f a q (map.get p.made (root_of t)) refl h
-did d p (Read id s) q h = stepped d p id kinds.Read q (λ k x. if_read k x) if_read_is h
-did d p (Step id) q h = stepped d p id kinds.Change q (λ k x. if_change k x) if_change_is h
+did d p (Read id s) q h = stepped d p id Kind.Read q (λ k x. if_read k x) if_read_is h
+did d p (Step id) q h = stepped d p id Kind.Change q (λ k x. if_change k x) if_change_is h
 did d p (Tx id) q h = commits d id p q h
 did d p (Try id place holder) q h = aborts d id place holder p q h
 
 -- ---- and what is so is enabled
-no_call : (b : Bool) → (if b then kinds.Change else kinds.Unbuilt) ≡ kinds.Read → ⊥
+no_call : (b : Bool) → (if b then Kind.Change else Kind.Unbuilt) ≡ Kind.Read → ⊥
 no_call true h = cc
 no_call false h = cc
 
 -- what is entered as a read is one
-pub read_is : (id : IntentId) (e : Effect) → kind_of id e ≡ kinds.Read → (t : ℕ) × (k : List ℕ) × (e ≡ effect.Read t k)
-read_is id (effect.Read t k) h = (t, k, refl)
-read_is id (effect.Call f a) h = absurd (no_call (has_callees id) h)
-read_is id (effect.Async f a) h = absurd (no_call (has_callees id) h)
+pub read_is : (id : IntentId) (e : Effect) → kind_of id e ≡ Kind.Read → (t : ℕ) × (k : List ℕ) × (e ≡ Effect.Read t k)
+read_is id (Effect.Read t k) h = (t, k, refl)
+read_is id (Effect.Call f a) h = absurd (no_call (has_callees id) h)
+read_is id (Effect.Async f a) h = absurd (no_call (has_callees id) h)
 read_is id e h = cc
 
 -- an instance at an operation waits for nobody
 pub free_at_operation : (made : FinMap id_cmp Instance) (id : IntentId) (q : Instance) (e : Effect) (o : OnItem) → op_of e ≡ Some o → waits_at made id q e ≡ false
-free_at_operation made id q (effect.Call f a) o h = cc
-free_at_operation made id q (effect.Async f a) o h = cc
+free_at_operation made id q (Effect.Call f a) o h = cc
+free_at_operation made id q (Effect.Async f a) o h = cc
 free_at_operation made id q e o h = refl
 
 module _ (d : Deployment) (p : PlainState) (id : IntentId) (i : Instance) (is : map.get p.made id ≡ Some i) (none : i.outcome ≡ None) (free : is_waiting d p id i ≡ false) where
@@ -110,11 +105,11 @@ module _ (d : Deployment) (p : PlainState) (id : IntentId) (i : Instance) (is : 
       steps_so (map.get p.made id) i (is_waiting d p id) (λ j. enter (kind_of id (effect_of d j)) (step_by p id j (effect_of d j))) is none free
       ∙ ap (λ u. enter u (step_by p id i (effect_of d i))) kind
 
-  pub enabled_read : (s : ℕ) → kind_of id (effect_of d i) ≡ kinds.Read → after d p (Read id s) ≡ Some (step_by p id i (effect_of d i))
-  enabled_read s kind = enabled (λ k x. if_read k x) kinds.Read kind
+  pub enabled_read : (s : ℕ) → kind_of id (effect_of d i) ≡ Kind.Read → after d p (Read id s) ≡ Some (step_by p id i (effect_of d i))
+  enabled_read s kind = enabled (λ k x. if_read k x) Kind.Read kind
 
-  pub enabled_step : kind_of id (effect_of d i) ≡ kinds.Change → after d p (Step id) ≡ Some (step_by p id i (effect_of d i))
-  enabled_step kind = enabled (λ k x. if_change k x) kinds.Change kind
+  pub enabled_step : kind_of id (effect_of d i) ≡ Kind.Change → after d p (Step id) ≡ Some (step_by p id i (effect_of d i))
+  enabled_step kind = enabled (λ k x. if_change k x) Kind.Change kind
 
 -- ---- instances only go on
 grown_self : (o : Option Instance) → GrownAt o o
@@ -179,15 +174,15 @@ answer_keeps P p h more (Some c) o = by_waits c.waits
     by_waits false = h
 
 step_grows : (p : PlainState) (id : IntentId) (i : Instance) (e : Effect) → map.get p.made id ≡ Some i → i.outcome ≡ None → waits_at p.made id i e ≡ false → Grows p.made (step_by p id i e).made
-step_grows p id i (effect.Read t k) is none free = let a = answer.Value (value_at p (item_of i t k)) in grows_at p.made id i (answered i a) is (grown_answer i a)
-step_grows p id i (effect.Call f a) is none free = grows_new p.made (callee_of id i) (new_instance f a (Some (calls_at id i true))) (absent (map.get p.made (callee_of id i)) free)
-step_grows p id i (effect.Async f a) is none free =
+step_grows p id i (Effect.Read t k) is none free = let a = Answer.Value (value_at p (item_of i t k)) in grows_at p.made id i (answered i a) is (grown_answer i a)
+step_grows p id i (Effect.Call f a) is none free = grows_new p.made (callee_of id i) (new_instance f a (Some (calls_at id i true))) (absent (map.get p.made (callee_of id i)) free)
+step_grows p id i (Effect.Async f a) is none free =
     let s = new_instance f a (Some (calls_at id i false)) in
     let gone = absent (map.get p.made (callee_of id i)) free in
     let more = map.insert p.made (callee_of id i) s in
-    grows_through p.made more (map.insert more id (answered i answer.Done)) (grows_new p.made (callee_of id i) s gone)
-    (grows_at more id i (answered i answer.Done) (still_made p.made (callee_of id i) id s i gone is) (grown_answer i answer.Done))
-step_grows p id i (effect.Return o) is none free =
+    grows_through p.made more (map.insert more id (answered i Answer.Done)) (grows_new p.made (callee_of id i) s gone)
+    (grows_at more id i (answered i Answer.Done) (still_made p.made (callee_of id i) id s i gone is) (grown_answer i Answer.Done))
+step_grows p id i (Effect.Return o) is none free =
     let over = map.insert p.made id (ended i o) in
     let first : Grows p.made over = grows_at p.made id i (ended i o) is (grown_end i o none) in
     answer_keeps (λ (r : PlainState). Grows p.made r.made) (with_instance p id (ended i o)) first
@@ -225,15 +220,15 @@ moves_grow d t s (m ∷ ms) l line leads = grows_through s.state.made leads.0.st
 -- from a Begin
 pub opened_grows : (d : Deployment) (p : PlainState) (id : IntentId) (q : Instance) (moves : List Move) (l : Going) → map.get p.made id ≡ Some q → q.outcome ≡ None → Leads d (tx_begun id q) (opened p id q) moves l → Grows p.made l.state.made
 opened_grows d p id q moves l made none leads =
-    grows_through p.made (map.insert p.made id (answered q answer.Done)) l.state.made (grows_at p.made id q (answered q answer.Done) made (grown_answer q answer.Done))
+    grows_through p.made (map.insert p.made id (answered q Answer.Done)) l.state.made (grows_at p.made id q (answered q Answer.Done) made (grown_answer q Answer.Done))
     (moves_grow d (tx_begun id q) (opened p id q) moves l (line_opened d p id q none) leads)
 
 piece_grows : (d : Deployment) (p : PlainState) (id : IntentId) (r : PlainState) → Commits d p id r → Grows p.made r.made
 piece_grows d p id r h =
     let z = h.ends.stands.instance in
     let there : map.get h.last.state.made id ≡ Some z = ap (map.get h.last.state.made) (sym h.ends.owner) ∙ h.ends.stands.made in
-    subst (λ (s : PlainState). Grows p.made s.made) (sym h.is) (grows_through p.made h.last.state.made (map.insert h.last.state.made id (answered z answer.Done))
-    (opened_grows d p id h.instance h.moves h.last h.runs.made h.runs.open_still h.runs.leads) (grows_at h.last.state.made id z (answered z answer.Done) there (grown_answer z answer.Done)))
+    subst (λ (s : PlainState). Grows p.made s.made) (sym h.is) (grows_through p.made h.last.state.made (map.insert h.last.state.made id (answered z Answer.Done))
+    (opened_grows d p id h.instance h.moves h.last h.runs.made h.runs.open_still h.runs.leads) (grows_at h.last.state.made id z (answered z Answer.Done) there (grown_answer z Answer.Done)))
 
 -- all moves of a try
 pub try_leads : (d : Deployment) (p : PlainState) (id : IntentId) (place : Place) (holder : Option IntentId) (r : PlainState) (h : Aborts d p id place holder r) → Leads d (tx_begun id h.instance) (opened p id h.instance) (h.before ++ h.since) h.last
@@ -244,13 +239,13 @@ try_grows d p id place holder r h =
     let z = h.ends.stands.instance in
     let there : map.get h.last.state.made id ≡ Some z = ap (map.get h.last.state.made) (sym h.ends.owner) ∙ h.ends.stands.made in
     let grows = opened_grows d p id h.instance (h.before ++ h.since) h.last h.runs.made h.runs.open_still (try_leads d p id place holder r h) in
-    subst (λ (s : PlainState). Grows p.made s.made) (sym h.is) (grows_set p.made id (answered z answer.Done)
-    (grown_on (map.get p.made id) (Some z) (Some (answered z answer.Done)) (subst (λ o. GrownAt (map.get p.made id) o) there (grows id)) (grown_answer z answer.Done)))
+    subst (λ (s : PlainState). Grows p.made s.made) (sym h.is) (grows_set p.made id (answered z Answer.Done)
+    (grown_on (map.get p.made id) (Some z) (Some (answered z Answer.Done)) (subst (λ o. GrownAt (map.get p.made id) o) there (grows id)) (grown_answer z Answer.Done)))
 
 did_grows : (d : Deployment) (p : PlainState) (e : Entry) (q : PlainState) → Did d p e q → Grows p.made q.made
 did_grows d p (Start t f a) q s = started_grows p t f a q s
-did_grows d p (Read id k) q s = stepped_grows d p id kinds.Read q s
-did_grows d p (Step id) q s = stepped_grows d p id kinds.Change q s
+did_grows d p (Read id k) q s = stepped_grows d p id Kind.Read q s
+did_grows d p (Step id) q s = stepped_grows d p id Kind.Change q s
 did_grows d p (Tx id) q s = piece_grows d p id q s
 did_grows d p (Try id place holder) q s = try_grows d p id place holder q s
 

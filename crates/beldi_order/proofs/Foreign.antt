@@ -1,17 +1,7 @@
 -- An entry of another leaves an instance that stands at its Begin, and the items that the entry does not touch.
-use Rattle.beldi_order.proofs.Names.{Aborts, Commits, Deployment, Effect, EntriesTouchWhatTheyChange, Entry, FinMap, Instance, IntentId, IsBelow, IsCalled, IsIn, Item, Kind, List, None, OnItem, Option, OthersLeaveTransactions, Place, PlainState, Read, Some, Start, Step, Try, Tx, TxId, [], actor, after, answer_after, answer_of, answered, ap, append-nil, append_assoc, arith, callee_of, calls_at, child_of, cond, effect_of, ended, false, get-insert, id_cmp, id_total, inl, inr, is_eq, item_in, item_of, item_touched, length, new_instance, op_of, opened, operated, option_map, refl, root_of, step_by, subst, sym, touched_by, true, tx_begun, value_at, waits_at, with_instance, ℕ, ◌++◌, ◌<◌, ◌∙◌, ◌∷◌, ◌≡◌, ◌≤◌}
-use Rattle.beldi_order.proofs.Names.answer
-use Rattle.beldi_order.proofs.Names.effect
-use Rattle.beldi_order.proofs.Names.kinds
+use Rattle.beldi_order.proofs.Names.{Aborts, Commits, Deployment, Effect, EntriesTouchWhatTheyChange, Entry, FinMap, Instance, IntentId, IsBelow, IsCalled, IsIn, Item, Kind, List, None, OnItem, Option, OthersLeaveTransactions, Place, PlainState, Read, Some, Start, Step, Try, Tx, TxId, [], actor, after, answer_after, answer_of, answered, ap, append-nil, append_assoc, arith, callee_of, calls_at, child_of, cond, effect_of, ended, false, get-insert, id_cmp, id_total, inl, inr, is_eq, item_in, item_of, item_touched, length, new_instance, op_of, opened, operated, option_map, refl, root_of, step_by, subst, sym, touched_by, true, tx_begun, value_at, waits_at, with_instance, ℕ, ◌++◌, ◌<◌, ◌∙◌, ◌∷◌, ◌≡◌, ◌≤◌, Answer}
+use Rattle.beldi_order.proofs.{Beside.kept_by, Beside.kept, Beside.others, Beside.beside, Called.Linked, Entries.did, Entries.Stepped, Entries.absent, Entries.answer_keeps, Line.line_opened, Maps.same_some, Maps.still_made, Maps.elsewhere, Maps.none_by, Sanes.SaneWith, Sanes.waited_in, Sound.sane_with, Sound.after_sane, Sound.answers_nobody, Sound.answers_waiter, Touched.written_touched}
 use Rattle.beldi_order.proofs.Names.map
-use Rattle.beldi_order.proofs.Beside.{kept_by, kept, others, beside}
-use Rattle.beldi_order.proofs.Called.{Linked}
-use Rattle.beldi_order.proofs.Entries.{did, Stepped, absent, answer_keeps}
-use Rattle.beldi_order.proofs.Line.{line_opened}
-use Rattle.beldi_order.proofs.Maps.{same_some, still_made, elsewhere, none_by}
-use Rattle.beldi_order.proofs.Sanes.{SaneWith, waited_in}
-use Rattle.beldi_order.proofs.Sound.{sane_with, after_sane, answers_nobody, answers_waiter}
-use Rattle.beldi_order.proofs.Touched.{written_touched}
 
 -- ---- who is below an instance at a step that it has not come to was not made
 module _ (f : FinMap id_cmp Instance) (childless : (i : IntentId) → map.get f i ≡ None → (n : ℕ) → map.get f (child_of i n) ≡ None)
@@ -38,7 +28,7 @@ module _ (d : Deployment) (f : FinMap id_cmp Instance) (h : SaneWith d None f) w
   none_below id q i is = none_after f no_callees no_later (tx_begun id q) (λ z made. let n = ap (λ (y : Instance). length y.answers) (same_some (sym made ∙ is)) in omega (arith, n)) i
 
 -- ---- the instance
-module _ (d : Deployment) (p : PlainState) (sane : SaneWith d None p.made) (id : IntentId) (q : Instance) (is : map.get p.made id ≡ Some q) (begins : effect_of d q ≡ effect.Begin) where
+module _ (d : Deployment) (p : PlainState) (sane : SaneWith d None p.made) (id : IntentId) (q : Instance) (is : map.get p.made id ≡ Some q) (begins : effect_of d q ≡ Effect.Begin) where
   module _ (j : IntentId) (y : Instance) (made : map.get p.made j ≡ Some y) (apart : j ≡ id → ⊥) where
     set_stays : (s : Instance) → map.get (map.insert p.made j s) id ≡ Some q
     set_stays s = elsewhere p.made j id s apart ∙ is
@@ -47,17 +37,17 @@ module _ (d : Deployment) (p : PlainState) (sane : SaneWith d None p.made) (id :
     called_stays s gone = still_made p.made (callee_of j y) id s q gone is
 
     step_stays : (e : Effect) → y.outcome ≡ None → waits_at p.made j y e ≡ false → map.get (step_by p j y e).made id ≡ Some q
-    step_stays (effect.Read t k) none free = set_stays (answered y (answer.Value (value_at p (item_of y t k))))
-    step_stays (effect.Call f v) none free = called_stays (new_instance f v (Some (calls_at j y true))) (absent (map.get p.made (callee_of j y)) free)
-    step_stays (effect.Async f v) none free =
+    step_stays (Effect.Read t k) none free = set_stays (answered y (Answer.Value (value_at p (item_of y t k))))
+    step_stays (Effect.Call f v) none free = called_stays (new_instance f v (Some (calls_at j y true))) (absent (map.get p.made (callee_of j y)) free)
+    step_stays (Effect.Async f v) none free =
         let s = new_instance f v (Some (calls_at j y false)) in
-        elsewhere (map.insert p.made (callee_of j y) s) j id (answered y answer.Done) apart ∙ called_stays s (absent (map.get p.made (callee_of j y)) free)
-    step_stays (effect.Return o) none free = elim (waited_in d None p.made sane j y made none) [
+        elsewhere (map.insert p.made (callee_of j y) s) j id (answered y Answer.Done) apart ∙ called_stays s (absent (map.get p.made (callee_of j y)) free)
+    step_stays (Effect.Return o) none free = elim (waited_in d None p.made sane j y made none) [
       | inl alone ↦ ap (λ (r : PlainState). map.get r.made id) (answers_nobody (with_instance p j (ended y o)) y.from o alone.alone) ∙ set_stays (ended y o)
       | inr w ↦
           let other : w.caller ≡ id → ⊥ = λ same.
           let here : w.waiter ≡ q = same_some (sym w.made ∙ ap (map.get p.made) same ∙ is) in
-          let c : effect.Call y.func y.args ≡ effect.Begin = sym w.stands ∙ ap (effect_of d) here ∙ begins in cc in
+          let c : Effect.Call y.func y.args ≡ Effect.Begin = sym w.stands ∙ ap (effect_of d) here ∙ begins in cc in
           ap (λ (r : PlainState). map.get r.made id) (answers_waiter d p j y w (ended y o) o) ∙ elsewhere (map.insert p.made j (ended y o)) w.caller id (answered w.waiter (answer_of o)) other ∙ set_stays (ended y o)
     ]
     step_stays e none free = by_op (op_of e)
@@ -75,30 +65,30 @@ module _ (d : Deployment) (p : PlainState) (sane : SaneWith d None p.made) (id :
   piece_stays j r c apart =
       let y = c.instance in
       let t = tx_begun j y in
-      ap (λ (s : PlainState). map.get s.made id) c.is ∙ elsewhere c.last.state.made j id (answered c.ends.stands.instance answer.Done) apart
+      ap (λ (s : PlainState). map.get s.made id) c.is ∙ elsewhere c.last.state.made j id (answered c.ends.stands.instance Answer.Done) apart
       ∙ others d t (opened p j y) c.moves c.last (line_opened d p j y c.runs.open_still) c.runs.leads id (out_of j y c.runs.made apart)
-      ∙ elsewhere p.made j id (answered y answer.Done) apart ∙ is
+      ∙ elsewhere p.made j id (answered y Answer.Done) apart ∙ is
 
   try_stays : (j : IntentId) (place : Place) (holder : Option IntentId) (r : PlainState) → Aborts d p j place holder r → (j ≡ id → ⊥) → map.get r.made id ≡ Some q
-  try_stays j place holder r c apart = ap (λ (s : PlainState). map.get s.made id) c.is ∙ elsewhere p.made j id (answered c.ends.stands.instance answer.Done) apart ∙ is
+  try_stays j place holder r c apart = ap (λ (s : PlainState). map.get s.made id) c.is ∙ elsewhere p.made j id (answered c.ends.stands.instance Answer.Done) apart ∙ is
 
   stepped_stays : (j : IntentId) (k : Kind) (r : PlainState) → Stepped d p j k r → (j ≡ id → ⊥) → map.get r.made id ≡ Some q
   stepped_stays j k r s apart = ap (λ (z : PlainState). map.get z.made id) (sym s.leads) ∙ step_stays j s.instance s.made apart (effect_of d s.instance) s.open_still s.free
 
   pub stays : (e : Entry) (r : PlainState) → after d p e ≡ Some r → (actor e ≡ id → ⊥) → map.get r.made id ≡ Some q
   stays (Start t f v) r h apart = let s = did d p (Start t f v) r h in ap (λ (z : PlainState). map.get z.made id) (sym s.leads) ∙ still_made p.made (root_of t) id (new_instance f v None) q s.absent is
-  stays (Read j seen) r h apart = stepped_stays j kinds.Read r (did d p (Read j seen) r h) apart
-  stays (Step j) r h apart = stepped_stays j kinds.Change r (did d p (Step j) r h) apart
+  stays (Read j seen) r h apart = stepped_stays j Kind.Read r (did d p (Read j seen) r h) apart
+  stays (Step j) r h apart = stepped_stays j Kind.Change r (did d p (Step j) r h) apart
   stays (Tx j) r h apart = piece_stays j r (did d p (Tx j) r h) apart
   stays (Try j place holder) r h apart = try_stays j place holder r (did d p (Try j place holder) r h) apart
 
 -- ---- the items
 module _ (d : Deployment) (p : PlainState) (x : Item) where
   step_keeps : (j : IntentId) (y : Instance) (e : Effect) → (item_touched y e ≡ Some x → ⊥) → map.get (step_by p j y e).items x ≡ map.get p.items x
-  step_keeps j y (effect.Read t k) never = refl
-  step_keeps j y (effect.Call f v) never = refl
-  step_keeps j y (effect.Async f v) never = refl
-  step_keeps j y (effect.Return o) never = answer_keeps (λ (r : PlainState). map.get r.items x ≡ map.get p.items x) (with_instance p j (ended y o)) refl (λ k z a made. refl) y.from o
+  step_keeps j y (Effect.Read t k) never = refl
+  step_keeps j y (Effect.Call f v) never = refl
+  step_keeps j y (Effect.Async f v) never = refl
+  step_keeps j y (Effect.Return o) never = answer_keeps (λ (r : PlainState). map.get r.items x ≡ map.get p.items x) (with_instance p j (ended y o)) refl (λ k z a made. refl) y.from o
   step_keeps j y e never = by_op (op_of e) never
     where
       by_op : (o : Option OnItem) → (option_map (item_in y.func) o ≡ Some x → ⊥) → map.get (operated p j y o).items x ≡ map.get p.items x
@@ -110,8 +100,8 @@ module _ (d : Deployment) (p : PlainState) (x : Item) where
 
 pub entries_touch : EntriesTouchWhatTheyChange
 entries_touch d p r (Start t f v) h x never = ap (λ (z : PlainState). map.get z.items x) (sym (did d p (Start t f v) r h).leads)
-entries_touch d p r (Read j seen) h x never = stepped_keeps d p x j kinds.Read r (did d p (Read j seen) r h) never
-entries_touch d p r (Step j) h x never = stepped_keeps d p x j kinds.Change r (did d p (Step j) r h) never
+entries_touch d p r (Read j seen) h x never = stepped_keeps d p x j Kind.Read r (did d p (Read j seen) r h) never
+entries_touch d p r (Step j) h x never = stepped_keeps d p x j Kind.Change r (did d p (Step j) r h) never
 entries_touch d p r (Tx j) h x never =
     let c = did d p (Tx j) r h in
     let t = tx_begun j c.instance in
@@ -135,7 +125,7 @@ others_leave d p r e id q moves s sane runs h apart agree =
     }
   where
     set_alike : (i : IntentId) → map.get r.made i ≡ map.get p.made i → map.get (opened r id q).state.made i ≡ map.get (opened p id q).state.made i
-    set_alike i same = get-insert id_total r.made id (answered q answer.Done) i ∙ ap (cond (is_eq (id_cmp i id)) (Some (answered q answer.Done))) same ∙ sym (get-insert id_total p.made id (answered q answer.Done) i)
+    set_alike i same = get-insert id_total r.made id (answered q Answer.Done) i ∙ ap (cond (is_eq (id_cmp i id)) (Some (answered q Answer.Done))) same ∙ sym (get-insert id_total p.made id (answered q Answer.Done) i)
 
     members : (i : IntentId) → IsIn (tx_begun id q) i → map.get r.made id ≡ Some q → SaneWith d None r.made → map.get (opened r id q).state.made i ≡ map.get (opened p id q).state.made i
     members i (inl own) now good = set_alike i (ap (map.get r.made) own ∙ now ∙ sym runs.made ∙ ap (map.get p.made) (sym own))

@@ -1,12 +1,10 @@
 -- A transaction that goes on is sane at each of its moves; and so is what it leaves at its end.
 use Rattle.beldi_order.proofs.Names.{Answer, Bool, Deployment, Effect, FinMap, Going, Grown, InLine, Instance, IntentId, IsAnswer, IsCalled, IsMember, Leads, Line, List, Move, None, Option, Place, Some, TxId, Value, [], aborted, answer_of, answered, ap, append_assoc, arith, call_of, callee_of, calls_at, dies_at, effect_of, ended, eq-or-lt_of_le, false, false_from_ne_true, fell, id_cmp, id_total, if◌then◌else◌, inl, inr, is_eq, is_older, is_owner, length, length-append, moved, next, or_own, plain, refl, subst, sym, take, take-append-le, take_all, tied_itself, top, true, tx_by, tx_now, txs_after, ℕ, ◌++◌, ◌<◌, ◌∙◌, ◌∷◌, ◌≡◌, ◌≤◌}
-use Rattle.beldi_order.proofs.Names.answer
-use Rattle.beldi_order.proofs.Names.effect
-use Rattle.beldi_order.proofs.Names.map
 use Rattle.beldi_order.proofs.Line.{last_of, line_moved, returned, longer, long, not_longer, shorter}
-use Rattle.beldi_order.proofs.Maps.{same_some, here, elsewhere, equal}
 use Rattle.beldi_order.proofs.Moved.{Items, answer_inside, answer_by, MoveIs, answers, calls, returns, move_is, mover}
 use Rattle.beldi_order.proofs.Sanes.{is_edge, tx_is, begun_pushed, SaneWith, sane_in, called_at, Waited, answered_in, called_with, returned_with}
+use Rattle.beldi_order.proofs.Maps.{same_some, here, elsewhere, equal}
+use Rattle.beldi_order.proofs.Names.map
 
 -- ---- the owner, who has gone on from its Begin
 pub record OwnerIs (d : Deployment) (t : TxId) (q : Instance) (f : FinMap id_cmp Instance) : Type 0 where
@@ -34,30 +32,30 @@ pub record GoingSane (d : Deployment) (t : TxId) (q : Instance) (s : Going) : Ty
 
 -- ---- answers inside
 inside_answer : (p : Place) (t : TxId) (m : Items) (func : ℕ) (e : Effect) (a : Answer) → answer_inside m func e ≡ Some a → IsAnswer p (Some t) e a
-inside_answer p t m func (effect.Read b k) a h = subst (IsAnswer p (Some t) (effect.Read b k)) (same_some h) tt
-inside_answer p t m func (effect.Write b k v) a h = subst (IsAnswer p (Some t) (effect.Write b k v)) (same_some h) tt
-inside_answer p t m func (effect.CondWrite b k r o v) a h = subst (IsAnswer p (Some t) (effect.CondWrite b k r o v)) (same_some h) tt
+inside_answer p t m func (Effect.Read b k) a h = subst (IsAnswer p (Some t) (Effect.Read b k)) (same_some h) tt
+inside_answer p t m func (Effect.Write b k v) a h = subst (IsAnswer p (Some t) (Effect.Write b k v)) (same_some h) tt
+inside_answer p t m func (Effect.CondWrite b k r o v) a h = subst (IsAnswer p (Some t) (Effect.CondWrite b k r o v)) (same_some h) tt
 inside_answer p t m func e a h = cc
 
-dies_inside : (p : Place) (t : TxId) (e : Effect) (o : Option IntentId) → IsSound t (fell o) → dies_at o e ≡ true → IsAnswer p (Some t) e (answer.Aborted (record { place = p; holder = o }))
-dies_inside p t effect.Abort None sound h = refl
+dies_inside : (p : Place) (t : TxId) (e : Effect) (o : Option IntentId) → IsSound t (fell o) → dies_at o e ≡ true → IsAnswer p (Some t) e (Answer.Aborted (record { place = p; holder = o }))
+dies_inside p t Effect.Abort None sound h = refl
 dies_inside p t e None sound h = cc
-dies_inside p t (effect.Read b k) (Some u) sound h = record { holder = u; cause = refl; older = sound }
-dies_inside p t (effect.Write b k v) (Some u) sound h = record { holder = u; cause = refl; older = sound }
-dies_inside p t (effect.CondWrite b k r o v) (Some u) sound h = record { holder = u; cause = refl; older = sound }
+dies_inside p t (Effect.Read b k) (Some u) sound h = record { holder = u; cause = refl; older = sound }
+dies_inside p t (Effect.Write b k v) (Some u) sound h = record { holder = u; cause = refl; older = sound }
+dies_inside p t (Effect.CondWrite b k r o v) (Some u) sound h = record { holder = u; cause = refl; older = sound }
 dies_inside p t e (Some u) sound h = cc
 
 -- they are to no Begin, no End and no call
 abbrev pub is_plainly : Effect → Bool
-is_plainly (effect.Read b k) = true
-is_plainly (effect.Write b k v) = true
-is_plainly (effect.CondWrite b k r o v) = true
-is_plainly effect.Abort = true
+is_plainly (Effect.Read b k) = true
+is_plainly (Effect.Write b k v) = true
+is_plainly (Effect.CondWrite b k r o v) = true
+is_plainly Effect.Abort = true
 is_plainly e = false
 
 pub plainly_edge : (e : Effect) → is_plainly e ≡ true → is_edge e ≡ false
-plainly_edge effect.Begin h = cc
-plainly_edge (effect.End c) h = cc
+plainly_edge Effect.Begin h = cc
+plainly_edge (Effect.End c) h = cc
 plainly_edge e h = refl
 
 plainly_call : (e : Effect) → is_plainly e ≡ true → (w : Bool) (g : ℕ) (v : Value) → e ≡ call_of w g v → ⊥
@@ -65,17 +63,17 @@ plainly_call e h true g v is = let c = sym h ∙ ap is_plainly is in cc
 plainly_call e h false g v is = let c = sym h ∙ ap is_plainly is in cc
 
 pub inside_plainly : (m : Items) (func : ℕ) (e : Effect) (a : Answer) → answer_inside m func e ≡ Some a → is_plainly e ≡ true
-inside_plainly m func (effect.Read b k) a h = refl
-inside_plainly m func (effect.Write b k v) a h = refl
-inside_plainly m func (effect.CondWrite b k r o v) a h = refl
+inside_plainly m func (Effect.Read b k) a h = refl
+inside_plainly m func (Effect.Write b k v) a h = refl
+inside_plainly m func (Effect.CondWrite b k r o v) a h = refl
 inside_plainly m func e a h = cc
 
 pub dies_plainly : (o : Option IntentId) (e : Effect) → dies_at o e ≡ true → is_plainly e ≡ true
-dies_plainly None effect.Abort h = refl
+dies_plainly None Effect.Abort h = refl
 dies_plainly None e h = cc
-dies_plainly (Some u) (effect.Read b k) h = refl
-dies_plainly (Some u) (effect.Write b k v) h = refl
-dies_plainly (Some u) (effect.CondWrite b k r o v) h = refl
+dies_plainly (Some u) (Effect.Read b k) h = refl
+dies_plainly (Some u) (Effect.Write b k v) h = refl
+dies_plainly (Some u) (Effect.CondWrite b k r o v) h = refl
 dies_plainly (Some u) e h = cc
 
 pub answered_plainly : (id : IntentId) (m : Items) (q : Instance) (e : Effect) (n : Move) (a : Answer) → answer_by id m q e n ≡ Some a → is_plainly e ≡ true
@@ -166,7 +164,7 @@ module _ (d : Deployment) (t : TxId) (q : Instance) where
   waited_here f sane owner outside func i k z made l h =
       let own : h.instance ≡ z = same_some (sym h.made ∙ made) in
       let y = h.waiter in
-      let call : effect_of d y ≡ effect.Call z.func z.args = h.called ∙ ap (λ (x : Instance). effect.Call x.func x.args) own in
+      let call : effect_of d y ≡ Effect.Call z.func z.args = h.called ∙ ap (λ (x : Instance). Effect.Call x.func x.args) own in
       let c = called_at d (Some t) f sane k (length y.answers) z (ap (map.get f) (sym h.is_callee) ∙ made) in
       let top = last_of d t f k l in (
         record {

@@ -1,14 +1,8 @@
 -- A legal book grows by a change at its end, or by a read that belongs earlier.
-use Rattle.beldi_order.proofs.Names.{BelongsEarlier, Deployment, EndsWith, Entry, GrownAt, Instance, IntentId, IsGuarded, IsKeptLate, IsLast, List, None, PlainState, Read, Some, Value, [], after, ap, arith, back, count_changes, front, front_back, kind_of, length, linear, linear_changes, nothing, refl, run_from, step_by, subst, sym, waits_at, with_answer, ℕ, ◌++◌, ◌+◌, ◌∙◌, ◌∷◌, ◌≡◌, ◌≤◌}
-use Rattle.beldi_order.proofs.Names.answer
-use Rattle.beldi_order.proofs.Names.map
+use Rattle.beldi_order.proofs.Names.{BelongsEarlier, Deployment, EndsWith, Entry, GrownAt, Instance, IntentId, IsGuarded, IsKeptLate, IsLast, List, None, PlainState, Read, Some, Value, [], after, ap, arith, back, count_changes, front, front_back, kind_of, length, linear, linear_changes, nothing, refl, run_from, step_by, subst, sym, waits_at, with_answer, ℕ, ◌++◌, ◌+◌, ◌∙◌, ◌∷◌, ◌≡◌, ◌≤◌, Answer}
 use Rattle.beldi_order.proofs.Places.{front_more, linear_change, linear_read, put_between, put_after, SeenAt, bounded_more}
-use Rattle.beldi_order.proofs.Entries.{runs_on, one_more, run_grows, enabled_read}
-use Rattle.beldi_order.proofs.Maps.{same_some}
-use Rattle.beldi_order.proofs.Guard.{guarded_parts, guarded_first, guarded_second, past, same_holds}
-use Rattle.beldi_order.proofs.Late.{StandsAtRead, unmoved, put_late}
-use Rattle.beldi_order.proofs.Sanes.{SaneWith}
-use Rattle.beldi_order.proofs.Sound.{sane_with, run_is_sane}
+use Rattle.beldi_order.proofs.{Entries.runs_on, Entries.one_more, Entries.run_grows, Entries.enabled_read, Maps.same_some, Guard.guarded_parts, Guard.guarded_first, Guard.guarded_second, Guard.past, Guard.same_holds, Late.StandsAtRead, Late.unmoved, Late.put_late, Sanes.SaneWith, Sound.sane_with, Sound.run_is_sane}
+use Rattle.beldi_order.proofs.Names.map
 
 from_zero : (n : ℕ) → n ≡ 0 + n
 from_zero n = omega arith
@@ -74,7 +68,7 @@ module _ (d : Deployment) (book : List Entry) (p : PlainState) (id : IntentId) (
     guarded = subst (IsGuarded d nothing) (sym order) (guarded_parts d nothing h.state (front s (linear book)) (Read id s ∷ back s (linear book)) h.is_state
         (guarded_first d nothing (front s (linear book)) (back s (linear book)) whole) (
           h.free,
-          λ r led. subst (λ z. IsGuarded d z (back s (linear book))) (same_some (sym answers ∙ led)) (past d h.state p (back s (linear book)) id a (answer.Value v) good stands h.has_not_moved behind
+          λ r led. subst (λ z. IsGuarded d z (back s (linear book))) (same_some (sym answers ∙ led)) (past d h.state p (back s (linear book)) id a (Answer.Value v) good stands h.has_not_moved behind
               (guarded_second d nothing h.state (front s (linear book)) (back s (linear book)) h.is_state whole)),
         ));
     before = λ t r lt is. ap (λ xs. run_from d nothing (front t xs)) order
@@ -82,5 +76,5 @@ module _ (d : Deployment) (book : List Entry) (p : PlainState) (id : IntentId) (
     since = λ t r le is.
         let b = put_between (Read id s) s refl s t (linear book) le in
         ap (λ xs. run_from d nothing (front t xs)) order ∙ ap (run_from d nothing) b.with_read ∙ put b.between r (to t r le is) (still t r le is);
-    locks = λ t r le is. same_holds d r id a (answer.Value v) (sane_with d r (run_is_sane d (front t (linear book)) r is)) (record { made = still t r le is; open_still = h.open_still; kind = stands.kind });
+    locks = λ t r le is. same_holds d r id a (Answer.Value v) (sane_with d r (run_is_sane d (front t (linear book)) r is)) (record { made = still t r le is; open_still = h.open_still; kind = stands.kind });
   }

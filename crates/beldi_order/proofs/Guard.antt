@@ -1,17 +1,8 @@
 -- Entries that are guarded, in parts; and a read that is kept late leaves those that it passes guarded.
-use Rattle.beldi_order.proofs.Names.{Aborts, Answer, Commits, Deployment, Entry, Going, Instance, IntentId, IsFree, IsGuarded, Item, LateReadsLeaveGuards, Leads, List, Move, None, Option, Place, PlainState, Read, Some, Start, Step, TouchedIn, TouchedInPiece, TouchedInTry, Touches, Try, Tx, [], actor, after, answered, ap, effect_of, holds, op_of, opened, option_and_then, refl, run_from, subst, sym, touched_by, tx_begun, with_instance, ◌++◌, ◌∙◌, ◌∷◌, ◌≡◌}
-use Rattle.beldi_order.proofs.Names.effect
-use Rattle.beldi_order.proofs.Names.kinds
-use Rattle.beldi_order.proofs.Names.map
-use Rattle.beldi_order.proofs.Entries.{did, Did, read_is}
-use Rattle.beldi_order.proofs.Line.{line_opened}
-use Rattle.beldi_order.proofs.Maps.{same_some, elsewhere}
+use Rattle.beldi_order.proofs.Names.{Aborts, Answer, Commits, Deployment, Entry, Going, Instance, IntentId, IsFree, IsGuarded, Item, LateReadsLeaveGuards, Leads, List, Move, None, Option, Place, PlainState, Read, Some, Start, Step, TouchedIn, TouchedInPiece, TouchedInTry, Touches, Try, Tx, [], actor, after, answered, ap, effect_of, holds, op_of, opened, option_and_then, refl, run_from, subst, sym, touched_by, tx_begun, with_instance, ◌++◌, ◌∙◌, ◌∷◌, ◌≡◌, Effect, Kind}
 use Rattle.beldi_order.proofs.Late.{stands_next, StandsAtRead, passes, apart, begin_apart, out_of, piece_there, try_there}
-use Rattle.beldi_order.proofs.Passes.{touched_back, opened_passes}
-use Rattle.beldi_order.proofs.Sanes.{SaneWith}
-use Rattle.beldi_order.proofs.Sound.{sane_with, by_entry}
-use Rattle.beldi_order.proofs.Touched.{pieces_touch_their_items}
-use Rattle.beldi_order.proofs.Operations.{holds_answered}
+use Rattle.beldi_order.proofs.{Entries.did, Entries.Did, Entries.read_is, Line.line_opened, Maps.same_some, Maps.elsewhere, Passes.touched_back, Passes.opened_passes, Sanes.SaneWith, Sound.sane_with, Sound.by_entry, Touched.pieces_touch_their_items, Operations.holds_answered}
+use Rattle.beldi_order.proofs.Names.map
 
 -- ---- entries in parts
 pub guarded_parts : (d : Deployment) (p q : PlainState) (es fs : List Entry) → run_from d p es ≡ Some q → IsGuarded d p es → IsGuarded d q fs → IsGuarded d p (es ++ fs)
@@ -42,8 +33,8 @@ module _ (d : Deployment) (p : PlainState) (i : IntentId) (a : Instance) (v : An
   module _ (r : PlainState) (stays : map.get r.made i ≡ Some a) where
     other : (e : Entry) → Did d p e r → i ≡ actor e → ⊥
     other (Start t f w) s same = let clash = sym s.absent ∙ ap (map.get p.made) (sym same) ∙ stands.made in cc
-    other (Read j k) s same = apart d p r i a v sane stands stays j kinds.Read s same
-    other (Step j) s same = apart d p r i a v sane stands stays j kinds.Change s same
+    other (Read j k) s same = apart d p r i a v sane stands stays j Kind.Read s same
+    other (Step j) s same = apart d p r i a v sane stands stays j Kind.Change s same
     other (Tx j) s same = begin_apart d p r i a v sane stands stays j s.instance s.runs.made s.runs.begins same
     other (Try j place holder) s same = begin_apart d p r i a v sane stands stays j s.instance s.runs.made s.runs.begins same
 
@@ -56,7 +47,7 @@ module _ (d : Deployment) (p : PlainState) (i : IntentId) (a : Instance) (v : An
 
     -- what a transaction touches, it touches before the answer
     module _ (j : IntentId) where
-      back : (z : Instance) (ms : List Move) (l : Going) (x : Item) → map.get p.made j ≡ Some z → z.outcome ≡ None → effect_of d z ≡ effect.Begin → Leads d (tx_begun j z) (opened p j z) ms l → TouchedIn d (tx_begun j z) (opened later j z) ms x → TouchedIn d (tx_begun j z) (opened p j z) ms x
+      back : (z : Instance) (ms : List Move) (l : Going) (x : Item) → map.get p.made j ≡ Some z → z.outcome ≡ None → effect_of d z ≡ Effect.Begin → Leads d (tx_begun j z) (opened p j z) ms l → TouchedIn d (tx_begun j z) (opened later j z) ms x → TouchedIn d (tx_begun j z) (opened p j z) ms x
       back z ms l x made none begins leads on =
           let other = begin_apart d p r i a v sane stands stays j z made begins in
           touched_back d (tx_begun j z) i (answered a v) (out_of d p r i a v sane stands stays j z made begins) (opened p j z) ms l x (line_opened d p j z none) leads

@@ -1,24 +1,15 @@
 -- A read that is kept late: it passes every entry that leaves its instance as it is.
-use Rattle.beldi_order.proofs.Names.{Aborts, Answer, Bool, Caller, Commits, Deployment, Effect, Entry, FinMap, Going, Grown, GrownAt, Instance, IntentId, IsIn, Kind, Leads, List, Move, None, NotBefore, OnItem, Option, Outcome, Place, PlainState, Read, Runs, Some, Start, Step, Try, Tx, Value, [], after, answer_after, answer_caller, answer_of, answered, ap, append-nil, arith, callee_of, calls_at, effect_of, ended, false, give, id_cmp, if◌then◌else◌, inl, inr, is_holder, is_older, is_some, is_waiting, item_cmp, item_in, item_of, kind_of, length, length-append, new_instance, op_of, opened, operated, option_and_then, refl, root_of, run_from, set_if, sets, start, step_by, subst, suc, sym, true, tx_begun, value_at, waits_at, with_instance, zero, ℕ, ◌++◌, ◌∙◌, ◌∷◌, ◌≡◌}
-use Rattle.beldi_order.proofs.Names.answer
-use Rattle.beldi_order.proofs.Names.effect
-use Rattle.beldi_order.proofs.Names.kinds
-use Rattle.beldi_order.proofs.Names.map
 use Rattle.std.specs.Prelude.{◌&&◌}
+use Rattle.beldi_order.proofs.Names.{Aborts, Answer, Bool, Caller, Commits, Deployment, Effect, Entry, FinMap, Going, Grown, GrownAt, Instance, IntentId, IsIn, Kind, Leads, List, Move, None, NotBefore, OnItem, Option, Outcome, Place, PlainState, Read, Runs, Some, Start, Step, Try, Tx, Value, [], after, answer_after, answer_caller, answer_of, answered, ap, append-nil, arith, callee_of, calls_at, effect_of, ended, false, give, id_cmp, if◌then◌else◌, inl, inr, is_holder, is_older, is_some, is_waiting, item_cmp, item_in, item_of, kind_of, length, length-append, new_instance, op_of, opened, operated, option_and_then, refl, root_of, run_from, set_if, sets, start, step_by, subst, suc, sym, true, tx_begun, value_at, waits_at, with_instance, zero, ℕ, ◌++◌, ◌∙◌, ◌∷◌, ◌≡◌}
 use Rattle.beldi_order.proofs.Entries.{Started, Stepped, Did, did, read_is, absent, enabled_read, enabled_step, after_grows, run_grows, runs_on}
-use Rattle.beldi_order.proofs.Foreign.{none_below}
-use Rattle.beldi_order.proofs.Line.{line_opened, in_line}
-use Rattle.beldi_order.proofs.Passes.{front_there, moves_pass, first_passes, there_passes, opened_passes}
-use Rattle.beldi_order.proofs.Sanes.{SaneWith}
-use Rattle.beldi_order.proofs.Sound.{by_entry}
-use Rattle.beldi_order.proofs.Maps.{same_some, made_set, commutes, elsewhere, here}
-use Rattle.beldi_order.proofs.Pieces.{committed, aborted_so}
+use Rattle.beldi_order.proofs.{Foreign.none_below, Line.line_opened, Line.in_line, Passes.front_there, Passes.moves_pass, Passes.first_passes, Passes.there_passes, Passes.opened_passes, Sanes.SaneWith, Sound.by_entry, Maps.same_some, Maps.made_set, Maps.commutes, Maps.elsewhere, Maps.here, Pieces.committed, Pieces.aborted_so}
+use Rattle.beldi_order.proofs.Names.map
 
 -- ---- an instance that stands at a read
 pub record StandsAtRead (d : Deployment) (p : PlainState) (i : IntentId) (a : Instance) : Type 0 where
   pub made : map.get p.made i ≡ Some a
   pub open_still : a.outcome ≡ None
-  pub kind : kind_of i (effect_of d a) ≡ kinds.Read
+  pub kind : kind_of i (effect_of d a) ≡ Kind.Read
 
 not_longer : (a : Instance) (x : Answer) → answered a x ≡ a → ⊥
 not_longer a x h = let n = length-append a.answers (x ∷ []) in let m = ap (λ (q : Instance). length q.answers) h in omega (arith, n, m)
@@ -59,19 +50,19 @@ module _ (p : PlainState) (i : IntentId) (a x : Instance) (made : map.get p.made
   callee_apart j y free same = let clash = sym made ∙ ap (map.get p.made) same ∙ absent (map.get p.made (callee_of j y)) free in cc
 
   free_passes : (j : IntentId) (y : Instance) (e : Effect) → waits_at p.made j y e ≡ false → waits_at (map.insert p.made i x) j y e ≡ false
-  free_passes j y (effect.Call f v) free = ap is_some (elsewhere p.made i (callee_of j y) x (callee_apart j y free)) ∙ free
-  free_passes j y (effect.Async f v) free = ap is_some (elsewhere p.made i (callee_of j y) x (callee_apart j y free)) ∙ free
+  free_passes j y (Effect.Call f v) free = ap is_some (elsewhere p.made i (callee_of j y) x (callee_apart j y free)) ∙ free
+  free_passes j y (Effect.Async f v) free = ap is_some (elsewhere p.made i (callee_of j y) x (callee_apart j y free)) ∙ free
   free_passes j y e free = refl
 
 step_passes : (p : PlainState) (i j : IntentId) (a x y : Instance) (e : Effect) → map.get p.made i ≡ Some a → (i ≡ j → ⊥) → waits_at p.made j y e ≡ false → map.get (step_by p j y e).made i ≡ Some a
     → step_by (with_instance p i x) j y e ≡ with_instance (step_by p j y e) i x
-step_passes p i j a x y (effect.Read t k) made apart free stays = ap (with_items p.items) (commutes p.made i j x (answered y (answer.Value (value_at p (item_of y t k)))) apart)
-step_passes p i j a x y (effect.Call f v) made apart free stays = ap (with_items p.items) (commutes p.made i (callee_of j y) x (new_instance f v (Some (calls_at j y true))) (callee_apart p i a x made j y free))
-step_passes p i j a x y (effect.Async f v) made apart free stays =
+step_passes p i j a x y (Effect.Read t k) made apart free stays = ap (with_items p.items) (commutes p.made i j x (answered y (Answer.Value (value_at p (item_of y t k)))) apart)
+step_passes p i j a x y (Effect.Call f v) made apart free stays = ap (with_items p.items) (commutes p.made i (callee_of j y) x (new_instance f v (Some (calls_at j y true))) (callee_apart p i a x made j y free))
+step_passes p i j a x y (Effect.Async f v) made apart free stays =
     let s = new_instance f v (Some (calls_at j y false)) in
-    ap (λ g. with_items p.items (map.insert g j (answered y answer.Done))) (commutes p.made i (callee_of j y) x s (callee_apart p i a x made j y free))
-    ∙ ap (with_items p.items) (commutes (map.insert p.made (callee_of j y) s) i j x (answered y answer.Done) apart)
-step_passes p i j a x y (effect.Return o) made apart free stays =
+    ap (λ g. with_items p.items (map.insert g j (answered y Answer.Done))) (commutes p.made i (callee_of j y) x s (callee_apart p i a x made j y free))
+    ∙ ap (with_items p.items) (commutes (map.insert p.made (callee_of j y) s) i j x (answered y Answer.Done) apart)
+step_passes p i j a x y (Effect.Return o) made apart free stays =
     ap (λ f. answer_caller (with_items p.items f) y.from o) (commutes p.made i j x (ended y o) apart)
     ∙ caller_passes (with_instance p j (ended y o)) i a x (elsewhere p.made j i (ended y o) (λ s. apart (sym s)) ∙ made) y.from o stays
 step_passes p i j a x y e made apart free stays = operation_passes p i j x y (op_of e) apart
@@ -82,7 +73,7 @@ module _ (d : Deployment) (p q : PlainState) (i : IntentId) (a : Instance) (v : 
   own_read : map.get (step_by p i a (effect_of d a)).made i ≡ Some a → ⊥
   own_read h =
       let r = read_is i (effect_of d a) stands.kind in
-      let x = answer.Value (value_at p (item_of a r.0 r.1)) in
+      let x = Answer.Value (value_at p (item_of a r.0 r.1)) in
       not_longer a x (same_some (sym (here p.made i (answered a x)) ∙ ap (λ e. map.get (step_by p i a e).made i) (sym r.2) ∙ h))
 
   own : (b : Kind) (s : Stepped d p i b q) → ⊥
@@ -113,12 +104,12 @@ module _ (d : Deployment) (p q : PlainState) (i : IntentId) (a : Instance) (v : 
       ∙ ap (λ r. Some (with_instance r i (answered a v))) s.leads
 
   -- nor is a transaction its own, as it stands at no begin; nor is it in one of another, and that goes the same way
-  pub begin_apart : (j : IntentId) (z : Instance) → map.get p.made j ≡ Some z → effect_of d z ≡ effect.Begin → i ≡ j → ⊥
+  pub begin_apart : (j : IntentId) (z : Instance) → map.get p.made j ≡ Some z → effect_of d z ≡ Effect.Begin → i ≡ j → ⊥
   begin_apart j z made begins same =
       let own : z ≡ a = same_some (sym made ∙ ap (map.get p.made) (sym same) ∙ stands.made) in
-      let c : kinds.Inside ≡ kinds.Read = ap (kind_of i) (sym begins ∙ ap (effect_of d) own) ∙ stands.kind in cc
+      let c : Kind.Inside ≡ Kind.Read = ap (kind_of i) (sym begins ∙ ap (effect_of d) own) ∙ stands.kind in cc
 
-  pub out_of : (j : IntentId) (z : Instance) → map.get p.made j ≡ Some z → effect_of d z ≡ effect.Begin → IsIn (tx_begun j z) i → ⊥
+  pub out_of : (j : IntentId) (z : Instance) → map.get p.made j ≡ Some z → effect_of d z ≡ Effect.Begin → IsIn (tx_begun j z) i → ⊥
   out_of j z made begins (inl own) = begin_apart j z made begins own
   out_of j z made begins (inr b) = let c = sym stands.made ∙ none_below d p.made sane j z i made b in cc
 
@@ -126,7 +117,7 @@ module _ (d : Deployment) (p q : PlainState) (i : IntentId) (a : Instance) (v : 
   set_there j z s other is = ap (λ r. with_instance r i (answered a v)) is ∙ ap (with_items s.items) (sym (commutes s.made i j (answered a v) z other))
 
   -- what led from its Begin leads on there
-  leads_there_on : (j : IntentId) (z : Instance) (ms : List Move) (l : Going) → map.get p.made j ≡ Some z → z.outcome ≡ None → effect_of d z ≡ effect.Begin → Leads d (tx_begun j z) (opened p j z) ms l
+  leads_there_on : (j : IntentId) (z : Instance) (ms : List Move) (l : Going) → map.get p.made j ≡ Some z → z.outcome ≡ None → effect_of d z ≡ Effect.Begin → Leads d (tx_begun j z) (opened p j z) ms l
       → Leads d (tx_begun j z) (opened (with_instance p i (answered a v)) j z) ms (record { state = with_instance l.state i (answered a v); front = l.front })
   leads_there_on j z ms l made none begins leads =
       subst (λ s. Leads d (tx_begun j z) s ms (record { state = with_instance l.state i (answered a v); front = l.front })) (opened_passes p j i z (answered a v) (begin_apart j z made begins))
@@ -151,7 +142,7 @@ module _ (d : Deployment) (p q : PlainState) (i : IntentId) (a : Instance) (v : 
         runs = runs_there j z h.moves h.last h.runs;
         plainly = h.plainly;
         ends = record { owner = h.ends.owner; stands = record { instance = h.ends.stands.instance; made = front_there d t i (answered a v) (out_of j z h.runs.made h.runs.begins) h.last (in_line d t (opened p j z) h.moves h.last (line_opened d p j z h.runs.open_still) h.runs.leads) ∙ h.ends.stands.made; effect = h.ends.stands.effect } };
-        is = set_there j (answered h.ends.stands.instance answer.Done) h.last.state (begin_apart j z h.runs.made h.runs.begins) h.is;
+        is = set_there j (answered h.ends.stands.instance Answer.Done) h.last.state (begin_apart j z h.runs.made h.runs.begins) h.is;
       }
 
   pub holder_there : (j : IntentId) (o : Option IntentId) → is_holder p j o ≡ true → is_holder (with_instance p i (answered a v)) j o ≡ true
@@ -180,14 +171,14 @@ module _ (d : Deployment) (p q : PlainState) (i : IntentId) (a : Instance) (v : 
         leads = moves_pass d t i x out h.there h.since h.last middle h.leads;
         falls = h.falls;
         ends = record { owner = h.ends.owner; stands = record { instance = h.ends.stands.instance; made = front_there d t i x out h.last (in_line d t h.there h.since h.last middle h.leads) ∙ h.ends.stands.made; effect = h.ends.stands.effect } };
-        is = set_there j (answered h.ends.stands.instance answer.Done) p (begin_apart j z h.runs.made h.runs.begins) h.is;
+        is = set_there j (answered h.ends.stands.instance Answer.Done) p (begin_apart j z h.runs.made h.runs.begins) h.is;
       }
 
   passes_did : (e : Entry) → after d p e ≡ Some q → Did d p e q → after d (with_instance p i (answered a v)) e ≡ Some (with_instance q i (answered a v))
   passes_did (Start zero f w) h s = cc
   passes_did (Start (suc t) f w) h s = start_there t f w s
-  passes_did (Read j k) h s = enabled_read d (with_instance p i (answered a v)) j s.instance (made_there j kinds.Read s) s.open_still (free_there j kinds.Read s) k s.kind ∙ ap (λ r. Some r) (leads_there j kinds.Read s)
-  passes_did (Step j) h s = enabled_step d (with_instance p i (answered a v)) j s.instance (made_there j kinds.Change s) s.open_still (free_there j kinds.Change s) s.kind ∙ ap (λ r. Some r) (leads_there j kinds.Change s)
+  passes_did (Read j k) h s = enabled_read d (with_instance p i (answered a v)) j s.instance (made_there j Kind.Read s) s.open_still (free_there j Kind.Read s) k s.kind ∙ ap (λ r. Some r) (leads_there j Kind.Read s)
+  passes_did (Step j) h s = enabled_step d (with_instance p i (answered a v)) j s.instance (made_there j Kind.Change s) s.open_still (free_there j Kind.Change s) s.kind ∙ ap (λ r. Some r) (leads_there j Kind.Change s)
   passes_did (Tx j) h s = committed d j (with_instance p i (answered a v)) (with_instance q i (answered a v)) (piece_there j s)
   passes_did (Try j place holder) h s = aborted_so d j place holder (with_instance p i (answered a v)) (with_instance q i (answered a v)) (try_there j place holder s)
 
@@ -243,13 +234,13 @@ passes_all d p q (e ∷ es) i a v sane stands stays h = by_option (after d p e) 
 -- ---- the read itself
 -- put where the instance stands at it, with what comes between and leaves the instance as it is
 pub put_late : (d : Deployment) (p q r : PlainState) (es fs : List Entry) (i : IntentId) (s : ℕ) (a : Instance) (t : ℕ) (k : List ℕ) (v : Value)
-    → SaneWith d None q.made → run_from d p es ≡ Some q → map.get q.made i ≡ Some a → a.outcome ≡ None → effect_of d a ≡ effect.Read t k → value_at q (item_of a t k) ≡ v
+    → SaneWith d None q.made → run_from d p es ≡ Some q → map.get q.made i ≡ Some a → a.outcome ≡ None → effect_of d a ≡ Effect.Read t k → value_at q (item_of a t k) ≡ v
     → run_from d q fs ≡ Some r → map.get r.made i ≡ Some a
-    → run_from d p (es ++ Read i s ∷ fs) ≡ Some (with_instance r i (answered a (answer.Value v)))
+    → run_from d p (es ++ Read i s ∷ fs) ≡ Some (with_instance r i (answered a (Answer.Value v)))
 put_late d p q r es fs i s a t k v sane before made none reads_it is behind stays =
-    let kind : kind_of i (effect_of d a) ≡ kinds.Read = ap (kind_of i) reads_it in
+    let kind : kind_of i (effect_of d a) ≡ Kind.Read = ap (kind_of i) reads_it in
     let stands : StandsAtRead d q i a = record { made = made; open_still = none; kind = kind } in
-    let leads : step_by q i a (effect_of d a) ≡ with_instance q i (answered a (answer.Value v)) = ap (step_by q i a) reads_it ∙ ap (λ w. with_instance q i (answered a (answer.Value w))) is in
+    let leads : step_by q i a (effect_of d a) ≡ with_instance q i (answered a (Answer.Value v)) = ap (step_by q i a) reads_it ∙ ap (λ w. with_instance q i (answered a (Answer.Value w))) is in
     runs_on d p q es (Read i s ∷ fs) before
     ∙ ap (option_and_then (λ x. run_from d x fs)) (enabled_read d q i a made none (ap (waits_at q.made i a) reads_it) s kind ∙ ap (λ x. Some x) leads)
-    ∙ passes_all d q r fs i a (answer.Value v) sane stands stays behind
+    ∙ passes_all d q r fs i a (Answer.Value v) sane stands stays behind

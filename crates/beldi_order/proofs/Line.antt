@@ -1,10 +1,8 @@
 -- Who waits inside a transaction: a line from the owner to the one that can step. A move changes it at its end alone.
-use Rattle.beldi_order.proofs.Names.{Answer, Caller, Deployment, FinMap, Going, InLine, Instance, IntentId, IsIn, IsMember, Leads, Line, List, Move, None, Outcome, PlainState, Some, TxId, [], answer_of, answer_to, answered, ap, append_assoc, arith, callee_of, calls_at, child_of, ended, give, id_cmp, id_total, inl, inr, is_eq, is_owner, length, length-append, moved, new_member, next, opened, refl, subst, suc, sym, tied_itself, top, true, tx_begun, with_instance, ℕ, ◌++◌, ◌<◌, ◌∙◌, ◌∷◌, ◌≡◌, ◌≤◌}
-use Rattle.beldi_order.proofs.Names.answer
-use Rattle.beldi_order.proofs.Names.effect
-use Rattle.beldi_order.proofs.Names.map
-use Rattle.beldi_order.proofs.Maps.{same_some, here, elsewhere}
+use Rattle.beldi_order.proofs.Names.{Answer, Caller, Deployment, FinMap, Going, InLine, Instance, IntentId, IsIn, IsMember, Leads, Line, List, Move, None, Outcome, PlainState, Some, TxId, [], answer_of, answer_to, answered, ap, append_assoc, arith, callee_of, calls_at, child_of, ended, give, id_cmp, id_total, inl, inr, is_eq, is_owner, length, length-append, moved, new_member, next, opened, refl, subst, suc, sym, tied_itself, top, true, tx_begun, with_instance, ℕ, ◌++◌, ◌<◌, ◌∙◌, ◌∷◌, ◌≡◌, ◌≤◌, Effect}
 use Rattle.beldi_order.proofs.Moved.{Returns, MoveIs, answers, calls, returns, move_is, mover}
+use Rattle.beldi_order.proofs.Maps.{same_some, here, elsewhere}
+use Rattle.beldi_order.proofs.Names.map
 
 -- ---- ids
 pub longer : (i : IntentId) (n : ℕ) → length (child_of i n).hops ≡ suc (length i.hops)
@@ -111,7 +109,7 @@ module _ (d : Deployment) (t : TxId) where
         waits = elsewhere f i k (answered q a) (λ e. not_longer k i lt e) ∙ h.waits;
         instance = answered q a;
         made = here f i (answered q a);
-        called = h.called ∙ ap (λ (z : Instance). effect.Call z.func z.args) same;
+        called = h.called ∙ ap (λ (z : Instance). Effect.Call z.func z.args) same;
         is_callee = h.is_callee;
         from = ap (λ (z : Instance). z.from) (sym same) ∙ h.from;
         within = ap (λ (z : Instance). z.within) (sym same) ∙ h.within;
@@ -188,4 +186,4 @@ all_moves d t s k l (x ∷ xs) ys a b = (a.0, a.1, all_moves d t a.0 k l xs ys a
 
 -- a transaction of an instance begins with a line of its owner alone
 pub line_opened : (d : Deployment) (p : PlainState) (id : IntentId) (q : Instance) → q.outcome ≡ None → InLine d (tx_begun id q) (opened p id q)
-line_opened d p id q none = top id (record { own = refl; instance = answered q answer.Done; made = here p.made id (answered q answer.Done); open_still = none; begun = let n = length-append q.answers (answer.Done ∷ []) in omega (arith, n) })
+line_opened d p id q none = top id (record { own = refl; instance = answered q Answer.Done; made = here p.made id (answered q Answer.Done); open_still = none; begun = let n = length-append q.answers (Answer.Done ∷ []) in omega (arith, n) })

@@ -1,27 +1,17 @@
 -- From a lock to its unlock nobody else touches the item.
+use Rattle.std.proofs.Common.{is_some}
 use Rattle.beldi_order.proofs.Names.{Aborts, Answer, Bool, Commits, Deployment, Effect, Entry, Going, InLine, Instance, IntentId, IsGuarded, Item, Kind, Leads, LegalIsGuarded, List, Move, None, OnItem, Operation, Option, Outcome, Place, PlainState, Read, Sane, Some, StandsAtOperation, Start, Step, Try, Tx, TxId, Value, [], actor, after, answer_after, answer_caller, answer_of, answered, ap, append-nil, append_assoc, callee_of, calls_at, cond, effect_of, ended, false, free, held_by, held_if, holds, inl, inr, is_eq, item_cmp, item_in, item_of, item_total, lock, moved, new_instance, new_member, nothing, op_of, opened, operated, option_and_then, refl, root_of, run_from, step_by, subst, sym, tied_itself, true, tx_begun, value_at, waits_at, with_callee, with_instance, write, ℕ, ◌++◌, ◌∙◌, ◌∷◌, ◌≡◌}
-use Rattle.beldi_order.proofs.Names.answer
-use Rattle.beldi_order.proofs.Names.effect
-use Rattle.beldi_order.proofs.Names.kinds
+use Rattle.beldi_order.proofs.Entries.{did, Did, Stepped, read_is, absent, runs_on, try_leads}
+use Rattle.beldi_order.proofs.{Maps.same_some, Maps.made_set, Maps.still_made, Maps.elsewhere, Maps.here, Guard.guarded_second, Goes.is_plainly, Goes.answered_plainly, Line.line_opened, Line.line_moved, Line.returned, Line.shorter, Line.not_longer, Moved.MoveIs, Moved.answers, Moved.calls, Moved.returns, Moved.move_is, Moved.mover, Operations.held_pushed, Operations.holds_answered, Operations.holds_set, Operations.item_same, Sanes.waited_in, Sound.sane_with, Sound.still_there, Sound.answers_nobody, Sound.answers_waiter, Sound.run_is_sane}
 use Rattle.beldi_order.proofs.Names.map
 use Rattle.beldi_order.proofs.Names.operation
-use Rattle.std.proofs.Common.{is_some}
-use Rattle.beldi_order.proofs.Entries.{did, Did, Stepped, read_is, absent, runs_on, try_leads}
-use Rattle.beldi_order.proofs.Maps.{same_some, made_set, still_made, elsewhere, here}
-use Rattle.beldi_order.proofs.Guard.{guarded_second}
-use Rattle.beldi_order.proofs.Goes.{is_plainly, answered_plainly}
-use Rattle.beldi_order.proofs.Line.{line_opened, line_moved, returned, shorter, not_longer}
-use Rattle.beldi_order.proofs.Moved.{MoveIs, answers, calls, returns, move_is, mover}
-use Rattle.beldi_order.proofs.Operations.{held_pushed, holds_answered, holds_set, item_same}
-use Rattle.beldi_order.proofs.Sanes.{waited_in}
-use Rattle.beldi_order.proofs.Sound.{sane_with, still_there, answers_nobody, answers_waiter, run_is_sane}
 
 -- what an operation on an item leaves
 pub operation_step : (p : PlainState) (id : IntentId) (q : Instance) (e : Effect) (o : OnItem) → op_of e ≡ Some o → step_by p id q e ≡ operated p id q (Some o)
-operation_step p id q (effect.Read t k) o h = cc
-operation_step p id q (effect.Call f v) o h = cc
-operation_step p id q (effect.Async f v) o h = cc
-operation_step p id q (effect.Return u) o h = cc
+operation_step p id q (Effect.Read t k) o h = cc
+operation_step p id q (Effect.Call f v) o h = cc
+operation_step p id q (Effect.Async f v) o h = cc
+operation_step p id q (Effect.Return u) o h = cc
 operation_step p id q e o h = ap (operated p id q) h
 
 either_way : (c b : Bool) → cond c b b ≡ b
@@ -33,10 +23,10 @@ same_item x y h = subst (λ z. is_eq (item_cmp x z) ≡ true) h (ap is_eq (tied_
 
 -- no effect of a transaction moves a lock
 tx_holds : (e : Effect) (x : Item) (f : ℕ) (b : Bool) → is_plainly e ≡ true → held_if x f (op_of e) b ≡ b
-tx_holds (effect.Write t k v) x f b h = either_way (is_eq (item_cmp (record { func = f; table = t; key = k }) x)) b
-tx_holds (effect.CondWrite t k r o v) x f b h = either_way (is_eq (item_cmp (record { func = f; table = t; key = k }) x)) b
-tx_holds (effect.Lock t k) x f b h = cc
-tx_holds (effect.Unlock t k) x f b h = cc
+tx_holds (Effect.Write t k v) x f b h = either_way (is_eq (item_cmp (record { func = f; table = t; key = k }) x)) b
+tx_holds (Effect.CondWrite t k r o v) x f b h = either_way (is_eq (item_cmp (record { func = f; table = t; key = k }) x)) b
+tx_holds (Effect.Lock t k) x f b h = cc
+tx_holds (Effect.Unlock t k) x f b h = cc
 tx_holds e x f b h = refl
 
 module _ (d : Deployment) (x : Item) where
@@ -64,24 +54,24 @@ module _ (d : Deployment) (x : Item) where
   led_holds t s [] l line leads j = ap (λ (z : Going). holds d x (map.get z.state.made j)) (sym leads)
   led_holds t s (m ∷ ms) l line leads j = led_holds t leads.0 ms l (line_moved d t m s leads.0 line leads.1) leads.2 j ∙ move_holds t m s leads.0 line leads.1 j
 
-  pub from_begin : (p : PlainState) (id : IntentId) (q : Instance) (moves : List Move) (l : Going) → map.get p.made id ≡ Some q → q.outcome ≡ None → effect_of d q ≡ effect.Begin → Leads d (tx_begun id q) (opened p id q) moves l → (j : IntentId) → holds d x (map.get l.state.made j) ≡ holds d x (map.get p.made j)
-  from_begin p id q moves l made none begins leads j = led_holds (tx_begun id q) (opened p id q) moves l (line_opened d p id q none) leads j ∙ holds_answered d x p.made id q answer.Done made (ap op_of begins) j
+  pub from_begin : (p : PlainState) (id : IntentId) (q : Instance) (moves : List Move) (l : Going) → map.get p.made id ≡ Some q → q.outcome ≡ None → effect_of d q ≡ Effect.Begin → Leads d (tx_begun id q) (opened p id q) moves l → (j : IntentId) → holds d x (map.get l.state.made j) ≡ holds d x (map.get p.made j)
+  from_begin p id q moves l made none begins leads j = led_holds (tx_begun id q) (opened p id q) moves l (line_opened d p id q none) leads j ∙ holds_answered d x p.made id q Answer.Done made (ap op_of begins) j
 
   pub piece_holds : (p : PlainState) (id : IntentId) (r : PlainState) → Commits d p id r → (j : IntentId) → holds d x (map.get r.made j) ≡ holds d x (map.get p.made j)
   piece_holds p id r c j =
       let z = c.ends.stands.instance in
       let there : map.get c.last.state.made id ≡ Some z = ap (map.get c.last.state.made) (sym c.ends.owner) ∙ c.ends.stands.made in
-      ap (λ (s : PlainState). holds d x (map.get s.made j)) c.is ∙ holds_answered d x c.last.state.made id z answer.Done there (ap op_of c.ends.stands.effect) j
+      ap (λ (s : PlainState). holds d x (map.get s.made j)) c.is ∙ holds_answered d x c.last.state.made id z Answer.Done there (ap op_of c.ends.stands.effect) j
       ∙ from_begin p id c.instance c.moves c.last c.runs.made c.runs.open_still c.runs.begins c.runs.leads j
 
   pub try_holds : (p : PlainState) (id : IntentId) (place : Place) (holder : Option IntentId) (r : PlainState) → Aborts d p id place holder r → (j : IntentId) → holds d x (map.get r.made j) ≡ holds d x (map.get p.made j)
   try_holds p id place holder r c j =
       let z = c.ends.stands.instance in
       let there : map.get c.last.state.made id ≡ Some z = ap (map.get c.last.state.made) (sym c.ends.owner) ∙ c.ends.stands.made in
-      let own : holds d x (Some (answered z answer.Done)) ≡ holds d x (map.get p.made id) =
-      sym (ap (holds d x) (here c.last.state.made id (answered z answer.Done))) ∙ holds_answered d x c.last.state.made id z answer.Done there (ap op_of c.ends.stands.effect) id
+      let own : holds d x (Some (answered z Answer.Done)) ≡ holds d x (map.get p.made id) =
+      sym (ap (holds d x) (here c.last.state.made id (answered z Answer.Done))) ∙ holds_answered d x c.last.state.made id z Answer.Done there (ap op_of c.ends.stands.effect) id
       ∙ from_begin p id c.instance (c.before ++ c.since) c.last c.runs.made c.runs.open_still c.runs.begins (try_leads d p id place holder r c) id in
-      ap (λ (s : PlainState). holds d x (map.get s.made j)) c.is ∙ holds_set d x p.made id (answered z answer.Done) (sym own) j
+      ap (λ (s : PlainState). holds d x (map.get s.made j)) c.is ∙ holds_set d x p.made id (answered z Answer.Done) (sym own) j
 
 -- an instance that stands at an operation on an item
 abbrev At : Deployment → Instance → Item → Operation → OnItem → Type 0
@@ -127,13 +117,13 @@ module _ (d : Deployment) (x : Item) (p : PlainState) (sane : Sane d p) (id : In
   callee_holds f v w gone = holds_set d x p.made (callee_of id q) (new_instance f v (Some (calls_at id q w))) (ap (holds d x) gone)
 
   pub step_holds : (e : Effect) → waits_at p.made id q e ≡ false → effect_of d q ≡ e → op_of e ≡ None → (j : IntentId) → holds d x (map.get (step_by p id q e).made j) ≡ holds d x (map.get p.made j)
-  step_holds (effect.Read t k) idle is no_op = holds_answered d x p.made id q (answer.Value (value_at p (item_of q t k))) made (ap op_of is)
-  step_holds (effect.Call f v) idle is no_op = callee_holds f v true (absent (map.get p.made (callee_of id q)) idle)
-  step_holds (effect.Async f v) idle is no_op =
+  step_holds (Effect.Read t k) idle is no_op = holds_answered d x p.made id q (Answer.Value (value_at p (item_of q t k))) made (ap op_of is)
+  step_holds (Effect.Call f v) idle is no_op = callee_holds f v true (absent (map.get p.made (callee_of id q)) idle)
+  step_holds (Effect.Async f v) idle is no_op =
       let s = new_instance f v (Some (calls_at id q false)) in
       let gone = absent (map.get p.made (callee_of id q)) idle in
-      λ j. holds_answered d x (map.insert p.made (callee_of id q) s) id q answer.Done (still_made p.made (callee_of id q) id s q gone made) (ap op_of is) j ∙ callee_holds f v false gone j
-  step_holds (effect.Return o) idle is no_op = return_holds o
+      λ j. holds_answered d x (map.insert p.made (callee_of id q) s) id q Answer.Done (still_made p.made (callee_of id q) id s q gone made) (ap op_of is) j ∙ callee_holds f v false gone j
+  step_holds (Effect.Return o) idle is no_op = return_holds o
   step_holds e idle is no_op = λ j. ap (λ o. holds d x (map.get (operated p id q o).made j)) no_op
 
 module _ (d : Deployment) (x : Item) (i : IntentId) where
@@ -159,8 +149,8 @@ module _ (d : Deployment) (x : Item) (i : IntentId) where
   -- an entry that is not that unlock
   entry_keeps : (p r : PlainState) (e : Entry) → Sane d p → Did d p e r → ((q : Instance) (on : OnItem) → e ≡ Step i → map.get p.made i ≡ Some q → At d q x free on → ⊥) → Kept p i (map.get r.made i)
   entry_keeps p r (Start t f w) sane s never = subst (λ (z : PlainState). Kept p i (map.get z.made i)) s.leads (λ same h. holds_set d x p.made (root_of t) (new_instance f w None) (ap (holds d x) s.absent) i ∙ h)
-  entry_keeps p r (Read j k) sane s never = stepped_keeps p j kinds.Read r s sane (λ same on h. let c = sym (ap op_of (read_is j (effect_of d s.instance) s.kind).2) ∙ h.0 in cc)
-  entry_keeps p r (Step j) sane s never = stepped_keeps p j kinds.Change r s sane (λ same on h. never s.instance on (ap Step same) (ap (map.get p.made) (sym same) ∙ s.made) h)
+  entry_keeps p r (Read j k) sane s never = stepped_keeps p j Kind.Read r s sane (λ same on h. let c = sym (ap op_of (read_is j (effect_of d s.instance) s.kind).2) ∙ h.0 in cc)
+  entry_keeps p r (Step j) sane s never = stepped_keeps p j Kind.Change r s sane (λ same on h. never s.instance on (ap Step same) (ap (map.get p.made) (sym same) ∙ s.made) h)
   entry_keeps p r (Tx j) sane s never = λ same h. piece_holds d x p j r s i ∙ h
   entry_keeps p r (Try j place holder) sane s never = λ same h. try_holds d x p j place holder r s i ∙ h
 

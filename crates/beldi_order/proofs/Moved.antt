@@ -1,10 +1,8 @@
 -- One move of a transaction: an answer of the one that can step, a call of it, or its return.
-use Rattle.beldi_order.proofs.Names.{Answer, Bool, Caller, Deployment, Effect, FinMap, Going, Instance, IntentId, Move, None, OnItem, Option, Outcome, Some, TxId, Value, aborted, answer_after, answer_to, answered, ap, at_instance, callee_of, dies_at, effect_of, ended, fallen, false, fell, has_callees, if◌then◌else◌, is_owner, is_some, item_cmp, item_in, item_of, move_by, moved, moves_by, op_of, or_null, plain, refl, returns_to, set_if, sets, sym, true, unless, value_at, with_instance, with_member, write, ℕ, ◌∙◌, ◌≡◌}
-use Rattle.beldi_order.proofs.Names.answer
-use Rattle.beldi_order.proofs.Names.effect
-use Rattle.beldi_order.proofs.Names.map
 use Rattle.beldi_plain.specs.Operation.{cond}
+use Rattle.beldi_order.proofs.Names.{Answer, Bool, Caller, Deployment, Effect, FinMap, Going, Instance, IntentId, Move, None, OnItem, Option, Outcome, Some, TxId, Value, aborted, answer_after, answer_to, answered, ap, at_instance, callee_of, dies_at, effect_of, ended, fallen, false, fell, has_callees, if◌then◌else◌, is_owner, is_some, item_cmp, item_in, item_of, move_by, moved, moves_by, op_of, or_null, plain, refl, returns_to, set_if, sets, sym, true, unless, value_at, with_instance, with_member, write, ℕ, ◌∙◌, ◌≡◌}
 use Rattle.beldi_order.proofs.Maps.{same_some, none_by}
+use Rattle.beldi_order.proofs.Names.map
 
 abbrev pub Items : Type 0
 Items = FinMap item_cmp Value
@@ -15,9 +13,9 @@ abbrev pub answer_on : Items → ℕ → OnItem → Answer
 answer_on m func o = answer_after o.does (or_null (map.get m (item_in func o)))
 
 abbrev pub answer_inside : Items → ℕ → Effect → Option Answer
-answer_inside m func (effect.Read t k) = Some (answer.Value (or_null (map.get m (record { func = func; table = t; key = k }))))
-answer_inside m func (effect.Write t k v) = Some (answer_on m func (record { table = t; key = k; does = write v }))
-answer_inside m func (effect.CondWrite t k r o v) = Some (answer_on m func (record { table = t; key = k; does = cond r o v }))
+answer_inside m func (Effect.Read t k) = Some (Answer.Value (or_null (map.get m (record { func = func; table = t; key = k }))))
+answer_inside m func (Effect.Write t k v) = Some (answer_on m func (record { table = t; key = k; does = write v }))
+answer_inside m func (Effect.CondWrite t k r o v) = Some (answer_on m func (record { table = t; key = k; does = cond r o v }))
 answer_inside m func e = None
 
 abbrev pub answer_by : IntentId → Items → Instance → Effect → Move → Option Answer
@@ -46,7 +44,7 @@ pub record Calls (d : Deployment) (t : TxId) (m : Move) (s r : Going) (q : Insta
   pub plainly : m ≡ plain
   pub func : ℕ
   pub args : Value
-  pub call : effect_of d q ≡ effect.Call func args
+  pub call : effect_of d q ≡ Effect.Call func args
   pub short : has_callees s.front ≡ true
   pub gone : map.get s.state.made (callee_of s.front q) ≡ None
   pub is : r ≡ with_member t s.state s.front q func args
@@ -55,7 +53,7 @@ pub record Calls (d : Deployment) (t : TxId) (m : Move) (s r : Going) (q : Insta
 pub record Returns (d : Deployment) (t : TxId) (m : Move) (s r : Going) (q : Instance) : Type 0 where
   pub plainly : m ≡ plain
   pub outcome : Outcome
-  pub returns : effect_of d q ≡ effect.Return outcome
+  pub returns : effect_of d q ≡ Effect.Return outcome
   pub not_owner : is_owner t s.front ≡ false
   pub caller : Caller
   pub from : q.from ≡ Some caller
@@ -78,23 +76,23 @@ module _ (d : Deployment) (t : TxId) (m : Move) (s : Going) where
       is = sym (ap (λ n. gone_on s n q a) (ap (items_by s.state.items q (effect_of d q)) is ∙ ap (λ z. items_after s.state.items q.func (op_of z)) so) ∙ leads);
     })
 
-    by_call : (f : ℕ) (v : Value) (b c : Bool) → has_callees s.front ≡ b → is_some (map.get s.state.made (callee_of s.front q)) ≡ c → effect_of d q ≡ effect.Call f v → m ≡ plain
+    by_call : (f : ℕ) (v : Value) (b c : Bool) → has_callees s.front ≡ b → is_some (map.get s.state.made (callee_of s.front q)) ≡ c → effect_of d q ≡ Effect.Call f v → m ≡ plain
         → (if b then unless c (Some (with_member t s.state s.front q f v)) else None) ≡ Some r → MoveIs d t m s r q
     by_call f v true false short free so is h = calls (record { plainly = is; func = f; args = v; call = so; short = short; gone = none_by (map.get s.state.made (callee_of s.front q)) (λ z on. let clash = sym free ∙ ap is_some on in cc); is = sym (same_some h) })
     by_call f v true true short free so is h = cc
     by_call f v false c short free so is h = cc
 
-    by_return : (o : Outcome) (b : Bool) (c : Option Caller) → is_owner t s.front ≡ b → q.from ≡ c → effect_of d q ≡ effect.Return o → m ≡ plain → (if b then None else returns_to s.state s.front q o c) ≡ Some r → MoveIs d t m s r q
+    by_return : (o : Outcome) (b : Bool) (c : Option Caller) → is_owner t s.front ≡ b → q.from ≡ c → effect_of d q ≡ Effect.Return o → m ≡ plain → (if b then None else returns_to s.state s.front q o c) ≡ Some r → MoveIs d t m s r q
     by_return o true c own from so is h = cc
     by_return o false None own from so is h = cc
     by_return o false (Some c) own from so is h = returns (record { plainly = is; outcome = o; returns = so; not_owner = own; caller = c; from = from; is = sym (same_some h) })
 
     by_effect : (e : Effect) → effect_of d q ≡ e → m ≡ plain → moves_by t s.state s.front q e ≡ Some r → MoveIs d t m s r q
-    by_effect (effect.Read b k) so is h = answers_plain (answer.Value (value_at s.state (item_of q b k))) (effect.Read b k) so is refl (same_some h)
-    by_effect (effect.Write b k v) so is h = answers_plain (answer_on s.state.items q.func (record { table = b; key = k; does = write v })) (effect.Write b k v) so is refl (same_some h)
-    by_effect (effect.CondWrite b k u o v) so is h = answers_plain (answer_on s.state.items q.func (record { table = b; key = k; does = cond u o v })) (effect.CondWrite b k u o v) so is refl (same_some h)
-    by_effect (effect.Call f v) so is h = by_call f v (has_callees s.front) (is_some (map.get s.state.made (callee_of s.front q))) refl refl so is h
-    by_effect (effect.Return o) so is h = by_return o (is_owner t s.front) q.from refl refl so is h
+    by_effect (Effect.Read b k) so is h = answers_plain (Answer.Value (value_at s.state (item_of q b k))) (Effect.Read b k) so is refl (same_some h)
+    by_effect (Effect.Write b k v) so is h = answers_plain (answer_on s.state.items q.func (record { table = b; key = k; does = write v })) (Effect.Write b k v) so is refl (same_some h)
+    by_effect (Effect.CondWrite b k u o v) so is h = answers_plain (answer_on s.state.items q.func (record { table = b; key = k; does = cond u o v })) (Effect.CondWrite b k u o v) so is refl (same_some h)
+    by_effect (Effect.Call f v) so is h = by_call f v (has_callees s.front) (is_some (map.get s.state.made (callee_of s.front q))) refl refl so is h
+    by_effect (Effect.Return o) so is h = by_return o (is_owner t s.front) q.from refl refl so is h
     by_effect e so is h = cc
 
     by_fall : (o : Option IntentId) (b : Bool) → dies_at o (effect_of d q) ≡ b → m ≡ fell o → (if b then Some (fallen s.state s.front q o) else None) ≡ Some r → MoveIs d t m s r q
@@ -125,9 +123,9 @@ module _ (d : Deployment) (t : TxId) (m : Move) (s : Going) where
     answers_so a h = moved_is q made ∙ by_kind m h
       where
         by_answer : (e : Effect) → answer_inside s.state.items q.func e ≡ Some a → moves_by t s.state s.front q e ≡ Some (gone_on s (items_after s.state.items q.func (op_of e)) q a)
-        by_answer (effect.Read b k) g = ap (λ z. Some (gone_on s s.state.items q z)) (same_some g)
-        by_answer (effect.Write b k v) g = ap (λ z. Some (gone_on s (items_after s.state.items q.func (op_of (effect.Write b k v))) q z)) (same_some g)
-        by_answer (effect.CondWrite b k u o v) g = ap (λ z. Some (gone_on s (items_after s.state.items q.func (op_of (effect.CondWrite b k u o v))) q z)) (same_some g)
+        by_answer (Effect.Read b k) g = ap (λ z. Some (gone_on s s.state.items q z)) (same_some g)
+        by_answer (Effect.Write b k v) g = ap (λ z. Some (gone_on s (items_after s.state.items q.func (op_of (Effect.Write b k v))) q z)) (same_some g)
+        by_answer (Effect.CondWrite b k u o v) g = ap (λ z. Some (gone_on s (items_after s.state.items q.func (op_of (Effect.CondWrite b k u o v))) q z)) (same_some g)
         by_answer e g = cc
 
         by_test : (o : Option IntentId) (b : Bool) → (if b then Some (aborted s.front q o) else None) ≡ Some a → (if b then Some (fallen s.state s.front q o) else None) ≡ Some (gone_on s s.state.items q a)
@@ -138,13 +136,13 @@ module _ (d : Deployment) (t : TxId) (m : Move) (s : Going) where
         by_kind plain g = by_answer (effect_of d q) g
         by_kind (fell o) g = by_test o (dies_at o (effect_of d q)) g
 
-    pub calls_so : (f : ℕ) (v : Value) → m ≡ plain → effect_of d q ≡ effect.Call f v → has_callees s.front ≡ true → map.get s.state.made (callee_of s.front q) ≡ None → moved d t m s ≡ Some (with_member t s.state s.front q f v)
+    pub calls_so : (f : ℕ) (v : Value) → m ≡ plain → effect_of d q ≡ Effect.Call f v → has_callees s.front ≡ true → map.get s.state.made (callee_of s.front q) ≡ None → moved d t m s ≡ Some (with_member t s.state s.front q f v)
     calls_so f v is so short gone =
         moved_is q made ∙ ap (move_by t s.state s.front q (effect_of d q)) is ∙ ap (moves_by t s.state s.front q) so
         ∙ ap (λ b. if b then unless (is_some (map.get s.state.made (callee_of s.front q))) (Some (with_member t s.state s.front q f v)) else None) short
         ∙ ap (λ o. unless (is_some o) (Some (with_member t s.state s.front q f v))) gone
 
-    pub returns_so : (o : Outcome) (c : Caller) → m ≡ plain → effect_of d q ≡ effect.Return o → is_owner t s.front ≡ false → q.from ≡ Some c → moved d t m s ≡ Some (record { state = answer_to (with_instance s.state s.front (ended q o)) c o; front = c.place.intent })
+    pub returns_so : (o : Outcome) (c : Caller) → m ≡ plain → effect_of d q ≡ Effect.Return o → is_owner t s.front ≡ false → q.from ≡ Some c → moved d t m s ≡ Some (record { state = answer_to (with_instance s.state s.front (ended q o)) c o; front = c.place.intent })
     returns_so o c is so own from =
         moved_is q made ∙ ap (move_by t s.state s.front q (effect_of d q)) is ∙ ap (moves_by t s.state s.front q) so
         ∙ ap (λ b. if b then None else returns_to s.state s.front q o q.from) own ∙ ap (returns_to s.state s.front q o) from

@@ -1,11 +1,8 @@
 -- No item of a run is kept as null.
 use Rattle.beldi_order.proofs.Names.{Aborts, Commits, Deployment, Effect, Entry, FinMap, Going, InLine, Instance, IntentId, Item, KeepsNoNull, Leads, List, Move, None, Null, NullIsAbsent, OnItem, Option, Place, PlainState, Read, Some, Start, Step, Try, Tx, TxId, Value, [], after, effect_of, ended, fell, get-empty, get-insert, get-remove, item_cmp, item_exact, item_in, item_total, linear, moved, nothing, op_of, opened, operated, or_null, plain, set_if, set_item, sets, step_by, subst, sym, tx_begun, value_at, with_instance, ◌∙◌, ◌∷◌, ◌≡◌}
-use Rattle.beldi_order.proofs.Names.effect
-use Rattle.beldi_order.proofs.Names.map
-use Rattle.beldi_order.proofs.Line.{line_opened, line_moved, returned}
 use Rattle.beldi_order.proofs.Moved.{items_after, items_by, MoveIs, answers, calls, returns, move_is, mover}
-use Rattle.beldi_order.proofs.Entries.{did, answer_keeps, run_keeps}
-use Rattle.beldi_order.proofs.Maps.{changed}
+use Rattle.beldi_order.proofs.{Line.line_opened, Line.line_moved, Line.returned, Entries.did, Entries.answer_keeps, Entries.run_keeps, Maps.changed}
+use Rattle.beldi_order.proofs.Names.map
 
 set_kept : (f : FinMap item_cmp Value) (y : Item) (v : Value) → ((x : Item) → map.get f x ≡ Some Null → ⊥) → (x : Item) → map.get (set_item f y v) x ≡ Some Null → ⊥
 set_kept f y Null h = changed item_exact f (map.remove f y) y None (get-remove item_total f y) (λ x o. o ≡ Some Null → ⊥) (λ e. cc) h
@@ -20,10 +17,10 @@ operation_kept p id q None h = h
 operation_kept p id q (Some o) h = set_if_kept p.items (item_in q.func o) (sets o.does (value_at p (item_in q.func o))) h
 
 by_kept : (p : PlainState) (id : IntentId) (q : Instance) (e : Effect) → KeepsNoNull p → KeepsNoNull (step_by p id q e)
-by_kept p id q (effect.Read t k) h = h
-by_kept p id q (effect.Call f a) h = h
-by_kept p id q (effect.Async f a) h = h
-by_kept p id q (effect.Return o) h = answer_keeps KeepsNoNull (with_instance p id (ended q o)) h (λ j r a is. h) q.from o
+by_kept p id q (Effect.Read t k) h = h
+by_kept p id q (Effect.Call f a) h = h
+by_kept p id q (Effect.Async f a) h = h
+by_kept p id q (Effect.Return o) h = answer_keeps KeepsNoNull (with_instance p id (ended q o)) h (λ j r a is. h) q.from o
 by_kept p id q e h = operation_kept p id q (op_of e) h
 
 move_kept : (d : Deployment) (t : TxId) (m : Move) (s r : Going) → InLine d t s → moved d t m s ≡ Some r → KeepsNoNull s.state → KeepsNoNull r.state

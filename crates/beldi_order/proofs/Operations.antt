@@ -1,9 +1,9 @@
 -- What an operation leaves of the plain items, and of who holds their locks.
-use Rattle.beldi_order.proofs.Names.{Answer, Bool, Deployment, Equal-is, FinMap, Instance, Intent, IntentId, Item, List, None, Null, Option, Owner, Some, Value, [], answered, ap, append-nil, append_assoc, cond, effect_of, false, get-insert, get-remove, held_along, held_if, holds, id_cmp, id_exact, is_eq, item_cmp, item_exact, item_total, op_of, or_null, or_old, refl, set_if, set_item, sym, true, wants, ℕ, ◌++◌, ◌∙◌, ◌∷◌, ◌≡◌}
-use Rattle.beldi_order.proofs.Names.map
 use Rattle.std.proofs.Common.{is_some}
 use Rattle.beldi_value.specs.declared.place.Owner.TheVariants.{Tx}
+use Rattle.beldi_order.proofs.Names.{Answer, Bool, Deployment, Equal-is, FinMap, Instance, Intent, IntentId, Item, List, None, Null, Option, Owner, Some, Value, [], answered, ap, append-nil, append_assoc, cond, effect_of, false, get-insert, get-remove, held_along, held_if, holds, id_cmp, id_exact, is_eq, item_cmp, item_exact, item_total, op_of, or_null, or_old, refl, set_if, set_item, sym, true, wants, ℕ, ◌++◌, ◌∙◌, ◌∷◌, ◌≡◌}
 use Rattle.beldi_order.proofs.Maps.{made_set}
+use Rattle.beldi_order.proofs.Names.map
 
 pub item_same : (x y : Item) → is_eq (item_cmp x y) ≡ true → x ≡ y
 item_same x y h = item_exact x y ((Equal-is (item_cmp x y)).0 h)

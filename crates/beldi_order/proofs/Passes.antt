@@ -1,10 +1,9 @@
 -- A transaction does not see an instance that is not in it: its moves lead on where that was set.
-use Rattle.beldi_order.proofs.Names.{Deployment, Going, InLine, Instance, IntentId, IsIn, Item, Leads, List, Move, NotBefore, Place, PlainState, Some, TouchedBy, TouchedIn, TxId, [], answer_of, answered, ap, callee_of, calls_at, effect_of, ended, fell, inl, inr, is_there, moved, new_member, opened, plain, stands_there, subst, sym, touched_at, true, with_instance, ◌∙◌, ◌∷◌, ◌≡◌}
-use Rattle.beldi_order.proofs.Names.answer
-use Rattle.beldi_order.proofs.Names.map
+use Rattle.beldi_order.proofs.Names.{Deployment, Going, InLine, Instance, IntentId, IsIn, Item, Leads, List, Move, NotBefore, Place, PlainState, Some, TouchedBy, TouchedIn, TxId, [], answer_of, answered, ap, callee_of, calls_at, effect_of, ended, fell, inl, inr, is_there, moved, new_member, opened, plain, stands_there, subst, sym, touched_at, true, with_instance, ◌∙◌, ◌∷◌, ◌≡◌, Answer}
 use Rattle.beldi_order.proofs.Line.{all_in, callee_in, line_moved, returned, answers_who_waits, shorter, not_longer}
-use Rattle.beldi_order.proofs.Maps.{same_some, elsewhere, commutes}
 use Rattle.beldi_order.proofs.Moved.{items_by, MoveIs, answers, calls, returns, move_is, mover, answers_so, calls_so, returns_so}
+use Rattle.beldi_order.proofs.Maps.{same_some, elsewhere, commutes}
+use Rattle.beldi_order.proofs.Names.map
 
 module _ (d : Deployment) (t : TxId) (i : IntentId) (x : Instance) (out : IsIn t i → ⊥) where
   abbrev pub set_in : Going → Going
@@ -76,4 +75,4 @@ module _ (d : Deployment) (t : TxId) (i : IntentId) (x : Instance) (out : IsIn t
 
 -- from its Begin
 pub opened_passes : (p : PlainState) (j i : IntentId) (q x : Instance) → (i ≡ j → ⊥) → record { state = with_instance (opened p j q).state i x; front = j } ≡ opened (with_instance p i x) j q
-opened_passes p j i q x other = ap (λ g. record { state = record { items = p.items; made = g }; front = j }) (sym (commutes p.made i j x (answered q answer.Done) other))
+opened_passes p j i q x other = ap (λ g. record { state = record { items = p.items; made = g }; front = j }) (sym (commutes p.made i j x (answered q Answer.Done) other))

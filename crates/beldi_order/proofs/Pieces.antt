@@ -1,12 +1,8 @@
 -- A piece and a try are lists of moves.
-use Rattle.beldi_order.proofs.Names.{Aborts, AllPlain, AtEnd, Bool, Commits, Deployment, Effect, FallsSo, Going, Instance, IntentId, Leads, List, Move, None, NotBefore, Option, Outcome, PiecesAreMoves, Place, PlainState, Runs, Some, Try, Tx, TxId, [], after, and_parts, answered, ap, arith, at_instance, can_step, dies_at, effect_of, ends_by, ends_on, fallen, falls_by, false, fault_by, fell, gives, id_total, if_open, if◌then◌else◌, is_eq, is_holder, is_owner, is_same, is_there, is_waiting, length, length-append, move_by, moved, moves_by, opened, option_and_then, over_by, piece_from, plain, refl, stands_at, stands_there, subst, suc, sym, tied_itself, true, try_from, try_on, tx_begun, unless, waits_at, with_answers, with_instance, zero, ℕ, ◌&&◌, ◌++◌, ◌+◌, ◌-◌, ◌<◌, ◌∙◌, ◌∷◌, ◌≡◌, ◌≤◌}
-use Rattle.beldi_order.proofs.Names.answer
-use Rattle.beldi_order.proofs.Names.effect
-use Rattle.beldi_order.proofs.Names.map
 use Rattle.beldi_plain.specs.Piece.{enough}
-use Rattle.beldi_order.proofs.Bound.{few_moves}
-use Rattle.beldi_order.proofs.Line.{all_moves}
-use Rattle.beldi_order.proofs.Maps.{same_some, equal, here}
+use Rattle.beldi_order.proofs.Names.{Aborts, AllPlain, AtEnd, Bool, Commits, Deployment, Effect, FallsSo, Going, Instance, IntentId, Leads, List, Move, None, NotBefore, Option, Outcome, PiecesAreMoves, Place, PlainState, Runs, Some, Try, Tx, TxId, [], after, and_parts, answered, ap, arith, at_instance, can_step, dies_at, effect_of, ends_by, ends_on, fallen, falls_by, false, fault_by, fell, gives, id_total, if_open, if◌then◌else◌, is_eq, is_holder, is_owner, is_same, is_there, is_waiting, length, length-append, move_by, moved, moves_by, opened, option_and_then, over_by, piece_from, plain, refl, stands_at, stands_there, subst, suc, sym, tied_itself, true, try_from, try_on, tx_begun, unless, waits_at, with_answers, with_instance, zero, ℕ, ◌&&◌, ◌++◌, ◌+◌, ◌-◌, ◌<◌, ◌∙◌, ◌∷◌, ◌≡◌, ◌≤◌, Answer}
+use Rattle.beldi_order.proofs.{Bound.few_moves, Line.all_moves, Maps.same_some, Maps.equal, Maps.here}
+use Rattle.beldi_order.proofs.Names.map
 
 -- ---- an instance that can step
 pub record CanStep {X : Type 0} (o : Option Instance) (w : Instance → Bool) (f : Instance → Option X) (x : X) : Type 0 where
@@ -123,11 +119,11 @@ module _ (d : Deployment) (t : TxId) (go : ℕ → Going → Option PlainState) 
 
 -- ---- up to the end of the owner
 abbrev pub ends_now : Effect → Bool
-ends_now (effect.End b) = true
+ends_now (Effect.End b) = true
 ends_now e = false
 
 abbrev close_by : TxId → Bool → PlainState → IntentId → Instance → Effect → Option PlainState
-close_by t c p id q (effect.End b) = over_by t c b p id q
+close_by t c p id q (Effect.End b) = over_by t c b p id q
 close_by t c p id q e = None
 
 module _ (d : Deployment) (t : TxId) (c : Bool) where
@@ -139,7 +135,7 @@ module _ (d : Deployment) (t : TxId) (c : Bool) where
   ends_steps n s q is = ap (λ o. at_instance o (λ z. ends_by (ends_on d n t c) t c s.state s.front z (effect_of d z))) is ∙ by_end (effect_of d q)
     where
       by_end : (e : Effect) → ends_by (ends_on d n t c) t c s.state s.front q e ≡ (if ends_now e then close_by t c s.state s.front q e else option_and_then (ends_on d n t c) (moves_by t s.state s.front q e))
-      by_end (effect.End b) = refl
+      by_end (Effect.End b) = refl
       by_end e = refl
 
   abbrev stops_at_end : Going → Instance → Bool
@@ -156,7 +152,7 @@ module _ (d : Deployment) (t : TxId) (c : Bool) where
     pub plainly : AllPlain moves
     pub few : length moves < n
     pub ends : AtEnd d t.intent last c
-    pub is : r ≡ gives last.state t.intent ends.stands.instance answer.Done
+    pub is : r ≡ gives last.state t.intent ends.stands.instance Answer.Done
 
   same_flag : (a b : Bool) → is_same a b ≡ true → b ≡ a
   same_flag true b h = h
@@ -167,24 +163,24 @@ module _ (d : Deployment) (t : TxId) (c : Bool) where
   flag_self true = refl
   flag_self false = refl
 
-  closed_so : (s : Going) (q : Instance) (r : PlainState) (e : Effect) → close_by t c s.state s.front q e ≡ Some r → (e ≡ effect.End c) × (s.front ≡ t.intent) × (r ≡ gives s.state t.intent q answer.Done)
-  closed_so s q r (effect.End b) h =
-      let w = if_some (is_owner t s.front && is_same c b) (Some (gives s.state s.front q answer.Done)) r h in
+  closed_so : (s : Going) (q : Instance) (r : PlainState) (e : Effect) → close_by t c s.state s.front q e ≡ Some r → (e ≡ Effect.End c) × (s.front ≡ t.intent) × (r ≡ gives s.state t.intent q Answer.Done)
+  closed_so s q r (Effect.End b) h =
+      let w = if_some (is_owner t s.front && is_same c b) (Some (gives s.state s.front q Answer.Done)) r h in
       let both = and_parts (is_owner t s.front) (is_same c b) w.0 in
       let own = sym (equal t.intent s.front both.0) in
-      (ap effect.End (same_flag c b both.1), own, sym (same_some w.1) ∙ ap (λ i. gives s.state i q answer.Done) own)
+      (ap Effect.End (same_flag c b both.1), own, sym (same_some w.1) ∙ ap (λ i. gives s.state i q Answer.Done) own)
   closed_so s q r e h = cc
 
   owner_is : (id : IntentId) → id ≡ t.intent → is_owner t id ≡ true
   owner_is id own = ap (is_owner t) own ∙ ap is_eq (tied_itself id_total t.intent)
 
-  pub closes_so : (s : Going) (at : AtEnd d t.intent s c) (n : ℕ) → closes_there n s at.stands.instance ≡ Some (gives s.state t.intent at.stands.instance answer.Done)
+  pub closes_so : (s : Going) (at : AtEnd d t.intent s c) (n : ℕ) → closes_there n s at.stands.instance ≡ Some (gives s.state t.intent at.stands.instance Answer.Done)
   closes_so s at n =
       let q = at.stands.instance in
       ap (close_by t c s.state s.front q) at.stands.effect
-      ∙ ap (λ b. if b && is_same c c then Some (gives s.state s.front q answer.Done) else None) (owner_is s.front at.owner)
-      ∙ ap (λ b. if b then Some (gives s.state s.front q answer.Done) else None) (flag_self c)
-      ∙ ap (λ i. Some (gives s.state i q answer.Done)) at.owner
+      ∙ ap (λ b. if b && is_same c c then Some (gives s.state s.front q Answer.Done) else None) (owner_is s.front at.owner)
+      ∙ ap (λ b. if b then Some (gives s.state s.front q Answer.Done) else None) (flag_self c)
+      ∙ ap (λ i. Some (gives s.state i q Answer.Done)) at.owner
 
   pub ended_so : (n : ℕ) (s : Going) (r : PlainState) → ends_on d n t c s ≡ Some r → Ended n s r
   ended_so n s r h =
@@ -202,7 +198,7 @@ module _ (d : Deployment) (t : TxId) (c : Bool) where
 
   -- nobody moves at an end
   pub no_end : (p : PlainState) (id : IntentId) (q : Instance) (e : Effect) (r : Going) → moves_by t p id q e ≡ Some r → ends_now e ≡ false
-  no_end p id q (effect.End b) r h = cc
+  no_end p id q (Effect.End b) r h = cc
   no_end p id q e r h = refl
 
   goes_by : (s to : Going) (moves : List Move) → Leads d t s moves to → AllPlain moves → GoesBy d t (λ k z. ends_on d k t c z) stops_at_end closes_there (λ z. refl) ends_nobody ends_steps s moves
@@ -220,8 +216,8 @@ module _ (d : Deployment) (t : TxId) (c : Bool) where
 
 -- ---- the piece
 module _ (d : Deployment) (id : IntentId) where
-  piece_begins : (p : PlainState) (q : Instance) (e : Effect) (r : PlainState) → piece_from d p id q e ≡ Some r → (e ≡ effect.Begin) × (ends_on d enough (tx_begun id q) true (opened p id q) ≡ Some r)
-  piece_begins p q effect.Begin r h = (refl, h)
+  piece_begins : (p : PlainState) (q : Instance) (e : Effect) (r : PlainState) → piece_from d p id q e ≡ Some r → (e ≡ Effect.Begin) × (ends_on d enough (tx_begun id q) true (opened p id q) ≡ Some r)
+  piece_begins p q Effect.Begin r h = (refl, h)
   piece_begins p q e r h = cc
 
   pub commits : (p r : PlainState) → after d p (Tx id) ≡ Some r → Commits d p id r
@@ -239,7 +235,7 @@ module _ (d : Deployment) (id : IntentId) where
         is = w.is;
       }
 
-  starts_so : (p : PlainState) (q : Instance) (f : Instance → Option PlainState) → map.get p.made id ≡ Some q → q.outcome ≡ None → effect_of d q ≡ effect.Begin → can_step (map.get p.made id) (is_waiting d p id) f ≡ f q
+  starts_so : (p : PlainState) (q : Instance) (f : Instance → Option PlainState) → map.get p.made id ≡ Some q → q.outcome ≡ None → effect_of d q ≡ Effect.Begin → can_step (map.get p.made id) (is_waiting d p id) f ≡ f q
   starts_so p q f is none begins = steps_so (map.get p.made id) q (is_waiting d p id) f is none (ap (waits_at p.made id q) begins)
 
   pub committed : (p r : PlainState) → Commits d p id r → after d p (Tx id) ≡ Some r
@@ -271,7 +267,7 @@ module _ (d : Deployment) (t : TxId) (place : Place) (holder : Option IntentId) 
     pub falls : FallsSo holder since
     pub few : length since ≤ n
     pub ends : AtEnd d t.intent last false
-    pub is : r ≡ gives last.state t.intent ends.stands.instance answer.Done
+    pub is : r ≡ gives last.state t.intent ends.stands.instance Answer.Done
 
   fell_move : (s : Going) (q : Instance) → map.get s.state.made s.front ≡ Some q → dies_at holder (effect_of d q) ≡ true → moved d t (fell holder) s ≡ Some (fallen s.state s.front q holder)
   fell_move s q is dies = ap (λ o. at_instance o (λ z. move_by t s.state s.front z (effect_of d z) (fell holder))) is ∙ ap (λ b. if b then Some (fallen s.state s.front q holder) else None) dies
@@ -280,8 +276,8 @@ module _ (d : Deployment) (t : TxId) (place : Place) (holder : Option IntentId) 
   fell_so n s q r is h = by_test (dies_at holder (effect_of d q)) refl h
     where
       by_fault : (o : Option IntentId) (e : Effect) → holder ≡ o → effect_of d q ≡ e → fault_by t s.state s.front q o e ≡ Some r → Fell n s r
-      by_fault None (effect.End b) none so g =
-          let e = closed_so d t false s q r (effect.End b) g in
+      by_fault None (Effect.End b) none so g =
+          let e = closed_so d t false s q r (Effect.End b) g in
           record { since = []; last = s; leads = refl; falls = none; few = omega arith; ends = record { owner = e.1; stands = record { instance = q; made = is; effect = so ∙ e.0 } }; is = e.2 }
       by_fault None e none so g = cc
       by_fault (Some u) e none so g = cc
@@ -301,7 +297,7 @@ module _ (d : Deployment) (t : TxId) (place : Place) (holder : Option IntentId) 
       by_test false dies g = by_fault holder (effect_of d q) refl refl g
 
   -- .. and the other way
-  end_lives : (o : Option IntentId) (b : Bool) → dies_at o (effect.End b) ≡ false
+  end_lives : (o : Option IntentId) (b : Bool) → dies_at o (Effect.End b) ≡ false
   end_lives None b = refl
   end_lives (Some h) b = refl
 
@@ -312,14 +308,14 @@ module _ (d : Deployment) (t : TxId) (place : Place) (holder : Option IntentId) 
       by_since [] leads none few =
           let at = subst (λ z. AtEnd d t.intent z false) (sym leads) h.ends in
           let here : h.ends.stands.instance ≡ q = same_some (sym h.ends.stands.made ∙ ap (λ (z : Going). map.get z.state.made z.front) (sym leads) ∙ is) in
-          let so : effect_of d q ≡ effect.End false = ap (effect_of d) (sym here) ∙ h.ends.stands.effect in
+          let so : effect_of d q ≡ Effect.End false = ap (effect_of d) (sym here) ∙ h.ends.stands.effect in
           ap (falls_by (ends_on d n t false) t s.state s.front q holder) so
-          ∙ ap (λ b. if b then ends_on d n t false (fallen s.state s.front q holder) else fault_by t s.state s.front q holder (effect.End false)) (end_lives holder false)
-          ∙ ap (λ o. fault_by t s.state s.front q o (effect.End false)) none
+          ∙ ap (λ b. if b then ends_on d n t false (fallen s.state s.front q holder) else fault_by t s.state s.front q holder (Effect.End false)) (end_lives holder false)
+          ∙ ap (λ o. fault_by t s.state s.front q o (Effect.End false)) none
           ∙ ap (close_by t false s.state s.front q) (sym so)
           ∙ closes_so d t false s (record { owner = at.owner; stands = record { instance = q; made = is; effect = so } }) n
-          ∙ ap (λ (z : PlainState). Some (gives z t.intent q answer.Done)) (ap (λ (z : Going). z.state) leads)
-          ∙ ap (λ z. Some (gives h.last.state t.intent z answer.Done)) (sym here) ∙ ap (λ z. Some z) (sym h.is)
+          ∙ ap (λ (z : PlainState). Some (gives z t.intent q Answer.Done)) (ap (λ (z : Going). z.state) leads)
+          ∙ ap (λ z. Some (gives h.last.state t.intent z Answer.Done)) (sym here) ∙ ap (λ z. Some z) (sym h.is)
       by_since (m ∷ ms) leads falls few = by_dies (dies_at holder (effect_of d q)) refl
         where
           step : moved d t (fell holder) s ≡ Some leads.0
@@ -397,8 +393,8 @@ module _ (d : Deployment) (id : IntentId) (place : Place) (holder : Option Inten
   abbrev tries : PlainState → Instance → Option PlainState
   tries p q = if is_holder p id holder then option_and_then (with_answers p id) (try_on d enough (tx_begun id q) place holder (opened p id q)) else None
 
-  try_begins : (p : PlainState) (q : Instance) (e : Effect) (r : PlainState) → try_from d p id place holder q e ≡ Some r → (e ≡ effect.Begin) × (tries p q ≡ Some r)
-  try_begins p q effect.Begin r h = (refl, h)
+  try_begins : (p : PlainState) (q : Instance) (e : Effect) (r : PlainState) → try_from d p id place holder q e ≡ Some r → (e ≡ Effect.Begin) × (tries p q ≡ Some r)
+  try_begins p q Effect.Begin r h = (refl, h)
   try_begins p q e r h = cc
 
   answers_of : (p s : PlainState) (q : Instance) → map.get s.made id ≡ Some q → with_answers p id s ≡ Some (with_instance p id q)
@@ -412,7 +408,7 @@ module _ (d : Deployment) (id : IntentId) (place : Place) (holder : Option Inten
       let t = some_of (try_on d enough (tx_begun id c.instance) place holder (opened p id c.instance)) (with_answers p id) r o.1 in
       let w = tried_so d (tx_begun id c.instance) place holder enough (opened p id c.instance) t.0 t.1 in
       let f = w.fell in
-      let last = answered f.ends.stands.instance answer.Done in
+      let last = answered f.ends.stands.instance Answer.Done in
       let there : map.get t.0.made id ≡ Some last = ap (λ (z : PlainState). map.get z.made id) f.is ∙ here f.last.state.made id last in
       record {
         instance = c.instance;
@@ -435,14 +431,14 @@ module _ (d : Deployment) (id : IntentId) (place : Place) (holder : Option Inten
   aborted_so p r h =
       let q = h.instance in
       let t = tx_begun id q in
-      let last = answered h.ends.stands.instance answer.Done in
+      let last = answered h.ends.stands.instance Answer.Done in
       let all : Runs d p id q (h.before ++ h.since) h.last = record { made = h.runs.made; open_still = h.runs.open_still; begins = h.runs.begins; leads = all_moves d t (opened p id q) h.there h.last h.before h.since h.runs.leads h.leads } in
       let few = few_moves d p id q (h.before ++ h.since) h.last all in
       let n = length-append h.before h.since in
       let l = left_of (suc (length h.before)) enough (omega (arith, few, n)) in
       starts_so d id p q (λ z. try_from d p id place holder z (effect_of d z)) h.runs.made h.runs.open_still h.runs.begins ∙ ap (try_from d p id place holder q) h.runs.begins
       ∙ ap (λ b. if b then option_and_then (with_answers p id) (try_on d enough t place holder (opened p id q)) else None) h.older
-      ∙ ap (option_and_then (with_answers p id)) (try_so d t place holder enough (opened p id q) (gives h.last.state id h.ends.stands.instance answer.Done) (record {
+      ∙ ap (option_and_then (with_answers p id)) (try_so d t place holder enough (opened p id q) (gives h.last.state id h.ends.stands.instance Answer.Done) (record {
         before = h.before;
         there = h.there;
         to = h.runs.leads;
@@ -453,7 +449,7 @@ module _ (d : Deployment) (id : IntentId) (place : Place) (holder : Option Inten
         fuel = l.1;
         fell = record { since = h.since; last = h.last; leads = h.leads; falls = h.falls; few = let k = l.1 in omega (arith, k, few, n); ends = h.ends; is = refl };
       }))
-      ∙ answers_of p (gives h.last.state id h.ends.stands.instance answer.Done) last (here h.last.state.made id last) ∙ ap (λ z. Some z) (sym h.is)
+      ∙ answers_of p (gives h.last.state id h.ends.stands.instance Answer.Done) last (here h.last.state.made id last) ∙ ap (λ z. Some z) (sym h.is)
 
 pub pieces_are_moves : PiecesAreMoves
 pieces_are_moves = record { commits = λ d p id. commits d id p; committed = λ d p id. committed d id p; aborts = λ d p id place holder. aborts d id place holder p; aborted = λ d p id place holder. aborted_so d id place holder p }

@@ -1,9 +1,7 @@
 -- In a transaction the place of the one that can step rises at each move, in dictionary order: so nobody stands at one place twice.
 use Rattle.beldi_order.proofs.Names.{Bool, Deployment, Going, InLine, Instance, IntentId, Leads, List, Move, NotBefore, Place, PlacesComeOnce, Some, TxId, [], answer_of, answered, ap, append_assoc, arith, callee_of, calls_at, ended, eqb-true, false, id_cmp, inl, inr, is_eq, is_there, length, length-append, moved, new_member, refl, stands_there, subst, suc, sym, true, ℕ, ◌&&◌, ◌++◌, ◌<◌, ◌==◌, ◌∙◌, ◌∷◌, ◌≡◌, ◌⊎◌}
+use Rattle.beldi_order.proofs.{Line.last_of, Line.in_line, Line.line_moved, Line.returned, Maps.same_some, Maps.here, Maps.equal, Moved.MoveIs, Moved.answers, Moved.calls, Moved.returns, Moved.move_is, Moved.mover}
 use Rattle.beldi_order.proofs.Names.map
-use Rattle.beldi_order.proofs.Line.{last_of, in_line, line_moved, returned}
-use Rattle.beldi_order.proofs.Maps.{same_some, here, equal}
-use Rattle.beldi_order.proofs.Moved.{MoveIs, answers, calls, returns, move_is, mover}
 
 -- ---- dictionary order
 abbrev pub Before : List ℕ → List ℕ → Type 0

@@ -1,27 +1,23 @@
 -- Every state of a run is sane, also while a transaction goes on: what one answer, one call and one return keep.
 use Rattle.beldi_order.proofs.Names.{Answer, Bool, Caller, Deployment, Effect, FinMap, Instance, IntentId, IsAnswer, IsCalled, IsCommitted, None, Option, Outcome, Place, Some, TxId, Txs, Value, WentSo, [], answer_given, answer_of, answered, ap, arith, call_of, callee_of, calls_at, child_of, child_same, effect_before, effect_of, end_of, ended, false, id_cmp, if◌then◌else◌, inl, inr, is_owner, length, length-append, option_map, or_own, refl, root_of, subst, suc, sym, true, tx_at, tx_by, tx_now, txs_after, txs_by, within_by, zero, ℕ, ◌<◌, ◌∙◌, ◌∷◌, ◌≡◌, ◌⊎◌}
-use Rattle.beldi_order.proofs.Names.effect
-use Rattle.beldi_order.proofs.Names.map
-use Rattle.beldi_order.proofs.Names.outcome
 use Rattle.beldi_order.proofs.Called.{Linked, Links, IsAlone, last_hop, not_root, not_own, next_step, effect_now, tx_here_now, made_in, caller_new, caller_answered, caller_ended, callee_answered, callee_over, callee_new, callee_ended, pairs_set, both_set}
-use Rattle.beldi_order.proofs.Ends.{ends_go_on}
-use Rattle.beldi_order.proofs.Went.{txs_pushed, went_pushed}
-use Rattle.beldi_order.proofs.Maps.{same_some, made_set, still_made, elsewhere, equal, none_by}
+use Rattle.beldi_order.proofs.{Ends.ends_go_on, Went.txs_pushed, Went.went_pushed, Maps.same_some, Maps.made_set, Maps.still_made, Maps.elsewhere, Maps.equal, Maps.none_by}
+use Rattle.beldi_order.proofs.Names.map
 
 -- ---- Begins and Ends
 abbrev pub is_edge : Effect → Bool
-is_edge effect.Begin = true
-is_edge (effect.End c) = true
+is_edge Effect.Begin = true
+is_edge (Effect.End c) = true
 is_edge e = false
 
 no_edge : (e : Effect) (n : ℕ) (s : Txs) → is_edge e ≡ false → txs_by n e s ≡ s
-no_edge effect.Begin n s h = cc
-no_edge (effect.End c) n s h = cc
+no_edge Effect.Begin n s h = cc
+no_edge (Effect.End c) n s h = cc
 no_edge e n s h = refl
 
 -- the transaction that an effect stands in, by the Begin that is open
 pub tx_is : (id : IntentId) (func n : ℕ) (e : Effect) (o : Option ℕ) → is_edge e ≡ false → tx_by id func n e o ≡ option_map (λ b. record { intent = id; begin = b; func = func }) o
-tx_is id func n effect.Begin o h = cc
+tx_is id func n Effect.Begin o h = cc
 tx_is id func n e None h = refl
 tx_is id func n e (Some b) h = refl
 
@@ -35,7 +31,7 @@ open_of (Some t) i = if is_owner t i then Some t.begin else None
 
 pub record SaneIn (d : Deployment) (o : Option TxId) (id : IntentId) (q : Instance) : Type 0 where
   pub past : WentSo d id q
-  pub over : (u : Outcome) → q.outcome ≡ Some u → effect_of d q ≡ effect.Return u
+  pub over : (u : Outcome) → q.outcome ≡ Some u → effect_of d q ≡ Effect.Return u
   pub begun : (txs_after d q q.answers).begun ≡ open_of o id
 
 abbrev pub SaneInAt : Deployment → Option TxId → IntentId → Option Instance → Type 0
@@ -99,17 +95,17 @@ pub record Waited (d : Deployment) (f : FinMap id_cmp Instance) (id : IntentId) 
   pub is_callee : id ≡ callee_of caller waiter
   pub made : map.get f caller ≡ Some waiter
   pub open_still : waiter.outcome ≡ None
-  pub stands : effect_of d waiter ≡ effect.Call q.func q.args
+  pub stands : effect_of d waiter ≡ Effect.Call q.func q.args
   pub called : IsCalled d caller waiter (length waiter.answers) q
   pub from : q.from ≡ Some (calls_at caller waiter true)
   pub within : q.within ≡ tx_now d caller waiter
 
 -- one that stands at a call has no outcome
-pub open_at_call : (d : Deployment) (q : Instance) (g : ℕ) (v : Value) → effect_of d q ≡ effect.Call g v → ((u : Outcome) → q.outcome ≡ Some u → effect_of d q ≡ effect.Return u) → q.outcome ≡ None
+pub open_at_call : (d : Deployment) (q : Instance) (g : ℕ) (v : Value) → effect_of d q ≡ Effect.Call g v → ((u : Outcome) → q.outcome ≡ Some u → effect_of d q ≡ Effect.Return u) → q.outcome ≡ None
 open_at_call d q g v call over = none_by q.outcome (λ u is. let clash = sym call ∙ over u is in cc)
 
 -- so who called one that has no outcome stands at its call, where it waits
-abbrev pub waited_by : (d : Deployment) (f : FinMap id_cmp Instance) (id : IntentId) (q : Instance) (i : IntentId) (n : ℕ) (z : Instance) → id ≡ child_of i n → map.get f i ≡ Some z → (c : IsCalled d i z n q) → c.waits ≡ true → q.outcome ≡ None → ((u : Outcome) → z.outcome ≡ Some u → effect_of d z ≡ effect.Return u) → Waited d f id q
+abbrev pub waited_by : (d : Deployment) (f : FinMap id_cmp Instance) (id : IntentId) (q : Instance) (i : IntentId) (n : ℕ) (z : Instance) → id ≡ child_of i n → map.get f i ≡ Some z → (c : IsCalled d i z n q) → c.waits ≡ true → q.outcome ≡ None → ((u : Outcome) → z.outcome ≡ Some u → effect_of d z ≡ Effect.Return u) → Waited d f id q
 waited_by d f id q i n z same made c so none over =
     let last = next_step z.answers n c.here (c.answered ∙ ap (λ b. answer_given b q.outcome) so ∙ ap (option_map answer_of) none) in
     let stands = sym (effect_now d z) ∙ ap (effect_before d z) (sym last) ∙ c.call ∙ ap (λ b. call_of b q.func q.args) so in
@@ -170,10 +166,10 @@ module _ (d : Deployment) (o : Option TxId) (f : FinMap id_cmp Instance) (h : Sa
     pub made : map.get f tx.intent ≡ Some owner
     pub func : ℕ
     pub args : Value
-    pub calls : effect_of d owner ≡ effect.Call func args
+    pub calls : effect_of d owner ≡ Effect.Call func args
 
   -- .. where one that was called in a transaction has no outcome
-  open_owner : (k : IntentId) (y : Instance) (g : ℕ) (v : Value) (u : TxId) → map.get f k ≡ Some y → effect_of d y ≡ effect.Call g v → tx_by k y.func (length y.answers) (effect_of d y) (txs_after d y y.answers).begun ≡ Some u → OwnerCalls
+  open_owner : (k : IntentId) (y : Instance) (g : ℕ) (v : Value) (u : TxId) → map.get f k ≡ Some y → effect_of d y ≡ Effect.Call g v → tx_by k y.func (length y.answers) (effect_of d y) (txs_after d y y.answers).begun ≡ Some u → OwnerCalls
   open_owner k y g v u made calls in_it = by_open o refl (
       sym (tx_is k y.func (length y.answers) (effect_of d y) (txs_after d y y.answers).begun (ap is_edge calls)) ∙ in_it)
     where
@@ -246,7 +242,7 @@ module _ (d : Deployment) (o : Option TxId) (f : FinMap id_cmp Instance) (h : Sa
       }
 
   -- a callee of one that waits for it
-  pub called_with : (id : IntentId) (q : Instance) (w : Option TxId) (g : ℕ) (v : Value) → map.get f id ≡ Some q → map.get f (callee_of id q) ≡ None → effect_of d q ≡ effect.Call g v → w ≡ tx_now d id q → open_of o (callee_of id q) ≡ None
+  pub called_with : (id : IntentId) (q : Instance) (w : Option TxId) (g : ℕ) (v : Value) → map.get f id ≡ Some q → map.get f (callee_of id q) ≡ None → effect_of d q ≡ Effect.Call g v → w ≡ tx_now d id q → open_of o (callee_of id q) ≡ None
       → ((u : TxId) → w ≡ Some u → (o ≡ Some u) ⊎ IsCommitted d f u) → SaneWith d o (map.insert f (callee_of id q) (made_in w g v (Some (calls_at id q true))))
   called_with id q w g v is gone call in_it none good =
       let at = length q.answers in
@@ -278,9 +274,9 @@ module _ (d : Deployment) (o : Option TxId) (f : FinMap id_cmp Instance) (h : Sa
       }
 
   -- ---- a return
-  module _ (id : IntentId) (q : Instance) (is : map.get f id ≡ Some q) (none : q.outcome ≡ None) (u : Outcome) (returns : effect_of d q ≡ effect.Return u) where
+  module _ (id : IntentId) (q : Instance) (is : map.get f id ≡ Some q) (none : q.outcome ≡ None) (u : Outcome) (returns : effect_of d q ≡ Effect.Return u) where
     good_end : SaneIn d o id (ended q u)
-    good_end = let s = sane_in id q is in record { past = s.past; over = λ v g. returns ∙ ap effect.Return (same_some g); begun = s.begun }
+    good_end = let s = sane_in id q is in record { past = s.past; over = λ v g. returns ∙ ap Effect.Return (same_some g); begun = s.begun }
 
     caller_over : (n : ℕ) (w : Option Instance) → Linked d id (map.get f id) n w → Linked d id (Some (ended q u)) n w
     caller_over n w l = caller_ended d id q u n w (subst (λ z. Linked d id z n w) is l)
@@ -299,13 +295,13 @@ module _ (d : Deployment) (o : Option TxId) (f : FinMap id_cmp Instance) (h : Sa
           committed = good_set d f id (ended q u) follows_over o h.committed (λ w within. h.committed id q w is within);
         }
 
-    call_answers : (t : Option TxId) (p : Place) (e : Effect) → e ≡ effect.Call q.func q.args → IsAnswer p t e (answer_of u)
+    call_answers : (t : Option TxId) (p : Place) (e : Effect) → e ≡ Effect.Call q.func q.args → IsAnswer p t e (answer_of u)
     call_answers t p e so = subst (λ z. IsAnswer p t z (answer_of u)) (sym so) (by_tx t u)
       where
-        by_tx : (x : Option TxId) (v : Outcome) → IsAnswer p x (effect.Call q.func q.args) (answer_of v)
-        by_tx x (outcome.Value v) = tt
-        by_tx x (outcome.Fault c) = tt
-        by_tx x (outcome.Aborted c) = tt
+        by_tx : (x : Option TxId) (v : Outcome) → IsAnswer p x (Effect.Call q.func q.args) (answer_of v)
+        by_tx x (Outcome.Value v) = tt
+        by_tx x (Outcome.Fault c) = tt
+        by_tx x (Outcome.Aborted c) = tt
 
     -- somebody does
     pub returned_with : (w : Waited d f id q) → SaneWith d o (map.insert (map.insert f id (ended q u)) w.caller (answered w.waiter (answer_of u)))

@@ -1,16 +1,9 @@
 -- Every state of a run is sane: entry by entry.
 use Rattle.beldi_order.proofs.Names.{Aborts, AllPlain, Answer, AtEnd, Bool, Caller, Commits, Deployment, Effect, Entry, FallsSo, Going, InsideIsOver, Instance, IntentId, IsAnswer, Kind, Leads, LegalIsSane, List, Move, None, OnItem, Option, Outcome, Place, PlainState, Read, Sane, SaneAt, Some, Start, Step, Try, Tx, TxId, Value, [], after, answer_after, answer_caller, answer_of, answered, ap, call_of, callee_of, calls_at, child_of, effect_of, ended, false, fell, get-empty, give, id_cmp, if◌then◌else◌, inl, inr, is_holder, is_older, is_some, item_in, item_of, length, linear, new_instance, nothing, op_of, opened, operated, or_own, refl, root_of, run_from, step_by, subst, sym, true, tx_begun, tx_by, tx_now, txs_after, value_at, waits_at, with_callee, with_instance, ℕ, ◌&&◌, ◌++◌, ◌∙◌, ◌∷◌, ◌≡◌}
-use Rattle.beldi_order.proofs.Names.answer
-use Rattle.beldi_order.proofs.Names.effect
-use Rattle.beldi_order.proofs.Names.kinds
-use Rattle.beldi_order.proofs.Names.map
 use Rattle.beldi_order.proofs.Called.{Linked, called_of, has_callee, linked, IsAlone, not_own, not_root, caller_new, callee_sent}
-use Rattle.beldi_order.proofs.Entries.{did, Did, Stepped, absent, run_keeps, try_leads}
-use Rattle.beldi_order.proofs.Goes.{IsSound, AllSound, GoingSane, going_led}
-use Rattle.beldi_order.proofs.Line.{last_of}
-use Rattle.beldi_order.proofs.Maps.{same_some, elsewhere}
 use Rattle.beldi_order.proofs.Sanes.{is_edge, tx_is, SaneInAt, SaneWith, Waited, sane_in, waited_in, open_in, outside_of, answered_in, made_with, called_with, both_with, alone_with, returned_with}
-use Rattle.beldi_order.proofs.Whole.{going_begun, committed_with, aborted_with}
+use Rattle.beldi_order.proofs.{Entries.did, Entries.Did, Entries.Stepped, Entries.absent, Entries.run_keeps, Entries.try_leads, Goes.IsSound, Goes.AllSound, Goes.GoingSane, Goes.going_led, Line.last_of, Maps.same_some, Maps.elsewhere, Whole.going_begun, Whole.committed_with, Whole.aborted_with}
+use Rattle.beldi_order.proofs.Names.map
 
 -- ---- in the words of the law
 module _ (d : Deployment) (p : PlainState) where
@@ -42,18 +35,18 @@ module _ (d : Deployment) (p : PlainState) where
 -- ---- outside of transactions
 -- an operation is answered so
 pub operation_answers : (a : Place) (e : Effect) (o : OnItem) (w : Value) → op_of e ≡ Some o → IsAnswer a None e (answer_after o.does w)
-operation_answers a (effect.Write t k v) o w h = subst (λ (z : OnItem). IsAnswer a None (effect.Write t k v) (answer_after z.does w)) (same_some h) tt
-operation_answers a (effect.CondWrite t k r u v) o w h = subst (λ (z : OnItem). IsAnswer a None (effect.CondWrite t k r u v) (answer_after z.does w)) (same_some h) tt
-operation_answers a (effect.Lock t k) o w h = subst (λ (z : OnItem). IsAnswer a None (effect.Lock t k) (answer_after z.does w)) (same_some h) tt
-operation_answers a (effect.Unlock t k) o w h = subst (λ (z : OnItem). IsAnswer a None (effect.Unlock t k) (answer_after z.does w)) (same_some h) tt
+operation_answers a (Effect.Write t k v) o w h = subst (λ (z : OnItem). IsAnswer a None (Effect.Write t k v) (answer_after z.does w)) (same_some h) tt
+operation_answers a (Effect.CondWrite t k r u v) o w h = subst (λ (z : OnItem). IsAnswer a None (Effect.CondWrite t k r u v) (answer_after z.does w)) (same_some h) tt
+operation_answers a (Effect.Lock t k) o w h = subst (λ (z : OnItem). IsAnswer a None (Effect.Lock t k) (answer_after z.does w)) (same_some h) tt
+operation_answers a (Effect.Unlock t k) o w h = subst (λ (z : OnItem). IsAnswer a None (Effect.Unlock t k) (answer_after z.does w)) (same_some h) tt
 operation_answers a e o w h = cc
 
 operation_no_edge : (e : Effect) (o : OnItem) → op_of e ≡ Some o → is_edge e ≡ false
-operation_no_edge effect.Begin o h = cc
-operation_no_edge (effect.End c) o h = cc
+operation_no_edge Effect.Begin o h = cc
+operation_no_edge (Effect.End c) o h = cc
 operation_no_edge e o h = refl
 
-pub read_is_no_call : (t : ℕ) (k : List ℕ) (w : Bool) (f : ℕ) (v : Value) → effect.Read t k ≡ call_of w f v → ⊥
+pub read_is_no_call : (t : ℕ) (k : List ℕ) (w : Bool) (f : ℕ) (v : Value) → Effect.Read t k ≡ call_of w f v → ⊥
 read_is_no_call t k true f v h = cc
 read_is_no_call t k false f v h = cc
 
@@ -97,26 +90,26 @@ module _ (d : Deployment) (p : PlainState) (h : SaneWith d None p.made) where
         answered_in d None p.made h id q is none (answer_after o.does w)
         (plain_answer (answer_after o.does w) (effect_of d q) refl edge (operation_answers (record { intent = id; step = length q.answers }) (effect_of d q) o w so)) edge (λ b f v call. operation_is_no_call o b f v (ap op_of (sym call) ∙ so))
 
-    sane_sent : (f : ℕ) (v : Value) → effect_of d q ≡ effect.Async f v → map.get p.made (callee_of id q) ≡ None → SaneWith d None (with_instance (with_callee p id q f v false) id (answered q answer.Done)).made
+    sane_sent : (f : ℕ) (v : Value) → effect_of d q ≡ Effect.Async f v → map.get p.made (callee_of id q) ≡ None → SaneWith d None (with_instance (with_callee p id q f v false) id (answered q Answer.Done)).made
     sane_sent f v call gone =
         let c = Some (calls_at id q false) in
-        both_with d None p.made h id q is none (new_instance f v c) answer.Done (record { past = λ n a e. cc; over = λ u e. cc; begun = refl }) (plain_answer answer.Done (effect.Async f v) call refl tt) (ap is_edge call)
+        both_with d None p.made h id q is none (new_instance f v c) Answer.Done (record { past = λ n a e. cc; over = λ u e. cc; begun = refl }) (plain_answer Answer.Done (Effect.Async f v) call refl tt) (ap is_edge call)
         (λ t same. absurd (not_root id (length q.answers) t same)) (λ z e. let x = sym gone ∙ e in cc) (λ u e. cc)
         (λ n u l. caller_new d (callee_of id q) n None f v c u (subst (λ z. Linked d (callee_of id q) z n u) gone l)) (callee_sent d id q f v call)
 
-    sane_over : (o : Outcome) → effect_of d q ≡ effect.Return o → SaneWith d None (answer_caller (with_instance p id (ended q o)) q.from o).made
+    sane_over : (o : Outcome) → effect_of d q ≡ Effect.Return o → SaneWith d None (answer_caller (with_instance p id (ended q o)) q.from o).made
     sane_over o returns = elim (waited_in d None p.made h id q is none) [
       | inl alone ↦ subst (λ (z : PlainState). SaneWith d None z.made) (sym (answers_nobody (with_instance p id (ended q o)) q.from o alone.alone)) (alone_with d None p.made h id q is none o returns alone.alone)
       | inr w ↦ subst (λ (z : PlainState). SaneWith d None z.made) (sym (answers_waiter d p id q w (ended q o) o)) (returned_with d None p.made h id q is none o returns w)
     ]
 
     by_effect : (e : Effect) → effect_of d q ≡ e → waits_at p.made id q e ≡ false → SaneWith d None (step_by p id q e).made
-    by_effect (effect.Read t k) so idle =
-        let a = answer.Value (value_at p (item_of q t k)) in
-        answered_in d None p.made h id q is none a (plain_answer a (effect.Read t k) so refl tt) (ap is_edge so) (λ w f v call. read_is_no_call t k w f v (sym so ∙ call))
-    by_effect (effect.Call f v) so idle = called_with d None p.made h id q None f v is (absent (map.get p.made (callee_of id q)) idle) so (sym (tx_none (ap is_edge so))) refl (λ u e. cc)
-    by_effect (effect.Async f v) so idle = sane_sent f v so (absent (map.get p.made (callee_of id q)) idle)
-    by_effect (effect.Return o) so idle = sane_over o so
+    by_effect (Effect.Read t k) so idle =
+        let a = Answer.Value (value_at p (item_of q t k)) in
+        answered_in d None p.made h id q is none a (plain_answer a (Effect.Read t k) so refl tt) (ap is_edge so) (λ w f v call. read_is_no_call t k w f v (sym so ∙ call))
+    by_effect (Effect.Call f v) so idle = called_with d None p.made h id q None f v is (absent (map.get p.made (callee_of id q)) idle) so (sym (tx_none (ap is_edge so))) refl (λ u e. cc)
+    by_effect (Effect.Async f v) so idle = sane_sent f v so (absent (map.get p.made (callee_of id q)) idle)
+    by_effect (Effect.Return o) so idle = sane_over o so
     by_effect e so idle = sane_operated (op_of e) (ap op_of so)
 
 -- ---- transactions
@@ -148,7 +141,7 @@ module _ (d : Deployment) (p : PlainState) (h : SaneWith d None p.made) (id : In
   owner_open : (q : Instance) (l : Going) (c : Bool) (at : AtEnd d id l c) → GoingSane d (tx_begun id q) q l → at.stands.instance.outcome ≡ None
   owner_open q l c at g = let w = last_of d (tx_begun id q) l.state.made l.front g.line in ap (λ (z : Instance). z.outcome) (same_some (sym at.stands.made ∙ w.1)) ∙ w.2
 
-  pub going_so : (q : Instance) (ms : List Move) (l : Going) → map.get p.made id ≡ Some q → q.outcome ≡ None → effect_of d q ≡ effect.Begin → AllSound (tx_begun id q) ms → Leads d (tx_begun id q) (opened p id q) ms l → GoingSane d (tx_begun id q) q l
+  pub going_so : (q : Instance) (ms : List Move) (l : Going) → map.get p.made id ≡ Some q → q.outcome ≡ None → effect_of d q ≡ Effect.Begin → AllSound (tx_begun id q) ms → Leads d (tx_begun id q) (opened p id q) ms l → GoingSane d (tx_begun id q) q l
   going_so q ms l made none begins sound leads = going_led d (tx_begun id q) q (opened p id q) ms l (outside_of d None p.made h refl id q made none) refl (going_begun d p h id q made none begins) sound leads
 
   piece_sane : (r : PlainState) → Commits d p id r → SaneWith d None r.made
@@ -174,8 +167,8 @@ stepped d p id b q s h = subst (λ (z : PlainState). SaneWith d None z.made) s.l
 
 pub by_entry : (d : Deployment) (p : PlainState) (e : Entry) (q : PlainState) → Did d p e q → SaneWith d None p.made → SaneWith d None q.made
 by_entry d p (Start t f a) q s h = subst (λ (z : PlainState). SaneWith d None z.made) s.leads (made_with d None p.made h (root_of t) None f a None s.absent refl (λ u same. (refl, refl)) (λ u e. cc) (λ i n same. absurd (not_root i n t same)))
-by_entry d p (Read id k) q s h = stepped d p id kinds.Read q s h
-by_entry d p (Step id) q s h = stepped d p id kinds.Change q s h
+by_entry d p (Read id k) q s h = stepped d p id Kind.Read q s h
+by_entry d p (Step id) q s h = stepped d p id Kind.Change q s h
 by_entry d p (Tx id) q s h = piece_sane d p h id q s
 by_entry d p (Try id place holder) q s h = try_sane d p h id place holder q s
 

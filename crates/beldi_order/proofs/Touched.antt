@@ -1,10 +1,8 @@
 -- What a piece and a try touch: their moves are one list.
 use Rattle.beldi_order.proofs.Names.{Aborts, AllPlain, AtEnd, Bool, Commits, Deployment, Going, Instance, IntentId, Item, Leads, List, Move, NotBefore, Option, PiecesTouchTheirItems, Place, PlainState, Some, TouchedBy, TouchedIn, TouchedInPiece, TouchedInTry, TxId, WrittenBy, WrittenIn, [], ap, effect_of, fell, inl, inr, is_there, moved, opened, plain, refl, subst, sym, touched_at, true, tx_begun, written_at, written_on, ◌∙◌, ◌∷◌, ◌≡◌}
-use Rattle.beldi_order.proofs.Names.map
-use Rattle.beldi_order.proofs.Beside.{touches}
-use Rattle.beldi_order.proofs.Maps.{same_some}
 use Rattle.beldi_order.proofs.Moved.{MoveIs, answers, calls, returns, move_is, mover, moved_is}
-use Rattle.beldi_order.proofs.Pieces.{no_end, ends_now}
+use Rattle.beldi_order.proofs.{Beside.touches, Maps.same_some, Pieces.no_end, Pieces.ends_now}
+use Rattle.beldi_order.proofs.Names.map
 
 module _ (d : Deployment) (t : TxId) where
   -- what the two lists have in common

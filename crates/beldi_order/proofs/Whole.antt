@@ -1,15 +1,8 @@
 -- Where a transaction begins and where it ends, all is sane: with commit what it called stays, and without it is forgotten.
-use Rattle.beldi_order.proofs.Names.{Answer, Bool, Deployment, FinMap, Going, Grown, Instance, IntentId, IsAnswer, IsCalled, IsCommitted, List, None, Option, PlainState, Some, TxId, Txs, Value, [], answered, ap, append_assoc, arith, call_of, effect_before, effect_of, end_of, eq-or-lt_of_le, false, forgets, forgets_begun, id_cmp, id_total, if◌then◌else◌, inl, inr, is_at, is_eq, is_forgotten, is_owner, is_some, length, length-append, nat_tests, not, opened, refl, root_of, slice_get, subst, suc, sym, take, take-append-le, take_all, tied_itself, true, tx_after, tx_begun, tx_now, txs_after, txs_by, wants, within_by, zero, ℕ, ◌++◌, ◌<◌, ◌∙◌, ◌∷◌, ◌≡◌, ◌≤◌, ◌⊎◌}
-use Rattle.beldi_order.proofs.Names.answer
-use Rattle.beldi_order.proofs.Names.effect
-use Rattle.beldi_order.proofs.Names.map
-use Rattle.beldi_order.proofs.Called.{Linked, caller_answered, callee_answered, effect_now, forgets_on, pairs_set}
-use Rattle.beldi_order.proofs.Ends.{ended_stays}
-use Rattle.beldi_order.proofs.Goes.{GoingSane}
-use Rattle.beldi_order.proofs.Line.{line_opened}
-use Rattle.beldi_order.proofs.Maps.{same_some, here, made_set, equal, none_by}
+use Rattle.beldi_order.proofs.Names.{Answer, Bool, Deployment, FinMap, Going, Grown, Instance, IntentId, IsAnswer, IsCalled, IsCommitted, List, None, Option, PlainState, Some, TxId, Txs, Value, [], answered, ap, append_assoc, arith, call_of, effect_before, effect_of, end_of, eq-or-lt_of_le, false, forgets, forgets_begun, id_cmp, id_total, if◌then◌else◌, inl, inr, is_at, is_eq, is_forgotten, is_owner, is_some, length, length-append, nat_tests, not, opened, refl, root_of, slice_get, subst, suc, sym, take, take-append-le, take_all, tied_itself, true, tx_after, tx_begun, tx_now, txs_after, txs_by, wants, within_by, zero, ℕ, ◌++◌, ◌<◌, ◌∙◌, ◌∷◌, ◌≡◌, ◌≤◌, ◌⊎◌, Effect}
 use Rattle.beldi_order.proofs.Sanes.{open_of, SaneIn, SaneInAt, SaneWith, Follows, follows_answer, sane_in, good_set}
-use Rattle.beldi_order.proofs.Went.{txs_pushed, went_pushed}
+use Rattle.beldi_order.proofs.{Called.Linked, Called.caller_answered, Called.callee_answered, Called.effect_now, Called.forgets_on, Called.pairs_set, Ends.ended_stays, Goes.GoingSane, Line.line_opened, Maps.same_some, Maps.here, Maps.made_set, Maps.equal, Maps.none_by, Went.txs_pushed, Went.went_pushed}
+use Rattle.beldi_order.proofs.Names.map
 
 order : (n m : ℕ) → (n < m) ⊎ ((n ≡ m) ⊎ (m < n))
 order zero zero = inr (inl refl)
@@ -33,11 +26,11 @@ owner_self : (t : TxId) → is_owner t t.intent ≡ true
 owner_self t = ap is_eq (tied_itself id_total t.intent)
 
 -- a Begin and an End are no calls
-begin_no_call : (w : Bool) (g : ℕ) (v : Value) → effect.Begin ≡ call_of w g v → ⊥
+begin_no_call : (w : Bool) (g : ℕ) (v : Value) → Effect.Begin ≡ call_of w g v → ⊥
 begin_no_call true g v h = cc
 begin_no_call false g v h = cc
 
-end_no_call : (c w : Bool) (g : ℕ) (v : Value) → effect.End c ≡ call_of w g v → ⊥
+end_no_call : (c w : Bool) (g : ℕ) (v : Value) → Effect.End c ≡ call_of w g v → ⊥
 end_no_call c true g v h = cc
 end_no_call c false g v h = cc
 
@@ -58,27 +51,27 @@ module _ (d : Deployment) (t : TxId) where
   off_none j off = ap (λ b. if b then Some t.begin else None) off
 
 -- ---- its Begin
-module _ (d : Deployment) (p : PlainState) (h : SaneWith d None p.made) (id : IntentId) (q : Instance) (is : map.get p.made id ≡ Some q) (none : q.outcome ≡ None) (begins : effect_of d q ≡ effect.Begin) where
+module _ (d : Deployment) (p : PlainState) (h : SaneWith d None p.made) (id : IntentId) (q : Instance) (is : map.get p.made id ≡ Some q) (none : q.outcome ≡ None) (begins : effect_of d q ≡ Effect.Begin) where
   abbrev t : TxId
   t = tx_begun id q
 
-  begun_now : (txs_after d q (q.answers ++ answer.Done ∷ [])).begun ≡ Some t.begin
-  begun_now = ap (λ (s : Txs). s.begun) (txs_pushed d q q.answers answer.Done ∙ ap (λ e. txs_by (length q.answers) e (txs_after d q q.answers)) begins)
+  begun_now : (txs_after d q (q.answers ++ Answer.Done ∷ [])).begun ≡ Some t.begin
+  begun_now = ap (λ (s : Txs). s.begun) (txs_pushed d q q.answers Answer.Done ∙ ap (λ e. txs_by (length q.answers) e (txs_after d q q.answers)) begins)
 
   pub going_begun : GoingSane d t q (opened p id q)
   going_begun =
-      let s = answered q answer.Done in
-      let follows = λ (z : Instance) (g : map.get p.made id ≡ Some z). subst (λ (y : Instance). Follows d y s) (same_some (sym is ∙ g)) (follows_answer d q answer.Done) in
+      let s = answered q Answer.Done in
+      let follows = λ (z : Instance) (g : map.get p.made id ≡ Some z). subst (λ (y : Instance). Follows d y s) (same_some (sym is ∙ g)) (follows_answer d q Answer.Done) in
       record {
         sane = record {
           each = each_set d t None (Some t) p.made s (λ j off. sym (off_none d t j off)) (record {
-            past = went_pushed d id q answer.Done (subst (λ e. IsAnswer (record { intent = id; step = length q.answers }) (tx_now d id q) e answer.Done) (sym begins) tt) (sane_in d None p.made h id q is).past;
+            past = went_pushed d id q Answer.Done (subst (λ e. IsAnswer (record { intent = id; step = length q.answers }) (tx_now d id q) e Answer.Done) (sym begins) tt) (sane_in d None p.made h id q is).past;
             over = λ u g. let c = sym g ∙ none in cc;
             begun = begun_now ∙ sym (ap (λ b. if b then Some t.begin else None) (owner_self t));
           }) h.each;
           links = pairs_set (Linked d) p.made id s h.links
-              (λ n u l. caller_answered d id q answer.Done n u (λ e w g v call. begin_no_call w g v (sym begins ∙ call)) (subst (λ z. Linked d id z n u) is l))
-              (λ i n same l. callee_answered d i (map.get (map.insert p.made id s) i) n q answer.Done (subst (λ z. Linked d i (map.get (map.insert p.made id s) i) n z) is l));
+              (λ n u l. caller_answered d id q Answer.Done n u (λ e w g v call. begin_no_call w g v (sym begins ∙ call)) (subst (λ z. Linked d id z n u) is l))
+              (λ i n same l. callee_answered d i (map.get (map.insert p.made id s) i) n q Answer.Done (subst (λ z. Linked d i (map.get (map.insert p.made id s) i) n z) is l));
           roots = λ r z. made_set p.made id s (λ j u. j ≡ root_of r → u ≡ Some z → (z.from ≡ None) × (z.within ≡ None))
               (λ same e. subst (λ (x : Instance). (x.from ≡ None) × (x.within ≡ None)) (same_some e) (h.roots r q (ap (map.get p.made) (sym same) ∙ is))) (λ j same e. h.roots r z (ap (map.get p.made) (sym same) ∙ e)) (root_of r) refl;
           committed = λ i z u made within. elim (good_set d p.made id s follows None h.committed (λ x e. h.committed id q x is e) i z u made within) [ inl e ↦ cc | inr c ↦ inr c ];
@@ -87,24 +80,24 @@ module _ (d : Deployment) (p : PlainState) (h : SaneWith d None p.made) (id : In
         owner = record {
           owner = s;
           made = here p.made id s;
-          grown = record { func = refl; args = refl; from = refl; within = refl; later = answer.Done ∷ []; more = refl; over = λ o e. e };
+          grown = record { func = refl; args = refl; from = refl; within = refl; later = Answer.Done ∷ []; more = refl; over = λ o e. e };
           began = λ n lt le.
-              let m = length-append q.answers (answer.Done ∷ []) in
-              let all : n ≡ length (q.answers ++ answer.Done ∷ []) = omega (arith, lt, le, m) in
-              ap (λ ts. (txs_after d q ts).begun) (ap (λ k. take k (q.answers ++ answer.Done ∷ [])) all ∙ take_all (length (q.answers ++ answer.Done ∷ [])) (q.answers ++ answer.Done ∷ []) (omega arith)) ∙ begun_now;
+              let m = length-append q.answers (Answer.Done ∷ []) in
+              let all : n ≡ length (q.answers ++ Answer.Done ∷ []) = omega (arith, lt, le, m) in
+              ap (λ ts. (txs_after d q ts).begun) (ap (λ k. take k (q.answers ++ Answer.Done ∷ [])) all ∙ take_all (length (q.answers ++ Answer.Done ∷ [])) (q.answers ++ Answer.Done ∷ []) (omega arith)) ∙ begun_now;
         };
       }
 
 -- ---- its End
-module _ (d : Deployment) (t : TxId) (q : Instance) (s : Going) (h : GoingSane d t q s) (z : Instance) (made : map.get s.state.made t.intent ≡ Some z) (open_still : z.outcome ≡ None) (c : Bool) (ends : effect_of d z ≡ effect.End c) where
+module _ (d : Deployment) (t : TxId) (q : Instance) (s : Going) (h : GoingSane d t q s) (z : Instance) (made : map.get s.state.made t.intent ≡ Some z) (open_still : z.outcome ≡ None) (c : Bool) (ends : effect_of d z ≡ Effect.End c) where
   abbrev last : Instance
-  last = answered z answer.Done
+  last = answered z Answer.Done
 
   begun_there : (txs_after d z z.answers).begun ≡ Some t.begin
   begun_there = (sane_in d (Some t) s.state.made h.sane t.intent z made).begun ∙ ap (λ b. if b then Some t.begin else None) (owner_self t)
 
-  txs_last : txs_after d last last.answers ≡ txs_by (length z.answers) (effect.End c) (txs_after d z z.answers)
-  txs_last = txs_pushed d z z.answers answer.Done ∙ ap (λ e. txs_by (length z.answers) e (txs_after d z z.answers)) ends
+  txs_last : txs_after d last last.answers ≡ txs_by (length z.answers) (Effect.End c) (txs_after d z z.answers)
+  txs_last = txs_pushed d z z.answers Answer.Done ∙ ap (λ e. txs_by (length z.answers) e (txs_after d z z.answers)) ends
 
   pub ended_at : end_of d last t.begin ≡ Some (length z.answers, c)
   ended_at = ap (λ (x : Txs). x.ends t.begin) txs_last ∙ ap (λ b. if is_at t.begin b then Some (length z.answers, c) else (txs_after d z z.answers).ends t.begin) begun_there
@@ -112,7 +105,7 @@ module _ (d : Deployment) (t : TxId) (q : Instance) (s : Going) (h : GoingSane d
 
   pub last_sane : SaneIn d None t.intent last
   last_sane = record {
-    past = went_pushed d t.intent z answer.Done (subst (λ e. IsAnswer (record { intent = t.intent; step = length z.answers }) (tx_now d t.intent z) e answer.Done) (sym ends) tt) (sane_in d (Some t) s.state.made h.sane t.intent z made).past;
+    past = went_pushed d t.intent z Answer.Done (subst (λ e. IsAnswer (record { intent = t.intent; step = length z.answers }) (tx_now d t.intent z) e Answer.Done) (sym ends) tt) (sane_in d (Some t) s.state.made h.sane t.intent z made).past;
     over = λ u g. let k = sym g ∙ open_still in cc;
     begun = ap (λ (x : Txs). x.begun) txs_last;
   }
@@ -123,7 +116,7 @@ module _ (d : Deployment) (t : TxId) (q : Instance) (s : Going) (h : GoingSane d
       let f = s.state.made in
       let g = map.insert f t.intent last in
       let same : h.owner.owner ≡ z = same_some (sym h.owner.made ∙ made) in
-      let follows = λ (y : Instance) (e : map.get f t.intent ≡ Some y). subst (λ (x : Instance). Follows d x last) (same_some (sym made ∙ e)) (follows_answer d z answer.Done) in
+      let follows = λ (y : Instance) (e : map.get f t.intent ≡ Some y). subst (λ (x : Instance). Follows d x last) (same_some (sym made ∙ e)) (follows_answer d z Answer.Done) in
       let this : IsCommitted d g t = record {
         owner = last;
         made = here f t.intent last;
@@ -135,8 +128,8 @@ module _ (d : Deployment) (t : TxId) (q : Instance) (s : Going) (h : GoingSane d
       record {
         each = each_set d t (Some t) None f last (λ j off. off_none d t j off) last_sane h.sane.each;
         links = pairs_set (Linked d) f t.intent last h.sane.links
-            (λ n u l. caller_answered d t.intent z answer.Done n u (λ e w k v call. end_no_call c w k v (sym ends ∙ call)) (subst (λ y. Linked d t.intent y n u) made l))
-            (λ i n e l. callee_answered d i (map.get g i) n z answer.Done (subst (λ y. Linked d i (map.get g i) n y) made l));
+            (λ n u l. caller_answered d t.intent z Answer.Done n u (λ e w k v call. end_no_call c w k v (sym ends ∙ call)) (subst (λ y. Linked d t.intent y n u) made l))
+            (λ i n e l. callee_answered d i (map.get g i) n z Answer.Done (subst (λ y. Linked d i (map.get g i) n y) made l));
         roots = λ r y. made_set f t.intent last (λ j u. j ≡ root_of r → u ≡ Some y → (y.from ≡ None) × (y.within ≡ None))
             (λ e k. subst (λ (x : Instance). (x.from ≡ None) × (x.within ≡ None)) (same_some k) (h.sane.roots r z (ap (map.get f) (sym e) ∙ made))) (λ j e k. h.sane.roots r y (ap (map.get f) (sym e) ∙ k)) (root_of r) refl;
         committed = λ i y u e within.
@@ -147,7 +140,7 @@ module _ (d : Deployment) (t : TxId) (q : Instance) (s : Going) (h : GoingSane d
       }
 
   -- ---- without: only its answers stay
-  module _ (p : PlainState) (before : SaneWith d None p.made) (is : map.get p.made t.intent ≡ Some q) (begins : effect_of d q ≡ effect.Begin) (begin : t.begin ≡ length q.answers) (abort : c ≡ false) where
+  module _ (p : PlainState) (before : SaneWith d None p.made) (is : map.get p.made t.intent ≡ Some q) (begins : effect_of d q ≡ Effect.Begin) (begin : t.begin ≡ length q.answers) (abort : c ≡ false) where
     same_z : h.owner.owner ≡ z
     same_z = same_some (sym h.owner.made ∙ made)
 
@@ -155,10 +148,10 @@ module _ (d : Deployment) (t : TxId) (q : Instance) (s : Going) (h : GoingSane d
     grown = subst (Grown q) same_z h.owner.grown
 
     abbrev rest : List Answer
-    rest = grown.later ++ answer.Done ∷ []
+    rest = grown.later ++ Answer.Done ∷ []
 
     all : last.answers ≡ q.answers ++ rest
-    all = ap (λ xs. xs ++ answer.Done ∷ []) (sym grown.more) ∙ append_assoc q.answers grown.later (answer.Done ∷ [])
+    all = ap (λ xs. xs ++ Answer.Done ∷ []) (sym grown.more) ∙ append_assoc q.answers grown.later (Answer.Done ∷ [])
 
     take_front : (n : ℕ) → n ≤ length q.answers → take n last.answers ≡ take n q.answers
     take_front n le = ap (take n) all ∙ take-append-le n q.answers rest le
@@ -200,7 +193,7 @@ module _ (d : Deployment) (t : TxId) (q : Instance) (s : Going) (h : GoingSane d
 
     forgotten_since : (n : ℕ) → length q.answers < n → n ≤ length z.answers → is_forgotten d last n ≡ true
     forgotten_since n lt le =
-        ap (λ ts. forgets_begun (end_of d last) (txs_after d z ts).begun) (take-append-le n z.answers (answer.Done ∷ []) le)
+        ap (λ ts. forgets_begun (end_of d last) (txs_after d z ts).begun) (take-append-le n z.answers (Answer.Done ∷ []) le)
         ∙ ap (forgets_begun (end_of d last)) (subst (λ (y : Instance). (k : ℕ) → t.begin < k → k ≤ length y.answers → (txs_after d y (take k y.answers)).begun ≡ Some t.begin) same_z h.owner.began n (omega (arith, lt, begin)) le)
         ∙ ap forgets ended_at ∙ ap not abort
 
@@ -209,7 +202,7 @@ module _ (d : Deployment) (t : TxId) (q : Instance) (s : Going) (h : GoingSane d
     caller_longer n None l = λ lt w g v call. by_place (eq-or-lt_of_le (within_all n lt)) lt w g v call
       where
         within_all : (n : ℕ) → n < length last.answers → n ≤ length z.answers
-        within_all n lt = let m = length-append z.answers (answer.Done ∷ []) in omega (arith, lt, m)
+        within_all n lt = let m = length-append z.answers (Answer.Done ∷ []) in omega (arith, lt, m)
 
         early : (w : Bool) (g : ℕ) (v : Value) → effect_before d last n ≡ call_of w g v → n < length q.answers → is_forgotten d last n ≡ true
         early w g v call le = subst (λ y. is_forgotten d y n ≡ true) (sym as_longer) (forgotten_longer n (omega (arith, le)) (l le w g v (sym (effect_front n (omega (arith, le))) ∙ call)))

@@ -4,15 +4,9 @@ use Rattle.std.specs.FinMap as map
 use Rattle.beldi_value.specs.declared.id.IntentId.{IntentId}
 use Rattle.beldi_tree.specs.declared.deployment.Deployment.{Deployment}
 use Rattle.beldi_lang.specs.declared.effect.Answer.{Answer}
-use Rattle.beldi_book.specs.Order.{linear}
-use Rattle.beldi_book.specs.declared.entry.Entry.{Entry}
-use Rattle.beldi_book.specs.declared.entry.Entry.TheVariants.{Step}
-use Rattle.beldi_plain.specs.Guard.{IsGuarded, actor, Touches}
-use Rattle.beldi_plain.specs.Item.{Item}
-use Rattle.beldi_plain.specs.Legal.{IsLegal, run_from}
-use Rattle.beldi_plain.specs.Operation.{Operation, OnItem, op_of, item_in, lock, free}
+use Rattle.beldi_book.specs.{Order.linear, declared.entry.Entry.Entry, declared.entry.Entry.TheVariants.Step}
 use Rattle.beldi_plain.specs.Plain.{Instance, PlainState, nothing, with_instance, answered, effect_of, kind_of}
-use Rattle.beldi_plain.specs.declared.kind.Kind.TheVariants as kinds
+use Rattle.beldi_plain.specs.{Guard.IsGuarded, Guard.actor, Guard.Touches, Item.Item, Legal.IsLegal, Legal.run_from, Operation.Operation, Operation.OnItem, Operation.op_of, Operation.item_in, Operation.lock, Operation.free, declared.kind.Kind.Kind}
 use Rattle.beldi_order.specs.Sane.{Sane}
 
 -- in a sane state an instance that stands at a read, and still does after these entries
@@ -20,7 +14,7 @@ pub record StandsStill (d : Deployment) (p q : PlainState) (es : List Entry) (i 
   pub sane : Sane d p
   pub made : map.get p.made i ≡ Some a
   pub open_still : a.outcome ≡ None
-  pub kind : kind_of i (effect_of d a) ≡ kinds.Read
+  pub kind : kind_of i (effect_of d a) ≡ Kind.Read
   pub run : run_from d p es ≡ Some q
   pub stays : map.get q.made i ≡ Some a
 

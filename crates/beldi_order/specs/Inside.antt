@@ -1,24 +1,13 @@
 -- The laws of a transaction as a list of moves.
 use Rattle.std.specs.Prelude.{◌≡◌, ◌⊎◌, ◌<◌, ℕ, true, List, [], ◌∷◌, ◌++◌, length, Option, None, Some}
-use Rattle.std.specs.Option.{option_map}
+use Rattle.std.specs.{Option.option_map, FinMap.FinMap}
 use Rattle.std.specs.FinMap as map
-use Rattle.std.specs.FinMap.{FinMap}
-use Rattle.beldi_value.specs.Id.{id_cmp}
-use Rattle.beldi_value.specs.declared.id.IntentId.{IntentId}
-use Rattle.beldi_value.specs.declared.place.Place.{Place}
-use Rattle.beldi_value.specs.declared.place.TxId.{TxId}
+use Rattle.beldi_value.specs.{Id.id_cmp, declared.id.IntentId.IntentId, declared.place.Place.Place, declared.place.TxId.TxId}
 use Rattle.beldi_tree.specs.declared.deployment.Deployment.{Deployment}
 use Rattle.beldi_lang.specs.declared.effect.Effect.{Effect}
-use Rattle.beldi_lang.specs.declared.effect.Effect.TheVariants as effect
-use Rattle.beldi_book.specs.declared.entry.Entry.{Entry}
-use Rattle.beldi_book.specs.declared.entry.Entry.TheVariants.{Tx, Try}
-use Rattle.beldi_plain.specs.Entries.{after}
-use Rattle.beldi_plain.specs.Item.{Item}
+use Rattle.beldi_book.specs.declared.entry.Entry.{Entry, TheVariants.Tx, TheVariants.Try}
 use Rattle.beldi_plain.specs.Moves.{Move, plain, fell, moved, Leads, Runs, Commits, Aborts, NotBefore, TouchedIn, is_there}
-use Rattle.beldi_plain.specs.Operation.{op_of, item_in}
-use Rattle.beldi_plain.specs.Guard.{actor, Touches}
-use Rattle.beldi_plain.specs.Piece.{Going, opened, tx_begun}
-use Rattle.beldi_plain.specs.Plain.{Instance, PlainState, callee_of, calls_at, effect_of, value_at}
+use Rattle.beldi_plain.specs.{Entries.after, Item.Item, Operation.op_of, Operation.item_in, Guard.actor, Guard.Touches, Piece.Going, Piece.opened, Piece.tx_begun, Plain.Instance, Plain.PlainState, Plain.callee_of, Plain.calls_at, Plain.effect_of, Plain.value_at}
 use Rattle.beldi_order.specs.Sane.{Sane}
 
 -- these are the entries of transactions
@@ -53,7 +42,7 @@ pub record IsMember (d : Deployment) (t : TxId) (f : FinMap id_cmp Instance) (k 
   pub waits : map.get f k ≡ Some waiter
   pub instance : Instance
   pub made : map.get f i ≡ Some instance
-  pub called : effect_of d waiter ≡ effect.Call instance.func instance.args
+  pub called : effect_of d waiter ≡ Effect.Call instance.func instance.args
   pub is_callee : i ≡ callee_of k waiter
   pub from : instance.from ≡ Some (calls_at k waiter true)
   pub within : instance.within ≡ Some t

@@ -1,21 +1,13 @@
 -- What every run keeps, and how a legal book grows.
 use Rattle.std.specs.Prelude.{◌≡◌, ◌==◌, ℕ, zero, suc, ◌≤◌, ◌<◌, min, Bool, false, List, [], ◌∷◌, ◌++◌, filter, Option, Some, None}
 use Rattle.std.specs.FinMap as map
-use Rattle.beldi_value.specs.declared.id.IntentId.{IntentId}
-use Rattle.beldi_value.specs.declared.value.Value.{Value}
-use Rattle.beldi_value.specs.declared.value.Value.TheVariants.{Null}
+use Rattle.beldi_value.specs.declared.{id.IntentId.IntentId, value.Value.Value, value.Value.TheVariants.Null}
 use Rattle.beldi_tree.specs.declared.deployment.Deployment.{Deployment}
-use Rattle.beldi_lang.specs.declared.effect.Answer.TheVariants as answer
-use Rattle.beldi_lang.specs.declared.effect.Effect.TheVariants as effect
-use Rattle.beldi_book.specs.declared.entry.Entry.{Entry}
-use Rattle.beldi_book.specs.declared.entry.Entry.TheVariants.{Read}
+use Rattle.beldi_lang.specs.declared.effect.{Answer.Answer, Effect.Effect}
 use Rattle.beldi_book.specs.Order.{seen_of, changes_of, count_changes, by_change, front, linear, SeenBounded}
-use Rattle.beldi_plain.specs.Guard.{IsFree, IsGuarded}
-use Rattle.beldi_plain.specs.Holds.{holds}
-use Rattle.beldi_plain.specs.Item.{Item}
+use Rattle.beldi_book.specs.declared.entry.Entry.{Entry, TheVariants.Read}
 use Rattle.beldi_plain.specs.Plain.{Instance, PlainState, nothing, with_instance, answered, effect_of, item_of, value_at}
-use Rattle.beldi_plain.specs.Entries.{after}
-use Rattle.beldi_plain.specs.Legal.{run_from, run_of}
+use Rattle.beldi_plain.specs.{Guard.IsFree, Guard.IsGuarded, Holds.holds, Item.Item, Entries.after, Legal.run_from, Legal.run_of}
 
 -- ---- the linear order, in its own words
 -- the reads that stand behind n changes and before the next one
@@ -85,13 +77,13 @@ pub record BelongsEarlier (d : Deployment) (book : List Entry) (p : PlainState) 
   pub open_still : a.outcome ≡ None
   pub table : ℕ
   pub key : List ℕ
-  pub stands : effect_of d a ≡ effect.Read table key
+  pub stands : effect_of d a ≡ Effect.Read table key
   pub value : value_at state (item_of a table key) ≡ v
   pub free : IsFree d state (Read id s)
   pub has_not_moved : map.get p.made id ≡ Some a
 
 abbrev pub with_answer : PlainState → IntentId → Instance → Value → PlainState
-with_answer p id a v = with_instance p id (answered a (answer.Value v))
+with_answer p id a v = with_instance p id (answered a (Answer.Value v))
 
 -- the book with it is legal and leads to the state with its answer. So do the states from its place on; those before it are
 -- as they were.

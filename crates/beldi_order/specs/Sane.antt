@@ -1,25 +1,15 @@
 -- What every state of a legal book is: each instance went as its body wants.
 use Rattle.std.specs.Prelude.{◌≡◌, ℕ, Bool, ◌≤◌, ◌<◌, true, false, not, List, length, take, slice_get, is_some, Option, Some, None}
-use Rattle.std.specs.Option.{option_map}
+use Rattle.std.specs.{Option.option_map, FinMap.FinMap}
 use Rattle.std.specs.FinMap as map
-use Rattle.std.specs.FinMap.{FinMap}
-use Rattle.beldi_value.specs.Id.{id_cmp, is_older, root_of, child_of}
-use Rattle.beldi_value.specs.declared.id.IntentId.{IntentId}
-use Rattle.beldi_value.specs.declared.outcome.Cause.{Cause}
-use Rattle.beldi_value.specs.declared.outcome.Outcome.{Outcome}
-use Rattle.beldi_value.specs.declared.place.Place.{Place}
-use Rattle.beldi_value.specs.declared.place.TxId.{TxId}
-use Rattle.beldi_tree.specs.declared.deployment.Deployment.{Deployment}
-use Rattle.beldi_lang.specs.declared.effect.Answer.{Answer}
+use Rattle.beldi_value.specs.{Id.id_cmp, Id.is_older, Id.root_of, Id.child_of, declared.id.IntentId.IntentId, declared.outcome.Cause.Cause, declared.outcome.Outcome.Outcome, declared.place.Place.Place, declared.place.TxId.TxId}
 use Rattle.beldi_value.specs.declared.value.Value as value
 use Rattle.beldi_value.specs.declared.value.Value.TheVariants as values
-use Rattle.beldi_lang.specs.declared.effect.Answer.TheVariants.{Value, Done, Aborted}
-use Rattle.beldi_lang.specs.declared.effect.Effect.{Effect}
+use Rattle.beldi_tree.specs.declared.deployment.Deployment.{Deployment}
 use Rattle.beldi_lang.specs.declared.effect.Effect.TheVariants.{Read, Write, CondWrite, Lock, Unlock, Call, Async, Begin, End, Abort, Return}
-use Rattle.beldi_lang.specs.Callee.{answer_of}
+use Rattle.beldi_lang.specs.{declared.effect.Answer.Answer, declared.effect.Answer.TheVariants.Value, declared.effect.Answer.TheVariants.Done, declared.effect.Answer.TheVariants.Aborted, declared.effect.Effect.Effect, Callee.answer_of}
 use Rattle.beldi_book.specs.declared.entry.Entry.{Entry}
-use Rattle.beldi_plain.specs.Plain.{Instance, PlainState, effect_of, effect_before}
-use Rattle.beldi_plain.specs.Legal.{run_of}
+use Rattle.beldi_plain.specs.{Plain.Instance, Plain.PlainState, Plain.effect_of, Plain.effect_before, Legal.run_of}
 use Rattle.beldi_order.specs.Txs.{tx_at, txs_after, end_of}
 
 -- an answer to a call: how its callee ended

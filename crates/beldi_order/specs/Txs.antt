@@ -1,12 +1,8 @@
 -- The transactions of an instance, by its answers: in which of them each step stands, and how each ended.
 use Rattle.std.specs.Prelude.{ℕ, ◌==◌, Bool, false, List, [], ◌∷◌, ◌++◌, length, take, Option, Some, None, is_some, if◌then◌else◌}
-use Rattle.beldi_value.specs.declared.id.IntentId.{IntentId}
-use Rattle.beldi_value.specs.declared.place.TxId.{TxId}
+use Rattle.beldi_value.specs.declared.{id.IntentId.IntentId, place.TxId.TxId}
 use Rattle.beldi_tree.specs.declared.deployment.Deployment.{Deployment}
-use Rattle.beldi_lang.specs.declared.effect.Answer.{Answer}
-use Rattle.beldi_lang.specs.declared.effect.Effect.{Effect}
-use Rattle.beldi_lang.specs.declared.effect.Effect.TheVariants as effect
-use Rattle.beldi_lang.specs.Wants.{wants}
+use Rattle.beldi_lang.specs.{declared.effect.Answer.Answer, declared.effect.Effect.Effect, Wants.wants}
 use Rattle.beldi_plain.specs.Plain.{Instance}
 
 -- the effect that an instance wants after these answers
@@ -32,8 +28,8 @@ is_at b (Some c) = b == c
 
 -- .. after the effect at a step was answered
 abbrev pub txs_by : ℕ → Effect → Txs → Txs
-txs_by n effect.Begin s = record { begun = Some n; ends = s.ends }
-txs_by n (effect.End c) s = record { begun = None; ends = λ b. if is_at b s.begun then Some (n, c) else s.ends b }
+txs_by n Effect.Begin s = record { begun = Some n; ends = s.ends }
+txs_by n (Effect.End c) s = record { begun = None; ends = λ b. if is_at b s.begun then Some (n, c) else s.ends b }
 txs_by n e s = s
 
 abbrev pub txs_after : Deployment → Instance → List Answer → Txs
@@ -45,7 +41,7 @@ end_of d q b = (txs_after d q q.answers).ends b
 
 -- the transaction that a step is in, by its effect and the Begin that is open before it: Begin and End belong to it
 abbrev pub tx_by : IntentId → ℕ → ℕ → Effect → Option ℕ → Option TxId
-tx_by id func n effect.Begin o = Some (record { intent = id; begin = n; func = func })
+tx_by id func n Effect.Begin o = Some (record { intent = id; begin = n; func = func })
 tx_by id func n e None = None
 tx_by id func n e (Some b) = Some (record { intent = id; begin = b; func = func })
 

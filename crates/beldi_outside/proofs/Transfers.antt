@@ -1,8 +1,7 @@
 -- A piece more was read, and lost.
 use Rattle.std.proofs.Common.{arith, ◌≡◌, ◌≤◌, ◌+◌, ◌++◌, ℕ, List, length, take, Option, Ok, sym, ap, ◌∙◌, append_assoc}
 use Rattle.std.proofs.lemmas.List.{length-append, length-take, take-append-drop}
-use Rattle.beldi_outside.specs.Outside.{Told, ReadOn, TookFront}
-use Rattle.beldi_outside.proofs.Told.{told_then}
+use Rattle.beldi_outside.{specs.Outside.Told, specs.Outside.ReadOn, specs.Outside.TookFront, proofs.Told.told_then}
 
 piece_more : (most n : ℕ) (bytes buf x y z : List ℕ) → length bytes + n ≤ most → x ≡ bytes ++ y → ReadOn buf (Ok n) y z → TookFront most x z
 piece_more most n bytes buf x y z short p q = (

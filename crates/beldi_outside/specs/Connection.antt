@@ -1,7 +1,6 @@
 -- The connections of a link: what each call does to the open one and to those that were closed.
 use Rattle.std.specs.Prelude.{◌≡◌, ℕ, nat_eq, nat_lt, if◌then◌else◌, ◌&&◌, List, [], ◌∷◌, ◌++◌, length, take, drop, Option, Some, None, Result, Ok, Err, IsErr}
-use Rattle.beldi_outside.specs.declared.traits.Failed.{Failed}
-use Rattle.beldi_outside.specs.Outside.{counted, ReadOn}
+use Rattle.beldi_outside.specs.{declared.traits.Failed.Failed, Outside.counted, Outside.ReadOn}
 
 -- the bytes taken from a connection, those left, those written on it, and how often a read or a write failed
 pub record Connection : Type 0 where

@@ -1,9 +1,7 @@
 -- The objects in memory: which calls fail, and what the others do.
 use Rattle.std.specs.Prelude.{◌≡◌, ℕ, ◌+◌, ◌-◌, ◌^◌, min, Bool, true, false, nat_eq, List, [], ◌∷◌, ◌++◌, length, take, drop, Result, Ok, Err}
 use Rattle.std.specs.List.{list_any}
-use Rattle.beldi_outside.specs.declared.traits.Failed.{Failed}
-use Rattle.beldi_outside.specs.declared.memory.ClosedLink.{ClosedLink}
-use Rattle.beldi_outside.specs.Outside.{counted}
+use Rattle.beldi_outside.specs.{declared.traits.Failed.Failed, declared.memory.ClosedLink.ClosedLink, Outside.counted}
 
 -- the numbers of the calls that fail, the number of the next call, and how many failed
 pub record Plan : Type 0 where

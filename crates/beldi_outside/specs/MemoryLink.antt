@@ -1,9 +1,7 @@
 -- The link in memory: which calls are refused or fail, and what the others do.
 use Rattle.std.specs.Prelude.{◌≡◌, ℕ, ◌^◌, ◌-◌, min, Bool, true, false, List, [], ◌∷◌, ◌++◌, length, Option, Some, None, is_some, Result, Ok, Err}
-use Rattle.beldi_outside.specs.declared.traits.Failed.{Failed}
-use Rattle.beldi_outside.specs.Outside.{counted}
 use Rattle.beldi_outside.specs.Connection.{Connection, Connections, fresh, closing, took, failed_once, wrote}
-use Rattle.beldi_outside.specs.Memory.{Plan, fails_now, passed, failed}
+use Rattle.beldi_outside.specs.{declared.traits.Failed.Failed, Outside.counted, Memory.Plan, Memory.fails_now, Memory.passed, Memory.failed}
 
 -- its connections, the bytes of those to come, how many bytes one call moves at most, the calls that fail, and how often it refused
 pub record LinkState : Type 0 where

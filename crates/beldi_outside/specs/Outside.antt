@@ -1,9 +1,7 @@
 -- What a source, a sink and a link do.
 use Rattle.std.specs.Prelude.{◌≡◌, ℕ, nat_eq, nat_lt, if◌then◌else◌, ◌&&◌, ◌+◌, ◌-◌, ◌^◌, ◌≤◌, ◌<◌, min, List, [], ◌++◌, length, take, drop, Option, Some, None, Result, Ok, Err, OnErr}
 use Rattle.std.specs.Global.{Vec}
-use Rattle.beldi_outside.specs.declared.traits.Failed.{Failed}
-use Rattle.beldi_outside.specs.declared.transfer.ReadErr.{ReadErr}
-use Rattle.beldi_outside.specs.declared.transfer.ReadErr.TheVariants.{OutOfMemory, Failed as SourceFailed, TooLong}
+use Rattle.beldi_outside.specs.declared.{traits.Failed.Failed, transfer.ReadErr.ReadErr, transfer.ReadErr.TheVariants.OutOfMemory, transfer.ReadErr.TheVariants.Failed as SourceFailed, transfer.ReadErr.TheVariants.TooLong}
 
 -- what was told before stays told, and P joins it to what is told after
 abbrev pub Told : {A : Type 0} → Option A → Option A → (A → A → Type 0) → Type 0

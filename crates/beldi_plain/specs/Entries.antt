@@ -3,10 +3,9 @@ use Rattle.std.specs.Prelude.{Option}
 use Rattle.std.specs.FinMap as map
 use Rattle.beldi_value.specs.Id.{root_of}
 use Rattle.beldi_tree.specs.declared.deployment.Deployment.{Deployment}
-use Rattle.beldi_book.specs.declared.entry.Entry.{Entry}
-use Rattle.beldi_book.specs.declared.entry.Entry.TheVariants.{Start, Read, Step, Tx, Try}
-use Rattle.beldi_plain.specs.Piece.{piece_from, try_from}
+use Rattle.beldi_book.specs.declared.entry.Entry.{Entry, TheVariants.Start, TheVariants.Read, TheVariants.Step, TheVariants.Tx, TheVariants.Try}
 use Rattle.beldi_plain.specs.Plain.{PlainState, start, can_step, is_waiting, if_read, if_change, kind_of, effect_of, step_by}
+use Rattle.beldi_plain.specs.Piece.{piece_from, try_from}
 
 -- None where it is not enabled. An entry is enabled only as the next step of its instance, so a run has each step once; and a
 -- transaction only as one piece.

@@ -1,27 +1,17 @@
 -- That entries are guarded by locks: nobody else holds the lock of an item that an entry touches. Who holds a lock is read off
 -- the answers of the instances, so the run of a book is as it is.
 use Rattle.std.specs.Prelude.{◌≡◌, true, List, [], ◌∷◌, Option, Some, None}
-use Rattle.std.specs.FinMap as map
 use Rattle.std.specs.Option.{option_map}
-use Rattle.beldi_value.specs.Id.{root_of}
-use Rattle.beldi_value.specs.declared.id.IntentId.{IntentId}
-use Rattle.beldi_value.specs.declared.place.Place.{Place}
+use Rattle.std.specs.FinMap as map
+use Rattle.beldi_value.specs.{Id.root_of, declared.id.IntentId.IntentId, declared.place.Place.Place}
 use Rattle.beldi_tree.specs.declared.deployment.Deployment.{Deployment}
 use Rattle.beldi_lang.specs.declared.effect.Effect.{Effect}
-use Rattle.beldi_lang.specs.declared.effect.Effect.TheVariants as effect
-use Rattle.beldi_book.specs.declared.entry.Entry.{Entry}
-use Rattle.beldi_book.specs.declared.entry.Entry.TheVariants.{Start, Read, Step, Tx, Try}
-use Rattle.beldi_plain.specs.Item.{Item}
-use Rattle.beldi_plain.specs.Operation.{op_of, item_in}
-use Rattle.beldi_plain.specs.Holds.{holds}
-use Rattle.beldi_plain.specs.Moves.{Commits, Aborts, TouchedIn}
-use Rattle.beldi_plain.specs.Piece.{opened, tx_begun}
-use Rattle.beldi_plain.specs.Plain.{Instance, PlainState, effect_of, item_of}
-use Rattle.beldi_plain.specs.Entries.{after}
+use Rattle.beldi_book.specs.declared.entry.Entry.{Entry, TheVariants.Start, TheVariants.Read, TheVariants.Step, TheVariants.Tx, TheVariants.Try}
+use Rattle.beldi_plain.specs.{Item.Item, Operation.op_of, Operation.item_in, Holds.holds, Moves.Commits, Moves.Aborts, Moves.TouchedIn, Piece.opened, Piece.tx_begun, Plain.Instance, Plain.PlainState, Plain.effect_of, Plain.item_of, Entries.after}
 
 -- the item that an instance's next effect touches, if any
 abbrev pub item_touched : Instance → Effect → Option Item
-item_touched q (effect.Read t k) = Some (item_of q t k)
+item_touched q (Effect.Read t k) = Some (item_of q t k)
 item_touched q e = option_map (item_in q.func) (op_of e)
 
 abbrev pub touched_by : Deployment → Option Instance → Option Item

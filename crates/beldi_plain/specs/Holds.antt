@@ -3,11 +3,9 @@ use Rattle.std.specs.Prelude.{ℕ, Bool, true, false, List, [], ◌∷◌, ◌++
 use Rattle.std.specs.Ordering.{is_eq}
 use Rattle.beldi_value.specs.declared.value.Value.{Value}
 use Rattle.beldi_tree.specs.declared.deployment.Deployment.{Deployment}
-use Rattle.beldi_lang.specs.declared.effect.Answer.{Answer}
-use Rattle.beldi_lang.specs.Wants.{wants}
-use Rattle.beldi_plain.specs.Item.{Item, item_cmp}
+use Rattle.beldi_lang.specs.{declared.effect.Answer.Answer, Wants.wants}
 use Rattle.beldi_plain.specs.Operation.{Operation, OnItem, op_of, item_in, write, cond, lock, free}
-use Rattle.beldi_plain.specs.Plain.{Instance}
+use Rattle.beldi_plain.specs.{Item.Item, Item.item_cmp, Plain.Instance}
 
 -- whether the instance that did it holds the lock then, by whether it held it before
 abbrev pub held_by : Operation → Bool → Bool

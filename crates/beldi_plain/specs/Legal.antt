@@ -1,11 +1,8 @@
 -- The legal book, and its run.
 use Rattle.std.specs.Prelude.{◌≡◌, List, [], ◌∷◌, Option, Some, option_and_then}
-use Rattle.beldi_book.specs.Order.{linear, SeenBounded}
 use Rattle.beldi_tree.specs.declared.deployment.Deployment.{Deployment}
-use Rattle.beldi_book.specs.declared.entry.Entry.{Entry}
-use Rattle.beldi_plain.specs.Guard.{IsGuarded}
-use Rattle.beldi_plain.specs.Plain.{PlainState, nothing}
-use Rattle.beldi_plain.specs.Entries.{after}
+use Rattle.beldi_book.specs.{Order.linear, Order.SeenBounded, declared.entry.Entry.Entry}
+use Rattle.beldi_plain.specs.{Guard.IsGuarded, Plain.PlainState, Plain.nothing, Entries.after}
 
 -- the state at the end, where each entry is enabled in its turn
 abbrev pub run_from : Deployment → PlainState → List Entry → Option PlainState

@@ -3,17 +3,11 @@
 use Rattle.std.specs.Prelude.{◌≡◌, ◌⊎◌, Bool, true, false, List, [], ◌∷◌, Option, Some, None, if◌then◌else◌}
 use Rattle.std.specs.Option.{option_map}
 use Rattle.std.specs.FinMap as map
-use Rattle.beldi_value.specs.declared.id.IntentId.{IntentId}
-use Rattle.beldi_value.specs.declared.place.Place.{Place}
-use Rattle.beldi_value.specs.declared.place.TxId.{TxId}
+use Rattle.beldi_value.specs.declared.{id.IntentId.IntentId, place.Place.Place, place.TxId.TxId}
 use Rattle.beldi_tree.specs.declared.deployment.Deployment.{Deployment}
-use Rattle.beldi_lang.specs.declared.effect.Answer.TheVariants as answer
-use Rattle.beldi_lang.specs.declared.effect.Effect.{Effect}
-use Rattle.beldi_lang.specs.declared.effect.Effect.TheVariants as effect
-use Rattle.beldi_plain.specs.Item.{Item}
-use Rattle.beldi_plain.specs.Operation.{touched}
+use Rattle.beldi_lang.specs.declared.effect.{Effect.Effect, Answer.Answer}
 use Rattle.beldi_plain.specs.Piece.{Going, gives, opened, at_front, moves_by, dies_at, fallen, stands_at, is_holder, tx_begun}
-use Rattle.beldi_plain.specs.Plain.{Instance, PlainState, with_instance, answered, effect_of, item_of}
+use Rattle.beldi_plain.specs.{Item.Item, Operation.touched, Plain.Instance, Plain.PlainState, Plain.with_instance, Plain.answered, Plain.effect_of, Plain.item_of}
 
 -- a plain step; or an effect that was aborted, by itself or by who holds its item
 pub data Move : Type 0 where
@@ -48,13 +42,13 @@ pub record Stands (d : Deployment) (s : Going) (e : Effect) : Type 0 where
 -- .. and is the owner, at its end
 pub record AtEnd (d : Deployment) (id : IntentId) (s : Going) (commit : Bool) : Type 0 where
   pub owner : s.front ≡ id
-  pub stands : Stands d s (effect.End commit)
+  pub stands : Stands d s (Effect.End commit)
 
 -- a transaction of an instance that has led so far
 pub record Runs (d : Deployment) (p : PlainState) (id : IntentId) (q : Instance) (moves : List Move) (s : Going) : Type 0 where
   pub made : map.get p.made id ≡ Some q
   pub open_still : q.outcome ≡ None
-  pub begins : effect_of d q ≡ effect.Begin
+  pub begins : effect_of d q ≡ Effect.Begin
   pub leads : Leads d (tx_begun id q) (opened p id q) moves s
 
 -- it commits
@@ -65,7 +59,7 @@ pub record Commits (d : Deployment) (p : PlainState) (id : IntentId) (r : PlainS
   pub runs : Runs d p id instance moves last
   pub plainly : AllPlain moves
   pub ends : AtEnd d id last true
-  pub is : r ≡ gives last.state id ends.stands.instance answer.Done
+  pub is : r ≡ gives last.state id ends.stands.instance Answer.Done
 
 -- no move before the last state was made at the place
 abbrev pub stands_there : Place → Going → Option Instance → Bool
@@ -101,7 +95,7 @@ pub record Aborts (d : Deployment) (p : PlainState) (id : IntentId) (place : Pla
   pub leads : Leads d (tx_begun id instance) there since last
   pub falls : FallsSo holder since
   pub ends : AtEnd d id last false
-  pub is : r ≡ with_instance p id (answered ends.stands.instance answer.Done)
+  pub is : r ≡ with_instance p id (answered ends.stands.instance Answer.Done)
 
 -- ---- its items
 abbrev pub touched_item : Instance → Effect → Option Item

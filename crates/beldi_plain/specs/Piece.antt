@@ -1,22 +1,13 @@
 -- A transaction of an instance as one step, with all that it calls. It is made on a copy of the state, move after move, up to its
 -- end; one that aborts leaves nothing but the answers of its instance. Calls inside wait, so there is always one that can step.
 use Rattle.std.specs.Prelude.{ℕ, zero, suc, ◌^◌, ◌==◌, ◌&&◌, not, Bool, true, false, length, Option, Some, None, is_some, option_and_then, if◌then◌else◌}
-use Rattle.std.specs.FinMap as map
 use Rattle.std.specs.Ordering.{is_eq}
-use Rattle.beldi_value.specs.Id.{id_cmp, is_older, has_callees}
-use Rattle.beldi_value.specs.declared.id.IntentId.{IntentId}
-use Rattle.beldi_value.specs.declared.outcome.Outcome.{Outcome}
-use Rattle.beldi_value.specs.declared.place.Caller.{Caller}
-use Rattle.beldi_value.specs.declared.place.Place.{Place}
-use Rattle.beldi_value.specs.declared.place.TxId.{TxId}
-use Rattle.beldi_value.specs.declared.value.Value.{Value}
+use Rattle.std.specs.FinMap as map
+use Rattle.beldi_value.specs.{Id.id_cmp, Id.is_older, Id.has_callees, declared.id.IntentId.IntentId, declared.outcome.Outcome.Outcome, declared.place.Caller.Caller, declared.place.Place.Place, declared.place.TxId.TxId, declared.value.Value.Value}
 use Rattle.beldi_tree.specs.declared.deployment.Deployment.{Deployment}
-use Rattle.beldi_lang.specs.declared.effect.Answer.{Answer}
-use Rattle.beldi_lang.specs.declared.effect.Answer.TheVariants as answer
-use Rattle.beldi_lang.specs.declared.effect.Effect.{Effect}
-use Rattle.beldi_lang.specs.declared.effect.Effect.TheVariants as effect
-use Rattle.beldi_plain.specs.Operation.{touched}
+use Rattle.beldi_lang.specs.declared.effect.{Answer.Answer, Effect.Effect}
 use Rattle.beldi_plain.specs.Plain.{Instance, PlainState, new_instance, with_instance, answered, ended, answer_to, callee_of, calls_at, effect_of, step_by, unless}
+use Rattle.beldi_plain.specs.Operation.{touched}
 
 -- no transaction takes so many moves: an instance is answered less than 30000 times, and an id has at most 63 hops
 unfoldable pub enough : ℕ
@@ -28,10 +19,10 @@ gives p id q a = with_instance p id (answered q a)
 
 -- an effect that is aborted, by itself or by who holds its item
 abbrev pub aborted : IntentId → Instance → Option IntentId → Answer
-aborted id q h = answer.Aborted (record { place = record { intent = id; step = length q.answers }; holder = h })
+aborted id q h = Answer.Aborted (record { place = record { intent = id; step = length q.answers }; holder = h })
 
 abbrev pub is_aborted : Answer → Bool
-is_aborted (answer.Aborted c) = true
+is_aborted (Answer.Aborted c) = true
 is_aborted a = false
 
 -- ---- a transaction under way
@@ -46,7 +37,7 @@ pub record Going : Type 0 where
 
 -- from its Begin on
 abbrev pub opened : PlainState → IntentId → Instance → Going
-opened p id q = record { state = gives p id q answer.Done; front = id }
+opened p id q = record { state = gives p id q Answer.Done; front = id }
 
 abbrev pub is_owner : TxId → IntentId → Bool
 is_owner t id = is_eq (id_cmp t.intent id)
@@ -80,11 +71,11 @@ returns_to p id q o (Some c) = Some (record { state = answer_to (with_instance p
 
 -- reads and operations on items are made as outside. Begin and End are no effects of a callee inside, and nothing else is wanted there
 abbrev pub moves_by : TxId → PlainState → IntentId → Instance → Effect → Option Going
-moves_by t p id q (effect.Read b k) = stays id (step_by p id q (effect.Read b k))
-moves_by t p id q (effect.Write b k v) = stays id (step_by p id q (effect.Write b k v))
-moves_by t p id q (effect.CondWrite b k r o v) = stays id (step_by p id q (effect.CondWrite b k r o v))
-moves_by t p id q (effect.Call f v) = calls_by t p id q f v
-moves_by t p id q (effect.Return o) = if is_owner t id then None else returns_to p id q o q.from
+moves_by t p id q (Effect.Read b k) = stays id (step_by p id q (Effect.Read b k))
+moves_by t p id q (Effect.Write b k v) = stays id (step_by p id q (Effect.Write b k v))
+moves_by t p id q (Effect.CondWrite b k r o v) = stays id (step_by p id q (Effect.CondWrite b k r o v))
+moves_by t p id q (Effect.Call f v) = calls_by t p id q f v
+moves_by t p id q (Effect.Return o) = if is_owner t id then None else returns_to p id q o q.from
 moves_by t p id q e = None
 
 -- ---- up to its end
@@ -95,10 +86,10 @@ is_same false b = not b
 
 -- at the owner's end it is over
 abbrev pub over_by : TxId → Bool → Bool → PlainState → IntentId → Instance → Option PlainState
-over_by t commit b p id q = if is_owner t id && is_same commit b then Some (gives p id q answer.Done) else None
+over_by t commit b p id q = if is_owner t id && is_same commit b then Some (gives p id q Answer.Done) else None
 
 abbrev pub ends_by : (Going → Option PlainState) → TxId → Bool → PlainState → IntentId → Instance → Effect → Option PlainState
-ends_by go t commit p id q (effect.End b) = over_by t commit b p id q
+ends_by go t commit p id q (Effect.End b) = over_by t commit b p id q
 ends_by go t commit p id q e = option_and_then go (moves_by t p id q e)
 
 -- .. in at most so many steps
@@ -109,7 +100,7 @@ ends_on d (suc n) t commit s = at_front s (λ q. ends_by (ends_on d n t commit) 
 -- the state after a transaction that commits, by the effect that its instance stands at: none where it is no begin, or no such end is
 -- reached
 abbrev pub piece_from : Deployment → PlainState → IntentId → Instance → Effect → Option PlainState
-piece_from d p id q effect.Begin = ends_on d enough (tx_begun id q) true (opened p id q)
+piece_from d p id q Effect.Begin = ends_on d enough (tx_begun id q) true (opened p id q)
 piece_from d p id q e = None
 
 -- ---- the try of one that aborts
@@ -119,7 +110,7 @@ stands_at a id q = is_eq (id_cmp a.intent id) && (a.step == length q.answers)
 
 -- an effect that may be aborted: with a holder a read or an operation on an item dies, without one there is an abort
 abbrev pub dies_at : Option IntentId → Effect → Bool
-dies_at None effect.Abort = true
+dies_at None Effect.Abort = true
 dies_at None e = false
 dies_at (Some h) e = is_some (touched e)
 
@@ -129,7 +120,7 @@ fallen p id q h = record { state = gives p id q (aborted id q h); front = id }
 
 -- .. or there is the end without commit of the owner, which a fault led to
 abbrev pub fault_by : TxId → PlainState → IntentId → Instance → Option IntentId → Effect → Option PlainState
-fault_by t p id q None (effect.End b) = over_by t false b p id q
+fault_by t p id q None (Effect.End b) = over_by t false b p id q
 fault_by t p id q h e = None
 
 -- at its place
@@ -153,5 +144,5 @@ is_holder p id (Some h) = is_some (map.get p.made h) && is_older h id
 -- the state after a transaction that aborts at a place, by the effect that its instance stands at: none where it is no begin, the place
 -- is not reached, or the holder is none
 abbrev pub try_from : Deployment → PlainState → IntentId → Place → Option IntentId → Instance → Effect → Option PlainState
-try_from d p id a h q effect.Begin = if is_holder p id h then option_and_then (with_answers p id) (try_on d enough (tx_begun id q) a h (opened p id q)) else None
+try_from d p id a h q Effect.Begin = if is_holder p id h then option_and_then (with_answers p id) (try_on d enough (tx_begun id q) a h (opened p id q)) else None
 try_from d p id a h q e = None

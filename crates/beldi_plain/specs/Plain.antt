@@ -1,25 +1,12 @@
 -- The plain state, its step, and the state after an entry.
 use Rattle.std.specs.Prelude.{◌≡◌, ◌≤◌, ℕ, suc, zero, Bool, true, false, List, [], ◌∷◌, ◌++◌, length, take, Option, Some, None, is_some, if◌then◌else◌}
-use Rattle.std.specs.FinMap as map
 use Rattle.std.specs.FinMap.{FinMap}
-use Rattle.beldi_value.specs.Id.{id_cmp, root_of, child_of, has_callees}
-use Rattle.beldi_value.specs.declared.id.IntentId.{IntentId}
-use Rattle.beldi_value.specs.declared.value.Value.{Value}
-use Rattle.beldi_value.specs.declared.outcome.Outcome.{Outcome}
-use Rattle.beldi_value.specs.declared.place.Caller.{Caller}
-use Rattle.beldi_value.specs.declared.place.TxId.{TxId}
-use Rattle.beldi_tree.specs.declared.deployment.Deployment.{Deployment}
-use Rattle.beldi_lang.specs.declared.effect.Answer.{Answer}
-use Rattle.beldi_lang.specs.declared.effect.Answer.TheVariants as answer
-use Rattle.beldi_lang.specs.declared.effect.Effect.{Effect}
-use Rattle.beldi_lang.specs.declared.effect.Effect.TheVariants as effect
-use Rattle.beldi_tree.specs.Bindings.{or_null}
-use Rattle.beldi_lang.specs.Callee.{answer_of}
-use Rattle.beldi_lang.specs.Wants.{wants}
-use Rattle.beldi_plain.specs.Item.{Item, item_cmp}
+use Rattle.std.specs.FinMap as map
+use Rattle.beldi_value.specs.{Id.id_cmp, Id.root_of, Id.child_of, Id.has_callees, declared.id.IntentId.IntentId, declared.value.Value.Value, declared.outcome.Outcome.Outcome, declared.place.Caller.Caller, declared.place.TxId.TxId}
+use Rattle.beldi_tree.specs.{declared.deployment.Deployment.Deployment, Bindings.or_null}
+use Rattle.beldi_lang.specs.{declared.effect.Answer.Answer, declared.effect.Effect.Effect, Callee.answer_of, Wants.wants}
 use Rattle.beldi_plain.specs.Operation.{Operation, OnItem, op_of, item_in, sets, set_if, answer_after}
-use Rattle.beldi_plain.specs.declared.kind.Kind.{Kind}
-use Rattle.beldi_plain.specs.declared.kind.Kind.TheVariants as kinds
+use Rattle.beldi_plain.specs.{Item.Item, Item.item_cmp, declared.kind.Kind.Kind}
 
 -- an instance of a function: what it was called with, who called it, the transaction that it was called in, what its effects were
 -- answered, and how it ended. A root has no caller, and was called in none.
@@ -63,17 +50,17 @@ effect_of d q = wants d q.func q.args (is_some q.within) q.answers
 -- how an effect of an instance is entered in a book: a read as one, an operation on an item, a call and a return as a change. A
 -- transaction is entered whole; and what an id of 63 hops calls is not carried out.
 abbrev pub kind_of : IntentId → Effect → Kind
-kind_of id (effect.Read t k) = kinds.Read
-kind_of id (effect.Write t k v) = kinds.Change
-kind_of id (effect.CondWrite t k r o v) = kinds.Change
-kind_of id (effect.Lock t k) = kinds.Change
-kind_of id (effect.Unlock t k) = kinds.Change
-kind_of id (effect.Return o) = kinds.Change
-kind_of id (effect.Call f a) = if has_callees id then kinds.Change else kinds.Unbuilt
-kind_of id (effect.Async f a) = if has_callees id then kinds.Change else kinds.Unbuilt
-kind_of id effect.Begin = kinds.Inside
-kind_of id (effect.End b) = kinds.Inside
-kind_of id effect.Abort = kinds.Inside
+kind_of id (Effect.Read t k) = Kind.Read
+kind_of id (Effect.Write t k v) = Kind.Change
+kind_of id (Effect.CondWrite t k r o v) = Kind.Change
+kind_of id (Effect.Lock t k) = Kind.Change
+kind_of id (Effect.Unlock t k) = Kind.Change
+kind_of id (Effect.Return o) = Kind.Change
+kind_of id (Effect.Call f a) = if has_callees id then Kind.Change else Kind.Unbuilt
+kind_of id (Effect.Async f a) = if has_callees id then Kind.Change else Kind.Unbuilt
+kind_of id Effect.Begin = Kind.Inside
+kind_of id (Effect.End b) = Kind.Inside
+kind_of id Effect.Abort = Kind.Inside
 
 -- the id of what an instance calls at its next step, and who calls it, and waits or not
 abbrev pub callee_of : IntentId → Instance → IntentId
@@ -85,8 +72,8 @@ calls_at id q waits = record { place = record { intent = id; step = length q.ans
 -- an instance waits at a call whose callee was made. One that nobody waits for is answered as it is made, and no callee is made
 -- twice.
 abbrev pub waits_at : FinMap id_cmp Instance → IntentId → Instance → Effect → Bool
-waits_at made id q (effect.Call f a) = is_some (map.get made (callee_of id q))
-waits_at made id q (effect.Async f a) = is_some (map.get made (callee_of id q))
+waits_at made id q (Effect.Call f a) = is_some (map.get made (callee_of id q))
+waits_at made id q (Effect.Async f a) = is_some (map.get made (callee_of id q))
 waits_at made id q e = false
 
 -- the effect that it had at a step, from 0
@@ -138,10 +125,10 @@ with_callee p id q f a waits = with_instance p (callee_of id q) (new_instance f 
 -- done, and a call makes its callee, which answers it when it returns, or at once where nobody waits for it. Effects of transactions
 -- are no step.
 abbrev pub step_by : PlainState → IntentId → Instance → Effect → PlainState
-step_by p id q (effect.Read t k) = with_instance p id (answered q (answer.Value (value_at p (item_of q t k))))
-step_by p id q (effect.Call f a) = with_callee p id q f a true
-step_by p id q (effect.Async f a) = with_instance (with_callee p id q f a false) id (answered q answer.Done)
-step_by p id q (effect.Return o) = answer_caller (with_instance p id (ended q o)) q.from o
+step_by p id q (Effect.Read t k) = with_instance p id (answered q (Answer.Value (value_at p (item_of q t k))))
+step_by p id q (Effect.Call f a) = with_callee p id q f a true
+step_by p id q (Effect.Async f a) = with_instance (with_callee p id q f a false) id (answered q Answer.Done)
+step_by p id q (Effect.Return o) = answer_caller (with_instance p id (ended q o)) q.from o
 step_by p id q e = operated p id q (op_of e)
 
 -- what an instance comes to that was made, has no outcome and does not wait for a callee; there is no step of any other
@@ -163,24 +150,24 @@ is_waiting d p id q = waits_at p.made id q (effect_of d q)
 
 -- what there is only of an effect that is carried out ..
 abbrev pub if_built : {X : Type 0} → Kind → X → Option X
-if_built kinds.Read x = Some x
-if_built kinds.Change x = Some x
-if_built kinds.Inside x = None
-if_built kinds.Unbuilt x = None
+if_built Kind.Read x = Some x
+if_built Kind.Change x = Some x
+if_built Kind.Inside x = None
+if_built Kind.Unbuilt x = None
 
 -- .. only of a read ..
 abbrev pub if_read : {X : Type 0} → Kind → X → Option X
-if_read kinds.Read x = Some x
-if_read kinds.Change x = None
-if_read kinds.Inside x = None
-if_read kinds.Unbuilt x = None
+if_read Kind.Read x = Some x
+if_read Kind.Change x = None
+if_read Kind.Inside x = None
+if_read Kind.Unbuilt x = None
 
 -- .. and only of a change
 abbrev pub if_change : {X : Type 0} → Kind → X → Option X
-if_change kinds.Read x = None
-if_change kinds.Change x = Some x
-if_change kinds.Inside x = None
-if_change kinds.Unbuilt x = None
+if_change Kind.Read x = None
+if_change Kind.Change x = Some x
+if_change Kind.Inside x = None
+if_change Kind.Unbuilt x = None
 
 -- the state after the next step of an instance; none where its effect is no step
 abbrev pub step : Deployment → PlainState → IntentId → Option PlainState

@@ -1,12 +1,9 @@
 -- What a book says of its roots: which it starts, and the outcome that each has in its run.
 use Rattle.std.specs.Prelude.{◌≡◌, ℕ, List, [], ◌∷◌, Option, Some, None}
-use Rattle.beldi_value.specs.declared.value.Value.{Value}
-use Rattle.beldi_value.specs.declared.outcome.Outcome.{Outcome}
+use Rattle.beldi_value.specs.declared.{value.Value.Value, outcome.Outcome.Outcome}
 use Rattle.beldi_tree.specs.declared.deployment.Deployment.{Deployment}
-use Rattle.beldi_book.specs.declared.entry.Entry.{Entry}
-use Rattle.beldi_book.specs.declared.entry.Entry.TheVariants.{Start}
-use Rattle.beldi_plain.specs.Plain.{PlainState, reply_of}
-use Rattle.beldi_plain.specs.Legal.{run_of}
+use Rattle.beldi_book.specs.declared.entry.Entry.{Entry, TheVariants.Start}
+use Rattle.beldi_plain.specs.{Plain.PlainState, Plain.reply_of, Legal.run_of}
 
 -- the roots that a book starts, in order: ticket, function and arguments
 abbrev pub starts_of : List Entry → List (ℕ × (ℕ × Value))

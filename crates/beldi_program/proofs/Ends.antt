@@ -1,38 +1,8 @@
 -- How the program ends.
-use Rattle.std.proofs.Common.{◌≡◌, ◌⊎◌, inl, inr, ◌≤◌, ◌+◌, ℕ, zero, suc, length, Bool, true, false, List, [], ◌∷◌, Option, None, Some, Result, Ok, Err, refl, ap, sym, ◌∙◌, subst, arith}
-use Rattle.std.specs.Prelude.{◌&&◌, IfOk, OnOk, IsErrOf, IsSome}
-use Rattle.std.specs.Global.{Vec}
-use Rattle.std.specs.FinMap as map
-use Rattle.std.proofs.lemmas.Bool.{false≢true}
-use Rattle.beldi_tree.specs.declared.deployment.Deployment.{Deployment}
-use Rattle.beldi_row.specs.Table.{Rows, TableState}
-use Rattle.beldi_step.specs.Host.{Core, first_core}
-use Rattle.beldi_host.specs.Survey.{Opened, Refused, newest_of}
-use Rattle.beldi_host.specs.declared.survey.OpenErr.{OpenErr}
-use Rattle.beldi_laws.specs.Right.{Right}
-use Rattle.beldi_host.proofs.Right.{begins_right}
-use Rattle.beldi_outside.specs.Outside.{IsPrefixOf, ReadAllOn, Told, Rose, TookFront, WroteOn, max_source}
-use Rattle.beldi_outside.specs.declared.traits.Failed.{Failed}
-use Rattle.beldi_outside.proofs.Told.{told_same, told_then, told_map}
-use Rattle.beldi_session.specs.declared.refusal.Refusal.{Refusal}
-use Rattle.beldi_session.specs.declared.source.Accepted.{Accepted}
-use Rattle.beldi_session.specs.declared.session.Stop.{Stop}
-use Rattle.beldi_session.specs.declared.session.Stop.TheVariants.{OutOfMemory, SinkFault}
-use Rattle.beldi_program.specs.declared.program.Ended.{Ended}
-use Rattle.beldi_program.specs.declared.program.Ended.TheVariants as ended
-use Rattle.beldi_session.specs.Script.{actions_in, is_ok, is_whole}
-use Rattle.beldi_session.specs.Session.{Sight, State, Does, Stopped, WentBy, Writes, state_at}
-use Rattle.beldi_session.specs.Source.{Numbered, said_at, script_of, source_at}
-use Rattle.beldi_session.specs.Check.{counted, counted_on, tested, with_line, check_at, check_by}
-use Rattle.beldi_session.specs.Refusal.{refusal_text}
-use Rattle.beldi_command.specs.declared.command.Command.{Command}
-use Rattle.beldi_command.specs.declared.command.Command.TheVariants.{Run, Check}
-use Rattle.beldi_script.specs.declared.line.Line.{Line}
-use Rattle.beldi_program.specs.Hosted.{opened_at}
-use Rattle.beldi_program.specs.Headline.{Whole, Cut, NothingDone, SessionEnds, SourceEnds, TextEnds, CheckEnds, DoneBy, ReadEnds, CommandEnds, Ends, usage, LongOn, AsRead, SourceAsRead, Untouched, end_of, is_whole_source, status_of, HasEnded, ByStatus}
-use Rattle.beldi_session.proofs.Responses.{told_tells}
-use Rattle.beldi_session.proofs.Went.{fine, unchanged}
+use Rattle.std.specs.Prelude.{IfOk}
+use Rattle.beldi_program.proofs.Names.{Accepted, AsRead, Bool, ByStatus, Check, CheckEnds, Command, CommandEnds, Core, Cut, Deployment, Does, DoneBy, Ended, Ends, Err, Failed, HasEnded, IsErrOf, IsPrefixOf, IsSome, Line, List, LongOn, None, NothingDone, Numbered, Ok, OnOk, OpenErr, Opened, Option, OutOfMemory, ReadAllOn, ReadEnds, Refusal, Refused, Result, Right, Rose, Rows, Run, SessionEnds, Sight, SinkFault, Some, SourceAsRead, SourceEnds, State, Stop, Stopped, TableState, TextEnds, Told, TookFront, Untouched, Vec, WentBy, Whole, Writes, WroteOn, [], actions_in, ap, arith, begins_right, check_at, check_by, counted, counted_on, end_of, false, false≢true, fine, first_core, inl, inr, is_ok, is_whole, is_whole_source, length, max_source, newest_of, opened_at, refl, refusal_text, said_at, script_of, source_at, state_at, status_of, subst, suc, sym, tested, told_map, told_same, told_tells, told_then, true, unchanged, usage, with_line, zero, ℕ, ◌&&◌, ◌+◌, ◌∙◌, ◌∷◌, ◌≡◌, ◌≤◌, ◌⊎◌}
 use Rattle.beldi_program.proofs.PlainRuns.{hosted_by, last_booked, said}
+use Rattle.beldi_program.proofs.Names.map
 
 -- ---- a text that was written, or a front of it
 pub front : (a b : Option (List ℕ)) (text : List ℕ) (e : Failed) → Told a b (WroteOn text (Err e)) → (w : List ℕ) × IsPrefixOf w text × Writes a b w
@@ -110,41 +80,41 @@ is_checked bytes (Err x) = refl
 
 -- how a source that was read does not end
 abbrev pub is_read_end : Ended → Bool
-is_read_end ended.Usage = false
-is_read_end ended.SourceFault = false
-is_read_end ended.TooLong = false
+is_read_end Ended.Usage = false
+is_read_end Ended.SourceFault = false
+is_read_end Ended.TooLong = false
 is_read_end e = true
 
 module _ {K : Type 0} (held : K → Option (List ℕ)) (faults : K → ℕ) where
   -- a text that is all that is said
   text_read : (text : List ℕ) (end : Ended) (k k' : K) (e : Ended) → is_read_end end ≡ true → TextEnds held faults text end k k' e → is_read_end e ≡ true
-  text_read text end k k' ended.SinkFault r x = refl
-  text_read text end k k' ended.OutOfMemory r x = refl
+  text_read text end k k' Ended.SinkFault r x = refl
+  text_read text end k k' Ended.OutOfMemory r x = refl
   text_read text end k k' e r x = ap is_read_end x.0 ∙ r
 
   text_as : (whole : Bool) (text : List ℕ) (end : Ended) (k k' : K) (e : Ended) → AsRead whole end → TextEnds held faults text end k k' e → AsRead whole e
-  text_as whole text end k k' ended.SinkFault a x = tt
-  text_as whole text end k k' ended.OutOfMemory a x = tt
+  text_as whole text end k k' Ended.SinkFault a x = tt
+  text_as whole text end k k' Ended.OutOfMemory a x = tt
   text_as whole text end k k' e a x = subst (AsRead whole) (sym x.0) a
 
   -- a source that was tested
-  pub untold : (o : Result (List ℕ) Refusal) (k : K) → CheckEnds held faults o k k ended.OutOfMemory
+  pub untold : (o : Result (List ℕ) Refusal) (k : K) → CheckEnds held faults o k k Ended.OutOfMemory
   untold (Ok text) k = refl
   untold (Err y) k = refl
 
   checked_read : (o : Result (List ℕ) Refusal) (k k' : K) (e : Ended) → CheckEnds held faults o k k' e → is_read_end e ≡ true
-  checked_read (Ok text) k k' e x = text_read text ended.Done k k' e refl x
-  checked_read (Err y) k k' e x = text_read (refusal_text y) ended.Refused k k' e refl x
+  checked_read (Ok text) k k' e x = text_read text Ended.Done k k' e refl x
+  checked_read (Err y) k k' e x = text_read (refusal_text y) Ended.Refused k k' e refl x
 
   checked_as : (whole : Bool) (o : Result (List ℕ) Refusal) (k k' : K) (e : Ended) → is_ok o ≡ whole → CheckEnds held faults o k k' e → AsRead whole e
-  checked_as whole (Ok text) k k' e is x = text_as whole text ended.Done k k' e (sym is) x
-  checked_as whole (Err y) k k' e is x = text_as whole (refusal_text y) ended.Refused k k' e (sym is) x
+  checked_as whole (Ok text) k k' e is x = text_as whole text Ended.Done k k' e (sym is) x
+  checked_as whole (Err y) k k' e is x = text_as whole (refusal_text y) Ended.Refused k k' e (sym is) x
 
-  checked_rose : (o : Result (List ℕ) Refusal) (k k' : K) → CheckEnds held faults o k k' ended.SinkFault → Rose (faults k) (faults k')
+  checked_rose : (o : Result (List ℕ) Refusal) (k k' : K) → CheckEnds held faults o k k' Ended.SinkFault → Rose (faults k) (faults k')
   checked_rose (Ok text) k k' x = x.0
   checked_rose (Err y) k k' x = x.0
 
-  checked_opens : (o : Result (List ℕ) Refusal) (k k' : K) → CheckEnds held faults o k k' ended.TableFault → ⊥
+  checked_opens : (o : Result (List ℕ) Refusal) (k k' : K) → CheckEnds held faults o k k' Ended.TableFault → ⊥
   checked_opens (Ok text) k k' x = let clash = x.0 in cc
   checked_opens (Err y) k k' x = let clash = x.0 in cc
 
@@ -160,27 +130,27 @@ module _ {K T : Type 0} (held : K → Option (List ℕ)) (faults : K → ℕ) (s
   not_opened k t t' why h = (refl, told_tells (state t).rows (state t').rows (λ m n. n ≡ m) h.rows, h.later)
 
   -- out of memory before anything was done
-  pub unread_source : (bytes : List ℕ) (o : Result Accepted Refusal) (k : K) (t : T) → SourceEnds held faults state bytes o k k t t ended.OutOfMemory
+  pub unread_source : (bytes : List ℕ) (o : Result Accepted Refusal) (k : K) (t : T) → SourceEnds held faults state bytes o k k t t Ended.OutOfMemory
   unread_source bytes (Ok p) k t = inl (refl, told_same (λ m n. n ≡ m) (state t).rows (λ m. refl), omega arith)
   unread_source bytes (Err x) k t = (refl, refl)
 
   ends_read : (bytes : List ℕ) (o : Result Accepted Refusal) (k k' : K) (t t' : T) (e : Ended) → SourceEnds held faults state bytes o k k' t t' e → is_read_end e ≡ true
-  ends_read bytes (Ok p) k k' t t' ended.Done x = refl
-  ends_read bytes (Ok p) k k' t t' ended.OutOfMemory x = refl
-  ends_read bytes (Ok p) k k' t t' ended.SinkFault x = refl
-  ends_read bytes (Ok p) k k' t t' ended.Refused x = refl
-  ends_read bytes (Ok p) k k' t t' ended.TableFault x = refl
+  ends_read bytes (Ok p) k k' t t' Ended.Done x = refl
+  ends_read bytes (Ok p) k k' t t' Ended.OutOfMemory x = refl
+  ends_read bytes (Ok p) k k' t t' Ended.SinkFault x = refl
+  ends_read bytes (Ok p) k k' t t' Ended.Refused x = refl
+  ends_read bytes (Ok p) k k' t t' Ended.TableFault x = refl
   ends_read bytes (Ok p) k k' t t' e x = absurd x
-  ends_read bytes (Err y) k k' t t' e x = text_read held faults (refusal_text y) ended.Refused k k' e refl x.1
+  ends_read bytes (Err y) k k' t t' e x = text_read held faults (refusal_text y) Ended.Refused k k' e refl x.1
 
   as_read : (bytes : List ℕ) (o : Result Accepted Refusal) (k k' : K) (t t' : T) (e : Ended) → SourceEnds held faults state bytes o k k' t t' e → AsRead (is_whole_source bytes o) e
-  as_read bytes (Ok p) k k' t t' ended.Done x = x.0
-  as_read bytes (Ok p) k k' t t' ended.Refused x = x.0
-  as_read bytes (Ok p) k k' t t' ended.Usage x = x
+  as_read bytes (Ok p) k k' t t' Ended.Done x = x.0
+  as_read bytes (Ok p) k k' t t' Ended.Refused x = x.0
+  as_read bytes (Ok p) k k' t t' Ended.Usage x = x
   as_read bytes (Ok p) k k' t t' e x = tt
-  as_read bytes (Err y) k k' t t' e x = text_as held faults false (refusal_text y) ended.Refused k k' e refl x.1
+  as_read bytes (Err y) k k' t t' e x = text_as held faults false (refusal_text y) Ended.Refused k k' e refl x.1
 
-  table_rose : (bytes : List ℕ) (o : Result Accepted Refusal) (k k' : K) (t t' : T) → SourceEnds held faults state bytes o k k' t t' ended.TableFault
+  table_rose : (bytes : List ℕ) (o : Result Accepted Refusal) (k k' : K) (t t' : T) → SourceEnds held faults state bytes o k k' t t' Ended.TableFault
       → Rose (state t).faults (state t').faults × (Told (state t).rows (state t').rows (λ m n. n ≡ m) × (k' ≡ k))
   table_rose bytes (Ok p) k k' t t' x = (x.0, (x.1.1, x.1.0))
   table_rose bytes (Err y) k k' t t' x = let clash = x.1.0 in cc
@@ -194,15 +164,15 @@ module _ {K T : Type 0} (held : K → Option (List ℕ)) (faults : K → ℕ) (s
   done_as Run bytes k k' t t' e x = as_read bytes (source_at bytes) k k' t t' e x
   done_as Check bytes k k' t t' e x = checked_as held faults (is_whole_source bytes (source_at bytes)) (check_at bytes) k k' e (is_checked bytes (source_at bytes)) x.1
 
-  sink_rose : (bytes : List ℕ) (o : Result Accepted Refusal) (k k' : K) (t t' : T) → SourceEnds held faults state bytes o k k' t t' ended.SinkFault → Rose (faults k) (faults k')
+  sink_rose : (bytes : List ℕ) (o : Result Accepted Refusal) (k k' : K) (t t' : T) → SourceEnds held faults state bytes o k k' t t' Ended.SinkFault → Rose (faults k) (faults k')
   sink_rose bytes (Ok p) k k' t t' x = x.0
   sink_rose bytes (Err y) k k' t t' x = x.1.0
 
-  pub done_rose : (c : Command) (bytes : List ℕ) (k k' : K) (t t' : T) → DoneBy held faults state c bytes k k' t t' ended.SinkFault → Rose (faults k) (faults k')
+  pub done_rose : (c : Command) (bytes : List ℕ) (k k' : K) (t t' : T) → DoneBy held faults state c bytes k k' t t' Ended.SinkFault → Rose (faults k) (faults k')
   done_rose Run bytes k k' t t' x = sink_rose bytes (source_at bytes) k k' t t' x
   done_rose Check bytes k k' t t' x = checked_rose held faults (check_at bytes) k k' x.1
 
-  pub not_hosted : (c : Command) (bytes : List ℕ) (k k' : K) (t t' : T) → DoneBy held faults state c bytes k k' t t' ended.TableFault
+  pub not_hosted : (c : Command) (bytes : List ℕ) (k k' : K) (t t' : T) → DoneBy held faults state c bytes k k' t t' Ended.TableFault
       → Rose (state t).faults (state t').faults × (Told (state t).rows (state t').rows (λ m n. n ≡ m) × (k' ≡ k))
   not_hosted Run bytes k k' t t' x = table_rose bytes (source_at bytes) k k' t t' x
   not_hosted Check bytes k k' t t' x = absurd (checked_opens held faults (check_at bytes) k k' x.1)
@@ -210,52 +180,52 @@ module _ {K T : Type 0} (held : K → Option (List ℕ)) (faults : K → ℕ) (s
 -- ---- what is read off the ending
 module _ {S K T : Type 0} (left : S → Option (List ℕ)) (source_faults : S → ℕ) (held : K → Option (List ℕ)) (faults : K → ℕ) (state : T → TableState) (s s' : S) (k k' : K) (t t' : T) where
   pub command_ends : (c : Command) (e : Ended) → ReadEnds left source_faults held faults state c s s' k k' t t' e → CommandEnds left source_faults held faults state c s s' k k' t t' e
-  command_ends c ended.OutOfMemory x = inr x
-  command_ends c ended.Usage x = let clash = done_read held faults state c x.0 k k' t t' ended.Usage x.3 in cc
-  command_ends c ended.SourceFault x = let clash = done_read held faults state c x.0 k k' t t' ended.SourceFault x.3 in cc
-  command_ends c ended.TooLong x = let clash = done_read held faults state c x.0 k k' t t' ended.TooLong x.3 in cc
+  command_ends c Ended.OutOfMemory x = inr x
+  command_ends c Ended.Usage x = let clash = done_read held faults state c x.0 k k' t t' Ended.Usage x.3 in cc
+  command_ends c Ended.SourceFault x = let clash = done_read held faults state c x.0 k k' t t' Ended.SourceFault x.3 in cc
+  command_ends c Ended.TooLong x = let clash = done_read held faults state c x.0 k k' t t' Ended.TooLong x.3 in cc
   command_ends c e x = x
 
-  pub not_command : (o : Option Command) → Ends left source_faults held faults state o s s' k k' t t' ended.Usage → o ≡ None
+  pub not_command : (o : Option Command) → Ends left source_faults held faults state o s s' k k' t t' Ended.Usage → o ≡ None
   not_command (Some c) x = absurd x
   not_command None x = refl
 
-  other_words : (e : Ended) → TextEnds held faults usage ended.Usage k k' e → (status_of e ≡ 2) ⊎ (status_of e ≡ 4) ⊎ (status_of e ≡ 1)
-  other_words ended.SinkFault x = inr (inl refl)
-  other_words ended.OutOfMemory x = inr (inr refl)
+  other_words : (e : Ended) → TextEnds held faults usage Ended.Usage k k' e → (status_of e ≡ 2) ⊎ (status_of e ≡ 4) ⊎ (status_of e ≡ 1)
+  other_words Ended.SinkFault x = inr (inl refl)
+  other_words Ended.OutOfMemory x = inr (inr refl)
   other_words e x = inl (ap status_of x.0)
 
   pub unread : (o : Option Command) (e : Ended) → o ≡ None → Ends left source_faults held faults state o s s' k k' t t' e → (s' ≡ s) × (t' ≡ t) × ((status_of e ≡ 2) ⊎ (status_of e ≡ 4) ⊎ (status_of e ≡ 1))
   unread (Some c) e h x = cc
   unread None e h x = (x.0, x.1, other_words e x.2)
 
-  pub source_fault : (o : Option Command) → Ends left source_faults held faults state o s s' k k' t t' ended.SourceFault → Rose (source_faults s) (source_faults s')
+  pub source_fault : (o : Option Command) → Ends left source_faults held faults state o s s' k k' t t' Ended.SourceFault → Rose (source_faults s) (source_faults s')
   source_fault (Some c) x = x.0
   source_fault None x = let clash = x.2.0 in cc
 
-  pub sink_fault : (o : Option Command) → Ends left source_faults held faults state o s s' k k' t t' ended.SinkFault → Rose (faults k) (faults k')
+  pub sink_fault : (o : Option Command) → Ends left source_faults held faults state o s s' k k' t t' Ended.SinkFault → Rose (faults k) (faults k')
   sink_fault (Some c) x = done_rose held faults state c x.0 k k' t t' x.3
   sink_fault None x = x.2.0
 
-  pub open_fault : (o : Option Command) → Ends left source_faults held faults state o s s' k k' t t' ended.TableFault → Rose (state t).faults (state t').faults
+  pub open_fault : (o : Option Command) → Ends left source_faults held faults state o s s' k k' t t' Ended.TableFault → Rose (state t).faults (state t').faults
   open_fault (Some c) x = (not_hosted held faults state c x.0 k k' t t' x.3).0
   open_fault None x = let clash = x.2.0 in cc
 
   pub untouched : (o : Option Command) (e : Ended) → Ends left source_faults held faults state o s s' k k' t t' e → Untouched e (t' ≡ t) (Told (state t).rows (state t').rows (λ m n. n ≡ m)) (k' ≡ k)
-  untouched (Some c) ended.SourceFault x = (x.2, x.3)
-  untouched (Some c) ended.TooLong x = (x.1, x.2)
-  untouched (Some c) ended.TableFault x = (not_hosted held faults state c x.0 k k' t t' x.3).1
-  untouched None ended.SourceFault x = let clash = x.2.0 in cc
-  untouched None ended.TooLong x = let clash = x.2.0 in cc
-  untouched None ended.TableFault x = let clash = x.2.0 in cc
+  untouched (Some c) Ended.SourceFault x = (x.2, x.3)
+  untouched (Some c) Ended.TooLong x = (x.1, x.2)
+  untouched (Some c) Ended.TableFault x = (not_hosted held faults state c x.0 k k' t t' x.3).1
+  untouched None Ended.SourceFault x = let clash = x.2.0 in cc
+  untouched None Ended.TooLong x = let clash = x.2.0 in cc
+  untouched None Ended.TableFault x = let clash = x.2.0 in cc
   untouched o e x = tt
 
   -- to test a source leaves the table
   pub tested_leaves : (e : Ended) → Ends left source_faults held faults state (Some Check) s s' k k' t t' e → t' ≡ t
-  tested_leaves ended.Usage x = absurd x
-  tested_leaves ended.SourceFault x = x.2
-  tested_leaves ended.TooLong x = x.1
-  tested_leaves ended.OutOfMemory x = elim x [
+  tested_leaves Ended.Usage x = absurd x
+  tested_leaves Ended.SourceFault x = x.2
+  tested_leaves Ended.TooLong x = x.1
+  tested_leaves Ended.OutOfMemory x = elim x [
     | inl y ↦ y.1
     | inr y ↦ y.3.0
   ]
@@ -265,7 +235,7 @@ module _ {S K T : Type 0} (left : S → Option (List ℕ)) (source_faults : S �
   Long e = Told (left s) (left s') (λ b c. LongOn b c e)
 
   short : (e : Ended) → is_read_end e ≡ true → (b c bytes : List ℕ) → length bytes ≤ max_source → b ≡ bytes → LongOn b c e
-  short ended.TooLong is b c bytes l same = cc
+  short Ended.TooLong is b c bytes l same = cc
   short e is b c bytes l same = inl (subst (λ (z : List ℕ). length z ≤ max_source) (sym same) l)
 
   read_short : (c : Command) (e : Ended) → ReadEnds left source_faults held faults state c s s' k k' t t' e → Long e
@@ -273,12 +243,12 @@ module _ {S K T : Type 0} (left : S → Option (List ℕ)) (source_faults : S �
 
   pub too_long : (o : Option Command) (e : Ended) → IsSome o → Ends left source_faults held faults state o s s' k k' t t' e → Long e
   too_long None e h x = cc
-  too_long (Some c) ended.Usage h x = absurd x
-  too_long (Some c) ended.SourceFault h x = told_map {P = TookFront max_source} {Q = λ b c. LongOn b c ended.SourceFault} (left s) (left s') (λ b c v. inr (inl refl)) x.1
-  too_long (Some c) ended.TooLong h x = x.0
-  too_long (Some c) ended.OutOfMemory h x = elim x [
-    | inl y ↦ told_map {P = TookFront (max_source + 1)} {Q = λ b c. LongOn b c ended.OutOfMemory} (left s) (left s') (λ b c v. inr (inr refl)) y.0
-    | inr y ↦ read_short c ended.OutOfMemory y
+  too_long (Some c) Ended.Usage h x = absurd x
+  too_long (Some c) Ended.SourceFault h x = told_map {P = TookFront max_source} {Q = λ b c. LongOn b c Ended.SourceFault} (left s) (left s') (λ b c v. inr (inl refl)) x.1
+  too_long (Some c) Ended.TooLong h x = x.0
+  too_long (Some c) Ended.OutOfMemory h x = elim x [
+    | inl y ↦ told_map {P = TookFront (max_source + 1)} {Q = λ b c. LongOn b c Ended.OutOfMemory} (left s) (left s') (λ b c v. inr (inr refl)) y.0
+    | inr y ↦ read_short c Ended.OutOfMemory y
   ]
   too_long (Some c) e h x = read_short c e x
 
@@ -296,32 +266,32 @@ module _ {S K T : Type 0} (left : S → Option (List ℕ)) (source_faults : S �
 
   pub refused : (o : Option Command) (e : Ended) → IsSome o → Ends left source_faults held faults state o s s' k k' t t' e → SourceAsRead (left s) e
   refused None e h x = cc
-  refused (Some c) ended.Usage h x = absurd x
-  refused (Some c) ended.SourceFault h x = any_read (left s) ended.SourceFault (λ w. tt)
-  refused (Some c) ended.TooLong h x = any_read (left s) ended.TooLong (λ w. tt)
-  refused (Some c) ended.OutOfMemory h x = any_read (left s) ended.OutOfMemory (λ w. tt)
+  refused (Some c) Ended.Usage h x = absurd x
+  refused (Some c) Ended.SourceFault h x = any_read (left s) Ended.SourceFault (λ w. tt)
+  refused (Some c) Ended.TooLong h x = any_read (left s) Ended.TooLong (λ w. tt)
+  refused (Some c) Ended.OutOfMemory h x = any_read (left s) Ended.OutOfMemory (λ w. tt)
   refused (Some c) e h x = read_refused c e x
 
 -- ---- the status
 abbrev decode : ℕ → Ended
-decode zero = ended.Done
-decode (suc zero) = ended.OutOfMemory
-decode (suc (suc zero)) = ended.Usage
-decode (suc (suc (suc zero))) = ended.SourceFault
-decode (suc (suc (suc (suc zero)))) = ended.SinkFault
-decode (suc (suc (suc (suc (suc zero))))) = ended.Refused
-decode (suc (suc (suc (suc (suc (suc (suc zero))))))) = ended.TooLong
-decode n = ended.TableFault
+decode zero = Ended.Done
+decode (suc zero) = Ended.OutOfMemory
+decode (suc (suc zero)) = Ended.Usage
+decode (suc (suc (suc zero))) = Ended.SourceFault
+decode (suc (suc (suc (suc zero)))) = Ended.SinkFault
+decode (suc (suc (suc (suc (suc zero))))) = Ended.Refused
+decode (suc (suc (suc (suc (suc (suc (suc zero))))))) = Ended.TooLong
+decode n = Ended.TableFault
 
 decoded : (e : Ended) → decode (status_of e) ≡ e
-decoded ended.Done = refl
-decoded ended.OutOfMemory = refl
-decoded ended.Usage = refl
-decoded ended.SourceFault = refl
-decoded ended.SinkFault = refl
-decoded ended.Refused = refl
-decoded ended.TooLong = refl
-decoded ended.TableFault = refl
+decoded Ended.Done = refl
+decoded Ended.OutOfMemory = refl
+decoded Ended.Usage = refl
+decoded Ended.SourceFault = refl
+decoded Ended.SinkFault = refl
+decoded Ended.Refused = refl
+decoded Ended.TooLong = refl
+decoded Ended.TableFault = refl
 
 -- a status has one ending
 pub same_end : (e f : Ended) → status_of e ≡ status_of f → e ≡ f
@@ -329,17 +299,17 @@ same_end e f h = sym (decoded e) ∙ ap decode h ∙ decoded f
 
 -- ---- a source that is not refused
 module _ (b c : List ℕ) (P Q : Type 0) (p : P → ⊥) (q : Q → ⊥) (short : length b ≤ max_source) (whole : is_whole_source b (source_at b) ≡ true) where
-  done_or_short : (e : Ended) → AsRead (is_whole_source b (source_at b)) e → LongOn b c e → (e ≡ ended.SourceFault → P) → (e ≡ ended.SinkFault → Q) → (status_of e ≡ 0) ⊎ (status_of e ≡ 1) ⊎ (status_of e ≡ 8)
-  done_or_short ended.Done r l s t = inl refl
-  done_or_short ended.OutOfMemory r l s t = inr (inl refl)
-  done_or_short ended.Usage r l s t = absurd r
-  done_or_short ended.SourceFault r l s t = absurd (p (s refl))
-  done_or_short ended.SinkFault r l s t = absurd (q (t refl))
-  done_or_short ended.Refused r l s t = absurd (false≢true (sym r ∙ whole))
-  done_or_short ended.TooLong r l s t = absurd (omega (arith, short, l.0))
-  done_or_short ended.TableFault r l s t = inr (inr refl)
+  done_or_short : (e : Ended) → AsRead (is_whole_source b (source_at b)) e → LongOn b c e → (e ≡ Ended.SourceFault → P) → (e ≡ Ended.SinkFault → Q) → (status_of e ≡ 0) ⊎ (status_of e ≡ 1) ⊎ (status_of e ≡ 8)
+  done_or_short Ended.Done r l s t = inl refl
+  done_or_short Ended.OutOfMemory r l s t = inr (inl refl)
+  done_or_short Ended.Usage r l s t = absurd r
+  done_or_short Ended.SourceFault r l s t = absurd (p (s refl))
+  done_or_short Ended.SinkFault r l s t = absurd (q (t refl))
+  done_or_short Ended.Refused r l s t = absurd (false≢true (sym r ∙ whole))
+  done_or_short Ended.TooLong r l s t = absurd (omega (arith, short, l.0))
+  done_or_short Ended.TableFault r l s t = inr (inr refl)
 
-pub completed : (o a : Option (List ℕ)) (e : Ended) (P Q : Type 0) → SourceAsRead o e → Told o a (λ b c. LongOn b c e) → (e ≡ ended.SourceFault → P) → (e ≡ ended.SinkFault → Q) → (P → ⊥) → (Q → ⊥)
+pub completed : (o a : Option (List ℕ)) (e : Ended) (P Q : Type 0) → SourceAsRead o e → Told o a (λ b c. LongOn b c e) → (e ≡ Ended.SourceFault → P) → (e ≡ Ended.SinkFault → Q) → (P → ⊥) → (Q → ⊥)
     → Told o a (λ b c. length b ≤ max_source → is_whole_source b (source_at b) ≡ true → (status_of e ≡ 0) ⊎ (status_of e ≡ 1) ⊎ (status_of e ≡ 8))
 completed None a e P Q r l s t p q = tt
 completed (Some b) None e P Q r l s t p q = l
@@ -356,18 +326,18 @@ module _ {S K T : Type 0} {left : S → Option (List ℕ)} {source_faults : S �
 
   pub usage_at : (n ≡ 2 → words ≡ None) × (words ≡ None → (n ≡ 2) ⊎ (n ≡ 4) ⊎ (n ≡ 1))
   usage_at = (
-    λ h. not_command left source_faults held faults state s s' k k' t t' words (by_status ended.Usage h),
+    λ h. not_command left source_faults held faults state s s' k k' t t' words (by_status Ended.Usage h),
     λ h. subst (λ (z : ℕ). (z ≡ 2) ⊎ (z ≡ 4) ⊎ (z ≡ 1)) (sym is) (unread left source_faults held faults state s s' k k' t t' words e h x.ends).2,
   )
 
   pub source_fault_at : n ≡ 3 → Rose (source_faults s) (source_faults s')
-  source_fault_at h = source_fault left source_faults held faults state s s' k k' t t' words (by_status ended.SourceFault h)
+  source_fault_at h = source_fault left source_faults held faults state s s' k k' t t' words (by_status Ended.SourceFault h)
 
   pub sink_fault_at : n ≡ 4 → Rose (faults k) (faults k')
-  sink_fault_at h = sink_fault left source_faults held faults state s s' k k' t t' words (by_status ended.SinkFault h)
+  sink_fault_at h = sink_fault left source_faults held faults state s s' k k' t t' words (by_status Ended.SinkFault h)
 
   pub open_fault_at : n ≡ 8 → Rose (state t).faults (state t').faults
-  open_fault_at h = open_fault left source_faults held faults state s s' k k' t t' words (by_status ended.TableFault h)
+  open_fault_at h = open_fault left source_faults held faults state s s' k k' t t' words (by_status Ended.TableFault h)
 
   pub session_at : ByStatus n (Ends left source_faults held faults state words s s' k k' t t')
   session_at = (e, is, x.ends)
@@ -389,8 +359,8 @@ module _ {S K T : Type 0} {left : S → Option (List ℕ)} {source_faults : S �
   complete_at h p q =
       subst (λ (z : ℕ). Told (left s) (left s') (λ b c. length b ≤ max_source → is_whole_source b (source_at b) ≡ true → (z ≡ 0) ⊎ (z ≡ 1) ⊎ (z ≡ 8))) (sym is)
       (completed (left s) (left s') e (Rose (source_faults s) (source_faults s')) (Rose (faults k) (faults k')) (refused left source_faults held faults state s s' k k' t t' words e h x.ends) (too_long left source_faults held faults state s s' k k' t t' words e h x.ends)
-      (λ f. source_fault left source_faults held faults state s s' k k' t t' words (by_ending ended.SourceFault f))
-      (λ f. sink_fault left source_faults held faults state s s' k k' t t' words (by_ending ended.SinkFault f)) p q)
+      (λ f. source_fault left source_faults held faults state s s' k k' t t' words (by_ending Ended.SourceFault f))
+      (λ f. sink_fault left source_faults held faults state s s' k k' t t' words (by_ending Ended.SinkFault f)) p q)
 
   pub tested_at : words ≡ Some Check → t' ≡ t
   tested_at h = tested_leaves left source_faults held faults state s s' k k' t t' e (subst (λ o. Ends left source_faults held faults state o s s' k k' t t' e) h x.ends)

@@ -1,41 +1,7 @@
 -- What every step keeps, what is said at its moment, and what is so at the end.
-use Rattle.std.proofs.Common.{◌≡◌, inl, inr, ℕ, List, [], ◌∷◌, ◌++◌, None, Some, Result, Ok, Err, refl, ap, sym, ◌∙◌, subst, append_assoc}
-use Rattle.std.specs.Prelude.{◌≤◌, option_to_list}
-use Rattle.std.specs.Prelude.{map as mapped}
-use Rattle.std.specs.FinMap as map
-use Rattle.std.proofs.lemmas.List.{append-nil}
-use Rattle.std.proofs.lemmas.Option.{same_Some}
-use Rattle.std.specs.declared.alloc.AllocError.{AllocError}
-use Rattle.beldi_value.specs.declared.value.Value.{Value}
-use Rattle.beldi_value.specs.declared.outcome.Outcome.{Outcome}
-use Rattle.beldi_tree.specs.declared.deployment.Deployment.{Deployment}
-use Rattle.beldi_row.specs.Table.{Rows}
-use Rattle.beldi_book.specs.declared.entry.Entry.{Entry}
-use Rattle.beldi_step.specs.declared.event.Event.{Event}
-use Rattle.beldi_step.specs.declared.event.Seen.{Seen}
-use Rattle.beldi_step.specs.Host.{Core, EventOn, first_core}
-use Rattle.beldi_laws.specs.Laws.{BookGrew}
-use Rattle.beldi_plain.specs.Replies.{HasReply, starts_of}
-use Rattle.beldi_laws.specs.Laws.{bound_by as bound_by_event}
-use Rattle.beldi_laws.specs.Right.{Right}
-use Rattle.beldi_laws.proofs.Events.{keeps_right, replies, right_legal}
-use Rattle.beldi_laws.proofs.OneEvent.{book_grew}
-use Rattle.beldi_laws.proofs.Starts.{outcomes_stay, starts_bound}
-use Rattle.beldi_laws.proofs.Standing.{right_stands}
-use Rattle.beldi_laws.proofs.Listing.{listing_plain}
-use Rattle.beldi_host.specs.Said.{SaidOf}
-use Rattle.beldi_host.specs.declared.survey.ReplySeen.{ReplySeen}
-use Rattle.beldi_host.specs.declared.survey.ReplySeen.TheVariants.{Unknown, Gone, Waiting, Reply}
-use Rattle.beldi_host.specs.Survey.{newest_of}
-use Rattle.beldi_host.proofs.Right.{said_of}
-use Rattle.beldi_session.specs.declared.session.Stop.{Stop}
-use Rattle.beldi_session.specs.declared.session.Stop.TheVariants.{OutOfMemory}
-use Rattle.beldi_session.specs.Script.{Action, Carry}
-use Rattle.beldi_session.specs.Response.{Report, ReplyIs, RowsAre, TablesAre, BookIs, LineRefused, Response, Answered, Reported, action_of, responses_text}
-use Rattle.beldi_session.specs.Session.{State, Unchanged, IsReport, IsStep, Steps, Went, BrokeOff, Stopped}
-use Rattle.beldi_session.proofs.Went.{unchanged}
-use Rattle.beldi_program.specs.PlainRun.{IsReportSo, IsSo, Moment, Moments, Booked, TellOutcomes, GoesOn, IsPlainRun, Session, bound_by, bound_in, last_book, outcome_in, responses_in}
-use Rattle.beldi_program.specs.Hosted.{Hosted, StepsTo, opened_at}
+use Rattle.std.specs.Prelude.{◌≤◌}
+use Rattle.beldi_program.proofs.Names.{Action, AllocError, Answered, BookGrew, BookIs, Booked, BrokeOff, Carry, Core, Deployment, Entry, Err, Event, EventOn, GoesOn, Gone, HasReply, Hosted, IsPlainRun, IsReport, IsReportSo, IsSo, IsStep, LineRefused, List, Moment, Moments, None, Ok, OutOfMemory, Outcome, Reply, ReplyIs, ReplySeen, Report, Reported, Response, Result, Right, Rows, RowsAre, SaidOf, Seen, Session, Some, State, Steps, StepsTo, Stop, Stopped, TablesAre, TellOutcomes, Unchanged, Unknown, Value, Waiting, Went, [], action_of, ap, append-nil, append_assoc, book_grew, bound_by, bound_by_event, bound_in, first_core, inl, inr, keeps_right, last_book, listing_plain, mapped, newest_of, opened_at, option_to_list, outcome_in, outcomes_stay, refl, replies, responses_in, responses_text, right_legal, right_stands, said_of, same_Some, starts_bound, starts_of, subst, sym, unchanged, ℕ, ◌++◌, ◌∙◌, ◌∷◌, ◌≡◌}
+use Rattle.beldi_program.proofs.Names.map
 
 abbrev Bound : Type 0
 Bound = List (ℕ × (ℕ × Value))

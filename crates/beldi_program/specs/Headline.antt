@@ -3,21 +3,9 @@ use Rattle.std.specs.Prelude.{◌≡◌, ◌⊎◌, ◌≤◌, ◌<◌, ◌+◌,
 use Rattle.beldi_tree.specs.declared.deployment.Deployment.{Deployment}
 use Rattle.beldi_row.specs.Table.{Rows, TableState}
 use Rattle.beldi_outside.specs.Outside.{IsPrefixOf, Told, Rose, TookFront, max_source}
-use Rattle.beldi_session.specs.declared.refusal.Refusal.{Refusal}
-use Rattle.beldi_session.specs.declared.source.Accepted.{Accepted}
-use Rattle.beldi_session.specs.declared.session.Stop.{Stop}
-use Rattle.beldi_session.specs.declared.session.Stop.TheVariants as stop
-use Rattle.beldi_program.specs.declared.program.Ended.{Ended}
-use Rattle.beldi_program.specs.declared.program.Ended.TheVariants as ended
-use Rattle.beldi_program.specs.Hosted.{HostedUntil, HostedWhole}
-use Rattle.beldi_program.specs.PlainRun.{Session, last_book}
-use Rattle.beldi_session.specs.Refusal.{refusal_text}
-use Rattle.beldi_session.specs.Script.{Action, actions_in, is_whole}
-use Rattle.beldi_session.specs.Session.{Writes}
-use Rattle.beldi_session.specs.Source.{Numbered, script_of, source_at}
-use Rattle.beldi_session.specs.Check.{check_at}
-use Rattle.beldi_command.specs.declared.command.Command.{Command}
-use Rattle.beldi_command.specs.declared.command.Command.TheVariants.{Run, Check}
+use Rattle.beldi_command.specs.declared.command.Command.{Command, TheVariants.Run, TheVariants.Check}
+use Rattle.beldi_session.specs.{declared.refusal.Refusal.Refusal, declared.source.Accepted.Accepted, declared.session.Stop.Stop, Refusal.refusal_text, Script.Action, Script.actions_in, Script.is_whole, Session.Writes, Source.Numbered, Source.script_of, Source.source_at, Check.check_at}
+use Rattle.beldi_program.specs.{declared.program.Ended.Ended, Hosted.HostedUntil, Hosted.HostedWhole, PlainRun.Session, PlainRun.last_book}
 
 abbrev pub usage : List ℕ
 usage = codes "usage: beldi run | check\n"
@@ -49,14 +37,14 @@ module _ {K : Type 0} (held : K → Option (List ℕ)) (faults : K → ℕ) wher
 
   -- this text is all that is said, and then the program ends so, unless the sink failed or memory ran out
   abbrev pub TextEnds : List ℕ → Ended → K → K → Ended → Type 0
-  TextEnds text end k k' ended.SinkFault = WroteFront text k k'
-  TextEnds text end k k' ended.OutOfMemory = k' ≡ k
+  TextEnds text end k k' Ended.SinkFault = WroteFront text k k'
+  TextEnds text end k k' Ended.OutOfMemory = k' ≡ k
   TextEnds text end k k' e = (e ≡ end) × Wrote text k k'
 
   -- a source was tested: by what it comes to, that is told, or its refusal
   abbrev pub CheckEnds : Result (List ℕ) Refusal → K → K → Ended → Type 0
-  CheckEnds (Ok text) k k' e = TextEnds text ended.Done k k' e
-  CheckEnds (Err x) k k' e = TextEnds (refusal_text x) ended.Refused k k' e
+  CheckEnds (Ok text) k k' e = TextEnds text Ended.Done k k' e
+  CheckEnds (Err x) k k' e = TextEnds (refusal_text x) Ended.Refused k k' e
 
 -- .. a table by its state
 module _ {K T : Type 0} (held : K → Option (List ℕ)) (faults : K → ℕ) (state : T → TableState) where
@@ -70,17 +58,17 @@ module _ {K T : Type 0} (held : K → Option (List ℕ)) (faults : K → ℕ) (s
 
   -- the lines of a deployment are carried out
   abbrev pub SessionEnds : Deployment → List Numbered → K → K → T → T → Ended → Type 0
-  SessionEnds d lines k k' t t' ended.Done = (is_whole d lines ≡ true) × Ran (Whole d lines) k k' t t'
-  SessionEnds d lines k k' t t' ended.Refused = (is_whole d lines ≡ false) × Ran (Whole d lines) k k' t t'
-  SessionEnds d lines k k' t t' ended.OutOfMemory = NothingDone k k' t t' ⊎ Ran (Cut stop.OutOfMemory d lines) k k' t t'
-  SessionEnds d lines k k' t t' ended.SinkFault = Rose (faults k) (faults k') × Ran (Cut stop.SinkFault d lines) k k' t t'
-  SessionEnds d lines k k' t t' ended.TableFault = Rose (state t).faults (state t').faults × NothingDone k k' t t'
+  SessionEnds d lines k k' t t' Ended.Done = (is_whole d lines ≡ true) × Ran (Whole d lines) k k' t t'
+  SessionEnds d lines k k' t t' Ended.Refused = (is_whole d lines ≡ false) × Ran (Whole d lines) k k' t t'
+  SessionEnds d lines k k' t t' Ended.OutOfMemory = NothingDone k k' t t' ⊎ Ran (Cut Stop.OutOfMemory d lines) k k' t t'
+  SessionEnds d lines k k' t t' Ended.SinkFault = Rose (faults k) (faults k') × Ran (Cut Stop.SinkFault d lines) k k' t t'
+  SessionEnds d lines k k' t t' Ended.TableFault = Rose (state t).faults (state t').faults × NothingDone k k' t t'
   SessionEnds d lines k k' t t' e = ⊥
 
   -- by what the source says: its deployment was read, keeps every rule and can be carried out; or it is refused
   abbrev pub SourceEnds : List ℕ → Result Accepted Refusal → K → K → T → T → Ended → Type 0
   SourceEnds bytes (Ok p) k k' t t' e = SessionEnds p.code (script_of bytes p) k k' t t' e
-  SourceEnds bytes (Err x) k k' t t' e = (t' ≡ t) × TextEnds held faults (refusal_text x) ended.Refused k k' e
+  SourceEnds bytes (Err x) k k' t t' e = (t' ≡ t) × TextEnds held faults (refusal_text x) Ended.Refused k k' e
 
   -- by the command, once the source was read. To test it leaves the table as it was handed in.
   abbrev pub DoneBy : Command → List ℕ → K → K → T → T → Ended → Type 0
@@ -96,16 +84,16 @@ module _ {S K T : Type 0} (left : S → Option (List ℕ)) (source_faults : S �
   -- the words are those of a command: the source is read, unless it failed, has more bytes than it may, of which just one more was
   -- taken, or memory ran out; then nothing is done or written
   abbrev pub CommandEnds : Command → S → S → K → K → T → T → Ended → Type 0
-  CommandEnds c s s' k k' t t' ended.Usage = ⊥
-  CommandEnds c s s' k k' t t' ended.SourceFault = Rose (source_faults s) (source_faults s') × Told (left s) (left s') (TookFront max_source) × (t' ≡ t) × (k' ≡ k)
-  CommandEnds c s s' k k' t t' ended.TooLong = Told (left s) (left s') (λ b c. (max_source < length b) × (c ≡ drop (max_source + 1) b)) × (t' ≡ t) × (k' ≡ k)
-  CommandEnds c s s' k k' t t' ended.OutOfMemory = (Told (left s) (left s') (TookFront (max_source + 1)) × (t' ≡ t) × (k' ≡ k)) ⊎ ReadEnds c s s' k k' t t' ended.OutOfMemory
+  CommandEnds c s s' k k' t t' Ended.Usage = ⊥
+  CommandEnds c s s' k k' t t' Ended.SourceFault = Rose (source_faults s) (source_faults s') × Told (left s) (left s') (TookFront max_source) × (t' ≡ t) × (k' ≡ k)
+  CommandEnds c s s' k k' t t' Ended.TooLong = Told (left s) (left s') (λ b c. (max_source < length b) × (c ≡ drop (max_source + 1) b)) × (t' ≡ t) × (k' ≡ k)
+  CommandEnds c s s' k k' t t' Ended.OutOfMemory = (Told (left s) (left s') (TookFront (max_source + 1)) × (t' ≡ t) × (k' ≡ k)) ⊎ ReadEnds c s s' k k' t t' Ended.OutOfMemory
   CommandEnds c s s' k k' t t' e = ReadEnds c s s' k k' t t' e
 
   -- by what the words ask for: none of the commands, and the usage is told; or one of them
   abbrev pub Ends : Option Command → S → S → K → K → T → T → Ended → Type 0
   Ends (Some c) s s' k k' t t' e = CommandEnds c s s' k k' t t' e
-  Ends None s s' k k' t t' e = (s' ≡ s) × (t' ≡ t) × TextEnds held faults usage ended.Usage k k' e
+  Ends None s s' k k' t t' e = (s' ≡ s) × (t' ≡ t) × TextEnds held faults usage Ended.Usage k k' e
 
 -- the program ended so
 pub record HasEnded {S K T : Type 0} (left : S → Option (List ℕ)) (source_faults : S → ℕ) (held : K → Option (List ℕ)) (faults : K → ℕ) (state : T → TableState) (words : Option Command) (s s' : S) (k k' : K) (t t' : T) (e : Ended) : Type 0 where
@@ -113,20 +101,20 @@ pub record HasEnded {S K T : Type 0} (left : S → Option (List ℕ)) (source_fa
 
 -- ---- the status
 abbrev pub status_of : Ended → ℕ
-status_of ended.Done = 0
-status_of ended.OutOfMemory = 1
-status_of ended.Usage = 2
-status_of ended.SourceFault = 3
-status_of ended.SinkFault = 4
-status_of ended.Refused = 5
-status_of ended.TooLong = 7
-status_of ended.TableFault = 8
+status_of Ended.Done = 0
+status_of Ended.OutOfMemory = 1
+status_of Ended.Usage = 2
+status_of Ended.SourceFault = 3
+status_of Ended.SinkFault = 4
+status_of Ended.Refused = 5
+status_of Ended.TooLong = 7
+status_of Ended.TableFault = 8
 
 abbrev pub end_of : Result Bool Stop → Ended
-end_of (Ok true) = ended.Done
-end_of (Ok false) = ended.Refused
-end_of (Err stop.OutOfMemory) = ended.OutOfMemory
-end_of (Err stop.SinkFault) = ended.SinkFault
+end_of (Ok true) = Ended.Done
+end_of (Ok false) = Ended.Refused
+end_of (Err Stop.OutOfMemory) = Ended.OutOfMemory
+end_of (Err Stop.SinkFault) = Ended.SinkFault
 
 -- the status is that of an ending of which P holds
 abbrev pub ByStatus : ℕ → (Ended → Type 0) → Type 0
@@ -134,8 +122,8 @@ ByStatus status P = (e : Ended) × (status ≡ status_of e) × P e
 
 -- the source has more than it may, and just one byte more than it may have was taken
 abbrev pub LongOn : List ℕ → List ℕ → Ended → Type 0
-LongOn b c ended.TooLong = (max_source < length b) × (c ≡ drop (max_source + 1) b)
-LongOn b c e = length b ≤ max_source ⊎ (e ≡ ended.SourceFault) ⊎ (e ≡ ended.OutOfMemory)
+LongOn b c Ended.TooLong = (max_source < length b) × (c ≡ drop (max_source + 1) b)
+LongOn b c e = length b ≤ max_source ⊎ (e ≡ Ended.SourceFault) ⊎ (e ≡ Ended.OutOfMemory)
 
 -- nothing of the source is refused: neither its deployment nor a line of its script
 abbrev pub is_whole_source : List ℕ → Result Accepted Refusal → Bool
@@ -144,9 +132,9 @@ is_whole_source bytes (Ok p) = is_whole p.code (script_of bytes p)
 
 -- only a source that is not refused is carried out whole, and only one that is refused is answered so; the words were right
 abbrev pub AsRead : Bool → Ended → Type 0
-AsRead whole ended.Done = whole ≡ true
-AsRead whole ended.Refused = whole ≡ false
-AsRead whole ended.Usage = ⊥
+AsRead whole Ended.Done = whole ≡ true
+AsRead whole Ended.Refused = whole ≡ false
+AsRead whole Ended.Usage = ⊥
 AsRead whole e = Unit {0}
 
 abbrev pub SourceAsRead : Option (List ℕ) → Ended → Type 0
@@ -156,7 +144,7 @@ SourceAsRead (Some b) e = AsRead (is_whole_source b (source_at b)) e
 -- an ending before the host was opened: by it the table is the one that was handed in, or has its rows, and the sink was
 -- not called
 abbrev pub Untouched : Ended → Type 0 → Type 0 → Type 0 → Type 0
-Untouched ended.SourceFault table rows sink = table × sink
-Untouched ended.TooLong table rows sink = table × sink
-Untouched ended.TableFault table rows sink = rows × sink
+Untouched Ended.SourceFault table rows sink = table × sink
+Untouched Ended.TooLong table rows sink = table × sink
+Untouched Ended.TableFault table rows sink = rows × sink
 Untouched e table rows sink = Unit {0}

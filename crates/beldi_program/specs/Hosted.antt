@@ -3,16 +3,11 @@ use Rattle.std.specs.Prelude.{◌≡◌, ◌≤◌, ℕ, List, [], ◌∷◌, So
 use Rattle.std.specs.FinMap as map
 use Rattle.beldi_tree.specs.declared.deployment.Deployment.{Deployment}
 use Rattle.beldi_book.specs.declared.entry.Entry.{Entry}
+use Rattle.beldi_plain.specs.{Plain.PlainState, Legal.run_of, Listing.listing_of}
 use Rattle.beldi_row.specs.Table.{Rows}
-use Rattle.beldi_plain.specs.Plain.{PlainState}
-use Rattle.beldi_plain.specs.Legal.{run_of}
-use Rattle.beldi_plain.specs.Listing.{listing_of}
-use Rattle.beldi_step.specs.Host.{Core, first_core}
-use Rattle.beldi_step.specs.Tables.{tables_text}
+use Rattle.beldi_step.specs.{Host.Core, Host.first_core, Tables.tables_text}
 use Rattle.beldi_host.specs.Survey.{newest_of}
-use Rattle.beldi_session.specs.declared.session.Stop.{Stop}
-use Rattle.beldi_session.specs.Script.{Action}
-use Rattle.beldi_session.specs.Session.{State, IsStep, Stopped}
+use Rattle.beldi_session.specs.{declared.session.Stop.Stop, Script.Action, Session.State, Session.IsStep, Session.Stopped}
 use Rattle.beldi_program.specs.PlainRun.{Booked}
 
 -- the host over rows, once it was open, with the table's count of failures then

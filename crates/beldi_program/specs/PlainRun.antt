@@ -1,20 +1,14 @@
 -- That a session is a run without crashes, of exactly the requests that were bound. Nothing here knows how the host moves.
 use Rattle.std.specs.Prelude.{◌≡◌, ◌&&◌, ℕ, Bool, false, List, [], ◌∷◌, ◌++◌, flat_map, map, Option, Some, None, option_to_list}
 use Rattle.std.specs.FinMap as finite
-use Rattle.beldi_value.specs.declared.value.Value.{Value}
-use Rattle.beldi_value.specs.declared.outcome.Outcome.{Outcome}
+use Rattle.beldi_value.specs.declared.{value.Value.Value, outcome.Outcome.Outcome}
 use Rattle.beldi_tree.specs.declared.deployment.Deployment.{Deployment}
-use Rattle.beldi_book.specs.Text.{book_text}
-use Rattle.beldi_book.specs.declared.entry.Entry.{Entry}
+use Rattle.beldi_book.specs.{Text.book_text, declared.entry.Entry.Entry}
+use Rattle.beldi_plain.specs.{Plain.PlainState, Legal.IsLegal, Legal.run_of, Listing.listing_of, Replies.starts_of, Replies.HasReply}
 use Rattle.beldi_row.specs.Table.{Rows}
-use Rattle.beldi_plain.specs.Plain.{PlainState}
-use Rattle.beldi_plain.specs.Legal.{IsLegal, run_of}
-use Rattle.beldi_plain.specs.Listing.{listing_of}
-use Rattle.beldi_plain.specs.Replies.{starts_of, HasReply}
 use Rattle.beldi_step.specs.Told.{bound_of, entries_told, is_dropped, is_lost, told_outcome}
 use Rattle.beldi_known.specs.Stands.{Stands}
-use Rattle.beldi_host.specs.Said.{SaidOf}
-use Rattle.beldi_host.specs.declared.survey.ReplySeen.TheVariants.{Reply}
+use Rattle.beldi_host.specs.{Said.SaidOf, declared.survey.ReplySeen.TheVariants.Reply}
 use Rattle.beldi_session.specs.Response.{Report, ReplyIs, TablesAre, BookIs, Response, Answered, Reported, action_of, responses_text}
 use Rattle.beldi_session.specs.Script.{Action}
 

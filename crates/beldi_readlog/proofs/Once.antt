@@ -1,18 +1,10 @@
 -- What a place was given is kept once.
-use Rattle.std.proofs.Common.{◌≡◌, ℕ, false, Option, None, Some, refl, sym, subst}
 use Rattle.std.specs.Option.{option_map}
 use Rattle.std.specs.FinMap as map
+use Rattle.std.proofs.Common.{◌≡◌, ℕ, false, Option, None, Some, refl, sym, subst}
 use Rattle.beldi_value.specs.declared.value.Value.{Value}
-use Rattle.beldi_row.specs.Key.{RowKey}
-use Rattle.beldi_row.specs.declared.row.Row.{Row}
-use Rattle.beldi_row.specs.declared.row.Row.TheVariants as rows
-use Rattle.beldi_row.specs.declared.act.Act.{Act}
-use Rattle.beldi_row.specs.declared.act.Act.TheVariants.{Bind, Look, PutRead}
-use Rattle.beldi_row.specs.Act.{act}
-use Rattle.beldi_row.specs.Table.{Rows, set_row}
-use Rattle.beldi_row.proofs.Unchanged.{unchanged, looked}
-use Rattle.beldi_walk.specs.Query.{said}
-use Rattle.beldi_walk.proofs.Promises.{promised, at_each}
+use Rattle.beldi_row.{specs.Key.RowKey, specs.declared.row.Row.Row, specs.declared.act.Act.Act, specs.declared.act.Act.TheVariants.Bind, specs.declared.act.Act.TheVariants.Look, specs.declared.act.Act.TheVariants.PutRead, specs.Act.act, specs.Table.Rows, specs.Table.set_row, proofs.Unchanged.unchanged, proofs.Unchanged.looked}
+use Rattle.beldi_walk.{specs.Query.said, proofs.Promises.promised, proofs.Promises.at_each}
 use Rattle.beldi_readlog.specs.ReadLog.{log_key, given_asks, keep_asks, given_in, given, given_of, kept_of, PutOn, GetGives, IsKept, ValuesArePutOnce, ValuesStay}
 
 given_row : (now : ℕ) (o : Option Row) → given_of (said (act Look now o).1) ≡ option_map given_in o
@@ -23,7 +15,7 @@ pub get_gives : GetGives
 get_gives home at now = promised (given_asks home at) now given_of (λ m n r. (n ≡ m) × (r ≡ given m (log_key home at))) (λ m. (looked now (log_key home at) m, given_row now (map.get m (log_key home at))))
 
 kept_there : (v : Value) (now : ℕ) (r : Row) → kept_of v (said (act (PutRead v) now (Some r)).1) ≡ record { value = given_in r; added = false }
-kept_there v now (rows.ReadLog w) = refl
+kept_there v now (Row.ReadLog w) = refl
 kept_there v now r = refl
 
 put_at : (v : Value) (now : ℕ) (k : RowKey) (m : Rows) (o : Option Row) → map.get m k ≡ o → PutOn v k o m (set_row m k (act (PutRead v) now o).0) (kept_of v (said (act (PutRead v) now o).1))
@@ -34,9 +26,9 @@ pub put_once : ValuesArePutOnce
 put_once home at v now = promised (keep_asks home at v) now (kept_of v) (λ m. PutOn v (log_key home at) (map.get m (log_key home at)) m) (λ m. put_at v now (log_key home at) m (map.get m (log_key home at)) refl)
 
 -- no act changes such a row
-act_keeps : (a : Act) (now : ℕ) (v : Value) → (act a now (Some (rows.ReadLog v))).0 ≡ Some (rows.ReadLog v)
+act_keeps : (a : Act) (now : ℕ) (v : Value) → (act a now (Some (Row.ReadLog v))).0 ≡ Some (Row.ReadLog v)
 act_keeps (Bind f w) now v = refl
 act_keeps a now v = refl
 
 pub values_stay : ValuesStay
-values_stay q now m k = at_each IsKept (λ r v is. is) (λ a now r v is. subst (λ o. (act a now o).0 ≡ Some (rows.ReadLog v)) (sym is) (act_keeps a now v)) q now m k
+values_stay q now m k = at_each IsKept (λ r v is. is) (λ a now r v is. subst (λ o. (act a now o).0 ≡ Some (Row.ReadLog v)) (sym is) (act_keeps a now v)) q now m k

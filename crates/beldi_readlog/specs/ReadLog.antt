@@ -2,23 +2,10 @@
 use Rattle.std.specs.Prelude.{◌≡◌, ℕ, true, false, Option, Some, None}
 use Rattle.std.specs.Option.{option_map}
 use Rattle.std.specs.FinMap as map
-use Rattle.beldi_value.specs.declared.value.Value.{Value}
-use Rattle.beldi_value.specs.declared.value.Value.TheVariants.{Null}
-use Rattle.beldi_value.specs.declared.place.Place.{Place}
-use Rattle.beldi_row.specs.Key.{RowKey}
-use Rattle.beldi_row.specs.declared.key.Kind.TheVariants.{ReadLog}
-use Rattle.beldi_row.specs.declared.row.Row.{Row}
-use Rattle.beldi_row.specs.declared.row.Row.TheVariants as rows
-use Rattle.beldi_row.specs.declared.act.Act.TheVariants.{Look, PutRead}
-use Rattle.beldi_row.specs.Act.{here, added, kept}
-use Rattle.beldi_row.specs.Table.{Rows, set_row}
-use Rattle.beldi_walk.specs.declared.query.Query.{Query}
-use Rattle.beldi_walk.specs.declared.query.Query.TheVariants.{Act}
-use Rattle.beldi_walk.specs.Query.{Told, said, rows_after}
-use Rattle.beldi_walk.specs.Walk.{Promises}
-use Rattle.beldi_readlog.specs.declared.read_log.Kept.{Kept}
-use Rattle.beldi_readlog.specs.declared.read_log.Given.{Given}
-use Rattle.beldi_readlog.specs.declared.read_log.Keep.{Keep}
+use Rattle.beldi_value.specs.declared.{value.Value.Value, value.Value.TheVariants.Null, place.Place.Place}
+use Rattle.beldi_row.specs.{Key.RowKey, declared.key.Kind.TheVariants.ReadLog, declared.row.Row.Row, declared.act.Act.TheVariants.Look, declared.act.Act.TheVariants.PutRead, Act.here, Act.added, Act.kept, Table.Rows, Table.set_row}
+use Rattle.beldi_walk.specs.{declared.query.Query.Query, declared.query.Query.TheVariants.Act, Query.Told, Query.said, Query.rows_after, Walk.Promises}
+use Rattle.beldi_readlog.specs.declared.read_log.{Kept.Kept, Given.Given, Keep.Keep}
 
 -- the row of what the read of a function at a place was given
 abbrev pub log_key : ℕ → Place → RowKey
@@ -26,7 +13,7 @@ log_key home place = record { home = home; kind = ReadLog place }
 
 -- the value that a row says was given: a row of another kind says null
 abbrev pub given_in : Row → Value
-given_in (rows.ReadLog v) = v
+given_in (Row.ReadLog v) = v
 given_in r = Null
 
 -- the value that was given, none where there is no row
@@ -82,7 +69,7 @@ GetGives = (home : ℕ) (at : Place) (now : ℕ) → Promises (given_asks home a
 
 -- where no row was, the value is put; where one was, what it says was given is told, and all rows stay
 abbrev pub PutOn : Value → RowKey → Option Row → Rows → Rows → Kept → Type 0
-PutOn v k None m n r = (n ≡ set_row m k (Some (rows.ReadLog v))) × (r ≡ record { value = v; added = true })
+PutOn v k None m n r = (n ≡ set_row m k (Some (Row.ReadLog v))) × (r ≡ record { value = v; added = true })
 PutOn v k (Some w) m n r = (n ≡ m) × (r ≡ record { value = given_in w; added = false })
 
 abbrev pub ValuesArePutOnce : Type 0
@@ -91,7 +78,7 @@ ValuesArePutOnce = (home : ℕ) (at : Place) (v : Value) (now : ℕ) → let k =
 
 -- a row of what a read was given is as it was
 abbrev pub IsKept : Option Row → Option Row → Type 0
-IsKept r s = (v : Value) → r ≡ Some (rows.ReadLog v) → s ≡ Some (rows.ReadLog v)
+IsKept r s = (v : Value) → r ≡ Some (Row.ReadLog v) → s ≡ Some (Row.ReadLog v)
 
 -- whatever is asked of a table, wherever, what a read was given stays
 abbrev pub ValuesStay : Type 0

@@ -1,8 +1,7 @@
 -- The note of a place is found by its index.
 use Rattle.std.proofs.Common.{◌≡◌, ℕ, ◌+◌, zero, suc, true, false, List, [], ◌∷◌, Some, refl, ap, sym, ◌∙◌, drop, slice_get, if◌then◌else◌, arith}
 use Rattle.beldi_value.specs.declared.place.Place.{Place}
-use Rattle.beldi_row.specs.declared.notes.Note.{Note}
-use Rattle.beldi_row.specs.Log.{place_eq, note_at, note_of, index_from, index_at, NotedAt}
+use Rattle.beldi_row.specs.{declared.notes.Note.Note, Log.place_eq, Log.note_at, Log.note_of, Log.index_from, Log.index_at, Log.NotedAt}
 
 front : {X : Type 0} (xs : List X) (i : ℕ) (y : X) (ys : List X) → drop i xs ≡ y ∷ ys → (slice_get xs i ≡ Some y) × (drop (suc i) xs ≡ ys)
 front [] zero y ys h = cc

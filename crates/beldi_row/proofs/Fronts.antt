@@ -1,13 +1,8 @@
 -- Keys are compared by their fronts, and then by their kinds.
+use Rattle.std.{specs.Ordering.nat_cmp, specs.Ordering.ordering_then, specs.Cmp.nat_cmp_is, proofs.lemmas.Cmp.ranked, specs.declared.cmp.Ordering.Ordering, specs.declared.cmp.Ordering.TheVariants.Less, specs.declared.cmp.Ordering.TheVariants.Equal, specs.declared.cmp.Ordering.TheVariants.Greater}
 use Rattle.std.proofs.Common.{◌≡◌, ℕ, ◌+◌, ◌*◌, ◌^◌, ◌<◌, refl, ap, ap₂, sym, ◌∙◌, arith}
-use Rattle.std.specs.Ordering.{nat_cmp, ordering_then}
-use Rattle.std.specs.Cmp.{nat_cmp_is}
-use Rattle.std.proofs.lemmas.Cmp.{ranked}
-use Rattle.std.specs.declared.cmp.Ordering.{Ordering}
-use Rattle.std.specs.declared.cmp.Ordering.TheVariants.{Less, Equal, Greater}
-use Rattle.beldi_row.specs.declared.key.Kind.{Kind}
-use Rattle.beldi_row.specs.declared.key.Kind.TheVariants.{Intent, ReadLog, Invoke, Data, Shadow, Lockset}
 use Rattle.beldi_row.specs.Key.{RowKey, front_of, kind_cmp, key_cmp, rank_of, rest_cmp, ticket_of}
+use Rattle.beldi_row.specs.declared.key.Kind.{Kind, TheVariants.Intent, TheVariants.ReadLog, TheVariants.Invoke, TheVariants.Data, TheVariants.Shadow, TheVariants.Lockset}
 
 -- three numbers, of which the later are small, compared as one
 module _ (h r t i s u : ℕ) (few : r < 256) (some : s < 256) (small : t < 2 ^ 32) (least : u < 2 ^ 32) where

@@ -1,14 +1,8 @@
 -- What is at a key after a row was set.
-use Rattle.std.proofs.Common.{◌≡◌, true, cond, Option, None, Some, ap}
+use Rattle.std.{specs.FinMap.get-insert, specs.FinMap.get-remove, specs.Cmp.Equal-is, specs.Ordering.is_eq, proofs.lemmas.Cmp.tied_itself}
 use Rattle.std.specs.FinMap as map
-use Rattle.std.specs.FinMap.{get-insert, get-remove}
-use Rattle.std.specs.Cmp.{Equal-is}
-use Rattle.std.specs.Ordering.{is_eq}
-use Rattle.std.proofs.lemmas.Cmp.{tied_itself}
-use Rattle.beldi_row.specs.Key.{RowKey, key_cmp}
-use Rattle.beldi_row.specs.KeyOrder.{key_total, key_exact}
-use Rattle.beldi_row.specs.declared.row.Row.{Row}
-use Rattle.beldi_row.specs.Table.{Rows, set_row}
+use Rattle.std.proofs.Common.{◌≡◌, true, cond, Option, None, Some, ap}
+use Rattle.beldi_row.specs.{Key.RowKey, Key.key_cmp, KeyOrder.key_total, KeyOrder.key_exact, declared.row.Row.Row, Table.Rows, Table.set_row}
 
 pub got : (m : Rows) (k q : RowKey) (v : Option Row) → map.get (set_row m k v) q ≡ cond (is_eq (key_cmp q k)) v (map.get m q)
 got m k q None = get-remove key_total m k q

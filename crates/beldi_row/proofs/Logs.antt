@@ -1,10 +1,8 @@
 -- Places that are one, and logs with a note more.
-use Rattle.std.proofs.Common.{◌≡◌, ℕ, ◌==◌, ◌&&◌, Bool, true, false, List, [], ◌∷◌, ◌++◌, Option, None, Some, refl, ap, sym, ◌∙◌, subst, eqb-true, eq-eqb, if◌then◌else◌}
 use lib.Pointwise.{pointwise}
-use Rattle.beldi_value.specs.declared.id.IntentId.{IntentId}
-use Rattle.beldi_value.specs.declared.place.Place.{Place}
-use Rattle.beldi_row.specs.declared.notes.Note.{Note}
-use Rattle.beldi_row.specs.Log.{note_at, place_eq, id_eq, NoneTwice}
+use Rattle.std.proofs.Common.{◌≡◌, ℕ, ◌==◌, ◌&&◌, Bool, true, false, List, [], ◌∷◌, ◌++◌, Option, None, Some, refl, ap, sym, ◌∙◌, subst, eqb-true, eq-eqb, if◌then◌else◌}
+use Rattle.beldi_value.specs.declared.{id.IntentId.IntentId, place.Place.Place}
+use Rattle.beldi_row.specs.{declared.notes.Note.Note, Log.note_at, Log.place_eq, Log.id_eq, Log.NoneTwice}
 
 -- ---- intents and places
 both : (a b : Bool) → (a && b) ≡ true → (a ≡ true) × (b ≡ true)

@@ -1,19 +1,7 @@
 -- The map that a table's entries make.
-use Rattle.std.proofs.Common.{◌≡◌, ◌+◌, true, false, cond, List, [], ◌∷◌, length, None, Some, refl, ap, sym, ◌∙◌, is_some, arith}
-use Rattle.std.specs.Map.{lookup, keys_of}
-use Rattle.std.proofs.lemmas.List.{nil_from_length}
-use Rattle.std.specs.BTreeMap.{is_at}
-use Rattle.std.specs.Cmp.{IsTotalOrder, Equal-is}
-use Rattle.std.proofs.lemmas.Cmp.{eq_by_cmp_equiv, tied_itself}
-use Rattle.std.proofs.lemmas.Map.Lookups.{CmpEqualImpliesEq}
-use Rattle.std.proofs.lemmas.Map.Keys.{sorted_head, sorted_tail}
-use Rattle.std.specs.List.Sorted.{IsStrictlySortedBy}
-use Rattle.std.specs.List.{AllByRecursion}
-use Rattle.std.specs.declared.cmp.Ordering.{Ordering}
-use Rattle.std.specs.declared.cmp.Ordering.TheVariants.{Less}
-use Rattle.std.specs.Ordering.{is_eq}
-use Rattle.std.specs.FinMap.Entries.{put, by_order}
 use Rattle.std.specs.FinMap.{FinMap, empty, len-entries, entries, entries-insert, from_entries, find, get, insert, remove, len, get-from_entries, get-insert, get-remove, same_map, get_tied, len-insert, len-empty}
+use Rattle.std.{specs.Map.lookup, specs.Map.keys_of, proofs.lemmas.List.nil_from_length, specs.BTreeMap.is_at, specs.Cmp.IsTotalOrder, specs.Cmp.Equal-is, proofs.lemmas.Cmp.eq_by_cmp_equiv, proofs.lemmas.Cmp.tied_itself, proofs.lemmas.Map.Lookups.CmpEqualImpliesEq, proofs.lemmas.Map.Keys.sorted_head, proofs.lemmas.Map.Keys.sorted_tail, specs.List.Sorted.IsStrictlySortedBy, specs.List.AllByRecursion, specs.declared.cmp.Ordering.Ordering, specs.declared.cmp.Ordering.TheVariants.Less, specs.Ordering.is_eq, specs.FinMap.Entries.put, specs.FinMap.Entries.by_order}
+use Rattle.std.proofs.Common.{◌≡◌, ◌+◌, true, false, cond, List, [], ◌∷◌, length, None, Some, refl, ap, sym, ◌∙◌, is_some, arith}
 
 module _ {K X : Type 0} {R : K → K → Ordering} (o : IsTotalOrder R) (exact : CmpEqualImpliesEq R) where
   find_lookup : (es : List (K × X)) (q : K) → find R q es ≡ lookup (is_at (R q)) es

@@ -1,10 +1,6 @@
 -- What is told of a table's rows.
 use Rattle.std.proofs.Common.{◌≡◌, ℕ, Option, None, Some, Result, subst}
-use Rattle.beldi_row.specs.Key.{RowKey}
-use Rattle.beldi_row.specs.declared.act.Act.{Act}
-use Rattle.beldi_row.specs.declared.act.Said.{Said}
-use Rattle.beldi_row.specs.declared.table.TableErr.{TableErr}
-use Rattle.beldi_row.specs.Table.{Rows, TableState, Tells, Acted}
+use Rattle.beldi_row.specs.{Key.RowKey, declared.act.Act.Act, declared.act.Said.Said, declared.table.TableErr.TableErr, Table.Rows, Table.TableState, Table.Tells, Table.Acted}
 
 -- what follows on told rows
 pub tells_map : {P Q : Rows → Rows → Type 0} (before after : Option Rows) → ((m n : Rows) → P m n → Q m n) → Tells before after P → Tells before after Q

@@ -1,14 +1,7 @@
 -- Rows that an act leaves as they are.
-use Rattle.std.proofs.Common.{◌≡◌, ℕ, Option, None, Some, refl, ap, sym, ◌∙◌}
 use Rattle.std.specs.FinMap as map
-use Rattle.beldi_row.specs.KeyOrder.{key_total, key_exact}
-use Rattle.beldi_row.specs.Key.{RowKey}
-use Rattle.beldi_row.specs.declared.row.Row.{Row}
-use Rattle.beldi_row.specs.declared.act.Act.{Act}
-use Rattle.beldi_row.specs.declared.act.Act.TheVariants.{Look}
-use Rattle.beldi_row.specs.Act.{act}
-use Rattle.beldi_row.specs.Table.{Rows, set_row, after_act}
-use Rattle.beldi_row.proofs.Rows.{same_set, none_removed}
+use Rattle.std.proofs.Common.{◌≡◌, ℕ, Option, None, Some, refl, ap, sym, ◌∙◌}
+use Rattle.beldi_row.{specs.KeyOrder.key_total, specs.KeyOrder.key_exact, specs.Key.RowKey, specs.declared.row.Row.Row, specs.declared.act.Act.Act, specs.declared.act.Act.TheVariants.Look, specs.Act.act, specs.Table.Rows, specs.Table.set_row, specs.Table.after_act, proofs.Rows.same_set, proofs.Rows.none_removed}
 
 -- a row set to what it is
 pub unchanged : (m : Rows) (k : RowKey) (v : Option Row) → v ≡ map.get m k → set_row m k v ≡ m

@@ -1,32 +1,8 @@
 -- The act table: what an act does to one row, and what it says.
 use Rattle.std.specs.Prelude.{◌≡◌, ℕ, Bool, true, false, ◌&&◌, ◌==◌, [], ◌∷◌, ◌++◌, Option, Some, None, Result, Ok, Err, if◌then◌else◌, slice_get}
-use Rattle.beldi_value.specs.declared.value.Value.{Value}
-use Rattle.beldi_value.specs.declared.outcome.Outcome.{Outcome}
-use Rattle.beldi_value.specs.declared.place.Place.{Place}
-use Rattle.beldi_value.specs.declared.place.Owner.{Owner}
-use Rattle.beldi_value.specs.declared.place.Owner.TheVariants as owner
-use Rattle.beldi_value.specs.declared.id.IntentId.{IntentId}
-use Rattle.beldi_value.specs.Id.{age_of, is_older}
-use Rattle.beldi_value.specs.declared.rel.Rel.{Rel}
-use Rattle.beldi_value.specs.Passes.{passes}
-use Rattle.beldi_value.specs.Same.{same_value}
-use Rattle.beldi_row.specs.declared.notes.Note.{Note}
-use Rattle.beldi_row.specs.declared.notes.Note.TheVariants.{Wrote, Cond, Got, Died, Freed}
-use Rattle.beldi_row.specs.declared.row.Body.{Body}
-use Rattle.beldi_row.specs.declared.row.IntentRow.{IntentRow}
-use Rattle.beldi_row.specs.declared.row.InvokeRow.{InvokeRow}
-use Rattle.beldi_row.specs.declared.row.Cell.{Cell}
-use Rattle.beldi_row.specs.declared.row.Row.{Row}
-use Rattle.beldi_row.specs.declared.row.Row.TheVariants as rows
-use Rattle.beldi_row.specs.declared.act.Act.{Act}
+use Rattle.beldi_value.specs.{declared.value.Value.Value, declared.outcome.Outcome.Outcome, declared.place.Place.Place, declared.place.Owner.Owner, declared.id.IntentId.IntentId, Id.age_of, Id.is_older, declared.rel.Rel.Rel, Passes.passes, Same.same_value}
 use Rattle.beldi_row.specs.declared.act.Act.TheVariants.{Look, Issue, Bind, Register, End, Stamp, PutRead, OpenInvoke, CallBack, NoteRegistered, PutLockset, MakeCell, WriteCell, CondCell, LockCell, FreeCell}
-use Rattle.beldi_row.specs.declared.act.Said.{Said}
-use Rattle.beldi_row.specs.declared.act.Said.TheVariants as said
-use Rattle.beldi_row.specs.declared.act.Change.{Change}
-use Rattle.beldi_row.specs.declared.act.Change.TheVariants as change
-use Rattle.beldi_row.specs.declared.table.TableErr.{TableErr}
-use Rattle.beldi_row.specs.declared.table.TableErr.TheVariants.{OutOfMemory}
-use Rattle.beldi_row.specs.Log.{note_at, note_of, owner_eq}
+use Rattle.beldi_row.specs.{declared.notes.Note.Note, declared.notes.Note.TheVariants.Wrote, declared.notes.Note.TheVariants.Cond, declared.notes.Note.TheVariants.Got, declared.notes.Note.TheVariants.Died, declared.notes.Note.TheVariants.Freed, declared.row.Body.Body, declared.row.IntentRow.IntentRow, declared.row.InvokeRow.InvokeRow, declared.row.Cell.Cell, declared.row.Row.Row, declared.act.Act.Act, declared.act.Said.Said, declared.act.Change.Change, declared.table.TableErr.TableErr, declared.table.TableErr.TheVariants.OutOfMemory, Log.note_at, Log.note_of, Log.owner_eq}
 
 -- what an act says, without where it lies in memory
 pub data Tell : Type 0 where
@@ -51,25 +27,25 @@ pub data Tell : Type 0 where
   died : IntentId → Tell
 
 abbrev pub tell_of : Said → Tell
-tell_of said.Absent = absent
-tell_of (said.Row r) = here r.now
-tell_of said.Added = added
-tell_of said.Present = present
-tell_of said.Gone = gone
-tell_of said.Bound = bound
-tell_of (said.Other b) = other b.now
-tell_of (said.Ended o) = ended o.now
-tell_of said.Running = running
-tell_of said.Already = already
-tell_of said.Did = did
-tell_of (said.Kept v) = kept v.now
-tell_of said.NoRow = no_row
-tell_of (said.Noted n) = noted n.now
-tell_of (said.Next n) = next n
-tell_of (said.Held o) = held o.now
-tell_of said.NotOwner = not_owner
-tell_of (said.Tested b) = tested b
-tell_of (said.Died a) = died a.now
+tell_of Said.Absent = absent
+tell_of (Said.Row r) = here r.now
+tell_of Said.Added = added
+tell_of Said.Present = present
+tell_of Said.Gone = gone
+tell_of Said.Bound = bound
+tell_of (Said.Other b) = other b.now
+tell_of (Said.Ended o) = ended o.now
+tell_of Said.Running = running
+tell_of Said.Already = already
+tell_of Said.Did = did
+tell_of (Said.Kept v) = kept v.now
+tell_of Said.NoRow = no_row
+tell_of (Said.Noted n) = noted n.now
+tell_of (Said.Next n) = next n
+tell_of (Said.Held o) = held o.now
+tell_of Said.NotOwner = not_owner
+tell_of (Said.Tested b) = tested b
+tell_of (Said.Died a) = died a.now
 
 -- ---- the acts on the row of an intent
 abbrev pub outcome_tell : Option Outcome → Tell
@@ -99,7 +75,7 @@ stamp_with now i (Some f) = (i, already)
 
 -- ---- the act on what a read was given: it stays as it is, and is told
 abbrev pub kept_tell : Option Row → Tell
-kept_tell (Some (rows.ReadLog v)) = kept v
+kept_tell (Some (Row.ReadLog v)) = kept v
 kept_tell r = no_row
 
 -- ---- the acts on the row of a call
@@ -171,8 +147,8 @@ cond_at p w r o v c = at_tail p c (unless_held w c (cond_to (passes c.value r o)
 
 -- a lock: who waits for another owner is an intent, or a transaction that is older than that owner; ..
 abbrev pub waits_for : Owner → Owner → Bool
-waits_for (owner.Intent a) o = true
-waits_for (owner.Tx t) o = is_older t.intent (age_of o)
+waits_for (Owner.Intent a) o = true
+waits_for (Owner.Tx t) o = is_older t.intent (age_of o)
 
 -- .. any other transaction dies there, and its death is kept, with that owner's age
 abbrev pub wait_or_die : Place → Owner → Cell → Owner → Cell × Tell
@@ -190,25 +166,25 @@ free_at p w v c = at_tail p c (if_owned w c (entered p Freed (given_or v c.value
 
 -- ---- the acts on a row of any kind: one that does not fit its kind changes nothing, and says this
 abbrev pub on_intent : (IntentRow → IntentRow × Tell) → Tell → Row → Row × Tell
-on_intent f t (rows.Intent i) = (rows.Intent (f i).0, (f i).1)
-on_intent f t (rows.ReadLog v) = (rows.ReadLog v, t)
-on_intent f t (rows.Invoke v) = (rows.Invoke v, t)
-on_intent f t (rows.Cell c) = (rows.Cell c, t)
-on_intent f t rows.Lockset = (rows.Lockset, t)
+on_intent f t (Row.Intent i) = (Row.Intent (f i).0, (f i).1)
+on_intent f t (Row.ReadLog v) = (Row.ReadLog v, t)
+on_intent f t (Row.Invoke v) = (Row.Invoke v, t)
+on_intent f t (Row.Cell c) = (Row.Cell c, t)
+on_intent f t Row.Lockset = (Row.Lockset, t)
 
 abbrev pub on_invoke : (InvokeRow → InvokeRow × Tell) → Tell → Row → Row × Tell
-on_invoke f t (rows.Intent i) = (rows.Intent i, t)
-on_invoke f t (rows.ReadLog v) = (rows.ReadLog v, t)
-on_invoke f t (rows.Invoke i) = (rows.Invoke (f i).0, (f i).1)
-on_invoke f t (rows.Cell c) = (rows.Cell c, t)
-on_invoke f t rows.Lockset = (rows.Lockset, t)
+on_invoke f t (Row.Intent i) = (Row.Intent i, t)
+on_invoke f t (Row.ReadLog v) = (Row.ReadLog v, t)
+on_invoke f t (Row.Invoke i) = (Row.Invoke (f i).0, (f i).1)
+on_invoke f t (Row.Cell c) = (Row.Cell c, t)
+on_invoke f t Row.Lockset = (Row.Lockset, t)
 
 abbrev pub on_cell : (Cell → Cell × Tell) → Tell → Row → Row × Tell
-on_cell f t (rows.Intent i) = (rows.Intent i, t)
-on_cell f t (rows.ReadLog v) = (rows.ReadLog v, t)
-on_cell f t (rows.Invoke v) = (rows.Invoke v, t)
-on_cell f t (rows.Cell c) = (rows.Cell (f c).0, (f c).1)
-on_cell f t rows.Lockset = (rows.Lockset, t)
+on_cell f t (Row.Intent i) = (Row.Intent i, t)
+on_cell f t (Row.ReadLog v) = (Row.ReadLog v, t)
+on_cell f t (Row.Invoke v) = (Row.Invoke v, t)
+on_cell f t (Row.Cell c) = (Row.Cell (f c).0, (f c).1)
+on_cell f t Row.Lockset = (Row.Lockset, t)
 
 -- on a row that is there: the row afterwards, and what is said
 abbrev pub on : Act → ℕ → Row → Row × Tell
@@ -232,17 +208,17 @@ on (FreeCell p w v) now r = on_cell (free_at p w v) no_row r
 -- where no row is
 abbrev pub off : Act → ℕ → Option Row × Tell
 off Look now = (None, absent)
-off Issue now = (Some (rows.Intent (record { issued = now; body = None; outcome = None; finish = None })), added)
+off Issue now = (Some (Row.Intent (record { issued = now; body = None; outcome = None; finish = None })), added)
 off (Bind f a) now = (None, gone)
-off (Register b) now = (Some (rows.Intent (record { issued = now; body = Some b; outcome = None; finish = None })), added)
+off (Register b) now = (Some (Row.Intent (record { issued = now; body = Some b; outcome = None; finish = None })), added)
 off (End o s) now = (None, gone)
 off Stamp now = (None, gone)
-off (PutRead v) now = (Some (rows.ReadLog v), added)
-off (OpenInvoke f) now = (Some (rows.Invoke (record { func = f; result = None; registered = false })), added)
+off (PutRead v) now = (Some (Row.ReadLog v), added)
+off (OpenInvoke f) now = (Some (Row.Invoke (record { func = f; result = None; registered = false })), added)
 off (CallBack o) now = (None, gone)
 off NoteRegistered now = (None, gone)
-off PutLockset now = (Some rows.Lockset, added)
-off (MakeCell v o) now = (Some (rows.Cell (record { value = v; owner = o; log = []; next = None; marked = false; dangled = None })), added)
+off PutLockset now = (Some Row.Lockset, added)
+off (MakeCell v o) now = (Some (Row.Cell (record { value = v; owner = o; log = []; next = None; marked = false; dangled = None })), added)
 off (WriteCell p w v) now = (None, no_row)
 off (CondCell p w k o v) now = (None, no_row)
 off (LockCell p w s) now = (None, no_row)
@@ -282,38 +258,38 @@ noted_tell None = no_row
 noted_tell (Some n) = noted n
 
 abbrev pub intent_tell : (IntentRow → Tell) → Option Row → Tell
-intent_tell f (Some (rows.Intent i)) = f i
+intent_tell f (Some (Row.Intent i)) = f i
 intent_tell f r = gone
 
 abbrev pub cell_tell : (Cell → Tell) → Option Row → Tell
-cell_tell f (Some (rows.Cell c)) = f c
+cell_tell f (Some (Row.Cell c)) = f c
 cell_tell f r = no_row
 
 abbrev pub said_by : Change → Option Row → Tell
-said_by change.Absent r = absent
-said_by change.Row r = here_tell r
-said_by change.Added r = added
-said_by change.Present r = present
-said_by change.Gone r = gone
-said_by change.Bound r = bound
-said_by change.Other r = intent_tell (λ i. other_tell i.body) r
-said_by change.Ended r = intent_tell (λ i. ended_tell i.outcome) r
-said_by change.Running r = running
-said_by change.Already r = already
-said_by change.Did r = did
-said_by change.Kept r = kept_tell r
-said_by change.NoRow r = no_row
-said_by (change.Noted n) r = cell_tell (λ c. noted_tell (note_of (slice_get c.log n))) r
-said_by (change.Next n) r = next n
-said_by change.Held r = cell_tell (λ c. held_tell c.owner) r
-said_by change.NotOwner r = not_owner
-said_by (change.Tested b) r = tested b
-said_by change.Died r = cell_tell (λ c. died_tell c.owner) r
+said_by Change.Absent r = absent
+said_by Change.Row r = here_tell r
+said_by Change.Added r = added
+said_by Change.Present r = present
+said_by Change.Gone r = gone
+said_by Change.Bound r = bound
+said_by Change.Other r = intent_tell (λ i. other_tell i.body) r
+said_by Change.Ended r = intent_tell (λ i. ended_tell i.outcome) r
+said_by Change.Running r = running
+said_by Change.Already r = already
+said_by Change.Did r = did
+said_by Change.Kept r = kept_tell r
+said_by Change.NoRow r = no_row
+said_by (Change.Noted n) r = cell_tell (λ c. noted_tell (note_of (slice_get c.log n))) r
+said_by (Change.Next n) r = next n
+said_by Change.Held r = cell_tell (λ c. held_tell c.owner) r
+said_by Change.NotOwner r = not_owner
+said_by (Change.Tested b) r = tested b
+said_by Change.Died r = cell_tell (λ c. died_tell c.owner) r
 
 -- what stands in the way of an act on a cell is told, or else the act is done
 abbrev pub way_or : Option Change → Cell → Cell × Tell → Cell × Tell
 way_or None c r = r
-way_or (Some w) c r = (c, said_by w (Some (rows.Cell c)))
+way_or (Some w) c r = (c, said_by w (Some (Row.Cell c)))
 
 -- the row and the answer of a change are those of the act; out of memory, the row is as before
 abbrev pub Changes : Act → ℕ → Row → Row → Result Change TableErr → Type 0

@@ -1,10 +1,7 @@
 -- The order of keys, by the parts that they have.
 use Rattle.std.specs.Prelude.{ℕ, ◌+◌, ◌*◌, ◌^◌, List, []}
-use Rattle.std.specs.Ordering.{nat_cmp, ordering_then}
-use Rattle.std.specs.declared.cmp.Ordering.{Ordering}
-use Rattle.std.specs.Cmp.Lexicographic.{slice_cmp}
-use Rattle.beldi_row.specs.declared.key.Kind.{Kind}
-use Rattle.beldi_row.specs.declared.key.Kind.TheVariants.{Intent, ReadLog, Invoke, Data, Shadow, Lockset}
+use Rattle.std.specs.{Ordering.nat_cmp, Ordering.ordering_then, declared.cmp.Ordering.Ordering, Cmp.Lexicographic.slice_cmp}
+use Rattle.beldi_row.specs.declared.key.Kind.{Kind, TheVariants.Intent, TheVariants.ReadLog, TheVariants.Invoke, TheVariants.Data, TheVariants.Shadow, TheVariants.Lockset}
 
 -- the number of a kind in the order of kinds
 abbrev pub rank_of : Kind → ℕ

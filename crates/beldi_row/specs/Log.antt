@@ -1,10 +1,7 @@
 -- The notes of a cell, by place.
 use Rattle.std.specs.Prelude.{◌≡◌, ℕ, ◌+◌, Bool, false, ◌&&◌, ◌==◌, List, [], ◌∷◌, Option, Some, None, if◌then◌else◌, slice_get}
 use lib.Pointwise.{pointwise}
-use Rattle.beldi_value.specs.declared.id.IntentId.{IntentId}
-use Rattle.beldi_value.specs.declared.place.Place.{Place}
-use Rattle.beldi_value.specs.declared.place.Owner.{Owner}
-use Rattle.beldi_value.specs.declared.place.Owner.TheVariants.{Intent, Tx}
+use Rattle.beldi_value.specs.declared.{id.IntentId.IntentId, place.Place.Place, place.Owner.Owner, place.Owner.TheVariants.Intent, place.Owner.TheVariants.Tx}
 use Rattle.beldi_row.specs.declared.notes.Note.{Note}
 
 abbrev pub id_eq : IntentId → IntentId → Bool

@@ -1,18 +1,9 @@
 -- The rows of a table as a map, and what a call of a table does.
 use Rattle.std.specs.Prelude.{◌≡◌, ℕ, ◌+◌, ◌-◌, ◌^◌, ◌≤◌, ◌<◌, ◌⊎◌, min, Bool, not, ◌&&◌, is_some, List, [], ◌∷◌, Option, Some, None, Result, Ok, Err, if◌then◌else◌, IsTrue, IsErrOf}
-use Rattle.std.specs.FinMap as map
-use Rattle.std.specs.FinMap.{FinMap}
-use Rattle.std.specs.Option.{option_map}
-use Rattle.std.specs.Ordering.{is_lt}
-use Rattle.std.specs.declared.cmp.Ordering.TheVariants.{Less}
+use Rattle.std.specs.{FinMap.FinMap, Option.option_map, Ordering.is_lt, declared.cmp.Ordering.TheVariants.Less}
 use denote.Bor.{Bor}
-use Rattle.beldi_row.specs.Key.{RowKey, key_cmp}
-use Rattle.beldi_row.specs.Act.{Tell, act, off, tell_of}
-use Rattle.beldi_row.specs.declared.row.Row.{Row}
-use Rattle.beldi_row.specs.declared.act.Act.{Act}
-use Rattle.beldi_row.specs.declared.act.Said.{Said}
-use Rattle.beldi_row.specs.declared.table.TableErr.{TableErr}
-use Rattle.beldi_row.specs.declared.table.TableErr.TheVariants.{OutOfMemory, Failed, Full}
+use Rattle.std.specs.FinMap as map
+use Rattle.beldi_row.specs.{Key.RowKey, Key.key_cmp, Act.Tell, Act.act, Act.off, Act.tell_of, declared.row.Row.Row, declared.act.Act.Act, declared.act.Said.Said, declared.table.TableErr.TableErr, declared.table.TableErr.TheVariants.OutOfMemory, declared.table.TableErr.TheVariants.Failed, declared.table.TableErr.TheVariants.Full}
 
 abbrev pub Rows : Type 0
 Rows = FinMap key_cmp Row

@@ -1,12 +1,9 @@
 -- A text cut into lines: its first line, and the text of the lines that follow; and lines that were put together.
-use Rattle.std.proofs.Common.{◌≡◌, ℕ, suc, ◌-◌, ◌<◌, ◌==◌, Bool, true, false, ◌&&◌, List, [], ◌∷◌, ◌++◌, map, append_assoc, length, get_or, take, Some, None, refl, ap, sym, ◌∙◌, arith, if◌then◌else◌}
-use Rattle.std.proofs.lemmas.Option.{same_Some}
-use Rattle.std.proofs.lemmas.Bool.Decides.{nat_tests}
-use Rattle.beldi_value.specs.Cut.{before, after}
 use Rattle.std.specs.Prelude.{flat_map}
-use Rattle.std.specs.List.{AllByRecursion}
-use Rattle.beldi_script.specs.Cut.{unreturned, ends_here, onto_first, lines_of, ended, IsLine}
-use Rattle.beldi_script.proofs.Parted.{parts, none_after}
+use Rattle.std.{proofs.lemmas.Option.same_Some, proofs.lemmas.Bool.Decides.nat_tests, specs.List.AllByRecursion}
+use Rattle.std.proofs.Common.{◌≡◌, ℕ, suc, ◌-◌, ◌<◌, ◌==◌, Bool, true, false, ◌&&◌, List, [], ◌∷◌, ◌++◌, map, append_assoc, length, get_or, take, Some, None, refl, ap, sym, ◌∙◌, arith, if◌then◌else◌}
+use Rattle.beldi_value.specs.Cut.{before, after}
+use Rattle.beldi_script.{specs.Cut.unreturned, specs.Cut.ends_here, specs.Cut.onto_first, specs.Cut.lines_of, specs.Cut.ended, specs.Cut.IsLine, proofs.Parted.parts, proofs.Parted.none_after}
 
 -- a byte before a line; the newline is next where t is true
 step : (b c : ℕ) (front : List ℕ) (lines ls : List (List ℕ)) (t : Bool) → lines ≡ unreturned (if t then [] else c ∷ front) ∷ ls

@@ -1,22 +1,10 @@
 -- What a line of a script says, or why it is refused: it has none of the forms, no function has the name that stands there,
 -- or the JSON is no value. The first cause in this order counts.
 use Rattle.std.specs.Prelude.{◌≡◌, ℕ, List, Option, Some, None, Result, Ok, Err, ok_or, codes, if◌then◌else◌}
-use Rattle.beldi_value.specs.declared.value.Value.{Value}
-use Rattle.beldi_value.specs.declared.read.ValueErr.{ValueErr}
-use Rattle.beldi_value.specs.Cut.{before, after}
-use Rattle.beldi_value.specs.Datum.{Datum}
-use Rattle.beldi_value.specs.IdAt.{id_at}
-use Rattle.beldi_value.specs.Injective.{value_of}
-use Rattle.beldi_value.specs.Reading.{read_of}
-use Rattle.beldi_tree.specs.declared.deployment.Deployment.{Deployment}
-use Rattle.beldi_tree.specs.declared.deployment.Func.{Func}
-use Rattle.beldi_tree.specs.Bindings.{is_name}
+use Rattle.beldi_value.specs.{declared.value.Value.Value, declared.read.ValueErr.ValueErr, Cut.before, Cut.after, Datum.Datum, IdAt.id_at, Injective.value_of, Reading.read_of}
+use Rattle.beldi_tree.specs.{declared.deployment.Deployment.Deployment, declared.deployment.Func.Func, Bindings.is_name}
 use Rattle.beldi_check.specs.Rules.{number_of}
-use Rattle.beldi_script.specs.declared.line.Line.{Line}
-use Rattle.beldi_script.specs.declared.line.Line.TheVariants.{Blank, Request, Restart}
-use Rattle.beldi_script.specs.declared.line.ScriptErr.{ScriptErr}
-use Rattle.beldi_script.specs.declared.line.ScriptErr.TheVariants.{OutOfMemory, BadLine, UnknownFunction, BadValue}
-use Rattle.beldi_script.specs.Words.{is_blank, name_at, small_at, alone, counted}
+use Rattle.beldi_script.specs.{declared.line.Line.Line, declared.line.Line.TheVariants.Blank, declared.line.Line.TheVariants.Request, declared.line.Line.TheVariants.Restart, declared.line.ScriptErr.ScriptErr, declared.line.ScriptErr.TheVariants.OutOfMemory, declared.line.ScriptErr.TheVariants.BadLine, declared.line.ScriptErr.TheVariants.UnknownFunction, declared.line.ScriptErr.TheVariants.BadValue, Words.is_blank, Words.name_at, Words.small_at, Words.alone, Words.counted}
 
 -- `?`
 infixl 10 ◌>>=◌

@@ -1,21 +1,10 @@
 -- The text of a line, and which lines are read again.
 use Rattle.std.specs.Prelude.{◌≡◌, ℕ, ◌<◌, ◌≤◌, ◌^◌, IsTrue, List, [], ◌++◌, length, Some, Ok, decimal, codes}
 use Rattle.std.specs.List.{AllByRecursion}
-use Rattle.beldi_value.specs.Datum.{Datum}
-use Rattle.beldi_value.specs.Formed.{IsFormed}
-use Rattle.beldi_value.specs.Json.{text_of}
-use Rattle.beldi_value.specs.Limits.{is_within}
-use Rattle.beldi_value.specs.Text.{id_text}
-use Rattle.beldi_value.specs.Value.{datum_of}
-use Rattle.beldi_value.specs.declared.id.IntentId.{IntentId}
-use Rattle.beldi_tree.specs.declared.deployment.Deployment.{Deployment}
-use Rattle.beldi_tree.specs.declared.deployment.Func.{Func}
-use Rattle.beldi_tree.specs.Names.{func_text}
-use Rattle.beldi_tree.specs.Names.{func_at}
-use Rattle.beldi_script.specs.declared.line.Line.{Line}
+use Rattle.beldi_value.specs.{Datum.Datum, Formed.IsFormed, Json.text_of, Limits.is_within, Text.id_text, Value.datum_of, declared.id.IntentId.IntentId}
+use Rattle.beldi_tree.specs.{declared.deployment.Deployment.Deployment, declared.deployment.Func.Func, Names.func_text, Names.func_at}
 use Rattle.beldi_script.specs.declared.line.Line.TheVariants.{Blank, Ticket, Request, Turn, Lost, Crash, Restart, Ic, Gc, Sweep, Settle, Tick, Halt, Reply, Rows, Tables, Book}
-use Rattle.beldi_script.specs.Line.{line_at}
-use Rattle.beldi_script.specs.Words.{is_word}
+use Rattle.beldi_script.specs.{declared.line.Line.Line, Line.line_at, Words.is_word}
 
 -- a line as it is written: a blank one is empty, and how often is always said
 abbrev pub line_text : Deployment → Line → List ℕ

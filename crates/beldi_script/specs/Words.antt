@@ -1,12 +1,10 @@
 -- The parts of a script's line: numbers, names, and the lines that have no other words than numbers. One space stands between two words.
 use Rattle.std.specs.Prelude.{ℕ, ◌-◌, ◌^◌, ◌==◌, Bool, false, not, ◌||◌, ◌&&◌, List, [], ◌∷◌, Option, Some, None, option_map, option_and_then, codes, if◌then◌else◌}
-use Rattle.std.specs.List.{list_all}
-use Rattle.std.specs.Str.{is_utf8}
-use Rattle.beldi_value.specs.Cut.{before, after}
-use Rattle.beldi_value.specs.Number.{numeral_at}
+use Rattle.std.specs.{List.list_all, Str.is_utf8}
+use Rattle.beldi_value.specs.{Cut.before, Cut.after, Number.numeral_at}
 use Rattle.beldi_tree.specs.Bindings.{is_name}
-use Rattle.beldi_script.specs.declared.line.Line.{Line}
 use Rattle.beldi_script.specs.declared.line.Line.TheVariants.{Ticket, Turn, Lost, Crash, Ic, Gc, Sweep, Settle, Tick, Halt, Reply, Rows, Tables, Book}
+use Rattle.beldi_script.specs.declared.line.Line.{Line}
 
 -- `?`
 infixl 10 ◌>>=◌

@@ -1,16 +1,6 @@
 -- Calls of the program one after another.
-use Rattle.std.proofs.Common.{◌≡◌, ◌+◌, ◌-◌, ◌<◌, ◌≤◌, inl, ℕ, zero, suc, add-one, Bool, true, List, [], ◌∷◌, ◌++◌, Option, Result, Ok, Err, refl, ap, sym, ◌∙◌, subst, arith, append_assoc}
-use Rattle.std.specs.Prelude.{IfOk, OnErr, IsErrOf}
-use Rattle.std.proofs.lemmas.List.{append-nil}
-use Rattle.beldi_tree.specs.declared.deployment.Deployment.{Deployment}
-use Rattle.beldi_row.specs.Table.{Rows, TableState, Rose}
-use Rattle.beldi_step.specs.Host.{Core}
-use Rattle.beldi_outside.specs.Outside.{Told}
-use Rattle.beldi_outside.proofs.Told.{told_same, told_then, told_map}
-use Rattle.beldi_session.specs.declared.session.Stop.{Stop}
-use Rattle.beldi_session.specs.declared.session.Stop.TheVariants.{OutOfMemory, SinkFault}
-use Rattle.beldi_session.specs.Script.{Action, times}
-use Rattle.beldi_session.specs.Session.{by_done, State, IsStep, WentBy, Flushes, Sight, state_at, Does}
+use Rattle.std.specs.Prelude.{IfOk}
+use Rattle.beldi_session.proofs.Names.{Action, Bool, Core, Deployment, Does, Err, Flushes, IsErrOf, IsStep, List, Ok, OnErr, Option, OutOfMemory, Result, Rose, Rows, Sight, SinkFault, State, Stop, TableState, Told, WentBy, [], add-one, ap, append-nil, append_assoc, arith, by_done, inl, refl, state_at, subst, suc, sym, times, told_map, told_same, told_then, true, zero, ℕ, ◌++◌, ◌+◌, ◌-◌, ◌<◌, ◌∙◌, ◌∷◌, ◌≡◌, ◌≤◌}
 use Rattle.beldi_session.proofs.Went.{fine, broken, unchanged, by_stop, went_nothing, by_then, by_before, by_flush}
 
 -- what is said of the rows before and after a call

@@ -1,5 +1,6 @@
 mod Calls
 mod Lines
+mod Names
 mod Refusals
 pub mod Responses
 pub mod Went

@@ -1,11 +1,5 @@
 -- The lines of a script, one after another.
-use Rattle.std.proofs.Common.{◌≡◌, ◌&&◌, true, false, List, [], ◌∷◌, ◌++◌, Result, Ok, Err, refl, ap, sym, ◌∙◌, append_assoc}
-use Rattle.std.proofs.lemmas.List.{append-nil}
-use Rattle.beldi_tree.specs.declared.deployment.Deployment.{Deployment}
-use Rattle.beldi_script.specs.declared.line.Line.{Line}
-use Rattle.beldi_session.specs.declared.refusal.Refusal.{Refusal}
-use Rattle.beldi_session.specs.Source.{Numbered, said_at}
-use Rattle.beldi_session.specs.Script.{Action, actions_of, actions_in, and_then, is_ok, is_whole}
+use Rattle.beldi_session.proofs.Names.{Action, Deployment, Err, Line, List, Numbered, Ok, Refusal, Result, [], actions_in, actions_of, and_then, ap, append-nil, append_assoc, false, is_ok, is_whole, refl, said_at, sym, true, ◌&&◌, ◌++◌, ◌∙◌, ◌∷◌, ◌≡◌}
 
 -- ---- a line and what follows it
 at_line : (o : Result Line Refusal) (es : List Action) → is_ok o ≡ true → and_then o [] ++ es ≡ and_then o es

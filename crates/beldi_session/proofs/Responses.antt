@@ -1,25 +1,7 @@
 -- The responses of the host, and their text.
-use Rattle.std.proofs.Common.{◌≡◌, inl, inr, ℕ, List, [], ◌∷◌, ◌++◌, Option, None, Some, Result, Ok, Err, refl, ap, ◌∙◌, append_assoc}
-use Rattle.std.specs.Prelude.{OnOk, IfOk, IsErrOf}
-use Rattle.std.specs.declared.alloc.AllocError.{AllocError}
-use Rattle.beldi_row.specs.Table.{Rows, Tells, IsCount, row_count}
-use Rattle.beldi_step.specs.declared.event.Event.{Event}
-use Rattle.beldi_step.specs.declared.event.Seen.{Seen}
-use Rattle.beldi_step.specs.Host.{EventOn, Stepped}
-use Rattle.beldi_step.proofs.Steps.{over_rows, over_any_table}
-use Rattle.beldi_host.specs.Survey.{Reads}
-use Rattle.beldi_host.specs.declared.survey.OpenErr.{OpenErr}
-use Rattle.beldi_row.proofs.Tells.{tells_map}
-use Rattle.beldi_outside.specs.Outside.{Told}
-use Rattle.beldi_outside.proofs.Told.{told_map}
-use Rattle.beldi_session.specs.declared.session.Stop.{Stop}
-use Rattle.beldi_session.specs.declared.session.Stop.TheVariants.{OutOfMemory, SinkFault}
-use Rattle.beldi_session.specs.Answer.{answer_text}
-use Rattle.beldi_session.specs.Script.{Action, Carry}
-use Rattle.beldi_session.specs.Response.{Report, Answered, Reported, report_of, report_text, tables_head, unread_line}
-use Rattle.beldi_session.specs.Session.{by_text, IsReport, WentBy, Sight, state_at, Does}
-use Rattle.beldi_session.proofs.Went.{broken, by_one, by_stop}
-use Rattle.beldi_session.proofs.Calls.{Calm, made}
+use Rattle.std.specs.Prelude.{IfOk}
+use Rattle.beldi_session.proofs.Names.{Action, AllocError, Answered, Carry, Does, Err, Event, EventOn, IsCount, IsErrOf, IsReport, List, None, Ok, OnOk, OpenErr, Option, OutOfMemory, Reads, Report, Reported, Result, Rows, Seen, Sight, SinkFault, Some, Stepped, Stop, Tells, Told, WentBy, [], answer_text, ap, append_assoc, by_text, inl, inr, over_any_table, over_rows, refl, report_of, report_text, row_count, state_at, tables_head, tells_map, told_map, unread_line, ℕ, ◌++◌, ◌∙◌, ◌∷◌, ◌≡◌}
+use Rattle.beldi_session.proofs.{Went.broken, Went.by_one, Went.by_stop, Calls.Calm, Calls.made}
 
 -- what a table tells is told
 pub told_tells : (rows rows' : Option Rows) (P : Rows → Rows → Type 0) → Tells rows rows' P → Told rows rows' P

@@ -1,14 +1,5 @@
 -- Actions that were done, one part after another.
-use Rattle.std.proofs.Common.{◌≡◌, inl, inr, map, ℕ, List, [], ◌∷◌, ◌++◌, Result, Ok, Err, refl, ap, sym, ◌∙◌, subst, arith, append_assoc}
-use Rattle.std.specs.Prelude.{OnOk}
-use Rattle.std.proofs.lemmas.Grind.{flat_map-append}
-use Rattle.std.proofs.lemmas.List.{append-nil, map-append}
-use Rattle.beldi_tree.specs.declared.deployment.Deployment.{Deployment}
-use Rattle.beldi_session.specs.declared.session.Stop.{Stop}
-use Rattle.beldi_session.specs.declared.session.Stop.TheVariants.{OutOfMemory}
-use Rattle.beldi_session.specs.Script.{Action, Carry}
-use Rattle.beldi_session.specs.Response.{Response, action_of, response_text, responses_text}
-use Rattle.beldi_session.specs.Session.{State, Unchanged, IsStep, Steps, Went, BrokeOff, Stopped, WentBy, LeftBy}
+use Rattle.beldi_session.proofs.Names.{Action, BrokeOff, Carry, Deployment, Err, IsStep, LeftBy, List, Ok, OnOk, OutOfMemory, Response, Result, State, Steps, Stop, Stopped, Unchanged, Went, WentBy, [], action_of, ap, append-nil, append_assoc, arith, flat_map-append, inl, inr, map, map-append, refl, response_text, responses_text, subst, sym, ℕ, ◌++◌, ◌∙◌, ◌∷◌, ◌≡◌}
 
 abbrev pub Step : Type 1
 Step = State → State → Response → Type 0

@@ -1,18 +1,10 @@
 -- The text of an answer.
 use Rattle.std.specs.Prelude.{ℕ, Bool, true, false, List, [], ◌++◌, Option, Some, None, codes}
 use Rattle.std.specs.Fmt.{decimal}
-use Rattle.beldi_value.specs.Json.{text_of}
-use Rattle.beldi_value.specs.Value.{datum_of}
-use Rattle.beldi_value.specs.Text.{id_text, outcome_text, owner_text}
-use Rattle.beldi_value.specs.declared.id.IntentId.{IntentId}
-use Rattle.beldi_value.specs.declared.outcome.Outcome.{Outcome}
-use Rattle.beldi_value.specs.declared.place.Owner.{Owner}
-use Rattle.beldi_tree.specs.declared.deployment.Deployment.{Deployment}
-use Rattle.beldi_tree.specs.Names.{func_text}
-use Rattle.beldi_book.specs.Text.{entry_text}
-use Rattle.beldi_book.specs.declared.entry.Entry.{Entry}
+use Rattle.beldi_value.specs.{Json.text_of, Value.datum_of, Text.id_text, Text.outcome_text, Text.owner_text, declared.id.IntentId.IntentId, declared.outcome.Outcome.Outcome, declared.place.Owner.Owner}
+use Rattle.beldi_tree.specs.{declared.deployment.Deployment.Deployment, Names.func_text}
+use Rattle.beldi_book.specs.{Text.entry_text, declared.entry.Entry.Entry}
 use Rattle.beldi_step.specs.declared.event.Seen.{Seen}
-use Rattle.beldi_step.specs.declared.event.Seen.TheVariants as seen
 
 -- a word and a number, as a line
 abbrev pub numbered : List ℕ → ℕ → List ℕ
@@ -61,29 +53,29 @@ reply_part None = []
 reply_part (Some r) = outcome_line (codes "reply ") r.0 r.1
 
 abbrev pub answer_text : Deployment → Seen → List ℕ
-answer_text d (seen.Issued n) = numbered (codes "ticket ") n
-answer_text d seen.NoTicket = codes "no-ticket\n"
-answer_text d (seen.Bound t r) = bound_line t r
-answer_text d (seen.Running t) = numbered (codes "running ") t
-answer_text d (seen.Replied t o) = outcome_line (codes "ended ") t o
-answer_text d (seen.Other t f a) = codes "other " ++ (decimal t ++ (codes " " ++ (func_text d f ++ (codes " " ++ (text_of (datum_of a) ++ codes "\n")))))
-answer_text d (seen.Gone t) = numbered (codes "gone ") t
-answer_text d (seen.Unknown t) = numbered (codes "unknown ") t
-answer_text d (seen.Acted e started over r) = codes "acted" ++ (entry_part d e ++ (run_part started ++ (over_part over ++ (codes "\n" ++ reply_part r))))
-answer_text d (seen.Held o) = held_line o
-answer_text d (seen.NotYet id) = waits_line id
-answer_text d (seen.Full live room) = codes "full " ++ (decimal live ++ (codes " " ++ (decimal room ++ codes "\n")))
-answer_text d seen.Worn = codes "worn\n"
-answer_text d seen.Crowded = codes "crowded 1024\n"
-answer_text d seen.Expired = codes "expired\n"
-answer_text d seen.NoRun = codes "no-run\n"
-answer_text d seen.RunOver = codes "run-over\n"
-answer_text d seen.Dropped = codes "dropped\n"
-answer_text d seen.Crashed = codes "crashed\n"
-answer_text d (seen.Started r) = numbered (codes "run ") r
-answer_text d seen.Passed = codes "passed\n"
-answer_text d (seen.Launched r id) = launched_line r id
-answer_text d seen.Round = codes "round\n"
-answer_text d (seen.Now n) = numbered (codes "now ") n
-answer_text d seen.ClockEnd = codes "clock-end\n"
-answer_text d seen.Spent = codes "spent\n"
+answer_text d (Seen.Issued n) = numbered (codes "ticket ") n
+answer_text d Seen.NoTicket = codes "no-ticket\n"
+answer_text d (Seen.Bound t r) = bound_line t r
+answer_text d (Seen.Running t) = numbered (codes "running ") t
+answer_text d (Seen.Replied t o) = outcome_line (codes "ended ") t o
+answer_text d (Seen.Other t f a) = codes "other " ++ (decimal t ++ (codes " " ++ (func_text d f ++ (codes " " ++ (text_of (datum_of a) ++ codes "\n")))))
+answer_text d (Seen.Gone t) = numbered (codes "gone ") t
+answer_text d (Seen.Unknown t) = numbered (codes "unknown ") t
+answer_text d (Seen.Acted e started over r) = codes "acted" ++ (entry_part d e ++ (run_part started ++ (over_part over ++ (codes "\n" ++ reply_part r))))
+answer_text d (Seen.Held o) = held_line o
+answer_text d (Seen.NotYet id) = waits_line id
+answer_text d (Seen.Full live room) = codes "full " ++ (decimal live ++ (codes " " ++ (decimal room ++ codes "\n")))
+answer_text d Seen.Worn = codes "worn\n"
+answer_text d Seen.Crowded = codes "crowded 1024\n"
+answer_text d Seen.Expired = codes "expired\n"
+answer_text d Seen.NoRun = codes "no-run\n"
+answer_text d Seen.RunOver = codes "run-over\n"
+answer_text d Seen.Dropped = codes "dropped\n"
+answer_text d Seen.Crashed = codes "crashed\n"
+answer_text d (Seen.Started r) = numbered (codes "run ") r
+answer_text d Seen.Passed = codes "passed\n"
+answer_text d (Seen.Launched r id) = launched_line r id
+answer_text d Seen.Round = codes "round\n"
+answer_text d (Seen.Now n) = numbered (codes "now ") n
+answer_text d Seen.ClockEnd = codes "clock-end\n"
+answer_text d Seen.Spent = codes "spent\n"

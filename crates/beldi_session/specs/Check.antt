@@ -2,11 +2,8 @@
 use Rattle.std.specs.Prelude.{ℕ, ◌+◌, List, [], ◌∷◌, ◌++◌, length, Result, Ok, Err, codes}
 use Rattle.std.specs.Fmt.{decimal}
 use Rattle.beldi_tree.specs.declared.deployment.Deployment.{Deployment}
-use Rattle.beldi_script.specs.declared.line.Line.{Line}
-use Rattle.beldi_script.specs.declared.line.Line.TheVariants.{Blank}
-use Rattle.beldi_session.specs.declared.refusal.Refusal.{Refusal}
-use Rattle.beldi_session.specs.declared.source.Accepted.{Accepted}
-use Rattle.beldi_session.specs.Source.{Numbered, said_at, script_of, source_at}
+use Rattle.beldi_script.specs.declared.line.Line.{Line, TheVariants.Blank}
+use Rattle.beldi_session.specs.{declared.refusal.Refusal.Refusal, declared.source.Accepted.Accepted, Source.Numbered, Source.said_at, Source.script_of, Source.source_at}
 
 -- a line that is neither blank nor a comment counts
 abbrev pub with_line : ℕ → Line → ℕ

@@ -1,14 +1,10 @@
 -- What the program says of each action of a script, and its text.
 use Rattle.std.specs.Prelude.{ℕ, List, ◌++◌, flat_map, Option, Some, None, codes}
 use Rattle.beldi_tree.specs.declared.deployment.Deployment.{Deployment}
-use Rattle.beldi_step.specs.declared.event.Event.{Event}
-use Rattle.beldi_step.specs.declared.event.Seen.{Seen}
+use Rattle.beldi_step.specs.declared.event.{Event.Event, Seen.Seen}
 use Rattle.beldi_host.specs.declared.survey.ReplySeen.{ReplySeen}
-use Rattle.beldi_host.specs.declared.survey.ReplySeen.TheVariants as reply
-use Rattle.beldi_session.specs.declared.refusal.Refusal.{Refusal}
-use Rattle.beldi_session.specs.Answer.{answer_text, numbered, outcome_line, ticket_line}
-use Rattle.beldi_session.specs.Refusal.{refusal_text}
 use Rattle.beldi_session.specs.Script.{Action, Carry, TellReply, CountRows, ListTables, ListBook, Refuse}
+use Rattle.beldi_session.specs.{declared.refusal.Refusal.Refusal, Answer.answer_text, Answer.numbered, Answer.outcome_line, Answer.ticket_line, Refusal.refusal_text}
 
 -- what is said without an event: what a ticket's run gave; how many rows there are; the lines of a listing of the tables, or of
 -- the book; why a line is refused. None where the table failed as a ticket's row, or all rows, were to be read.
@@ -39,10 +35,10 @@ action_of (Reported r) = report_of r
 -- ---- the text
 -- the line of what a ticket's run gave
 abbrev pub reply_line : ℕ → ReplySeen → List ℕ
-reply_line t reply.Unknown = ticket_line (codes "reply ") t (codes "unknown")
-reply_line t reply.Gone = ticket_line (codes "reply ") t (codes "gone")
-reply_line t reply.Waiting = ticket_line (codes "reply ") t (codes "waiting")
-reply_line t (reply.Reply o) = outcome_line (codes "reply ") t o
+reply_line t ReplySeen.Unknown = ticket_line (codes "reply ") t (codes "unknown")
+reply_line t ReplySeen.Gone = ticket_line (codes "reply ") t (codes "gone")
+reply_line t ReplySeen.Waiting = ticket_line (codes "reply ") t (codes "waiting")
+reply_line t (ReplySeen.Reply o) = outcome_line (codes "reply ") t o
 
 abbrev pub tables_head : List ℕ
 tables_head = codes "== tables\n"

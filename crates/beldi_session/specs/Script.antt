@@ -2,13 +2,8 @@
 use Rattle.std.specs.Prelude.{ℕ, zero, suc, Bool, true, false, ◌&&◌, List, [], ◌∷◌, ◌++◌, Result, Ok, Err}
 use Rattle.beldi_tree.specs.declared.deployment.Deployment.{Deployment}
 use Rattle.beldi_step.specs.declared.event.Event.{Event}
-use Rattle.beldi_step.specs.declared.event.Event.TheVariants as event
 use Rattle.beldi_script.specs.declared.line.Line.{Line}
-use Rattle.beldi_script.specs.declared.line.Line.TheVariants as line
-use Rattle.beldi_session.specs.declared.refusal.Refusal.{Refusal}
-use Rattle.beldi_session.specs.declared.session.Taker.{Taker}
-use Rattle.beldi_session.specs.declared.session.Taker.TheVariants as taker
-use Rattle.beldi_session.specs.Source.{Numbered, said_at}
+use Rattle.beldi_session.specs.{declared.refusal.Refusal.Refusal, declared.session.Taker.Taker, Source.Numbered, Source.said_at}
 
 -- carry out an event; tell what a ticket's run gave, how many rows there are, the tables, or the book; refuse a line
 pub data Action : Type 0 where
@@ -25,23 +20,23 @@ times (suc n) a = a ∷ times n a
 
 -- the event of one turn
 abbrev pub turn_of : Taker → Event
-turn_of (taker.Run r) = event.Turn r
-turn_of taker.IntentCollector = event.Ic
+turn_of (Taker.Run r) = Event.Turn r
+turn_of Taker.IntentCollector = Event.Ic
 
 -- none where the program cannot do yet what the line says
 abbrev pub actions_of : Line → List Action
-actions_of line.Ticket = Carry event.Ticket ∷ []
-actions_of (line.Request t f a) = Carry (event.Request t f a) ∷ []
-actions_of (line.Turn r n) = times n (Carry (event.Turn r))
-actions_of (line.Lost r) = Carry (event.Lost r) ∷ []
-actions_of (line.Crash r) = Carry (event.Crash r) ∷ []
-actions_of (line.Restart id f) = Carry (event.Restart id f) ∷ []
-actions_of (line.Ic n) = times n (Carry event.Ic)
-actions_of (line.Tick n) = Carry (event.Tick n) ∷ []
-actions_of (line.Reply t) = TellReply t ∷ []
-actions_of line.Rows = CountRows ∷ []
-actions_of line.Tables = ListTables ∷ []
-actions_of line.Book = ListBook ∷ []
+actions_of Line.Ticket = Carry Event.Ticket ∷ []
+actions_of (Line.Request t f a) = Carry (Event.Request t f a) ∷ []
+actions_of (Line.Turn r n) = times n (Carry (Event.Turn r))
+actions_of (Line.Lost r) = Carry (Event.Lost r) ∷ []
+actions_of (Line.Crash r) = Carry (Event.Crash r) ∷ []
+actions_of (Line.Restart id f) = Carry (Event.Restart id f) ∷ []
+actions_of (Line.Ic n) = times n (Carry Event.Ic)
+actions_of (Line.Tick n) = Carry (Event.Tick n) ∷ []
+actions_of (Line.Reply t) = TellReply t ∷ []
+actions_of Line.Rows = CountRows ∷ []
+actions_of Line.Tables = ListTables ∷ []
+actions_of Line.Book = ListBook ∷ []
 actions_of l = []
 
 -- a line's actions; one that is refused ends the script

@@ -2,19 +2,13 @@
 use Rattle.std.specs.Prelude.{◌≡◌, ◌⊎◌, ◌≤◌, ℕ, Bool, false, map, List, [], ◌∷◌, ◌++◌, Option, Some, None, Result, Ok, Err, IsErrOf}
 use Rattle.std.specs.declared.alloc.AllocError.{AllocError}
 use Rattle.beldi_tree.specs.declared.deployment.Deployment.{Deployment}
-use Rattle.beldi_row.specs.declared.table.Table.{Ghosts}
-use Rattle.beldi_row.specs.Table.{Rows, TableState, Rose, row_count}
 use Rattle.beldi_book.specs.Text.{book_text}
-use Rattle.beldi_step.specs.Host.{Core, EventOn}
-use Rattle.beldi_step.specs.Tables.{tables_text}
-use Rattle.beldi_host.specs.declared.host.Host.{Host}
-use Rattle.beldi_host.specs.Host.{core_of}
-use Rattle.beldi_host.specs.Survey.{reply_seen, is_unknown}
+use Rattle.beldi_row.specs.{declared.table.Table.Ghosts, Table.Rows, Table.TableState, Table.Rose, Table.row_count}
+use Rattle.beldi_step.specs.{Host.Core, Host.EventOn, Tables.tables_text}
+use Rattle.beldi_host.specs.{declared.host.Host.Host, Host.core_of, Survey.reply_seen, Survey.is_unknown}
 use Rattle.beldi_outside.specs.Outside.{Told, IsPrefixOf}
-use Rattle.beldi_session.specs.declared.session.Stop.{Stop}
-use Rattle.beldi_session.specs.declared.session.Stop.TheVariants.{OutOfMemory, SinkFault}
-use Rattle.beldi_session.specs.Script.{Action, Carry}
 use Rattle.beldi_session.specs.Response.{Report, ReplyIs, RowsAre, TablesAre, BookIs, LineRefused, Response, Answered, Reported, action_of, responses_text}
+use Rattle.beldi_session.specs.{declared.session.Stop.Stop, declared.session.Stop.TheVariants.OutOfMemory, declared.session.Stop.TheVariants.SinkFault, Script.Action, Script.Carry}
 
 -- ---- one step
 -- the host without its table, the rows, and the table's count of failures

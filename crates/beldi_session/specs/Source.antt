@@ -2,23 +2,9 @@
 use Rattle.std.specs.Prelude.{◌≡◌, ℕ, ◌+◌, ◌-◌, ◌^◌, min, Bool, true, false, List, [], ◌∷◌, drop, Option, Some, None, Result, Ok, Err, if◌then◌else◌}
 use Rattle.beldi_tree.specs.declared.deployment.Deployment.{Deployment}
 use Rattle.beldi_check.specs.Rules.{Offence, first_offence}
-use Rattle.beldi_script.specs.Cut.{lines_of}
-use Rattle.beldi_script.specs.Line.{line_at}
-use Rattle.beldi_script.specs.declared.line.Line.{Line}
-use Rattle.beldi_script.specs.declared.line.Line.TheVariants as line
-use Rattle.beldi_script.specs.declared.line.ScriptErr.{ScriptErr}
-use Rattle.beldi_script.specs.declared.line.ScriptErr.TheVariants as script
-use Rattle.beldi_syntax.specs.Deployments.{parsed_at}
-use Rattle.beldi_syntax.specs.declared.reading.Parsed.{Parsed}
-use Rattle.beldi_syntax.specs.declared.refusal.SyntaxErr.{SyntaxErr}
-use Rattle.beldi_syntax.specs.declared.refusal.SyntaxErr.TheVariants as syntax
-use Rattle.beldi_syntax.specs.declared.refusal.What.TheVariants as what
-use Rattle.beldi_session.specs.declared.source.Accepted.{Accepted}
-use Rattle.beldi_session.specs.declared.refusal.Cause.{Cause}
-use Rattle.beldi_session.specs.declared.refusal.Cause.TheVariants as cause
-use Rattle.beldi_session.specs.declared.refusal.Refusal.{Refusal}
-use Rattle.beldi_session.specs.declared.refusal.SourceErr.{SourceErr}
-use Rattle.beldi_session.specs.declared.refusal.SourceErr.TheVariants.{OutOfMemory, Refused}
+use Rattle.beldi_script.specs.{Cut.lines_of, Line.line_at, declared.line.Line.Line, declared.line.ScriptErr.ScriptErr}
+use Rattle.beldi_syntax.specs.{Deployments.parsed_at, declared.reading.Parsed.Parsed, declared.refusal.SyntaxErr.SyntaxErr, declared.refusal.What.What}
+use Rattle.beldi_session.specs.declared.{source.Accepted.Accepted, refusal.Cause.Cause, refusal.Refusal.Refusal, refusal.SourceErr.SourceErr, refusal.SourceErr.TheVariants.OutOfMemory, refusal.SourceErr.TheVariants.Refused}
 
 abbrev pub refusal_at : Cause → ℕ → Refusal
 refusal_at c n = record { line = n; cause = c }
@@ -26,7 +12,7 @@ refusal_at c n = record { line = n; cause = c }
 -- ---- the deployment
 abbrev pub refusal_by : Option Offence → Option Refusal
 refusal_by None = None
-refusal_by (Some o) = Some (refusal_at (cause.Rule o.1) o.0)
+refusal_by (Some o) = Some (refusal_at (Cause.Rule o.1) o.0)
 
 -- the first rule that it breaks
 abbrev pub refusal_in : Deployment → Option Refusal
@@ -42,8 +28,8 @@ accepted_of p = record { code = p.code; rest = p.rest; line = p.line }
 -- a text is never read as out of memory
 abbrev pub source_by : Result Parsed SyntaxErr → Result Accepted Refusal
 source_by (Ok p) = accepted (accepted_of p) (refusal_in p.code)
-source_by (Err (syntax.Refused n w)) = Err (refusal_at (cause.Syntax w) n)
-source_by (Err syntax.OutOfMemory) = Err (refusal_at (cause.Syntax what.Syntax) 1)
+source_by (Err (SyntaxErr.Refused n w)) = Err (refusal_at (Cause.Syntax w) n)
+source_by (Err SyntaxErr.OutOfMemory) = Err (refusal_at (Cause.Syntax What.Syntax) 1)
 
 -- what a source says before its script: a deployment that was read and keeps every rule, or a refusal
 abbrev pub source_at : List ℕ → Result Accepted Refusal
@@ -69,21 +55,21 @@ script_of bytes p = numbered p.line (lines_of (drop p.rest bytes))
 
 -- the program can do what the line says
 abbrev pub is_built : Line → Bool
-is_built (line.Gc k n) = false
-is_built (line.Sweep k n) = false
-is_built (line.Settle n) = false
-is_built line.Halt = false
+is_built (Line.Gc k n) = false
+is_built (Line.Sweep k n) = false
+is_built (Line.Settle n) = false
+is_built Line.Halt = false
 is_built l = true
 
 -- a line is never read as out of memory
 abbrev pub cause_of : ScriptErr → Cause
-cause_of script.OutOfMemory = cause.BadLine
-cause_of script.BadLine = cause.BadLine
-cause_of (script.UnknownFunction n) = cause.UnknownFunction n
-cause_of script.BadValue = cause.BadValue
+cause_of ScriptErr.OutOfMemory = Cause.BadLine
+cause_of ScriptErr.BadLine = Cause.BadLine
+cause_of (ScriptErr.UnknownFunction n) = Cause.UnknownFunction n
+cause_of ScriptErr.BadValue = Cause.BadValue
 
 abbrev pub said_by : ℕ → Result Line ScriptErr → Result Line Refusal
-said_by n (Ok l) = if is_built l then Ok l else Err (refusal_at cause.Unbuilt n)
+said_by n (Ok l) = if is_built l then Ok l else Err (refusal_at Cause.Unbuilt n)
 said_by n (Err e) = Err (refusal_at (cause_of e) n)
 
 -- what a line says, or its refusal

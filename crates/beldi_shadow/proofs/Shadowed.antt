@@ -1,28 +1,14 @@
 -- What the walks say of a shadow is what a logged cell says of it.
-use Rattle.std.proofs.Common.{◌≡◌, true, false, Option, None, Some, Ok, Err, refl, ap, sym, ◌∙◌, subst}
 use Rattle.std.specs.FinMap as map
-use Rattle.beldi_value.specs.declared.place.Owner.{Owner}
-use Rattle.beldi_value.specs.declared.place.Owner.TheVariants.{Intent, Tx}
-use Rattle.beldi_value.specs.declared.place.Place.{Place}
-use Rattle.beldi_row.specs.declared.table.TableErr.{TableErr}
-use Rattle.beldi_row.specs.declared.table.TableErr.TheVariants.{OutOfMemory, Failed, Full}
-use Rattle.beldi_row.specs.Log.{note_at}
-use Rattle.beldi_row.specs.Table.{Rows}
-use Rattle.beldi_row.proofs.Tells.{tells_map}
-use Rattle.beldi_daal.specs.declared.cell.CellOp.{CellOp}
-use Rattle.beldi_daal.specs.declared.cell.CellOp.TheVariants.{Write, Cond, Lock, Free}
-use Rattle.beldi_daal.specs.declared.walk.WriteSays.{WriteSays}
-use Rattle.beldi_daal.specs.declared.walk.WriteSays.TheVariants as writes
-use Rattle.beldi_daal.specs.declared.read_walk.ReadSays.{ReadSays}
-use Rattle.beldi_daal.specs.declared.read_walk.ReadSays.TheVariants as reads
-use Rattle.beldi_daal.specs.Content.{Content, content_in, SoundAt}
+use Rattle.std.proofs.Common.{◌≡◌, true, false, Option, None, Some, Ok, Err, refl, ap, sym, ◌∙◌, subst}
+use Rattle.beldi_value.specs.declared.place.{Owner.Owner, Owner.TheVariants.Intent, Owner.TheVariants.Tx, Place.Place}
+use Rattle.beldi_row.{specs.declared.table.TableErr.TableErr, specs.declared.table.TableErr.TheVariants.OutOfMemory, specs.declared.table.TableErr.TheVariants.Failed, specs.declared.table.TableErr.TheVariants.Full, specs.Log.note_at, specs.Table.Rows, proofs.Tells.tells_map}
 use Rattle.beldi_daal.specs.Logged.{owner_after, dies, barred, DidAs, Logs, LoggedTurn, ReadsContent, ReadTurn as PlainRead}
+use Rattle.beldi_daal.{specs.declared.cell.CellOp.CellOp, specs.declared.cell.CellOp.TheVariants.Write, specs.declared.cell.CellOp.TheVariants.Cond, specs.declared.cell.CellOp.TheVariants.Lock, specs.declared.cell.CellOp.TheVariants.Free, specs.declared.walk.WriteSays.WriteSays, specs.declared.read_walk.ReadSays.ReadSays, specs.Content.Content, specs.Content.content_in, specs.Content.SoundAt, proofs.Logged.writes_are_logged, proofs.Logged.reads_are_contents}
 use Rattle.beldi_daal.specs.ReadWalk as read
 use Rattle.beldi_daal.specs.Walk as write
-use Rattle.beldi_daal.proofs.Logged.{writes_are_logged, reads_are_contents}
-use Rattle.beldi_shadow.specs.declared.shadow.ShadowRead.{ShadowRead}
-use Rattle.beldi_shadow.specs.Shadow.{first_read, read_so, write_so}
 use Rattle.beldi_shadow.specs.Shadowed.{is_aside, write_key, read_key, DoneOnce, Writes, WriteTurn, Reads, ReadTurn, ShadowsAreLogged, ShadowsReadTheirOwn}
+use Rattle.beldi_shadow.specs.{declared.shadow.ShadowRead.ShadowRead, Shadow.first_read, Shadow.read_so, Shadow.write_so}
 
 -- ---- a write: nothing bars it, and nobody dies
 free : (who : Owner) (op : CellOp) → is_aside op ≡ true → barred op who None ≡ None
@@ -50,14 +36,14 @@ module _ (p : Place) (who : Owner) (op : CellOp) (aside : is_aside op ≡ true) 
   done_owner (Free v) h = cc
 
   written : (s : WriteSays) → Logs p who op s c d → Writes p who op (write_so s) c d × (d.owner ≡ None)
-  written writes.Going l = (l, as_before l)
-  written (writes.Done n true) l =
+  written WriteSays.Going l = (l, as_before l)
+  written (WriteSays.Done n true) l =
       let did = (subst (λ z. DidAs p who op z c d) (lives who op c.owner aside) l.1.1).1 in
       ((l.0, subst (λ z. DoneOnce p who op z c d) (sym l.1.0) did), ap (λ (z : Content). z.owner) did ∙ done_owner op aside ∙ unowned)
-  written (writes.Done n false) l = ((l.0, subst (λ z. DoneOnce p who op z c d) (sym (ap (λ (z : Content). note_at z.notes p) (sym l.1) ∙ l.0)) l.1), as_before l.1)
-  written writes.NotOwner l = (l.2, as_before l.2)
-  written (writes.Held o) l = let clash = sym (ap (barred op who) unowned ∙ free who op aside) ∙ l.1 in cc
-  written writes.Worn l = absurd l
+  written (WriteSays.Done n false) l = ((l.0, subst (λ z. DoneOnce p who op z c d) (sym (ap (λ (z : Content). note_at z.notes p) (sym l.1) ∙ l.0)) l.1), as_before l.1)
+  written WriteSays.NotOwner l = (l.2, as_before l.2)
+  written (WriteSays.Held o) l = let clash = sym (ap (barred op who) unowned ∙ free who op aside) ∙ l.1 in cc
+  written WriteSays.Worn l = absurd l
 
 pub shadows_are_logged : ShadowsAreLogged
 shadows_are_logged w x now old new s aside (Ok t, h, c) = tells_map
@@ -72,10 +58,10 @@ shadows_are_logged w x now old new s aside (Err v, h, c) = absurd h
 
 -- ---- a read
 so : (c : Content) (s : ReadSays) → ReadsContent None s c → Reads (read_so s) c
-so c reads.Going h = h
-so c (reads.Got None) h = h
-so c (reads.Got (Some v)) h = h.1
-so c (reads.Held o) h = cc
+so c ReadSays.Going h = h
+so c (ReadSays.Got None) h = h
+so c (ReadSays.Got (Some v)) h = h.1
+so c (ReadSays.Held o) h = cc
 
 same : (w : ShadowRead) (m n : Rows) (e : TableErr) → PlainRead w.walk m n (Err e) → ReadTurn w m n (Err e)
 same w m n OutOfMemory h = h

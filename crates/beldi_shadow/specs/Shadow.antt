@@ -1,22 +1,11 @@
 -- The walks over a shadow, as machines that ask one thing a turn: those of a read and of a write, which say less.
 use Rattle.std.specs.Prelude.{ℕ, List, None}
-use Rattle.beldi_value.specs.declared.place.Place.{Place}
-use Rattle.beldi_value.specs.declared.place.TxId.{TxId}
-use Rattle.beldi_value.specs.declared.place.Owner.TheVariants.{Tx}
-use Rattle.beldi_walk.specs.declared.query.Query.{Query}
-use Rattle.beldi_walk.specs.Query.{Told}
-use Rattle.beldi_daal.specs.declared.cell.CellOp.{CellOp}
-use Rattle.beldi_daal.specs.declared.walk.Item.TheVariants.{Shadow}
-use Rattle.beldi_daal.specs.declared.walk.WriteSays.{WriteSays}
-use Rattle.beldi_daal.specs.declared.walk.WriteSays.TheVariants as writes
-use Rattle.beldi_daal.specs.declared.read_walk.ReadSays.{ReadSays}
-use Rattle.beldi_daal.specs.declared.read_walk.ReadSays.TheVariants as reads
+use Rattle.beldi_value.specs.declared.place.{Place.Place, TxId.TxId, Owner.TheVariants.Tx}
+use Rattle.beldi_walk.specs.{declared.query.Query.Query, Query.Told}
+use Rattle.beldi_daal.specs.declared.{cell.CellOp.CellOp, walk.Item.TheVariants.Shadow, walk.WriteSays.WriteSays, read_walk.ReadSays.ReadSays}
 use Rattle.beldi_daal.specs.ReadWalk as read
 use Rattle.beldi_daal.specs.Walk as write
-use Rattle.beldi_shadow.specs.declared.shadow.ShadowRead.{ShadowRead}
-use Rattle.beldi_shadow.specs.declared.shadow.ShadowWrite.{ShadowWrite}
-use Rattle.beldi_shadow.specs.declared.shadow.ShadowSays.{ShadowSays}
-use Rattle.beldi_shadow.specs.declared.shadow.ShadowSays.TheVariants.{Going, Got, Noted, Worn}
+use Rattle.beldi_shadow.specs.declared.shadow.{ShadowRead.ShadowRead, ShadowWrite.ShadowWrite, ShadowSays.ShadowSays, ShadowSays.TheVariants.Going, ShadowSays.TheVariants.Got, ShadowSays.TheVariants.Noted, ShadowSays.TheVariants.Worn}
 
 -- ---- a read
 abbrev pub first_read : ℕ → TxId → ℕ → List ℕ → ShadowRead
@@ -30,9 +19,9 @@ read_next w t = record { walk = read.read_next w.walk t }
 
 -- nobody owns a shadow
 abbrev pub read_so : ReadSays → ShadowSays
-read_so reads.Going = Going
-read_so (reads.Got v) = Got v
-read_so (reads.Held o) = Going
+read_so ReadSays.Going = Going
+read_so (ReadSays.Got v) = Got v
+read_so (ReadSays.Held o) = Going
 
 abbrev pub read_says : ShadowRead → Told → ShadowSays
 read_says w t = read_so (read.read_says w.walk t)
@@ -48,11 +37,11 @@ abbrev pub write_next : ShadowWrite → Told → ShadowWrite
 write_next w t = record { walk = write.walk_next w.walk t }
 
 abbrev pub write_so : WriteSays → ShadowSays
-write_so writes.Going = Going
-write_so (writes.Done n first) = Noted n
-write_so writes.NotOwner = Going
-write_so (writes.Held o) = Going
-write_so writes.Worn = Worn
+write_so WriteSays.Going = Going
+write_so (WriteSays.Done n first) = Noted n
+write_so WriteSays.NotOwner = Going
+write_so (WriteSays.Held o) = Going
+write_so WriteSays.Worn = Worn
 
 abbrev pub write_says : ShadowWrite → Told → ShadowSays
 write_says w t = write_so (write.walk_says w.walk t)

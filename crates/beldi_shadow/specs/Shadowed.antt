@@ -1,28 +1,15 @@
 -- What the walks say of a shadow is so of it.
 use Rattle.std.specs.Prelude.{◌≡◌, ℕ, Bool, true, false, List, Option, Some, None, Result, Ok, Err}
-use Rattle.std.specs.FinMap as map
 use Rattle.std.specs.Ordering.{is_eq}
-use Rattle.beldi_value.specs.declared.place.Owner.{Owner}
-use Rattle.beldi_value.specs.declared.place.Place.{Place}
-use Rattle.beldi_value.specs.declared.place.TxId.{TxId}
-use Rattle.beldi_row.specs.declared.notes.Note.{Note}
-use Rattle.beldi_row.specs.declared.table.TableErr.{TableErr}
-use Rattle.beldi_row.specs.declared.table.TableErr.TheVariants.{OutOfMemory, Failed, Full}
-use Rattle.beldi_row.specs.Key.{RowKey, key_cmp}
-use Rattle.beldi_row.specs.Log.{note_at}
-use Rattle.beldi_row.specs.Table.{Rows, TableState, Tells}
+use Rattle.std.specs.FinMap as map
+use Rattle.beldi_value.specs.declared.place.{Owner.Owner, Place.Place, TxId.TxId}
+use Rattle.beldi_row.specs.{declared.notes.Note.Note, declared.table.TableErr.TableErr, declared.table.TableErr.TheVariants.OutOfMemory, declared.table.TableErr.TheVariants.Failed, declared.table.TableErr.TheVariants.Full, Key.RowKey, Key.key_cmp, Log.note_at, Table.Rows, Table.TableState, Table.Tells}
 use Rattle.beldi_walk.specs.Walk.{Turned}
-use Rattle.beldi_daal.specs.declared.cell.CellOp.{CellOp}
-use Rattle.beldi_daal.specs.declared.cell.CellOp.TheVariants.{Write, Cond, Lock, Free}
-use Rattle.beldi_daal.specs.Content.{Content, content_in, SoundAt}
-use Rattle.beldi_daal.specs.Logged.{done_to}
+use Rattle.beldi_daal.specs.{declared.cell.CellOp.CellOp, declared.cell.CellOp.TheVariants.Write, declared.cell.CellOp.TheVariants.Cond, declared.cell.CellOp.TheVariants.Lock, declared.cell.CellOp.TheVariants.Free, Content.Content, Content.content_in, Content.SoundAt, Logged.done_to}
 use Rattle.beldi_daal.specs.ReadWalk as read
 use Rattle.beldi_daal.specs.Walk as write
-use Rattle.beldi_shadow.specs.declared.shadow.ShadowRead.{ShadowRead}
-use Rattle.beldi_shadow.specs.declared.shadow.ShadowSays.{ShadowSays}
-use Rattle.beldi_shadow.specs.declared.shadow.ShadowSays.TheVariants.{Going, Got, Noted, Worn}
-use Rattle.beldi_shadow.specs.declared.shadow.ShadowWrite.{ShadowWrite}
 use Rattle.beldi_shadow.specs.Shadow.{first_read, read_asks, read_next, read_says, write_asks, write_next, write_says}
+use Rattle.beldi_shadow.specs.declared.shadow.{ShadowRead.ShadowRead, ShadowSays.ShadowSays, ShadowSays.TheVariants.Going, ShadowSays.TheVariants.Got, ShadowSays.TheVariants.Noted, ShadowSays.TheVariants.Worn, ShadowWrite.ShadowWrite}
 
 -- ---- a write
 -- a shadow is written and tested

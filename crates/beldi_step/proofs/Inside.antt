@@ -1,54 +1,34 @@
 -- Runs that were called in a transaction stay in it, and make no entry: by cases on the stage, and on what follows of what was told.
-use Rattle.std.proofs.Common.{◌≡◌, ℕ, Bool, true, false, Option, Some, None, refl, ap, sym, ◌∙◌, if◌then◌else◌}
 use Rattle.std.specs.Prelude.{not}
-use Rattle.beldi_value.specs.Id.{has_callees}
-use Rattle.beldi_value.specs.declared.id.IntentId.{IntentId}
-use Rattle.beldi_value.specs.declared.place.Caller.{Caller}
-use Rattle.beldi_value.specs.declared.place.TxId.{TxId}
-use Rattle.beldi_lang.specs.declared.effect.Effect.{Effect}
-use Rattle.beldi_lang.specs.declared.effect.Effect.TheVariants as effect
-use Rattle.beldi_lang.specs.declared.effect.Answer.{Answer}
-use Rattle.beldi_lang.specs.declared.effect.Answer.TheVariants as answer
+use Rattle.std.proofs.Common.{◌≡◌, ℕ, Bool, true, false, Option, Some, None, refl, ap, sym, ◌∙◌, if◌then◌else◌}
+use Rattle.beldi_value.specs.{Id.has_callees, declared.id.IntentId.IntentId, declared.place.Caller.Caller, declared.place.TxId.TxId}
+use Rattle.beldi_lang.specs.{declared.effect.Effect.Effect, declared.effect.Answer.Answer, Bounds.is_bound}
+use Rattle.beldi_walk.specs.Query.{Told}
+use Rattle.beldi_invokelog.specs.InvokeLog.{back_of}
 use Rattle.beldi_invokelog.specs.declared.invoke_log.Back as told
 use Rattle.beldi_invokelog.specs.declared.invoke_log.Back.TheVariants as back
-use Rattle.beldi_invokelog.specs.InvokeLog.{back_of}
 use Rattle.beldi_intent.specs.Intent.{is_did}
-use Rattle.beldi_call.specs.declared.call.CallSays.{CallSays}
-use Rattle.beldi_call.specs.declared.call.CallSays.TheVariants.{Opened}
-use Rattle.beldi_call.specs.Call.{call_says}
-use Rattle.beldi_call.specs.declared.call.CallAt.TheVariants as call
-use Rattle.beldi_call.specs.declared.call.CallAt.{CallAt}
-use Rattle.beldi_txn.specs.declared.tx.TxAt.{TxAt}
-use Rattle.beldi_txn.specs.declared.tx.TxAt.TheVariants as inside
-use Rattle.beldi_txn.specs.declared.tx.TxGoes.{TxGoes}
-use Rattle.beldi_txn.specs.declared.tx.TxGoes.TheVariants as leads
-use Rattle.beldi_walk.specs.Query.{Told}
-use Rattle.beldi_step.specs.declared.run.Stage.{Stage}
-use Rattle.beldi_step.specs.declared.run.Stage.TheVariants.{Tx, Call, Back, Tell, Close}
-use Rattle.beldi_step.specs.declared.run.Mark.TheVariants as mark
-use Rattle.beldi_step.specs.declared.run.Says.{Says}
-use Rattle.beldi_step.specs.declared.run.Says.TheVariants.{Ends}
-use Rattle.beldi_step.specs.declared.run.RunTx.TheVariants.{Inherited}
+use Rattle.beldi_txn.specs.declared.tx.{TxAt.TxAt, TxGoes.TxGoes}
+use Rattle.beldi_call.specs.{declared.call.CallSays.CallSays, declared.call.CallSays.TheVariants.Opened, Call.call_says, declared.call.CallAt.CallAt}
 use Rattle.beldi_step.specs.Run.{is_waited, last_stage, open_after, with_cause, tx_says, put_answer, call_answer, call_here_says, back_says, close_says, mark_if}
-use Rattle.beldi_lang.specs.Bounds.{is_bound}
-use Rattle.beldi_step.specs.Inside.{is_inside, IsQuiet, StaysInherited, BeginsInside, MakesNoEntry}
+use Rattle.beldi_step.specs.{declared.run.Stage.Stage, declared.run.Stage.TheVariants.Tx, declared.run.Stage.TheVariants.Call, declared.run.Stage.TheVariants.Back, declared.run.Stage.TheVariants.Tell, declared.run.Stage.TheVariants.Close, declared.run.Says.Says, declared.run.Says.TheVariants.Ends, declared.run.RunTx.TheVariants.Inherited, Inside.is_inside, Inside.IsQuiet, Inside.StaysInherited, Inside.BeginsInside, Inside.MakesNoEntry, declared.run.Mark.Mark}
 
 -- ---- it stays in its transaction
 keeps : (x : TxId) (a : Answer) → with_cause a (Some (Inherited x)) ≡ Some (Inherited x)
-keeps x (answer.Aborted c) = refl
+keeps x (Answer.Aborted c) = refl
 keeps x a = refl
 
 stays : (x : TxId) (n : ℕ) (e : Effect) (a : Answer) → is_bound e ≡ false → open_after n e a (Some (Inherited x)) ≡ Some (Inherited x)
-stays x n effect.Begin a is = cc
-stays x n (effect.End commit) a is = cc
+stays x n Effect.Begin a is = cc
+stays x n (Effect.End commit) a is = cc
 stays x n e a is = keeps x a
 
 pub stays_inherited : StaysInherited
 stays_inherited d m x a is = stays x m.steps m.effect a is
 
 -- ---- where its effects begin
-called : (c : Option Caller) (b : Bool) (s : Stage) → (if b then Some (Call call.Open) else None) ≡ Some s → is_inside c s ≡ true
-called c true s is = let same : Call call.Open ≡ s = cc in ap (is_inside c) (sym same)
+called : (c : Option Caller) (b : Bool) (s : Stage) → (if b then Some (Call CallAt.Open) else None) ≡ Some s → is_inside c s ≡ true
+called c true s is = let same : Call CallAt.Open ≡ s = cc in ap (is_inside c) (sym same)
 called c false s is = cc
 
 returns : (c : Option Caller) → is_waited c ≡ true → is_inside c (last_stage c) ≡ true
@@ -59,22 +39,22 @@ in_tx : (c : Option Caller) (a : TxAt) (s : Stage) → Some (Tx a) ≡ Some s �
 in_tx c a s is = let same : Tx a ≡ s = cc in ap (is_inside c) (sym same)
 
 pub begins_inside : BeginsInside
-begins_inside id c x step (effect.Read t k) s waits is = in_tx c _ s is
-begins_inside id c x step (effect.Write t k v) s waits is = in_tx c _ s is
-begins_inside id c x step (effect.CondWrite t k r o v) s waits is = in_tx c _ s is
-begins_inside id c x step (effect.Call f v) s waits is = called c (has_callees id) s is
-begins_inside id c x step (effect.Return o) s waits is = let same : last_stage c ≡ s = cc in ap (is_inside c) (sym same) ∙ returns c waits
+begins_inside id c x step (Effect.Read t k) s waits is = in_tx c _ s is
+begins_inside id c x step (Effect.Write t k v) s waits is = in_tx c _ s is
+begins_inside id c x step (Effect.CondWrite t k r o v) s waits is = in_tx c _ s is
+begins_inside id c x step (Effect.Call f v) s waits is = called c (has_callees id) s is
+begins_inside id c x step (Effect.Return o) s waits is = let same : last_stage c ≡ s = cc in ap (is_inside c) (sym same) ∙ returns c waits
 begins_inside id c x step e s waits is = cc
 
 -- ---- no entry
 module _ (c : Option Caller) where
   put : (a : TxAt) → IsQuiet c (put_answer a)
-  put (inside.Keep v) = refl
+  put (TxAt.Keep v) = refl
   put a = refl
 
   operates : (a : TxAt) (g : TxGoes) → IsQuiet c (tx_says a g)
-  operates a (leads.On b) = (refl, refl)
-  operates a leads.Put = put a
+  operates a (TxGoes.On b) = (refl, refl)
+  operates a TxGoes.Put = put a
   operates a g = refl
 
   calls : (id : IntentId) (x : TxId) (step : ℕ) (s : CallSays) → IsQuiet c (call_answer id (Some (Inherited x)) step s)
@@ -86,7 +66,7 @@ module _ (c : Option Caller) where
   calls_if false s is = refl
 
   calls_here : (id : IntentId) (x : TxId) (step : ℕ) (e : Effect) (at : CallAt) (t : Told) → IsQuiet c (call_here_says id (Some (Inherited x)) step e at t)
-  calls_here id x step (effect.Call f a) at t = calls_if (has_callees id) _ (calls id x step (call_says f at t))
+  calls_here id x step (Effect.Call f a) at t = calls_if (has_callees id) _ (calls id x step (call_says f at t))
   calls_here id x step e at t = refl
 
   gives_back : (x : TxId) (b : told.Back) → is_waited c ≡ true → IsQuiet c (back_says (Some (Inherited x)) b)
@@ -94,7 +74,7 @@ module _ (c : Option Caller) where
   gives_back x b waits = (refl, waits)
 
   closes_with : (id : IntentId) (e : Effect) (b : Bool) → is_waited c ≡ true → IsQuiet c (close_says id c e b)
-  closes_with id (effect.Return o) true waits = ap (λ w. mark_if (not w) mark.Step) waits
+  closes_with id (Effect.Return o) true waits = ap (λ w. mark_if (not w) Mark.Step) waits
   closes_with id e b waits = refl
 
 pub makes_no_entry : MakesNoEntry

@@ -1,18 +1,12 @@
 -- No run acts past its deadline.
-use Rattle.std.proofs.Common.{◌≡◌, ℕ, ◌<◌, Some, Result, Ok, Err, if◌then◌else◌, ap, ◌∙◌, subst}
+use Rattle.std.{specs.declared.alloc.AllocError.AllocError, proofs.lemmas.Bool.lt-ltb}
 use Rattle.std.specs.FinMap as map
-use Rattle.std.specs.declared.alloc.AllocError.{AllocError}
-use Rattle.std.proofs.lemmas.Bool.{lt-ltb}
+use Rattle.std.proofs.Common.{◌≡◌, ℕ, ◌<◌, Some, Result, Ok, Err, if◌then◌else◌, ap, ◌∙◌, subst}
 use Rattle.beldi_tree.specs.declared.deployment.Deployment.{Deployment}
 use Rattle.beldi_row.specs.Table.{TableState}
-use Rattle.beldi_step.specs.declared.event.Event.{Event}
 use Rattle.beldi_step.specs.declared.event.Event.TheVariants.{Ticket, Request, Turn, Lost, Crash, Restart, Tick, Ic}
-use Rattle.beldi_step.specs.declared.event.Seen.{Seen}
-use Rattle.beldi_step.specs.declared.event.Seen.TheVariants.{Expired, Spent, Crashed}
-use Rattle.beldi_step.specs.declared.run.Run.{Run}
-use Rattle.beldi_step.specs.Run.{run_asks}
 use Rattle.beldi_step.specs.Host.{Core, Plan, at_once, asks, plan, plan_of, run_plan, crash_plan, in_time, ended_run, counted, most_events, StepBy}
-use Rattle.beldi_step.specs.Laws.{ExpiresPastDeadline, run_of_event}
+use Rattle.beldi_step.specs.{declared.event.Event.Event, declared.event.Seen.Seen, declared.event.Seen.TheVariants.Expired, declared.event.Seen.TheVariants.Spent, declared.event.Seen.TheVariants.Crashed, declared.run.Run.Run, Run.run_asks, Laws.ExpiresPastDeadline, Laws.run_of_event}
 
 -- an event that is answered so at once leaves the table, and ends the run
 over_by : (d : Deployment) (e : Event) (c z b : Core) (old new : TableState) (r : Result Seen AllocError) → StepBy d e c (at_once z Expired) b old new r → (r ≡ Ok Expired) × (b ≡ z) × (new ≡ old)

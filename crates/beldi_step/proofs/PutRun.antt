@@ -1,11 +1,8 @@
 -- Live runs by number, where one was put or taken out.
-use Rattle.std.proofs.Common.{◌≡◌, ℕ, Bool, true, false, cond, Option, None, Some, refl, ap, sym, ◌∙◌}
+use Rattle.std.specs.{FinMap.FinMap, FinMap.nat_cmp-IsAntisymmetric, FinMap.get-insert, FinMap.get-remove, FinMap.same_map, Cmp.nat_cmp_total, Ordering.is_eq, Ordering.nat_cmp}
 use Rattle.std.specs.FinMap as map
-use Rattle.std.specs.FinMap.{FinMap, nat_cmp-IsAntisymmetric, get-insert, get-remove, same_map}
-use Rattle.std.specs.Cmp.{nat_cmp_total}
-use Rattle.std.specs.Ordering.{is_eq, nat_cmp}
-use Rattle.beldi_step.specs.Host.{put_run}
-use Rattle.beldi_step.specs.declared.run.Run.{Run}
+use Rattle.std.proofs.Common.{◌≡◌, ℕ, Bool, true, false, cond, Option, None, Some, refl, ap, sym, ◌∙◌}
+use Rattle.beldi_step.specs.{Host.put_run, declared.run.Run.Run}
 
 pub put_got : (m : FinMap nat_cmp Run) (i : ℕ) (o : Option Run) (j : ℕ) → map.get (put_run m i o) j ≡ cond (is_eq (nat_cmp j i)) o (map.get m j)
 put_got m i None j = get-remove nat_cmp_total m i j

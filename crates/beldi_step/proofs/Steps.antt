@@ -1,15 +1,11 @@
 -- What one step says over rows that are told, and over any table: by the plan, and what its query came to.
-use Rattle.std.proofs.Common.{◌≡◌, ◌≤◌, Result, refl, ap, sym, ◌∙◌, subst, inl, arith}
 use Rattle.std.specs.declared.alloc.AllocError.{AllocError}
+use Rattle.std.proofs.Common.{◌≡◌, ◌≤◌, Result, refl, ap, sym, ◌∙◌, subst, inl, arith}
 use Rattle.beldi_tree.specs.declared.deployment.Deployment.{Deployment}
-use Rattle.beldi_row.specs.Table.{TableState, Tells}
-use Rattle.beldi_row.proofs.Tells.{tells_map}
-use Rattle.beldi_walk.specs.Query.{CameOn}
-use Rattle.beldi_walk.proofs.Queries.{same_rows}
-use Rattle.beldi_step.specs.declared.event.Event.{Event}
-use Rattle.beldi_step.specs.declared.event.Seen.{Seen}
+use Rattle.beldi_row.{specs.Table.TableState, specs.Table.Tells, proofs.Tells.tells_map}
+use Rattle.beldi_walk.{specs.Query.CameOn, proofs.Queries.same_rows}
 use Rattle.beldi_step.specs.Host.{Core, Plan, at_once, asks, plan, counted, StepBy, EventBy}
-use Rattle.beldi_step.specs.Laws.{StepsOverRows, StepsOverAnyTable, TableAfter}
+use Rattle.beldi_step.specs.{declared.event.Event.Event, declared.event.Seen.Seen, Laws.StepsOverRows, Laws.StepsOverAnyTable, Laws.TableAfter}
 
 module _ (d : Deployment) (e : Event) (c b : Core) (old new : TableState) (r : Result Seen AllocError) where
   on_rows : (p : Plan) → StepBy d e c p b old new r → Tells old.rows new.rows (λ m n. EventBy d old.room old.faults new.faults e c p m b n r)

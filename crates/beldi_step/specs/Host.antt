@@ -1,43 +1,16 @@
 -- The host without its table, and what one event does.
 use Rattle.std.specs.Prelude.{◌≡◌, ℕ, ◌+◌, ◌-◌, ◌^◌, ◌==◌, ◌||◌, nat_lt, nat_le, min, Bool, true, false, List, [], ◌∷◌, ◌++◌, option_to_list, Option, Some, None, Result, Ok, Err, if◌then◌else◌}
-use Rattle.std.specs.List.{list_any}
-use Rattle.std.specs.Option.{option_map}
+use Rattle.std.specs.{List.list_any, Option.option_map, FinMap.FinMap, Ordering.nat_cmp, Ordering.is_eq, declared.alloc.AllocError.AllocError}
 use Rattle.std.specs.FinMap as map
-use Rattle.std.specs.FinMap.{FinMap}
-use Rattle.std.specs.Ordering.{nat_cmp, is_eq}
-use Rattle.std.specs.declared.alloc.AllocError.{AllocError}
-use Rattle.beldi_value.specs.Id.{id_cmp, root_of}
-use Rattle.beldi_value.specs.declared.id.IntentId.{IntentId}
-use Rattle.beldi_value.specs.declared.value.Value.{Value}
-use Rattle.beldi_value.specs.declared.outcome.Outcome.{Outcome}
+use Rattle.beldi_value.specs.{Id.id_cmp, Id.root_of, declared.id.IntentId.IntentId, declared.value.Value.Value, declared.outcome.Outcome.Outcome}
 use Rattle.beldi_tree.specs.declared.deployment.Deployment.{Deployment}
-use Rattle.beldi_row.specs.declared.table.TableErr.{TableErr}
-use Rattle.beldi_row.specs.declared.table.TableErr.TheVariants as err
-use Rattle.beldi_row.specs.Table.{Rows, TableState, HasCause}
-use Rattle.beldi_book.specs.declared.entry.Entry.{Entry}
-use Rattle.beldi_book.specs.declared.entry.Entry.TheVariants as entry
-use Rattle.beldi_book.specs.Order.{count_changes}
-use Rattle.beldi_walk.specs.declared.query.Query.{Query}
-use Rattle.beldi_walk.specs.Query.{Told, lends, Came, CameOn}
-use Rattle.beldi_step.specs.declared.event.Event.{Event}
+use Rattle.beldi_book.specs.{declared.entry.Entry.Entry, Order.count_changes}
+use Rattle.beldi_row.specs.{declared.table.TableErr.TableErr, Table.Rows, Table.TableState, Table.HasCause, Key.RowKey, Key.least_key}
+use Rattle.beldi_walk.specs.{declared.query.Query.Query, Query.Told, Query.lends, Query.Came, Query.CameOn}
+use Rattle.beldi_intent.specs.{declared.intent.Binding.Binding, Intent.issue_asks, Intent.bind_asks, Intent.is_added, Intent.binding_of}
+use Rattle.beldi_collect.specs.{declared.cursor.Found.Found, Collect.collect_asks, Collect.collect_says}
 use Rattle.beldi_step.specs.declared.event.Event.TheVariants.{Ticket, Request, Turn, Lost, Crash, Restart, Tick, Ic}
-use Rattle.beldi_step.specs.declared.event.Seen.{Seen}
-use Rattle.beldi_step.specs.declared.event.Seen.TheVariants as seen
-use Rattle.beldi_intent.specs.declared.intent.Binding.{Binding}
-use Rattle.beldi_intent.specs.declared.intent.Binding.TheVariants as binding
-use Rattle.beldi_step.specs.declared.run.Mark.{Mark}
-use Rattle.beldi_step.specs.declared.run.Mark.TheVariants as mark
-use Rattle.beldi_step.specs.declared.run.Run.{Run}
-use Rattle.beldi_step.specs.declared.run.RunAt.TheVariants.{Looks}
-use Rattle.beldi_step.specs.declared.run.Wait.{Wait}
-use Rattle.beldi_step.specs.declared.run.Wait.TheVariants as wait
-use Rattle.beldi_intent.specs.Intent.{issue_asks, bind_asks, is_added, binding_of}
-use Rattle.beldi_row.specs.Key.{RowKey, least_key}
-use Rattle.beldi_collect.specs.declared.cursor.Found.{Found}
-use Rattle.beldi_collect.specs.declared.cursor.Found.TheVariants as collect
-use Rattle.beldi_collect.specs.Collect.{collect_asks, collect_says}
-use Rattle.beldi_step.specs.declared.run.TurnSays.{TurnSays}
-use Rattle.beldi_step.specs.Run.{Turned, says_of, run_asks, run_told, callee_of}
+use Rattle.beldi_step.specs.{declared.event.Event.Event, declared.event.Seen.Seen, declared.run.Mark.Mark, declared.run.Run.Run, declared.run.RunAt.TheVariants.Looks, declared.run.Wait.Wait, declared.run.TurnSays.TurnSays, Run.Turned, Run.says_of, Run.run_asks, Run.run_told, Run.callee_of}
 
 -- the newest ticket, the live runs by number, how many runs were ever started, the book, the moment, where the intent collector
 -- stands, and how many events were taken
@@ -68,7 +41,7 @@ pub data Plan : Type 0 where
 -- ---- what an event asks
 -- a number that no live run has
 abbrev pub no_run : Core → ℕ → Seen
-no_run c i = if (i == 0) || nat_lt c.last_run i then seen.NoRun else seen.RunOver
+no_run c i = if (i == 0) || nat_lt c.last_run i then Seen.NoRun else Seen.RunOver
 
 abbrev pub ended_run : Core → ℕ → Core
 ended_run c i = record c { runs = map.remove c.runs i }
@@ -90,13 +63,13 @@ is_crowded c = nat_le most_runs (map.len c.runs)
 
 abbrev pub request_plan : Core → ℕ → ℕ → Value → Plan
 request_plan c t f a =
-    if (t == 0) || nat_lt c.newest t then at_once c (seen.Unknown t) else
-    if is_crowded c then at_once c seen.Crowded else
+    if (t == 0) || nat_lt c.newest t then at_once c (Seen.Unknown t) else
+    if is_crowded c then at_once c Seen.Crowded else
     asks (bind_asks t f a)
 
 -- an event of the run of this number: one that is past its deadline is over, and does nothing more
 abbrev pub in_time : Core → ℕ → Run → Plan → Plan
-in_time c i r p = if nat_lt r.deadline c.now then at_once (ended_run c i) seen.Expired else p
+in_time c i r p = if nat_lt r.deadline c.now then at_once (ended_run c i) Seen.Expired else p
 
 abbrev pub run_plan : Core → ℕ → Option Run → Plan
 run_plan c i None = at_once c (no_run c i)
@@ -104,20 +77,20 @@ run_plan c i (Some r) = in_time c i r (asks (run_asks r))
 
 abbrev pub crash_plan : Core → ℕ → Option Run → Plan
 crash_plan c i None = at_once c (no_run c i)
-crash_plan c i (Some r) = in_time c i r (at_once (ended_run c i) seen.Crashed)
+crash_plan c i (Some r) = in_time c i r (at_once (ended_run c i) Seen.Crashed)
 
 abbrev pub restart_plan : Deployment → Core → IntentId → ℕ → Plan
-restart_plan d c id f = if is_crowded c then at_once c seen.Crowded else at_once (with_run c (new_run d c id f)) (seen.Started (c.last_run + 1))
+restart_plan d c id f = if is_crowded c then at_once c Seen.Crowded else at_once (with_run c (new_run d c id f)) (Seen.Started (c.last_run + 1))
 
 -- the moment of a host is at most this one, in ticks
 abbrev pub last_moment : ℕ
 last_moment = 2 ^ 62
 
 abbrev pub tick_plan : Core → ℕ → Plan
-tick_plan c n = if nat_lt last_moment (c.now + n) then at_once c seen.ClockEnd else at_once (record c { now = c.now + n }) (seen.Now (c.now + n))
+tick_plan c n = if nat_lt last_moment (c.now + n) then at_once c Seen.ClockEnd else at_once (record c { now = c.now + n }) (Seen.Now (c.now + n))
 
 abbrev pub plan_of : Deployment → Event → Core → Plan
-plan_of d Ticket c = if c.newest == 2 ^ 32 - 1 then at_once c seen.NoTicket else asks (issue_asks (c.newest + 1))
+plan_of d Ticket c = if c.newest == 2 ^ 32 - 1 then at_once c Seen.NoTicket else asks (issue_asks (c.newest + 1))
 plan_of d (Request t f a) c = request_plan c t f a
 plan_of d (Turn i) c = run_plan c i (map.get c.runs i)
 plan_of d (Lost i) c = run_plan c i (map.get c.runs i)
@@ -131,36 +104,36 @@ counted c = record c { taken = c.taken + 1 }
 
 -- a host that is spent counts no event
 abbrev pub plan : Deployment → Event → Core → Plan
-plan d e c = if nat_lt c.taken most_events then plan_of d e (counted c) else at_once c seen.Spent
+plan d e c = if nat_lt c.taken most_events then plan_of d e (counted c) else at_once c Seen.Spent
 
 -- ---- what follows where the table told
 -- a ticket, by whether its row was added
 abbrev pub ticket_next : Core → Bool → Core × Seen
-ticket_next c true = (record c { newest = c.newest + 1 }, seen.Issued (c.newest + 1))
-ticket_next c false = (c, seen.Gone (c.newest + 1))
+ticket_next c true = (record c { newest = c.newest + 1 }, Seen.Issued (c.newest + 1))
+ticket_next c false = (c, Seen.Gone (c.newest + 1))
 
 abbrev pub bound_next : Deployment → Core → ℕ → ℕ → Value → Core × Seen
-bound_next d c t f a = (record (with_run c (new_run d c (root_of t) f)) { book = c.book ++ entry.Start t f a ∷ [] }, seen.Bound t (c.last_run + 1))
+bound_next d c t f a = (record (with_run c (new_run d c (root_of t) f)) { book = c.book ++ Entry.Start t f a ∷ [] }, Seen.Bound t (c.last_run + 1))
 
 -- the answer where the root was not bound now
 abbrev pub unbound : ℕ → Binding → Seen
-unbound t binding.Bound = seen.Gone t
-unbound t binding.Running = seen.Running t
-unbound t (binding.Other f a) = seen.Other t f a
-unbound t (binding.Ended o) = seen.Replied t o
-unbound t binding.Gone = seen.Gone t
+unbound t Binding.Bound = Seen.Gone t
+unbound t Binding.Running = Seen.Running t
+unbound t (Binding.Other f a) = Seen.Other t f a
+unbound t (Binding.Ended o) = Seen.Replied t o
+unbound t Binding.Gone = Seen.Gone t
 
 -- a request, by what its bind came to
 abbrev pub request_next : Deployment → Core → ℕ → ℕ → Value → Binding → Core × Seen
-request_next d c t f a binding.Bound = bound_next d c t f a
+request_next d c t f a Binding.Bound = bound_next d c t f a
 request_next d c t f a b = (c, unbound t b)
 
 -- the entry of a mark
 abbrev pub entry_of : IntentId → Mark → Entry
-entry_of id (mark.Read seen) = entry.Read id seen
-entry_of id mark.Step = entry.Step id
-entry_of id mark.Tx = entry.Tx id
-entry_of id (mark.Try p holder) = entry.Try id p holder
+entry_of id (Mark.Read seen) = Entry.Read id seen
+entry_of id Mark.Step = Entry.Step id
+entry_of id Mark.Tx = Entry.Tx id
+entry_of id (Mark.Try p holder) = Entry.Try id p holder
 
 -- the book with the entry of an act, if it made one
 abbrev pub marked : List Entry → IntentId → Option Mark → List Entry
@@ -176,7 +149,7 @@ has_run m id = list_any (λ e. is_eq (id_cmp e.1.id id)) (map.entries m)
 
 -- a turn that was made: its entry, the run that it started, whether its own run is over, and the root that it ended
 abbrev pub acted : IntentId → Option Mark → Bool → Option Outcome → Option ℕ → Seen
-acted id m over reply started = seen.Acted (option_map (entry_of id) m) started over (option_map (λ (o : Outcome). (id.ticket, o)) reply)
+acted id m over reply started = Seen.Acted (option_map (entry_of id) m) started over (option_map (λ (o : Outcome). (id.ticket, o)) reply)
 
 -- .. from the core that it left, and the number of the run that it started
 abbrev pub made : IntentId → TurnSays → Core × Option ℕ → Core × Seen
@@ -196,10 +169,10 @@ may_start c (Some r) = if has_run c.runs r.id || is_crowded c then (c, None) els
 -- there, it waits for a live run of the callee, or one is started.
 abbrev pub after_turn : Core → Option Run → IntentId → TurnSays → Option Wait → Core × Seen
 after_turn c o id x None = made id x (if x.starts then may_start c o else (c, None))
-after_turn c o id x (Some (wait.Held w)) = (c, seen.Held w)
-after_turn c o id x (Some (wait.Result callee)) =
-    if has_run c.runs callee then (c, seen.NotYet callee) else
-    if is_crowded c then (c, seen.Crowded) else
+after_turn c o id x (Some (Wait.Held w)) = (c, Seen.Held w)
+after_turn c o id x (Some (Wait.Result callee)) =
+    if has_run c.runs callee then (c, Seen.NotYet callee) else
+    if is_crowded c then (c, Seen.Crowded) else
     made id x (started c o)
 
 -- the core after a turn, but for a run that it started
@@ -219,22 +192,22 @@ run_next d c i t (Some r) = turn_next c i r (run_told d (count_changes c.book) r
 
 -- ---- the intent collector: it goes from row to row, and launches a run of each intent that has not ended and has none
 abbrev pub passed : Core → RowKey → Core × Seen
-passed c k = (record c { cursor = k }, seen.Passed)
+passed c k = (record c { cursor = k }, Seen.Passed)
 
 abbrev pub launched : Deployment → Core → IntentId → ℕ → Core × Seen
-launched d c id f = (with_run c (new_run d c id f), seen.Launched (c.last_run + 1) id)
+launched d c id f = (with_run c (new_run d c id f), Seen.Launched (c.last_run + 1) id)
 
 -- at an intent that has not ended it stays where the host is crowded
 abbrev pub collected : Deployment → Core → RowKey → IntentId → ℕ → Core × Seen
 collected d c k id f =
     if has_run c.runs id then passed c k else
-    if is_crowded c then (c, seen.Crowded) else
+    if is_crowded c then (c, Seen.Crowded) else
     launched d (record c { cursor = k }) id f
 
 abbrev pub collect_next : Deployment → Core → Found → Core × Seen
-collect_next d c collect.Round = (record c { cursor = least_key }, seen.Round)
-collect_next d c (collect.Passed k) = passed c k
-collect_next d c (collect.Unended k id f) = collected d c k id f
+collect_next d c Found.Round = (record c { cursor = least_key }, Seen.Round)
+collect_next d c (Found.Passed k) = passed c k
+collect_next d c (Found.Unended k id f) = collected d c k id f
 
 -- .. and nobody heard it
 abbrev pub unheard_next : Deployment → Core → ℕ → Told → Option Run → Core
@@ -246,10 +219,10 @@ abbrev pub heard : Deployment → Event → Core → Told → Core × Seen
 heard d Ticket c t = ticket_next c (is_added t)
 heard d (Request t f a) c u = request_next d c t f a (binding_of u)
 heard d (Turn i) c t = run_next d c i t (map.get c.runs i)
-heard d (Lost i) c t = (unheard_next d c i t (map.get c.runs i), seen.Dropped)
-heard d (Crash i) c t = (c, seen.Crashed)
-heard d (Restart id f) c t = (c, seen.Crowded)
-heard d (Tick n) c t = (c, seen.ClockEnd)
+heard d (Lost i) c t = (unheard_next d c i t (map.get c.runs i), Seen.Dropped)
+heard d (Crash i) c t = (c, Seen.Crashed)
+heard d (Restart id f) c t = (c, Seen.Crowded)
+heard d (Tick n) c t = (c, Seen.ClockEnd)
 heard d Ic c t = collect_next d c (collect_says t)
 
 -- .. and then out of memory: what is left, none where that cannot be
@@ -269,18 +242,18 @@ no_memory d Ic c t = if_lent (lends t) c
 
 -- ---- what follows where it did not
 abbrev pub refused_by : TableErr → Result Seen AllocError
-refused_by err.OutOfMemory = Err (record {})
-refused_by err.Failed = Ok seen.Dropped
-refused_by (err.Full live room) = Ok (seen.Full live room)
+refused_by TableErr.OutOfMemory = Err (record {})
+refused_by TableErr.Failed = Ok Seen.Dropped
+refused_by (TableErr.Full live room) = Ok (Seen.Full live room)
 
 -- a run that had the event is over, but for a turn where there was no room
 abbrev pub refused : Event → Core → TableErr → Core × Result Seen AllocError
 refused Ticket c e = (c, refused_by e)
 refused (Request t f a) c e = (c, refused_by e)
-refused (Turn i) c (err.Full live room) = (c, Ok (seen.Full live room))
+refused (Turn i) c (TableErr.Full live room) = (c, Ok (Seen.Full live room))
 refused (Turn i) c e = (ended_run c i, refused_by e)
-refused (Lost i) c err.OutOfMemory = (ended_run c i, Err (record {}))
-refused (Lost i) c e = (ended_run c i, Ok seen.Dropped)
+refused (Lost i) c TableErr.OutOfMemory = (ended_run c i, Err (record {}))
+refused (Lost i) c e = (ended_run c i, Ok Seen.Dropped)
 refused (Crash i) c e = (c, refused_by e)
 refused (Restart id f) c e = (c, refused_by e)
 refused (Tick n) c e = (c, refused_by e)
@@ -295,7 +268,7 @@ Followed d e c (Err v) z r = (z, r) ≡ refused e c v
 
 -- a run was started
 abbrev pub StartsRun : Seen → Type 0
-StartsRun (seen.Started i) = Unit {0}
+StartsRun (Seen.Started i) = Unit {0}
 StartsRun x = ⊥
 
 -- an event that is answered at once makes no call; out of memory it is only where a run would start

@@ -1,20 +1,10 @@
 -- Runs that were called in a transaction: they stay in it, and make no entry.
 use Rattle.std.specs.Prelude.{◌≡◌, ℕ, Bool, true, false, Option, Some, None}
-use Rattle.beldi_value.specs.declared.id.IntentId.{IntentId}
-use Rattle.beldi_value.specs.declared.place.Caller.{Caller}
-use Rattle.beldi_value.specs.declared.place.TxId.{TxId}
+use Rattle.beldi_value.specs.declared.{id.IntentId.IntentId, place.Caller.Caller, place.TxId.TxId}
 use Rattle.beldi_tree.specs.declared.deployment.Deployment.{Deployment}
-use Rattle.beldi_lang.specs.declared.effect.Effect.{Effect}
-use Rattle.beldi_lang.specs.declared.effect.Answer.{Answer}
-use Rattle.beldi_lang.specs.declared.machine.Machine.{Machine}
+use Rattle.beldi_lang.specs.{declared.effect.Effect.Effect, declared.effect.Answer.Answer, declared.machine.Machine.Machine, Bounds.is_bound}
 use Rattle.beldi_walk.specs.Query.{Told}
-use Rattle.beldi_step.specs.declared.run.Stage.{Stage}
-use Rattle.beldi_step.specs.declared.run.Stage.TheVariants.{Tx, Call, Back, Close}
-use Rattle.beldi_step.specs.declared.run.RunTx.TheVariants.{Inherited}
-use Rattle.beldi_step.specs.declared.run.Says.{Says}
-use Rattle.beldi_step.specs.declared.run.Says.TheVariants.{On}
-use Rattle.beldi_lang.specs.Bounds.{is_bound}
-use Rattle.beldi_step.specs.Run.{is_waited, takes, first_stage, stage_says, mark_of}
+use Rattle.beldi_step.specs.{declared.run.Stage.Stage, declared.run.Stage.TheVariants.Tx, declared.run.Stage.TheVariants.Call, declared.run.Stage.TheVariants.Back, declared.run.Stage.TheVariants.Close, declared.run.RunTx.TheVariants.Inherited, declared.run.Says.Says, declared.run.Says.TheVariants.On, Run.is_waited, Run.takes, Run.first_stage, Run.stage_says, Run.mark_of}
 
 abbrev pub StaysInherited : Type 0
 StaysInherited = (d : Deployment) (m : Machine) (x : TxId) (a : Answer) → is_bound m.effect ≡ false → (takes d m (Some (Inherited x)) a).1 ≡ Some (Inherited x)

@@ -1,15 +1,11 @@
 -- What one step of the host says over rows that are told, and over any table.
 use Rattle.std.specs.Prelude.{◌≡◌, ℕ, ◌≤◌, ◌<◌, Option, Some, None, Result, Ok}
-use Rattle.std.specs.FinMap as map
 use Rattle.std.specs.declared.alloc.AllocError.{AllocError}
+use Rattle.std.specs.FinMap as map
 use Rattle.beldi_tree.specs.declared.deployment.Deployment.{Deployment}
 use Rattle.beldi_row.specs.Table.{TableState, Tells, AtMostOne}
-use Rattle.beldi_step.specs.declared.event.Event.{Event}
-use Rattle.beldi_step.specs.declared.event.Event.TheVariants.{Turn, Lost, Crash}
-use Rattle.beldi_step.specs.declared.event.Seen.{Seen}
-use Rattle.beldi_step.specs.declared.event.Seen.TheVariants.{Expired}
-use Rattle.beldi_step.specs.declared.run.Run.{Run}
 use Rattle.beldi_step.specs.Host.{Core, most_events, at_once, ended_run, counted, plan, Stepped, EventOn}
+use Rattle.beldi_step.specs.declared.{event.Event.Event, event.Event.TheVariants.Turn, event.Event.TheVariants.Lost, event.Event.TheVariants.Crash, event.Seen.Seen, event.Seen.TheVariants.Expired, run.Run.Run}
 
 abbrev pub StepsOverRows : Type 0
 StepsOverRows = (d : Deployment) (e : Event) (c b : Core) (old new : TableState) (r : Result Seen AllocError) → Stepped d e c b old new r

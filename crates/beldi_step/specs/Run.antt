@@ -1,85 +1,21 @@
 -- A run, as a machine that asks one thing a turn.
 use Rattle.std.specs.Prelude.{◌≡◌, ℕ, not, Bool, true, false, List, Option, Some, None, is_none, is_some, Result, Ok, Err, if◌then◌else◌}
-use Rattle.beldi_value.specs.Id.{has_callees, has_no_hops, child_of}
-use Rattle.beldi_value.specs.declared.id.IntentId.{IntentId}
-use Rattle.beldi_value.specs.declared.value.Value.{Value}
-use Rattle.beldi_value.specs.declared.value.Value.TheVariants as value
-use Rattle.beldi_value.specs.declared.outcome.Cause.{Cause}
-use Rattle.beldi_value.specs.declared.outcome.Outcome.{Outcome}
-use Rattle.beldi_value.specs.declared.place.Caller.{Caller}
-use Rattle.beldi_value.specs.declared.place.Place.{Place}
-use Rattle.beldi_value.specs.declared.place.TxId.{TxId}
-use Rattle.beldi_value.specs.declared.place.Owner.TheVariants as owner
-use Rattle.beldi_tree.specs.declared.deployment.Deployment.{Deployment}
-use Rattle.beldi_tree.specs.declared.deployment.Func.{Func}
-use Rattle.beldi_tree.specs.Bindings.{or_null}
-use Rattle.beldi_tree.specs.Names.{func_at}
-use Rattle.beldi_lang.specs.declared.effect.Effect.{Effect}
-use Rattle.beldi_lang.specs.declared.effect.Effect.TheVariants as effect
-use Rattle.beldi_lang.specs.declared.effect.Answer.{Answer}
-use Rattle.beldi_lang.specs.declared.effect.Answer.TheVariants as answer
-use Rattle.beldi_lang.specs.Callee.{answer_of}
-use Rattle.beldi_lang.specs.declared.machine.Machine.{Machine}
-use Rattle.beldi_lang.specs.Machine.{begun as machine_begun, resumed}
-use Rattle.beldi_row.specs.declared.act.Act.TheVariants.{Look, PutRead}
-use Rattle.beldi_row.specs.declared.row.Body.{Body}
-use Rattle.beldi_row.specs.Act.{added}
-use Rattle.beldi_row.specs.declared.notes.Note.{Note}
-use Rattle.beldi_row.specs.declared.notes.Note.TheVariants.{Wrote, Cond, Got, Died, Freed}
-use Rattle.beldi_walk.specs.declared.query.Query.{Query}
-use Rattle.beldi_walk.specs.declared.query.Query.TheVariants.{Act}
-use Rattle.beldi_walk.specs.Query.{Told, said}
-use Rattle.beldi_daal.specs.declared.cell.WriteAt.{WriteAt}
-use Rattle.beldi_daal.specs.declared.cell.WriteAt.TheVariants.{Try}
-use Rattle.beldi_daal.specs.declared.cell.WriteGoes.{WriteGoes}
-use Rattle.beldi_daal.specs.declared.cell.WriteGoes.TheVariants as writes
-use Rattle.beldi_daal.specs.declared.cell.ReadGoes.{ReadGoes}
-use Rattle.beldi_daal.specs.declared.cell.ReadGoes.TheVariants as reads
-use Rattle.beldi_daal.specs.declared.cell.CellOp.{CellOp}
-use Rattle.beldi_daal.specs.declared.cell.CellOp.TheVariants as op
-use Rattle.beldi_daal.specs.Cell.{cell_key, done_note, write_asks, write_goes, read_goes}
-use Rattle.beldi_readlog.specs.declared.read_log.Kept.{Kept}
-use Rattle.beldi_readlog.specs.ReadLog.{log_key, given_of, kept_of}
-use Rattle.beldi_txn.specs.declared.tx.TxAt.{TxAt}
-use Rattle.beldi_txn.specs.declared.tx.TxAt.TheVariants as inside
-use Rattle.beldi_txn.specs.declared.tx.TxGoes.{TxGoes}
-use Rattle.beldi_txn.specs.declared.tx.TxGoes.TheVariants as leads
-use Rattle.beldi_txn.specs.declared.end.EndGoes.{EndGoes}
-use Rattle.beldi_txn.specs.declared.end.EndGoes.TheVariants as ends
-use Rattle.beldi_txn.specs.declared.end.Visit.{Visit}
-use Rattle.beldi_txn.specs.Tx.{tx_first, tx_asks, tx_goes}
-use Rattle.beldi_txn.specs.End.{first_visit, visit_asks, end_goes, moved}
+use Rattle.beldi_value.specs.{Id.has_callees, Id.has_no_hops, Id.child_of, declared.id.IntentId.IntentId, declared.value.Value.Value, declared.outcome.Cause.Cause, declared.outcome.Outcome.Outcome, declared.place.Caller.Caller, declared.place.Place.Place, declared.place.TxId.TxId, declared.place.Owner.Owner}
+use Rattle.beldi_tree.specs.{declared.deployment.Deployment.Deployment, declared.deployment.Func.Func, Bindings.or_null, Names.func_at}
+use Rattle.beldi_lang.specs.{declared.effect.Effect.Effect, declared.effect.Answer.Answer, Callee.answer_of, declared.machine.Machine.Machine, Machine.begun as machine_begun, Machine.resumed}
+use Rattle.beldi_row.specs.{declared.act.Act.TheVariants.Look, declared.act.Act.TheVariants.PutRead, declared.row.Body.Body, Act.added, declared.notes.Note.Note, declared.notes.Note.TheVariants.Wrote, declared.notes.Note.TheVariants.Cond, declared.notes.Note.TheVariants.Got, declared.notes.Note.TheVariants.Died, declared.notes.Note.TheVariants.Freed}
+use Rattle.beldi_walk.specs.{declared.query.Query.Query, declared.query.Query.TheVariants.Act, Query.Told, Query.said}
+use Rattle.beldi_daal.specs.{declared.cell.WriteAt.WriteAt, declared.cell.WriteAt.TheVariants.Try, declared.cell.WriteGoes.WriteGoes, declared.cell.ReadGoes.ReadGoes, declared.cell.CellOp.CellOp, Cell.cell_key, Cell.done_note, Cell.write_asks, Cell.write_goes, Cell.read_goes}
+use Rattle.beldi_readlog.specs.{declared.read_log.Kept.Kept, ReadLog.log_key, ReadLog.given_of, ReadLog.kept_of}
+use Rattle.beldi_invokelog.specs.InvokeLog.{back_asks, registered_asks, back_of}
 use Rattle.beldi_invokelog.specs.declared.invoke_log.Back as told
 use Rattle.beldi_invokelog.specs.declared.invoke_log.Back.TheVariants as back
-use Rattle.beldi_invokelog.specs.InvokeLog.{back_asks, registered_asks, back_of}
-use Rattle.beldi_call.specs.declared.call.CallAt.{CallAt}
-use Rattle.beldi_call.specs.declared.call.CallAt.TheVariants as call
-use Rattle.beldi_call.specs.declared.call.CallSays.{CallSays}
-use Rattle.beldi_call.specs.declared.call.CallSays.TheVariants.{Opened, NotYet, Done}
-use Rattle.beldi_call.specs.Call.{call_asks, call_says}
-use Rattle.beldi_call.specs.declared.async_call.AsyncAt.{AsyncAt}
-use Rattle.beldi_call.specs.declared.async_call.AsyncAt.TheVariants as async
-use Rattle.beldi_call.specs.declared.async_call.AsyncSays.{AsyncSays}
-use Rattle.beldi_call.specs.declared.async_call.AsyncSays.TheVariants as asyncs
-use Rattle.beldi_call.specs.Async.{async_asks, async_says}
-use Rattle.beldi_step.specs.declared.run.Mark.{Mark}
-use Rattle.beldi_step.specs.declared.run.Mark.TheVariants as mark
-use Rattle.beldi_step.specs.declared.run.Wait.{Wait}
-use Rattle.beldi_step.specs.declared.run.Wait.TheVariants as wait
-use Rattle.beldi_step.specs.declared.run.Run.{Run}
-use Rattle.beldi_step.specs.declared.run.RunAt.{RunAt}
-use Rattle.beldi_step.specs.declared.run.RunAt.TheVariants.{Looks, Registers, Begins}
-use Rattle.beldi_step.specs.declared.run.Begun.{Begun}
-use Rattle.beldi_step.specs.declared.run.OpenTx.{OpenTx}
-use Rattle.beldi_step.specs.declared.run.RunTx.{RunTx}
-use Rattle.beldi_step.specs.declared.run.RunTx.TheVariants.{Own, Inherited}
-use Rattle.beldi_step.specs.declared.run.TurnSays.{TurnSays}
-use Rattle.beldi_step.specs.declared.run.Stage.{Stage}
-use Rattle.beldi_step.specs.declared.run.Stage.TheVariants.{Ask, Walk, Keep, Write, Tx, Decide, End, Call, Async, Back, Tell, Close}
-use Rattle.beldi_step.specs.declared.run.Says.{Says}
-use Rattle.beldi_step.specs.declared.run.Says.TheVariants.{On, Stays, Opens, Starts, Waits, Answers, Ends}
 use Rattle.beldi_intent.specs.Intent.{look_asks, register_asks, end_asks, is_did, body_in, body_told}
-use Rattle.beldi_step.specs.Noted.{noted_answer}
+use Rattle.beldi_txn.specs.{declared.tx.TxAt.TxAt, declared.tx.TxGoes.TxGoes, declared.end.EndGoes.EndGoes, declared.end.Visit.Visit, Tx.tx_first, Tx.tx_asks, Tx.tx_goes, End.first_visit, End.visit_asks, End.end_goes, End.moved}
+use Rattle.beldi_call.specs.{declared.call.CallAt.CallAt, declared.call.CallSays.CallSays, declared.call.CallSays.TheVariants.Opened, declared.call.CallSays.TheVariants.NotYet, declared.call.CallSays.TheVariants.Done, Call.call_asks, Call.call_says, declared.async_call.AsyncAt.AsyncAt, declared.async_call.AsyncSays.AsyncSays, Async.async_asks, Async.async_says}
+use Rattle.beldi_step.specs.declared.run.Stage.TheVariants.{Ask, Walk, Keep, Write, Tx, Decide, End, Call, Async, Back, Tell, Close}
+use Rattle.beldi_step.specs.declared.run.Says.TheVariants.{On, Stays, Opens, Starts, Waits, Answers, Ends}
+use Rattle.beldi_step.specs.{declared.run.Mark.Mark, declared.run.Wait.Wait, declared.run.Run.Run, declared.run.RunAt.RunAt, declared.run.RunAt.TheVariants.Looks, declared.run.RunAt.TheVariants.Registers, declared.run.RunAt.TheVariants.Begins, declared.run.Begun.Begun, declared.run.OpenTx.OpenTx, declared.run.RunTx.RunTx, declared.run.RunTx.TheVariants.Own, declared.run.RunTx.TheVariants.Inherited, declared.run.TurnSays.TurnSays, declared.run.Stage.Stage, declared.run.Says.Says, Noted.noted_answer}
 
 -- the place of a run's effect at a step
 abbrev pub place_of : IntentId → ℕ → Place
@@ -116,31 +52,31 @@ is_inherited (Some (Inherited x)) = true
 
 -- the cause of what was aborted in its own one is kept
 abbrev pub with_cause : Answer → Option RunTx → Option RunTx
-with_cause (answer.Aborted c) (Some (Own o)) = Some (Own (record { begin = o.begin; cause = Some c }))
+with_cause (Answer.Aborted c) (Some (Own o)) = Some (Own (record { begin = o.begin; cause = Some c }))
 with_cause a o = o
 
 -- what a run is in once the effect at a step has its answer
 abbrev pub open_after : ℕ → Effect → Answer → Option RunTx → Option RunTx
-open_after step effect.Begin a o = Some (Own (record { begin = step; cause = None }))
-open_after step (effect.End commit) a o = None
+open_after step Effect.Begin a o = Some (Own (record { begin = step; cause = None }))
+open_after step (Effect.End commit) a o = None
 open_after step e a o = with_cause a o
 
 -- the mark of a transaction that leaves nothing, by the cause of what was aborted in it; where a fault ends it nothing was, and its
 -- place is that of the end
 abbrev pub try_mark : IntentId → ℕ → Option Cause → Mark
-try_mark id step (Some c) = mark.Try c.place c.holder
-try_mark id step None = mark.Try (place_of id step) None
+try_mark id step (Some c) = Mark.Try c.place c.holder
+try_mark id step None = Mark.Try (place_of id step) None
 
 -- the mark of the decision
 abbrev pub end_mark : IntentId → ℕ → Option Cause → Bool → Mark
-end_mark id step c true = mark.Tx
+end_mark id step c true = Mark.Tx
 end_mark id step c false = try_mark id step c
 
 -- ---- what takes no turn
 -- the answer that takes no turn: of a Begin, and of an Abort
 abbrev pub answer_at_once : IntentId → ℕ → Effect → Option Answer
-answer_at_once id step effect.Begin = Some answer.Done
-answer_at_once id step effect.Abort = Some (answer.Aborted (record { place = place_of id step; holder = None }))
+answer_at_once id step Effect.Begin = Some Answer.Done
+answer_at_once id step Effect.Abort = Some (Answer.Aborted (record { place = place_of id step; holder = None }))
 answer_at_once id step e = None
 
 -- a machine and the transaction that it is in, after an answer
@@ -170,10 +106,10 @@ pub record OnCell : Type 0 where
   pub op : CellOp
 
 abbrev pub cell_op : Effect → Option OnCell
-cell_op (effect.Write t k v) = Some (record { table = t; key = k; op = op.Write v })
-cell_op (effect.CondWrite t k r o v) = Some (record { table = t; key = k; op = op.Cond r o v })
-cell_op (effect.Lock t k) = Some (record { table = t; key = k; op = op.Lock })
-cell_op (effect.Unlock t k) = Some (record { table = t; key = k; op = op.Free None })
+cell_op (Effect.Write t k v) = Some (record { table = t; key = k; op = CellOp.Write v })
+cell_op (Effect.CondWrite t k r o v) = Some (record { table = t; key = k; op = CellOp.Cond r o v })
+cell_op (Effect.Lock t k) = Some (record { table = t; key = k; op = CellOp.Lock })
+cell_op (Effect.Unlock t k) = Some (record { table = t; key = k; op = CellOp.Free None })
 cell_op e = None
 
 -- the note that its act leaves where it says that it was done
@@ -186,10 +122,10 @@ note_done e = note_of_op (cell_op e)
 
 -- a note's answer to an effect, none where it is of another kind than the effect's answers
 abbrev pub answers_it : Effect → Answer → Bool
-answers_it (effect.Write t k v) answer.Done = true
-answers_it (effect.CondWrite t k r o v) (answer.Value w) = true
-answers_it (effect.Lock t k) answer.Done = true
-answers_it (effect.Unlock t k) answer.Done = true
+answers_it (Effect.Write t k v) Answer.Done = true
+answers_it (Effect.CondWrite t k r o v) (Answer.Value w) = true
+answers_it (Effect.Lock t k) Answer.Done = true
+answers_it (Effect.Unlock t k) Answer.Done = true
 answers_it e a = false
 
 abbrev pub if_answers : Effect → Option Answer → Option Answer
@@ -229,24 +165,24 @@ first_end id step commit (Some (Inherited x)) = None
 -- where an effect at a step of an intent begins, by its caller and by the transaction that it is in; none where it is not carried
 -- out, as a call is not whose callee has no id
 abbrev pub first_stage : IntentId → Option Caller → Option RunTx → ℕ → Effect → Option Stage
-first_stage id c o step (effect.Read t k) = Some (first_of Ask (effect.Read t k) o)
-first_stage id c o step (effect.Write t k v) = Some (first_of (Write Try) (effect.Write t k v) o)
-first_stage id c o step (effect.CondWrite t k r u v) = Some (first_of (Write Try) (effect.CondWrite t k r u v) o)
-first_stage id c o step (effect.Lock t k) = first_outside (Some (Write Try)) o
-first_stage id c o step (effect.Unlock t k) = first_outside (Some (Write Try)) o
-first_stage id c o step (effect.Call f a) = if has_callees id then Some (Call call.Open) else None
-first_stage id c o step (effect.Async f a) = first_outside (if has_callees id then Some (Async async.Open) else None) o
-first_stage id c o step (effect.End commit) = first_end id step commit o
-first_stage id c o step (effect.Return x) = Some (last_stage c)
+first_stage id c o step (Effect.Read t k) = Some (first_of Ask (Effect.Read t k) o)
+first_stage id c o step (Effect.Write t k v) = Some (first_of (Write Try) (Effect.Write t k v) o)
+first_stage id c o step (Effect.CondWrite t k r u v) = Some (first_of (Write Try) (Effect.CondWrite t k r u v) o)
+first_stage id c o step (Effect.Lock t k) = first_outside (Some (Write Try)) o
+first_stage id c o step (Effect.Unlock t k) = first_outside (Some (Write Try)) o
+first_stage id c o step (Effect.Call f a) = if has_callees id then Some (Call CallAt.Open) else None
+first_stage id c o step (Effect.Async f a) = first_outside (if has_callees id then Some (Async AsyncAt.Open) else None) o
+first_stage id c o step (Effect.End commit) = first_end id step commit o
+first_stage id c o step (Effect.Return x) = Some (last_stage c)
 first_stage id c o step e = None
 
 -- ---- what is asked in the next turn. A stage of another effect, which does not come, looks at the intent's row.
 abbrev pub walk_asks : IntentId → ℕ → Effect → Query
-walk_asks id func (effect.Read t k) = Act (cell_key func t k) Look
+walk_asks id func (Effect.Read t k) = Act (cell_key func t k) Look
 walk_asks id func e = look_asks id func
 
 abbrev pub put_asks : IntentId → ℕ → ℕ → WriteAt → Option OnCell → Query
-put_asks id func step at (Some o) = write_asks (cell_key func o.table o.key) (place_of id step) (owner.Intent id) o.op at
+put_asks id func step at (Some o) = write_asks (cell_key func o.table o.key) (place_of id step) (Owner.Intent id) o.op at
 put_asks id func step at None = look_asks id func
 
 -- inside a transaction
@@ -261,11 +197,11 @@ end_by_asks id func step commit v (Some (Inherited x)) = look_asks id func
 end_by_asks id func step commit v None = look_asks id func
 
 abbrev pub end_here_asks : IntentId → ℕ → ℕ → Effect → Visit → Option RunTx → Query
-end_here_asks id func step (effect.End commit) v o = end_by_asks id func step commit v o
+end_here_asks id func step (Effect.End commit) v o = end_by_asks id func step commit v o
 end_here_asks id func step e v o = look_asks id func
 
 abbrev pub call_here_asks : IntentId → ℕ → ℕ → Effect → CallAt → Query
-call_here_asks id func step (effect.Call f a) at = call_asks func (place_of id step) f at
+call_here_asks id func step (Effect.Call f a) at = call_asks func (place_of id step) f at
 call_here_asks id func step e at = look_asks id func
 
 -- the body of what is called, in this transaction, if any
@@ -273,7 +209,7 @@ abbrev pub callee_body : IntentId → ℕ → ℕ → ℕ → Value → Option T
 callee_body id func step f a x waits = record { func = f; args = a; tx = x; from = Some (record { place = place_of id step; func = func; waits = waits }) }
 
 abbrev pub async_here_asks : IntentId → ℕ → ℕ → Effect → AsyncAt → Query
-async_here_asks id func step (effect.Async f a) at = if has_callees id then async_asks func (place_of id step) (callee_body id func step f a None false) at else look_asks id func
+async_here_asks id func step (Effect.Async f a) at = if has_callees id then async_asks func (place_of id step) (callee_body id func step f a None false) at else look_asks id func
 async_here_asks id func step e at = look_asks id func
 
 abbrev pub tell_asks : IntentId → ℕ → Option Caller → Query
@@ -281,12 +217,12 @@ tell_asks id func None = look_asks id func
 tell_asks id func (Some c) = registered_asks c.func c.place
 
 abbrev pub back_to_asks : IntentId → ℕ → Option Caller → Effect → Query
-back_to_asks id func (Some c) (effect.Return o) = back_asks c.func c.place o
+back_to_asks id func (Some c) (Effect.Return o) = back_asks c.func c.place o
 back_to_asks id func c e = look_asks id func
 
 -- what was called in a transaction has its stamp from the owner's end
 abbrev pub close_asks : IntentId → ℕ → Option RunTx → Effect → Query
-close_asks id func o (effect.Return x) = end_asks id func x (not (is_inherited o))
+close_asks id func o (Effect.Return x) = end_asks id func x (not (is_inherited o))
 close_asks id func o e = look_asks id func
 
 abbrev pub stage_asks : IntentId → ℕ → Option Caller → Option RunTx → ℕ → Effect → Stage → Query
@@ -319,35 +255,35 @@ mark_if false m = None
 
 -- the mark of a step that this act made, if it made one: inside a transaction a step makes no entry
 abbrev pub step_mark : Option RunTx → Bool → Option Mark
-step_mark None first = mark_if first mark.Step
+step_mark None first = mark_if first Mark.Step
 step_mark (Some o) first = None
 
 -- what was given to a read before is its answer
 abbrev pub ask_says : Option Value → Says
 ask_says None = On Walk None
-ask_says (Some v) = Answers (answer.Value v) None
+ask_says (Some v) = Answers (Answer.Value v) None
 
 -- what a read found, when so many changes had been made. An item without a row is null.
 abbrev pub walk_says : ℕ → ReadGoes → Says
-walk_says changes reads.On = On Walk None
-walk_says changes (reads.Got v) = On (Keep (or_null v) changes) None
-walk_says changes (reads.Held o) = Waits (wait.Held o)
+walk_says changes ReadGoes.On = On Walk None
+walk_says changes (ReadGoes.Got v) = On (Keep (or_null v) changes) None
+walk_says changes (ReadGoes.Held o) = Waits (Wait.Held o)
 
 -- what is kept for a read is its answer, whoever kept it
 abbrev pub keep_says : ℕ → Kept → Says
-keep_says seen k = Answers (answer.Value k.value) (mark_if k.added (mark.Read seen))
+keep_says seen k = Answers (Answer.Value k.value) (mark_if k.added (Mark.Read seen))
 
 -- an operation whose place has its note was made; a note of another kind, which no session leaves there, ends the run
 abbrev pub done_says : Bool → Option Answer → Says
-done_says first (Some a) = Answers a (mark_if first mark.Step)
+done_says first (Some a) = Answers a (mark_if first Mark.Step)
 done_says first None = Ends None None
 
 -- a run that is to give back what it does not own is over; no session comes to that
 abbrev pub write_says : Effect → WriteGoes → Says
-write_says e (writes.On at) = On (Write at) None
-write_says e (writes.Done n first) = done_says first (answer_noted e n)
-write_says e writes.NotOwner = Ends None None
-write_says e (writes.Held w) = Waits (wait.Held w)
+write_says e (WriteGoes.On at) = On (Write at) None
+write_says e (WriteGoes.Done n first) = done_says first (answer_noted e n)
+write_says e WriteGoes.NotOwner = Ends None None
+write_says e (WriteGoes.Held w) = Waits (Wait.Held w)
 
 abbrev pub put_says : Effect → Option Note → Told → Says
 put_says e None t = Ends None None
@@ -355,17 +291,17 @@ put_says e (Some n) t = write_says e (write_goes n t)
 
 -- what happens inside a transaction makes no entry. A value that was kept now is the answer.
 abbrev pub put_answer : TxAt → Says
-put_answer (inside.Keep v) = Answers (answer.Value v) None
+put_answer (TxAt.Keep v) = Answers (Answer.Value v) None
 put_answer a = Stays
 
 abbrev pub tx_says : TxAt → TxGoes → Says
-tx_says a (leads.On b) = On (Tx b) None
-tx_says a leads.Stays = Stays
-tx_says a leads.Put = put_answer a
-tx_says a (leads.Died c) = Answers (answer.Aborted c) None
-tx_says a (leads.Held o) = Waits (wait.Held o)
-tx_says a (leads.Value v) = Answers (answer.Value v) None
-tx_says a leads.Done = Answers answer.Done None
+tx_says a (TxGoes.On b) = On (Tx b) None
+tx_says a TxGoes.Stays = Stays
+tx_says a TxGoes.Put = put_answer a
+tx_says a (TxGoes.Died c) = Answers (Answer.Aborted c) None
+tx_says a (TxGoes.Held o) = Waits (Wait.Held o)
+tx_says a (TxGoes.Value v) = Answers (Answer.Value v) None
+tx_says a TxGoes.Done = Answers Answer.Done None
 
 abbrev pub tx_here_says : IntentId → ℕ → Effect → TxAt → Option RunTx → Told → Says
 tx_here_says id step e a (Some o) t = tx_says a (tx_goes (place_of id step) (begin_of o) e a t)
@@ -373,12 +309,12 @@ tx_here_says id step e a None t = Ends None None
 
 -- the decision has its mark where this act put it
 abbrev pub decided_says : Bool → Mark → EndGoes → Says
-decided_says commit m (ends.Decided first) = On (End (moved commit first_visit (ends.Decided first))) (mark_if first m)
+decided_says commit m (EndGoes.Decided first) = On (End (moved commit first_visit (EndGoes.Decided first))) (mark_if first m)
 decided_says commit m g = On (Decide m) None
 
 -- the end is answered when all items were given back
 abbrev pub visit_says : Bool → Visit → EndGoes → Says
-visit_says commit v ends.Done = Answers answer.Done None
+visit_says commit v EndGoes.Done = Answers Answer.Done None
 visit_says commit v g = On (End (moved commit v g)) None
 
 abbrev pub decide_by_says : IntentId → ℕ → ℕ → Bool → Mark → Option RunTx → Told → Says
@@ -392,38 +328,38 @@ end_by_says id func step commit v (Some (Inherited x)) t = Ends None None
 end_by_says id func step commit v None t = Ends None None
 
 abbrev pub decide_here_says : IntentId → ℕ → ℕ → Effect → Mark → Option RunTx → Told → Says
-decide_here_says id func step (effect.End commit) m o t = decide_by_says id func step commit m o t
+decide_here_says id func step (Effect.End commit) m o t = decide_by_says id func step commit m o t
 decide_here_says id func step e m o t = Ends None None
 
 abbrev pub end_here_says : IntentId → ℕ → ℕ → Effect → Visit → Option RunTx → Told → Says
-end_here_says id func step (effect.End commit) v o t = end_by_says id func step commit v o t
+end_here_says id func step (Effect.End commit) v o t = end_by_says id func step commit v o t
 end_here_says id func step e v o t = Ends None None
 
 -- how the callee ended is the answer to the call; where it has not, the run has opened the call, or waits
 abbrev pub call_answer : IntentId → Option RunTx → ℕ → CallSays → Says
 call_answer id o step (Opened first) = Opens (step_mark o first)
-call_answer id o step NotYet = Waits (wait.Result (child_of id step))
+call_answer id o step NotYet = Waits (Wait.Result (child_of id step))
 call_answer id o step (Done x) = Answers (answer_of x) None
 
 abbrev pub call_here_says : IntentId → Option RunTx → ℕ → Effect → CallAt → Told → Says
-call_here_says id o step (effect.Call f a) at t = if has_callees id then call_answer id o step (call_says f at t) else Ends None None
+call_here_says id o step (Effect.Call f a) at t = if has_callees id then call_answer id o step (call_says f at t) else Ends None None
 call_here_says id o step e at t = Ends None None
 
 -- a call that nobody waits for makes its step as it is opened; once it is registered, a run of the callee may start
 abbrev pub async_answer : AsyncAt → AsyncSays → Says
-async_answer at (asyncs.Opened first) = On (Async async.Register) (mark_if first mark.Step)
-async_answer at asyncs.Going = On (Async async.Note) None
-async_answer async.Note asyncs.Done = Starts answer.Done
-async_answer at asyncs.Done = Answers answer.Done None
+async_answer at (AsyncSays.Opened first) = On (Async AsyncAt.Register) (mark_if first Mark.Step)
+async_answer at AsyncSays.Going = On (Async AsyncAt.Note) None
+async_answer AsyncAt.Note AsyncSays.Done = Starts Answer.Done
+async_answer at AsyncSays.Done = Answers Answer.Done None
 
 abbrev pub async_here_says : IntentId → Effect → AsyncAt → Told → Says
-async_here_says id (effect.Async f a) at t = if has_callees id then async_answer at (async_says f at t) else Ends None None
+async_here_says id (Effect.Async f a) at t = if has_callees id then async_answer at (async_says f at t) else Ends None None
 async_here_says id e at t = Ends None None
 
 -- the outcome was given back, and the step that gave it was made once, which has no entry where the instance was called in a
 -- transaction; then the instance is ended
 abbrev pub back_says : Option RunTx → told.Back → Says
-back_says o back.Set = On Close (mark_if (not (is_inherited o)) mark.Step)
+back_says o back.Set = On Close (mark_if (not (is_inherited o)) Mark.Step)
 back_says o back.AlreadySet = On Close None
 back_says o back.Absent = On Close None
 
@@ -434,13 +370,13 @@ reply_if false o = None
 
 -- the end of what its caller waits for makes no step: its outcome was given back
 abbrev pub close_says : IntentId → Option Caller → Effect → Bool → Says
-close_says id c (effect.Return o) true = Ends (mark_if (not (is_waited c)) mark.Step) (reply_if (has_no_hops id.hops) o)
+close_says id c (Effect.Return o) true = Ends (mark_if (not (is_waited c)) Mark.Step) (reply_if (has_no_hops id.hops) o)
 close_says id c e b = Ends None None
 
 -- `changes` is how many changes had been made
 abbrev pub stage_says : IntentId → ℕ → Option Caller → Option RunTx → ℕ → ℕ → Effect → Stage → Told → Says
 stage_says id func c o changes step e Ask t = ask_says (given_of t)
-stage_says id func c o changes step e Walk t = walk_says changes (read_goes (Some (owner.Intent id)) t)
+stage_says id func c o changes step e Walk t = walk_says changes (read_goes (Some (Owner.Intent id)) t)
 stage_says id func c o changes step e (Keep v seen) t = keep_says seen (kept_of v t)
 stage_says id func c o changes step e (Write at) t = put_says e (note_done e) t
 stage_says id func c o changes step e (Tx at) t = tx_here_says id step e at o t
@@ -499,7 +435,7 @@ at_stage g s = record { machine = g.machine; caller = g.caller; tx = g.tx; stage
 abbrev pub turned_by : Deployment → Run → Begun → Says → Turned
 turned_by d r g (On s m) = goes r (at_stage g s) m
 turned_by d r g Stays = goes r g None
-turned_by d r g (Opens m) = record { next = Some (record r { at = Begins (at_stage g (Call call.Look)) }); mark = m; starts = true; wait = None; reply = None }
+turned_by d r g (Opens m) = record { next = Some (record r { at = Begins (at_stage g (Call CallAt.Look)) }); mark = m; starts = true; wait = None; reply = None }
 turned_by d r g (Waits w) = record { next = Some r; mark = None; starts = false; wait = Some w; reply = None }
 turned_by d r g (Starts a) = record (goes_to d r (takes d g.machine g.tx a) g.caller None) { starts = true }
 turned_by d r g (Answers a m) = goes_to d r (takes d g.machine g.tx a) g.caller m
@@ -530,8 +466,8 @@ abbrev pub callee_run : Run → ℕ → ℕ → RunAt → Option Run
 callee_run r step f at = if has_callees r.id then Some (record { id = child_of r.id step; func = f; deadline = r.deadline; at = at }) else None
 
 abbrev pub callee_by : Run → Option RunTx → ℕ → Effect → Option Run
-callee_by r o step (effect.Call f a) = callee_run r step f (Registers (callee_body r.id r.func step f a (tx_at r.id r.func o) true))
-callee_by r o step (effect.Async f a) = callee_run r step f Looks
+callee_by r o step (Effect.Call f a) = callee_run r step f (Registers (callee_body r.id r.func step f a (tx_at r.id r.func o) true))
+callee_by r o step (Effect.Async f a) = callee_run r step f Looks
 callee_by r o step e = None
 
 abbrev pub callee_at : Run → RunAt → Option Run

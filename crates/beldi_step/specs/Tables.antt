@@ -1,21 +1,12 @@
 -- The listing of tables, as the rows have it.
 use Rattle.std.specs.Prelude.{ℕ, zero, Bool, false, List, [], Option, Some, flat_map, if◌then◌else◌}
 use Rattle.std.specs.FinMap as map
-use Rattle.beldi_value.specs.declared.place.Owner.{Owner}
-use Rattle.beldi_value.specs.declared.place.Owner.TheVariants.{Tx}
-use Rattle.beldi_value.specs.declared.place.TxId.{TxId}
-use Rattle.beldi_value.specs.declared.value.Value.{Value}
-use Rattle.beldi_value.specs.declared.value.Value.TheVariants as value
+use Rattle.beldi_value.specs.declared.{place.Owner.Owner, place.Owner.TheVariants.Tx, place.TxId.TxId, value.Value.Value}
 use Rattle.beldi_tree.specs.declared.deployment.Deployment.{Deployment}
-use Rattle.beldi_row.specs.Key.{RowKey}
-use Rattle.beldi_row.specs.declared.key.Kind.{Kind}
-use Rattle.beldi_row.specs.declared.key.Kind.TheVariants.{Data}
-use Rattle.beldi_row.specs.declared.row.Row.{Row}
-use Rattle.beldi_row.specs.declared.row.Row.TheVariants.{Cell, ReadLog}
-use Rattle.beldi_row.specs.Table.{Rows}
+use Rattle.beldi_book.specs.Text.{item_text}
+use Rattle.beldi_row.specs.{Key.RowKey, declared.key.Kind.Kind, declared.key.Kind.TheVariants.Data, declared.row.Row.Row, declared.row.Row.TheVariants.Cell, declared.row.Row.TheVariants.ReadLog, Table.Rows}
 use Rattle.beldi_daal.specs.Cell.{shadow_key}
 use Rattle.beldi_readlog.specs.ReadLog.{log_key}
-use Rattle.beldi_book.specs.Text.{item_text}
 
 -- the row of a transaction's decision, at the step that began it
 abbrev pub decision_key : TxId → RowKey
@@ -23,7 +14,7 @@ decision_key t = log_key t.func (record { intent = t.intent; step = t.begin })
 
 -- it is a commit
 abbrev pub is_committed : Option Row → Bool
-is_committed (Some (ReadLog (value.Bool b))) = b
+is_committed (Some (ReadLog (Value.Bool b))) = b
 is_committed r = false
 
 -- the value of a cell, else this one
@@ -43,7 +34,7 @@ shown_under m f t k o v = v
 
 -- an item that is null has no line
 abbrev pub value_line : Deployment → ℕ → ℕ → List ℕ → Value → List ℕ
-value_line d f t k value.Null = []
+value_line d f t k Value.Null = []
 value_line d f t k v = item_text d f t k v
 
 -- an item is its first row

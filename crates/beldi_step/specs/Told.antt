@@ -1,13 +1,8 @@
 -- What an event and its answer tell: what was bound, the entries that were made, and the outcome of a root.
 use Rattle.std.specs.Prelude.{ℕ, Bool, true, false, option_to_list, List, [], ◌∷◌, Option, Some, None}
-use Rattle.beldi_value.specs.declared.value.Value.{Value}
-use Rattle.beldi_value.specs.declared.outcome.Outcome.{Outcome}
-use Rattle.beldi_book.specs.declared.entry.Entry.{Entry}
-use Rattle.beldi_book.specs.declared.entry.Entry.TheVariants.{Start}
-use Rattle.beldi_step.specs.declared.event.Event.{Event}
-use Rattle.beldi_step.specs.declared.event.Event.TheVariants.{Request, Lost}
-use Rattle.beldi_step.specs.declared.event.Seen.{Seen}
-use Rattle.beldi_step.specs.declared.event.Seen.TheVariants.{Bound, Replied, Acted, Dropped}
+use Rattle.beldi_value.specs.declared.{value.Value.Value, outcome.Outcome.Outcome}
+use Rattle.beldi_book.specs.declared.entry.Entry.{Entry, TheVariants.Start}
+use Rattle.beldi_step.specs.declared.event.{Event.Event, Event.TheVariants.Request, Event.TheVariants.Lost, Seen.Seen, Seen.TheVariants.Bound, Seen.TheVariants.Replied, Seen.TheVariants.Acted, Seen.TheVariants.Dropped}
 
 -- what an event asks to be bound: ticket, function and arguments
 abbrev pub requested : Event → List (ℕ × (ℕ × Value))

@@ -1,24 +1,7 @@
 -- Statements and deployments are read as the grammar has them.
-use Rattle.std.proofs.Common.{◌≡◌, ℕ, zero, suc, ◌+◌, ◌<◌, Bool, true, false, ◌||◌, List, [], ◌∷◌, ◌++◌, Option, Some, None, refl, ap, subst, ◌∙◌, arith, inl, inr, codes, if◌then◌else◌}
 use Rattle.std.specs.Prelude.{◌^◌}
-use Rattle.beldi_value.specs.declared.rel.Rel.{Rel}
-use Rattle.beldi_tree.specs.declared.deployment.Deployment.{Deployment}
-use Rattle.beldi_tree.specs.declared.deployment.Func.{Func}
-use Rattle.beldi_tree.specs.declared.deployment.TableHead.{TableHead}
-use Rattle.beldi_tree.specs.Term.{Term}
-use Rattle.beldi_tree.specs.Command.{Command, set, read, write, condwrite, call as run, async, lock, unlock, transaction, abort, break, choose, repeat, return, commands_of}
-use Rattle.beldi_syntax.specs.declared.refusal.What.TheVariants.{Syntax, Number as OfNumber, TooDeep}
-use Rattle.beldi_syntax.specs.declared.token.Lexeme.{Lexeme}
-use Rattle.beldi_syntax.specs.declared.token.Token.{Token}
-use Rattle.beldi_syntax.specs.declared.token.Token.TheVariants.{Sign, End}
-use Rattle.beldi_syntax.specs.Phrase.{past_token, end_token, is_end as is_at_end, line_of, refuse, Read, got, bad, after, ◌>>=◌, give, next_is, after_first, take}
-use Rattle.beldi_syntax.specs.Operators.{relation_at}
-use Rattle.beldi_syntax.specs.Expressions.{expr_at}
-use Rattle.beldi_syntax.specs.Statements.{cell as read_cell, relation_or, relation, set_of, read_of, write_of, condition, condwrite_of, call_of, async_of, lock_of, unlock_of, return_of, otherwise, if_of, repeat_of, transaction_of, on_item, plain, stmt_of, stmt as read_stmt, next_stmt, stmts, block_at}
-use Rattle.beldi_syntax.specs.Deployments.{table_of, tables, head, body, function_of, functions, life, room as read_room, the_end as read_end, deployment as read_deployment}
-use Rattle.beldi_syntax.specs.Grammar.{deployment, room, more_functions, the_end, function, more_tables, block, more_stmts, stmt, else_tail, cell, Symbol, word, NAME, INT, END, REL, expr, sum, Place, place, at, Act, by, rules}
-use Rattle.beldi_syntax.specs.Grammar.{is_long}
-use Rattle.beldi_syntax.proofs.Lookahead.{is_that, select, starts, first_of_two}
+use Rattle.beldi_syntax.{specs.Phrase.take, specs.Expressions.expr_at, specs.Statements.block_at, proofs.Lookahead.is_that, proofs.Lookahead.select, proofs.Lookahead.starts, proofs.Lookahead.first_of_two}
+use Rattle.beldi_syntax.proofs.Names.{Act, Bool, Command, Deployment, END, End, Func, INT, Lexeme, List, NAME, None, OfNumber, Option, Place, REL, Read, Rel, Sign, Some, Symbol, Syntax, TableHead, Term, Token, TooDeep, [], abort, after, after_first, ap, arith, async, async_of, at, bad, block, body, break, by, call_of, cell, choose, codes, commands_of, condition, condwrite, condwrite_of, deployment, else_tail, end_token, expr, false, function, function_of, functions, give, got, head, if_of, if◌then◌else◌, inl, inr, is_at_end, is_long, life, line_of, lock, lock_of, more_functions, more_stmts, more_tables, next_is, next_stmt, on_item, otherwise, past_token, place, plain, read, read_cell, read_deployment, read_end, read_of, read_room, read_stmt, refl, refuse, relation, relation_at, relation_or, repeat, repeat_of, return, return_of, room, rules, run, set, set_of, stmt, stmt_of, stmts, subst, suc, sum, table_of, tables, the_end, transaction, transaction_of, true, unlock, unlock_of, word, write, write_of, zero, ℕ, ◌++◌, ◌+◌, ◌<◌, ◌>>=◌, ◌||◌, ◌∙◌, ◌∷◌, ◌≡◌}
 use Rattle.beldi_syntax.proofs.Sound.{Stack, stack, Step, Run, went, Halt, Told, Sound, push, opened, by_rule, seq, given, told_made, made, told_by, ruled, told_if, Low, NoneOf, nothing_of, also_not, skips, skips_end, by_sign, sign_skips, not_sign, free, one, halted, told_bad, taken, named, numbered, Eaten, Else, sign_run, choice, whole, else_refused, else_given, some_same, Turn, Turns, repeats, Leads, leads, guarded, onwards, next_one, none_more}
 use Rattle.beldi_syntax.proofs.Terms.{Reads, expr_ops, relates, relates_not, rel_run, parts, arguments, sums_read, exprs_at, first_is, kind_step, too_deep, low_at}
 

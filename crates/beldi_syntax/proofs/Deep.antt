@@ -1,16 +1,5 @@
 -- What begins with a token, and what the first token of a level too many breaks.
-use Rattle.std.proofs.Common.{◌≡◌, ℕ, zero, suc, ◌+◌, ◌-◌, ◌^◌, ◌<◌, Bool, true, false, not, ◌&&◌, ◌||◌, List, [], ◌∷◌, ◌++◌, map, Option, Some, None, refl, ap, sym, subst, ◌∙◌, arith, inl, inr, if◌then◌else◌, eqb-true}
-use Rattle.std.specs.Prelude.{nat_le, ◌==◌}
-use Rattle.std.proofs.Math.Dec.{leb-zero}
-use Rattle.std.proofs.lemmas.Bool.{lt-leb}
-use Rattle.beldi_tree.specs.declared.deployment.Deployment.{Deployment}
-use Rattle.beldi_syntax.specs.declared.refusal.What.{What}
-use Rattle.beldi_syntax.specs.declared.refusal.What.TheVariants.{Number as OfNumber, TooDeep, TooLarge}
-use Rattle.beldi_syntax.specs.declared.token.Lexeme.{Lexeme}
-use Rattle.beldi_syntax.specs.declared.token.Token.{Token}
-use Rattle.beldi_syntax.specs.declared.token.Token.TheVariants.{Name, Number, Text, End}
-use Rattle.beldi_syntax.specs.Phrase.{is_sign, name_token, text_token, number_token, end_token, past_token}
-use Rattle.beldi_syntax.specs.Grammar.{Symbol, word, NAME, INT, TEXT, END, expr, block, Of, Place, place, Act, Rule, by, means, rules, OneOf, IsToken, is_outside, is_long, limit, Marked, marked, token, phrase}
+use Rattle.beldi_syntax.proofs.Names.{Act, Bool, Deployment, END, End, INT, IsToken, Lexeme, List, Marked, NAME, Name, None, Number, Of, OfNumber, OneOf, Option, Place, Rule, Some, Symbol, TEXT, Text, Token, TooDeep, TooLarge, What, [], ap, arith, block, by, end_token, eqb-true, expr, false, if◌then◌else◌, inl, inr, is_long, is_outside, is_sign, leb-zero, limit, lt-leb, map, marked, means, name_token, nat_le, not, number_token, past_token, phrase, place, refl, rules, subst, suc, sym, text_token, token, true, word, zero, ℕ, ◌&&◌, ◌++◌, ◌+◌, ◌-◌, ◌<◌, ◌==◌, ◌^◌, ◌||◌, ◌∙◌, ◌∷◌, ◌≡◌}
 use Rattle.beldi_syntax.proofs.Lookahead.{Gives, fit, is_wide, of_rules, firsts_in, like, one_of, among, firsts, nullable, left_is, right_is, is_not, or_cases, never_both, is_that}
 use Rattle.beldi_syntax.proofs.Fill.{fills}
 

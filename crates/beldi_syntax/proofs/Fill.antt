@@ -1,10 +1,6 @@
 -- Every list of symbols is some tokens.
-use Rattle.std.proofs.Common.{◌≡◌, ℕ, ◌+◌, List, [], ◌∷◌, ◌++◌, None, refl, inl, inr, codes}
-use Rattle.beldi_tree.specs.declared.deployment.Deployment.{Deployment}
-use Rattle.beldi_syntax.specs.declared.token.Token.{Token}
-use Rattle.beldi_syntax.specs.declared.token.Token.TheVariants.{Sign, Name, Number, Text, End}
-use Rattle.beldi_syntax.specs.Grammar.{deployment, room, more_functions, the_end, function, more_tables, block, more_stmts, stmt, cell, Symbol, word, NAME, INT, TEXT, END, REL, expr, or_tail, conj, and_tail, neg, rel, rel_tail, sum, sum_tail, prod, prod_tail, unary, post, post_tail, atom, member, Of, Place, place, Act, Rule, by, shape, means, rules, OneOf, IsToken, limit, Marked, marked, nothing, token, phrase}
-use Rattle.beldi_syntax.proofs.Lookahead.{Gives, choose, leaves_out, chosen_rule, opens_with}
+use Rattle.beldi_syntax.{specs.Grammar.post, specs.Grammar.member, proofs.Lookahead.Gives, proofs.Lookahead.choose, proofs.Lookahead.leaves_out, proofs.Lookahead.chosen_rule, proofs.Lookahead.opens_with}
+use Rattle.beldi_syntax.proofs.Names.{Act, Deployment, END, End, INT, IsToken, List, Marked, NAME, Name, None, Number, Of, OneOf, Place, REL, Rule, Sign, Symbol, TEXT, Text, Token, [], and_tail, atom, block, by, cell, codes, conj, deployment, expr, function, inl, inr, limit, marked, means, more_functions, more_stmts, more_tables, neg, nothing, or_tail, phrase, place, post_tail, prod, prod_tail, refl, rel, rel_tail, room, rules, shape, stmt, sum, sum_tail, the_end, token, unary, word, ℕ, ◌++◌, ◌+◌, ◌∷◌, ◌≡◌}
 
 pub record Filled (cs : List Place) (k : Act cs Deployment) : Type 0 where
   pub us : List Marked

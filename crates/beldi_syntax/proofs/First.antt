@@ -1,23 +1,9 @@
 -- A text is refused at the first token that has a cause, and read where none has.
-use Rattle.std.proofs.Common.{◌≡◌, ℕ, zero, suc, ◌-◌, Bool, true, false, not, List, [], ◌∷◌, ◌++◌, take, Option, Some, None, Ok, Err, refl, ap, sym, subst, ◌∙◌, append_assoc, codes, if◌then◌else◌}
-use Rattle.beldi_tree.specs.declared.deployment.Deployment.{Deployment}
-use Rattle.beldi_syntax.specs.declared.refusal.What.{What}
-use Rattle.beldi_syntax.specs.declared.refusal.What.TheVariants.{Utf8, Syntax, Number as OfNumber, TooDeep, TooLarge}
-use Rattle.beldi_syntax.specs.declared.refusal.SyntaxErr.TheVariants.{Refused}
-use Rattle.beldi_syntax.specs.declared.token.Lexeme.{Lexeme}
-use Rattle.beldi_syntax.specs.declared.token.Token.{Token}
-use Rattle.beldi_syntax.specs.declared.token.Token.TheVariants.{Sign, Name, Number, Text, End, Bad}
-use Rattle.beldi_syntax.specs.Phrase.{line_of, same, Read, got, bad}
-use Rattle.std.specs.Prelude.{◌⊎◌, ◌||◌, ◌↔◌, ◌+◌, ◌≤◌, length, ◌==◌, nat_le}
-use Rattle.std.proofs.Common.{arith, inl, inr}
-use Rattle.std.specs.Char.{is_ascii_alphabetic, is_ascii_digit}
-use Rattle.beldi_syntax.specs.Lexer.{is_blank, is_reserved, word_of, string_at, text_or_bad, text_token_of, utf8_of, sign_or_word, begun as begun_by, piece_len, token_of, ends, put, line_after, lexemes}
-use Rattle.beldi_syntax.specs.Deployments.{deployment as read_deployment, code_of}
-use Rattle.beldi_syntax.specs.Grammar.{Symbol, word, NAME, INT, TEXT, END, deployment, Of, Place, place, Act, Rule, by, shape, means, rules, OneOf, IsToken, limit, Marked, marked, within, lexemes_in, nothing, token, phrase, IsCode, Begins, Breaks, Cause, Wrong}
+use Rattle.std.specs.Prelude.{◌⊎◌, ◌||◌, ◌+◌, ◌≤◌, length}
+use Rattle.beldi_syntax.proofs.Names.{Act, Bad, Begins, Bool, Breaks, Cause, Deployment, END, End, Err, INT, IsCode, IsToken, Lexeme, List, Marked, NAME, Name, None, Number, Of, OfNumber, Ok, OneOf, Option, Place, Read, Refused, Rule, Sign, Some, Symbol, Syntax, TEXT, Text, Token, TooDeep, TooLarge, Utf8, What, Wrong, [], ap, append_assoc, arith, bad, begun_by, by, code_of, codes, deployment, ends, false, got, if◌then◌else◌, inl, inr, is_ascii_alphabetic, is_ascii_digit, is_blank, is_reserved, lexemes, lexemes_in, limit, line_after, line_of, marked, means, nat_le, not, nothing, phrase, piece_len, place, put, read_deployment, refl, rules, same, shape, sign_or_word, string_at, subst, suc, sym, take, text_or_bad, text_token_of, token, token_of, true, utf8_of, within, word, word_of, zero, ℕ, ◌++◌, ◌-◌, ◌==◌, ◌↔◌, ◌∙◌, ◌∷◌, ◌≡◌}
 use Rattle.beldi_syntax.proofs.Lookahead.{Gives, inner, all_inner, is_empty, ended, fit, begun, token_rules, left_is, right_is, nullable}
-use Rattle.beldi_syntax.proofs.Fill.{fills}
 use Rattle.beldi_syntax.proofs.Sound.{Stack, stack, Makes, Meets, Run, here, took, went, Halt, Broken, Never, Stuck, Told, push, one_value, token_mark}
-use Rattle.beldi_syntax.proofs.Commands.{deployments}
+use Rattle.beldi_syntax.proofs.{Fill.fills, Commands.deployments}
 
 -- ---- runs and derivations
 

@@ -1,15 +1,5 @@
 -- One token decides by which rule a phrase goes.
-use Rattle.std.proofs.Common.{◌≡◌, ◌⊎◌, inl, inr, ℕ, zero, suc, ◌-◌, ◌^◌, Bool, true, false, not, ◌&&◌, ◌||◌, List, [], ◌∷◌, ◌++◌, None, refl, ap, sym, subst, ◌∙◌, codes, if◌then◌else◌}
-use Rattle.std.specs.Prelude.{◌==◌}
-use Rattle.std.proofs.Common.{eqb-true}
-use Rattle.std.proofs.lemmas.Bool.{eq-eqb}
-use Rattle.std.specs.List.{list_all, list_any}
-use Rattle.beldi_tree.specs.declared.deployment.Deployment.{Deployment}
-use Rattle.beldi_syntax.specs.declared.token.Lexeme.{Lexeme}
-use Rattle.beldi_syntax.specs.declared.token.Token.{Token}
-use Rattle.beldi_syntax.specs.declared.token.Token.TheVariants.{Sign, Name, Number, Text, End, Bad}
-use Rattle.beldi_syntax.specs.Phrase.{same, is_sign, name_token, text_token, number_token, end_token}
-use Rattle.beldi_syntax.specs.Grammar.{Symbol, word, NAME, INT, TEXT, END, deployment, the_end, Of, Place, place, Act, Rule, by, shape, means, rules, OneOf, IsToken, Marked, Yields, nothing, token, phrase}
+use Rattle.beldi_syntax.proofs.Names.{Act, Bad, Bool, Deployment, END, End, INT, IsToken, Lexeme, List, Marked, NAME, Name, None, Number, Of, OneOf, Place, Rule, Sign, Symbol, TEXT, Text, Token, Yields, [], ap, by, codes, deployment, end_token, eq-eqb, eqb-true, false, if◌then◌else◌, inl, inr, is_sign, list_all, list_any, means, name_token, not, nothing, number_token, phrase, place, refl, rules, same, shape, subst, suc, sym, text_token, the_end, token, true, word, zero, ℕ, ◌&&◌, ◌++◌, ◌-◌, ◌==◌, ◌^◌, ◌||◌, ◌∙◌, ◌∷◌, ◌≡◌, ◌⊎◌}
 
 -- ---- tests
 

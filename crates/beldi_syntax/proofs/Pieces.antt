@@ -1,22 +1,6 @@
 -- Pieces one after another.
-use Rattle.std.proofs.Common.{◌≡◌, ℕ, zero, suc, ◌+◌, ◌-◌, ◌<◌, ◌≤◌, Bool, true, false, List, [], ◌∷◌, ◌++◌, length, take, drop, Option, Some, None, refl, ap, sym, ◌∙◌, arith, append_assoc, if◌then◌else◌}
-use Rattle.std.specs.Prelude.{◌||◌}
-use Rattle.std.proofs.Common.{length-drop}
-use Rattle.beldi_syntax.specs.declared.token.Lexeme.{Lexeme}
-use Rattle.beldi_syntax.specs.declared.token.Token.{Token}
-use Rattle.std.specs.Prelude.{◌==◌}
-use Rattle.std.specs.Prelude.{SomeIff, IfOk, Result, Ok, Err}
-use Rattle.std.specs.Str.{IsUtf8, is_utf8}
-use Rattle.std.specs.Str.Lossy.{utf8_valid_len}
-use Rattle.beldi_syntax.specs.Deployments.{line_past, utf8_fault}
-use Rattle.std.proofs.lemmas.Str.{IsUtf8-from_is_utf8, is_utf8-from_IsUtf8}
-use Rattle.std.specs.declared.alloc.AllocError.{AllocError}
-use Rattle.std.specs.List.{take_while}
-use Rattle.std.proofs.lemmas.List.Folds.{length-prefix_len}
-use Rattle.std.proofs.lemmas.List.Sums.{prefix_len-le-length}
-use Rattle.std.specs.Char.{is_ascii_alphabetic, is_ascii_digit}
-use Rattle.beldi_syntax.specs.declared.lexer.Kind.TheVariants.{Word, Digit, Comment}
-use Rattle.beldi_syntax.specs.Lexer.{utf8_of, is_blank, is_of, is_single, is_pair, closes, escapes, piece_len, text_len, sign_len, token_of, is_bad, is_script, ends, put, line_after, lexemes, to_script}
+use Rattle.std.specs.Prelude.{◌||◌, Result, Ok, Err}
+use Rattle.beldi_syntax.proofs.Names.{AllocError, Bool, Comment, Digit, IfOk, IsUtf8, IsUtf8-from_is_utf8, Lexeme, List, None, Option, Some, SomeIff, Token, Word, [], ap, append_assoc, arith, closes, drop, ends, escapes, false, if◌then◌else◌, is_ascii_alphabetic, is_ascii_digit, is_bad, is_blank, is_of, is_pair, is_script, is_single, is_utf8, is_utf8-from_IsUtf8, length, length-drop, length-prefix_len, lexemes, line_after, line_past, piece_len, prefix_len-le-length, put, refl, sign_len, suc, sym, take, take_while, text_len, to_script, token_of, true, utf8_fault, utf8_of, utf8_valid_len, zero, ℕ, ◌++◌, ◌+◌, ◌-◌, ◌<◌, ◌==◌, ◌∙◌, ◌∷◌, ◌≡◌, ◌≤◌}
 
 skipped : (k line : ℕ) (bs : List ℕ) → lexemes k line bs ≡ lexemes 0 line (drop k bs)
 skipped zero line bs = refl

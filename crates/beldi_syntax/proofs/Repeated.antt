@@ -1,17 +1,6 @@
 -- Phrases that go on.
-use Rattle.std.proofs.Common.{◌≡◌, ℕ, zero, suc, ◌+◌, ◌-◌, ◌<◌, Bool, true, false, List, [], ◌∷◌, ◌++◌, drop, Option, Some, None, Err, refl, ap, sym, ◌∙◌, arith, add-one, codes, if◌then◌else◌}
-use Rattle.std.specs.List.{list_any}
-use Rattle.beldi_tree.specs.Term.{Term}
-use Rattle.beldi_syntax.specs.declared.refusal.SyntaxErr.{SyntaxErr}
-use Rattle.beldi_syntax.specs.declared.refusal.SyntaxErr.TheVariants.{OutOfMemory, Refused}
-use Rattle.beldi_syntax.specs.declared.token.Lexeme.{Lexeme}
-use Rattle.beldi_syntax.specs.declared.operators.Level.{Level}
-use Rattle.beldi_syntax.specs.declared.operators.Level.TheVariants.{Disjunction}
-use Rattle.beldi_syntax.specs.declared.operators.Operator.{Operator}
-use Rattle.beldi_syntax.specs.Operators.{operator_at, joined}
-use Rattle.beldi_syntax.specs.Phrase.{Read, got, bad, after, give, go_on, repeated, is_sign, next_is, after_first, count_of, times, Reads, ReadsAs}
-use Rattle.beldi_syntax.specs.Statements.{braced, stmts, no_block, block_at}
-use Rattle.beldi_syntax.specs.Expressions.{prefixed, join, join_of, suffix, next_suffix, no_expr, expr_at, chain, side}
+use Rattle.beldi_syntax.specs.{Statements.block_at, Expressions.expr_at}
+use Rattle.beldi_syntax.proofs.Names.{Bool, Disjunction, Err, Level, Lexeme, List, None, Operator, Option, OutOfMemory, Read, Reads, ReadsAs, Refused, Some, SyntaxErr, Term, [], add-one, after, after_first, ap, arith, bad, braced, chain, codes, count_of, drop, false, give, go_on, got, if◌then◌else◌, is_sign, join, join_of, joined, list_any, next_is, next_suffix, no_block, no_expr, operator_at, prefixed, refl, repeated, side, stmts, suc, suffix, sym, times, true, zero, ℕ, ◌++◌, ◌+◌, ◌-◌, ◌<◌, ◌∙◌, ◌∷◌, ◌≡◌}
 
 one_left : (n i : ℕ) → i < n → n - i ≡ suc (n - (i + 1))
 one_left n i h = omega arith

@@ -1,16 +1,8 @@
 -- What a phrase reads is of the grammar, and nothing else that begins so is.
-use Rattle.std.proofs.Common.{◌≡◌, ℕ, zero, suc, ◌<◌, ◌≤◌, Bool, true, false, not, ◌&&◌, ◌||◌, List, [], ◌∷◌, ◌++◌, Option, Some, None, refl, ap, sym, subst, ◌∙◌, append_assoc, arith, inl, inr, if◌then◌else◌}
-use Rattle.std.specs.Prelude.{nat_le, length}
-use Rattle.beldi_tree.specs.declared.deployment.Deployment.{Deployment}
-use Rattle.beldi_syntax.specs.declared.token.Lexeme.{Lexeme}
-use Rattle.beldi_syntax.specs.declared.token.Token.{Token}
-use Rattle.beldi_syntax.specs.declared.token.Token.TheVariants.{Sign, Name, Number, Text}
-use Rattle.beldi_syntax.specs.declared.refusal.What.{What}
-use Rattle.beldi_syntax.specs.declared.refusal.What.TheVariants.{Utf8, Syntax, Number as OfNumber, TooDeep, TooLarge}
-use Rattle.beldi_syntax.specs.Phrase.{line_of, refuse, Read, got, bad, after, ◌>>=◌, give, go_on, repeated, next_is, after_first, take, name, name_of, text, text_of, number, number_of}
-use Rattle.beldi_syntax.specs.Grammar.{Symbol, word, NAME, INT, TEXT, END, Of, Place, place, Act, Rule, by, shape, means, rules, OneOf, IsToken, is_outside, is_long, in_range, limit, Marked, marked, token, phrase}
+use Rattle.std.specs.Prelude.{length}
+use Rattle.beldi_syntax.{specs.Phrase.take, proofs.Fill.fills}
+use Rattle.beldi_syntax.proofs.Names.{Act, Bool, Deployment, END, INT, IsToken, Lexeme, List, Marked, NAME, Name, None, Number, Of, OfNumber, OneOf, Option, Place, Read, Rule, Sign, Some, Symbol, Syntax, TEXT, Text, Token, TooDeep, TooLarge, Utf8, What, [], after, after_first, ap, append_assoc, arith, bad, by, false, give, go_on, got, if◌then◌else◌, in_range, inl, inr, is_long, is_outside, limit, line_of, marked, means, name, name_of, nat_le, next_is, not, number, number_of, phrase, place, refl, refuse, repeated, rules, shape, subst, suc, sym, text, text_of, token, true, word, zero, ℕ, ◌&&◌, ◌++◌, ◌<◌, ◌>>=◌, ◌||◌, ◌∙◌, ◌∷◌, ◌≡◌, ◌≤◌}
 use Rattle.beldi_syntax.proofs.Lookahead.{Gives, ByRule, among, none_of_fewer, choose, leaves_out, chosen_rule, one_of, firsts, nullable, starts, vanishes, begun, select, picked, skipped, vanished, sole, left_is, or_cases, never_both, same_self, is_that}
-use Rattle.beldi_syntax.proofs.Fill.{fills}
 
 -- symbols that are still expected, and what is made of them
 pub record Stack : Type 0 where

@@ -1,28 +1,7 @@
 -- Expressions are read as the grammar has them.
-use Rattle.std.proofs.Common.{◌≡◌, ℕ, zero, suc, ◌+◌, ◌-◌, ◌^◌, ◌<◌, Bool, true, false, ◌&&◌, ◌||◌, List, [], ◌∷◌, ◌++◌, Option, Some, None, refl, ap, sym, subst, ◌∙◌, arith, inl, inr, codes, if◌then◌else◌}
-use Rattle.std.specs.Prelude.{pos, option_map}
-use Rattle.std.specs.List.{list_any}
-use Rattle.beldi_value.specs.declared.rel.Rel.{Rel}
-use Rattle.beldi_value.specs.declared.rel.Rel.TheVariants.{Eq, Ne, Lt, Le, Gt, Ge}
-use Rattle.beldi_tree.specs.declared.deployment.Deployment.{Deployment}
-use Rattle.beldi_tree.specs.declared.deployment.Op.TheVariants.{Add, Sub, Join, Mul, Div, Rem}
-use Rattle.beldi_tree.specs.Term.{Term, int, text as text_term, boolean, null, name as name_term, or, and, not as not_term, negate as negate_term, compare, binary, field, element, list, fields, len, text_of as json_of, push as push_term, with, items_of, members_of}
-use Rattle.beldi_syntax.specs.declared.refusal.What.{What}
-use Rattle.beldi_syntax.specs.declared.refusal.What.TheVariants.{Syntax, Number as OfNumber, TooDeep}
-use Rattle.beldi_syntax.specs.declared.token.Lexeme.{Lexeme}
-use Rattle.beldi_syntax.specs.declared.token.Token.{Token}
-use Rattle.beldi_syntax.specs.declared.token.Token.TheVariants.{Sign, Name, Number, Text}
-use Rattle.beldi_syntax.specs.declared.operators.Level.{Level}
-use Rattle.beldi_syntax.specs.declared.operators.Level.TheVariants.{Disjunction, Conjunction, Relation, Sum, Product}
-use Rattle.beldi_syntax.specs.declared.operators.Operator.{Operator}
-use Rattle.beldi_syntax.specs.declared.operators.Operator.TheVariants.{Or, And, Compare, Binary}
-use Rattle.beldi_syntax.specs.Phrase.{past_token, is_past_numbers, is_name as is_a_name, is_text as is_a_text, is_number as is_a_number, number_of, refuse, Read, got, after, ◌>>=◌, give, go_on, is_sign, next_is, after_first, take, name, text, number, name_token, text_token, number_token}
-use Rattle.beldi_syntax.specs.Operators.{relation_at, sum_at, product_at, operator_at, joined, turns}
-use Rattle.std.proofs.lemmas.Bool.{le-leb}
-use Rattle.beldi_syntax.specs.Expressions.{prefixed, join as join_step, join_of, chain, listed, more, next_item, part, argument, member as read_member, push_of, with_of, literal, call, bracketed, atom as read_atom, field_of, element_of, next_suffix, post as read_post, unary as read_unary, product, sum as read_sum, negation, conjunction, begins_expr, expr_at}
-use Rattle.beldi_syntax.specs.Grammar.{post, post_tail, Symbol, word, NAME, INT, TEXT, REL, expr, or_tail, conj, and_tail, neg, rel, rel_tail, sum, sum_tail, prod, prod_tail, unary, OneOf, rules, atom, exprs, more_exprs, member, members, more_members, Of, Place, place, at, Act, Rule, by, means, Marked, marked}
+use Rattle.beldi_syntax.{specs.Phrase.take, specs.Expressions.expr_at, specs.Grammar.post, specs.Grammar.member, proofs.Deep.begins_with, proofs.Deep.deep_first}
+use Rattle.beldi_syntax.proofs.Names.{Act, Add, And, Binary, Bool, Compare, Conjunction, Deployment, Disjunction, Div, Eq, Ge, Gt, INT, Join, Le, Level, Lexeme, List, Lt, Marked, Mul, NAME, Name, Ne, None, Number, Of, OfNumber, OneOf, Operator, Option, Or, Place, Product, REL, Read, Rel, Relation, Rem, Rule, Sign, Some, Sub, Sum, Symbol, Syntax, TEXT, Term, Text, Token, TooDeep, What, [], after, after_first, and, and_tail, ap, argument, arith, at, atom, begins_expr, binary, boolean, bracketed, by, call, chain, codes, compare, conj, conjunction, element, element_of, expr, exprs, false, field, field_of, fields, give, go_on, got, if◌then◌else◌, inl, inr, int, is_a_name, is_a_number, is_a_text, is_past_numbers, is_sign, items_of, join_of, join_step, joined, json_of, le-leb, len, list, list_any, listed, literal, marked, means, members, members_of, more, more_exprs, more_members, name, name_term, name_token, neg, negate_term, negation, next_is, next_item, next_suffix, not_term, null, number, number_of, number_token, operator_at, option_map, or, or_tail, part, past_token, place, pos, post_tail, prefixed, prod, prod_tail, product, product_at, push_of, push_term, read_atom, read_member, read_post, read_sum, read_unary, refl, refuse, rel, rel_tail, relation_at, rules, subst, suc, sum, sum_at, sum_tail, sym, text, text_term, text_token, true, turns, unary, with, with_of, word, zero, ℕ, ◌&&◌, ◌++◌, ◌+◌, ◌-◌, ◌<◌, ◌>>=◌, ◌^◌, ◌||◌, ◌∙◌, ◌∷◌, ◌≡◌}
 use Rattle.beldi_syntax.proofs.Lookahead.{of_more, is_wide, Gives, ByRule, one_of, firsts, nullable, starts, select, sole, first_of_two, second_of_two, avoids, listed_in, avoided, avoids_rest}
-use Rattle.beldi_syntax.proofs.Deep.{begins_with, deep_first}
 use Rattle.beldi_syntax.proofs.Sound.{Stack, stack, Meets, Step, Run, went, Broken, Told, Sound, push, opened, by_rule, told_on, seq, given, told_made, made, told_by, ruled, told_if, Low, NoneOf, nothing_of, also_not, skips, skips_end, by_next, by_sign, sign_skips, not_sign, first_took, halted, told_bad, taken, named, texted, numbered, shorter, fewer, Else, chosen, sign_run, choice, whole, some_same, Turn, Turns, stays, repeats, is_off, Leads, leads, guarded, onwards, next_one, none_more}
 
 -- a phrase is this symbol, where none of these signs follows

@@ -1,24 +1,6 @@
 -- Texts are read and refused as the grammar has it.
-use Rattle.std.proofs.Common.{◌≡◌, ℕ, suc, ◌+◌, ◌-◌, ◌^◌, Bool, true, false, ◌&&◌, List, [], ◌∷◌, ◌++◌, length, take, drop, Option, Some, None, Result, Ok, Err, refl, ap, sym, subst, ◌∙◌, arith, if◌then◌else◌, cond, eqb-true}
-use Rattle.std.specs.Prelude.{◌==◌, min, nat_le}
-use Rattle.std.specs.List.{list_all, prefix_len}
-use Rattle.std.proofs.lemmas.List.Folds.{length-prefix_len}
-use Rattle.std.proofs.lemmas.Bool.{le-leb, leb-true, leb-false, lt-leb}
-use Rattle.std.specs.Str.{is_utf8}
-use Rattle.std.specs.Str.Lossy.{utf8_valid_len}
-use Rattle.beldi_tree.specs.declared.deployment.Deployment.{Deployment}
-use Rattle.beldi_syntax.specs.declared.reading.Parsed.{Parsed}
-use Rattle.beldi_syntax.specs.declared.refusal.SyntaxErr.{SyntaxErr}
-use Rattle.beldi_syntax.specs.declared.refusal.SyntaxErr.TheVariants.{OutOfMemory, Refused}
-use Rattle.beldi_syntax.specs.declared.refusal.What.{What}
-use Rattle.beldi_syntax.specs.declared.refusal.What.TheVariants.{Utf8, TooLarge}
-use Rattle.beldi_syntax.specs.Phrase.{Read, got, bad}
-use Rattle.beldi_syntax.specs.Lexer.{lexemes}
-use Rattle.beldi_syntax.specs.Deployments.{is_space, line_past, line_end, script_at, unless, code_of, code_at, parsed, with_script, parsed_at, deployment as read_deployment}
-use Rattle.beldi_syntax.specs.Text.{own, others, BlankRest, no_script, next_line, IsDeployment, Holds, Refuses, not_utf8, too_long, wrong_token, not_blank, ReadsGrammar, RefusesFirst}
-use Rattle.beldi_syntax.proofs.Lookahead.{left_is, right_is}
-use Rattle.beldi_syntax.proofs.Sound.{some_same}
-use Rattle.beldi_syntax.proofs.First.{reads_tokens, refuses_tokens}
+use Rattle.beldi_syntax.proofs.Names.{BlankRest, Bool, Deployment, Err, Holds, IsDeployment, List, None, Ok, Option, OutOfMemory, Parsed, Read, ReadsGrammar, Refused, Refuses, RefusesFirst, Result, Some, SyntaxErr, TooLarge, Utf8, What, [], ap, arith, bad, code_at, code_of, cond, drop, eqb-true, false, got, if◌then◌else◌, is_space, is_utf8, le-leb, leb-false, leb-true, length, length-prefix_len, lexemes, line_end, line_past, list_all, lt-leb, min, nat_le, next_line, no_script, not_blank, not_utf8, others, own, parsed, parsed_at, prefix_len, read_deployment, refl, script_at, subst, suc, sym, take, too_long, true, unless, utf8_valid_len, with_script, wrong_token, ℕ, ◌&&◌, ◌++◌, ◌+◌, ◌-◌, ◌==◌, ◌^◌, ◌∙◌, ◌∷◌, ◌≡◌}
+use Rattle.beldi_syntax.proofs.{Lookahead.left_is, Lookahead.right_is, Sound.some_same, First.reads_tokens, First.refuses_tokens}
 
 -- ---- the rest of the line
 

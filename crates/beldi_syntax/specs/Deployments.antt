@@ -2,23 +2,10 @@
 --   deployment = "life" INT ";" [ "room" INT ";" ] { function } [ "script" ]
 --   function = "function" NAME "(" NAME ")" "{" { "table" NAME ";" } { stmt } "}"
 use Rattle.std.specs.Prelude.{◌≡◌, ℕ, ◌+◌, ◌-◌, ◌^◌, ◌==◌, nat_le, min, Bool, ◌||◌, List, [], ◌∷◌, ◌++◌, length, take as front, drop, count_by, Option, Some, None, Result, Ok, Err, codes, if◌then◌else◌}
-use Rattle.std.specs.List.{take_while}
-use Rattle.std.specs.Str.{is_utf8}
-use Rattle.std.specs.Str.Lossy.{utf8_valid_len}
-use Rattle.beldi_tree.specs.Command.{Command}
-use Rattle.beldi_tree.specs.declared.deployment.Deployment.{Deployment}
-use Rattle.beldi_tree.specs.declared.deployment.Func.{Func}
-use Rattle.beldi_tree.specs.declared.deployment.TableHead.{TableHead}
-use Rattle.beldi_syntax.specs.declared.refusal.SyntaxErr.{SyntaxErr}
-use Rattle.beldi_syntax.specs.declared.refusal.SyntaxErr.TheVariants.{OutOfMemory, Refused}
-use Rattle.beldi_syntax.specs.declared.refusal.What.{What}
-use Rattle.beldi_syntax.specs.declared.refusal.What.TheVariants.{Utf8, Syntax, TooLarge}
-use Rattle.beldi_syntax.specs.declared.token.Lexeme.{Lexeme}
-use Rattle.beldi_syntax.specs.declared.reading.Parsed.{Parsed}
+use Rattle.std.specs.{List.take_while, Str.is_utf8, Str.Lossy.utf8_valid_len}
+use Rattle.beldi_tree.specs.{Command.Command, declared.deployment.Deployment.Deployment, declared.deployment.Func.Func, declared.deployment.TableHead.TableHead}
 use Rattle.beldi_syntax.specs.Phrase.{Read, got, bad, ◌>>=◌, give, repeated, is_end, next_is, line_of, after_first, refuse, take, name, number}
-use Rattle.beldi_syntax.specs.Expressions.{expr_at}
-use Rattle.beldi_syntax.specs.Statements.{block_at, stmts}
-use Rattle.beldi_syntax.specs.Lexer.{lexemes, to_script}
+use Rattle.beldi_syntax.specs.{declared.refusal.SyntaxErr.SyntaxErr, declared.refusal.SyntaxErr.TheVariants.OutOfMemory, declared.refusal.SyntaxErr.TheVariants.Refused, declared.refusal.What.What, declared.refusal.What.TheVariants.Utf8, declared.refusal.What.TheVariants.Syntax, declared.refusal.What.TheVariants.TooLarge, declared.token.Lexeme.Lexeme, declared.reading.Parsed.Parsed, Expressions.expr_at, Statements.block_at, Statements.stmts, Lexer.lexemes, Lexer.to_script}
 
 -- a table after the word `table`, which stands in this line
 abbrev pub table_of : ℕ → List Lexeme → Read TableHead

@@ -11,13 +11,8 @@
 use Rattle.std.specs.Prelude.{ℕ, zero, suc, ◌^◌, ◌-◌, pos, Bool, true, false, ◌||◌, List, [], ◌∷◌, ◌++◌, length, Option, Some, None, codes, if◌then◌else◌}
 use Rattle.std.specs.List.{list_any}
 use Rattle.beldi_tree.specs.Term.{Term, int, text as text_term, boolean, null, name as name_term, not as not_term, negate, field, element, list, fields, len, text_of as json_of, push, with, items_of, members_of}
-use Rattle.beldi_syntax.specs.declared.refusal.What.TheVariants.{Syntax, Number as OfNumber, TooDeep}
-use Rattle.beldi_syntax.specs.declared.token.Lexeme.{Lexeme}
-use Rattle.beldi_syntax.specs.declared.operators.Level.{Level}
-use Rattle.beldi_syntax.specs.declared.operators.Level.TheVariants.{Disjunction, Conjunction, Relation, Sum, Product}
-use Rattle.beldi_syntax.specs.declared.operators.Operator.{Operator}
-use Rattle.beldi_syntax.specs.Operators.{operator_at, joined, turns}
 use Rattle.beldi_syntax.specs.Phrase.{Read, got, after, ◌>>=◌, give, repeated, is_sign, next_is, is_name, is_number, is_past_numbers, is_text, after_first, refuse, take, name, number, text}
+use Rattle.beldi_syntax.specs.{declared.refusal.What.TheVariants.Syntax, declared.refusal.What.TheVariants.Number as OfNumber, declared.refusal.What.TheVariants.TooDeep, declared.token.Lexeme.Lexeme, declared.operators.Level.Level, declared.operators.Level.TheVariants.Disjunction, declared.operators.Level.TheVariants.Conjunction, declared.operators.Level.TheVariants.Relation, declared.operators.Level.TheVariants.Sum, declared.operators.Level.TheVariants.Product, declared.operators.Operator.Operator, Operators.operator_at, Operators.joined, Operators.turns}
 
 -- `,` and one more of these
 abbrev pub next_item : {A : Type 0} → (List Lexeme → Read A) → List A → List Lexeme → Option (Read (List A))

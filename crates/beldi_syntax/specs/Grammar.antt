@@ -1,18 +1,10 @@
 -- The grammar as a relation: which tokens are a deployment, which one they are, and which limit each of them breaks.
 use Rattle.std.specs.Prelude.{◌≡◌, ◌⊎◌, ℕ, ◌+◌, ◌-◌, ◌^◌, nat_le, pos, Bool, true, false, not, ◌&&◌, List, [], ◌∷◌, ◌++◌, map, Option, Some, None, codes, if◌then◌else◌}
-use Rattle.beldi_value.specs.declared.rel.Rel.{Rel}
-use Rattle.beldi_value.specs.declared.rel.Rel.TheVariants.{Eq, Ne, Lt, Le, Gt, Ge}
-use Rattle.beldi_tree.specs.declared.deployment.Op.TheVariants.{Add, Sub, Join, Mul, Div, Rem}
-use Rattle.beldi_tree.specs.declared.deployment.Deployment.{Deployment}
-use Rattle.beldi_tree.specs.declared.deployment.Func.{Func}
-use Rattle.beldi_tree.specs.declared.deployment.TableHead.{TableHead}
+use Rattle.beldi_value.specs.declared.rel.Rel.{Rel, TheVariants.Eq, TheVariants.Ne, TheVariants.Lt, TheVariants.Le, TheVariants.Gt, TheVariants.Ge}
 use Rattle.beldi_tree.specs.Term.{Term, int, text, boolean, null, name, or, and, not as not_term, negate, compare, binary, field, element, list, fields, len, text_of, push, with, items_of, members_of}
 use Rattle.beldi_tree.specs.Command.{Command, set, read, write, condwrite, call, async, lock, unlock, transaction, abort, break, choose, repeat, return, commands_of}
-use Rattle.beldi_syntax.specs.declared.refusal.What.{What}
-use Rattle.beldi_syntax.specs.declared.refusal.What.TheVariants.{Utf8, Syntax, Number as OfNumber, TooDeep, TooLarge}
-use Rattle.beldi_syntax.specs.declared.token.Lexeme.{Lexeme}
-use Rattle.beldi_syntax.specs.declared.token.Token.{Token}
-use Rattle.beldi_syntax.specs.declared.token.Token.TheVariants.{Sign, Name, Number, Text, End}
+use Rattle.beldi_tree.specs.declared.deployment.{Op.TheVariants.Add, Op.TheVariants.Sub, Op.TheVariants.Join, Op.TheVariants.Mul, Op.TheVariants.Div, Op.TheVariants.Rem, Deployment.Deployment, Func.Func, TableHead.TableHead}
+use Rattle.beldi_syntax.specs.declared.{refusal.What.What, refusal.What.TheVariants.Utf8, refusal.What.TheVariants.Syntax, refusal.What.TheVariants.Number as OfNumber, refusal.What.TheVariants.TooDeep, refusal.What.TheVariants.TooLarge, token.Lexeme.Lexeme, token.Token.Token, token.Token.TheVariants.Sign, token.Token.TheVariants.Name, token.Token.TheVariants.Number, token.Token.TheVariants.Text, token.Token.TheVariants.End}
 
 -- what stands in a rule: a token, or a phrase. `more_` and what ends in `_tail` are repetitions and parts that may be
 -- left out. An INT has its limits

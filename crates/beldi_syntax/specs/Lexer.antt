@@ -1,17 +1,9 @@
 -- Tokens on bytes: names, numbers, texts and signs, the longest sign first. Blanks and comments stand between them.
 use Rattle.std.specs.Prelude.{ℕ, zero, suc, ◌+◌, ◌-◌, ◌^◌, ◌==◌, nat_le, Bool, true, false, not, ◌&&◌, ◌||◌, List, [], ◌∷◌, ◌++◌, length, take, Option, Some, None, codes, if◌then◌else◌}
-use Rattle.std.specs.List.{list_any, take_while}
-use Rattle.std.specs.Str.{is_utf8}
-use Rattle.std.specs.Char.{is_ascii_alphabetic, is_ascii_alphanumeric, is_ascii_digit}
+use Rattle.std.specs.{List.list_any, List.take_while, Str.is_utf8, Char.is_ascii_alphabetic, Char.is_ascii_alphanumeric, Char.is_ascii_digit}
 use Rattle.serde_json.specs.Data as json
-use Rattle.beldi_value.specs.Number.{number_at}
-use Rattle.beldi_value.specs.Reading.{json_at}
-use Rattle.beldi_syntax.specs.declared.token.Token.{Token}
-use Rattle.beldi_syntax.specs.declared.token.Token.TheVariants.{Sign, Name, Number, Text, End, Bad}
-use Rattle.beldi_syntax.specs.declared.token.Lexeme.{Lexeme}
-use Rattle.beldi_syntax.specs.declared.lexer.Kind.{Kind}
-use Rattle.beldi_syntax.specs.declared.lexer.Kind.TheVariants.{Word, Digit, Comment}
-use Rattle.beldi_syntax.specs.Phrase.{same, is_sign}
+use Rattle.beldi_value.specs.{Number.number_at, Reading.json_at}
+use Rattle.beldi_syntax.specs.{declared.token.Token.Token, declared.token.Token.TheVariants.Sign, declared.token.Token.TheVariants.Name, declared.token.Token.TheVariants.Number, declared.token.Token.TheVariants.Text, declared.token.Token.TheVariants.End, declared.token.Token.TheVariants.Bad, declared.token.Lexeme.Lexeme, declared.lexer.Kind.Kind, declared.lexer.Kind.TheVariants.Word, declared.lexer.Kind.TheVariants.Digit, declared.lexer.Kind.TheVariants.Comment, Phrase.same, Phrase.is_sign}
 
 -- a space, a tab, a carriage return or a newline
 abbrev pub is_blank : ℕ → Bool

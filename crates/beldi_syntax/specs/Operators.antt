@@ -1,16 +1,8 @@
 -- Operators with two sides.
 use Rattle.std.specs.Prelude.{ℕ, List, Option, Some, None, option_map, codes, if◌then◌else◌}
-use Rattle.beldi_value.specs.declared.rel.Rel.{Rel}
-use Rattle.beldi_value.specs.declared.rel.Rel.TheVariants.{Eq, Ne, Lt, Le, Gt, Ge}
-use Rattle.beldi_tree.specs.declared.deployment.Op.{Op}
-use Rattle.beldi_tree.specs.declared.deployment.Op.TheVariants.{Add, Sub, Join, Mul, Div, Rem}
-use Rattle.beldi_tree.specs.Term.{Term, or, and, compare, binary}
-use Rattle.beldi_syntax.specs.declared.token.Lexeme.{Lexeme}
-use Rattle.beldi_syntax.specs.declared.operators.Level.{Level}
-use Rattle.beldi_syntax.specs.declared.operators.Level.TheVariants.{Disjunction, Conjunction, Relation, Sum, Product}
-use Rattle.beldi_syntax.specs.declared.operators.Operator.{Operator}
-use Rattle.beldi_syntax.specs.declared.operators.Operator.TheVariants.{Or, And, Compare, Binary}
-use Rattle.beldi_syntax.specs.Phrase.{next_is}
+use Rattle.beldi_value.specs.declared.rel.Rel.{Rel, TheVariants.Eq, TheVariants.Ne, TheVariants.Lt, TheVariants.Le, TheVariants.Gt, TheVariants.Ge}
+use Rattle.beldi_tree.specs.{declared.deployment.Op.Op, declared.deployment.Op.TheVariants.Add, declared.deployment.Op.TheVariants.Sub, declared.deployment.Op.TheVariants.Join, declared.deployment.Op.TheVariants.Mul, declared.deployment.Op.TheVariants.Div, declared.deployment.Op.TheVariants.Rem, Term.Term, Term.or, Term.and, Term.compare, Term.binary}
+use Rattle.beldi_syntax.specs.{declared.token.Lexeme.Lexeme, declared.operators.Level.Level, declared.operators.Level.TheVariants.Disjunction, declared.operators.Level.TheVariants.Conjunction, declared.operators.Level.TheVariants.Relation, declared.operators.Level.TheVariants.Sum, declared.operators.Level.TheVariants.Product, declared.operators.Operator.Operator, declared.operators.Operator.TheVariants.Or, declared.operators.Operator.TheVariants.And, declared.operators.Operator.TheVariants.Compare, declared.operators.Operator.TheVariants.Binary, Phrase.next_is}
 
 abbrev pub relation_at : List Lexeme → Option Rel
 relation_at s =

@@ -2,13 +2,7 @@
 use Rattle.std.specs.Prelude.{◌≡◌, ℕ, zero, suc, ◌-◌, ◌^◌, nat_le, Bool, true, false, not, ◌&&◌, List, [], ◌∷◌, Option, Some, None, Result, Ok, Err, if◌then◌else◌}
 use Rattle.std.specs.Bool.{◌==◌}
 use lib.Pointwise.{pointwise}
-use Rattle.beldi_syntax.specs.declared.refusal.SyntaxErr.{SyntaxErr}
-use Rattle.beldi_syntax.specs.declared.refusal.SyntaxErr.TheVariants.{OutOfMemory, Refused}
-use Rattle.beldi_syntax.specs.declared.refusal.What.{What}
-use Rattle.beldi_syntax.specs.declared.refusal.What.TheVariants.{Syntax, Number as OfNumber, TooLarge}
-use Rattle.beldi_syntax.specs.declared.token.Lexeme.{Lexeme}
-use Rattle.beldi_syntax.specs.declared.token.Token.{Token}
-use Rattle.beldi_syntax.specs.declared.token.Token.TheVariants.{Sign, Name, Number, Text, End, Bad}
+use Rattle.beldi_syntax.specs.declared.{refusal.SyntaxErr.SyntaxErr, refusal.SyntaxErr.TheVariants.OutOfMemory, refusal.SyntaxErr.TheVariants.Refused, refusal.What.What, refusal.What.TheVariants.Syntax, refusal.What.TheVariants.Number as OfNumber, refusal.What.TheVariants.TooLarge, token.Lexeme.Lexeme, token.Token.Token, token.Token.TheVariants.Sign, token.Token.TheVariants.Name, token.Token.TheVariants.Number, token.Token.TheVariants.Text, token.Token.TheVariants.End, token.Token.TheVariants.Bad}
 
 -- what is read, and the tokens that follow it; or the line and the cause of a refusal
 pub data Read (A : Type 0) : Type 0 where

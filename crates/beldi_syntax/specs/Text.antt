@@ -1,16 +1,8 @@
 -- What a text holds, by the grammar, and why one is refused.
 use Rattle.std.specs.Prelude.{◌≡◌, ◌↔◌, ℕ, ◌+◌, ◌-◌, ◌^◌, ◌≤◌, ◌<◌, min, true, false, List, [], ◌∷◌, ◌++◌, length, take as front, drop, Ok, Err}
-use Rattle.std.specs.List.{list_all}
-use Rattle.std.specs.Str.{is_utf8}
-use Rattle.std.specs.Str.Lossy.{utf8_valid_len}
+use Rattle.std.specs.{List.list_all, Str.is_utf8, Str.Lossy.utf8_valid_len}
 use Rattle.beldi_tree.specs.declared.deployment.Deployment.{Deployment}
-use Rattle.beldi_syntax.specs.declared.reading.Parsed.{Parsed}
-use Rattle.beldi_syntax.specs.declared.refusal.What.{What}
-use Rattle.beldi_syntax.specs.declared.refusal.What.TheVariants.{Utf8, Syntax, TooLarge}
-use Rattle.beldi_syntax.specs.declared.refusal.SyntaxErr.TheVariants.{Refused}
-use Rattle.beldi_syntax.specs.Lexer.{lexemes, to_script}
-use Rattle.beldi_syntax.specs.Deployments.{is_space, line_past, parsed_at}
-use Rattle.beldi_syntax.specs.Grammar.{within, IsCode, Wrong}
+use Rattle.beldi_syntax.specs.{declared.reading.Parsed.Parsed, declared.refusal.What.What, declared.refusal.What.TheVariants.Utf8, declared.refusal.What.TheVariants.Syntax, declared.refusal.What.TheVariants.TooLarge, declared.refusal.SyntaxErr.TheVariants.Refused, Lexer.lexemes, Lexer.to_script, Deployments.is_space, Deployments.line_past, Deployments.parsed_at, Grammar.within, Grammar.IsCode, Grammar.Wrong}
 
 -- the deployment's own bytes, and those after them
 abbrev pub own : List ℕ → List ℕ

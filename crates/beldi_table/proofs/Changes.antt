@@ -1,18 +1,8 @@
 -- A change of one row, over the rows as a map.
-use Rattle.std.proofs.Common.{◌≡◌, ℕ, ◌<◌, Bool, true, false, not, ◌&&◌, Option, None, Some, Ok, refl, subst, ap, sym, ◌∙◌, is_some, IsTrue}
 use Rattle.std.specs.FinMap as map
-use Rattle.beldi_row.specs.KeyOrder.{key_total, key_exact}
-use Rattle.beldi_row.specs.Act.{on, off, act, said_by, stays, here_tell}
-use Rattle.beldi_row.specs.Table.{Rows, adds, set_row}
+use Rattle.std.proofs.Common.{◌≡◌, ℕ, ◌<◌, Bool, true, false, not, ◌&&◌, Option, None, Some, Ok, refl, subst, ap, sym, ◌∙◌, is_some, IsTrue}
+use Rattle.beldi_row.{specs.KeyOrder.key_total, specs.KeyOrder.key_exact, specs.Act.on, specs.Act.off, specs.Act.act, specs.Act.said_by, specs.Act.stays, specs.Act.here_tell, specs.Table.Rows, specs.Table.adds, specs.Table.set_row, specs.Key.RowKey, specs.declared.row.Row.Row, specs.declared.act.Act.Act, specs.declared.act.Act.TheVariants.Look, specs.declared.act.Change.Change, proofs.Rows.get_set, proofs.Rows.same_set, proofs.Rows.none_removed, proofs.Unchanged.looked}
 use Rattle.beldi_table.specs.MapTable.{ChangedOn}
-use Rattle.beldi_row.specs.Key.{RowKey}
-use Rattle.beldi_row.specs.declared.row.Row.{Row}
-use Rattle.beldi_row.specs.declared.act.Change.TheVariants as change
-use Rattle.beldi_row.specs.declared.act.Act.{Act}
-use Rattle.beldi_row.specs.declared.act.Act.TheVariants.{Look}
-use Rattle.beldi_row.specs.declared.act.Change.{Change}
-use Rattle.beldi_row.proofs.Rows.{get_set, same_set, none_removed}
-use Rattle.beldi_row.proofs.Unchanged.{looked}
 
 pub not_both : (b : Bool) → IsTrue b → b ≡ false → ⊥
 not_both b h e = cc
@@ -59,5 +49,5 @@ adds_none : (b : Bool) → IsTrue (b && false) → ⊥
 adds_none true h = cc
 adds_none false h = cc
 
-pub looks : (a : Act) (now : ℕ) (k : RowKey) (room : ℕ) (m : Rows) → a ≡ Look → ChangedOn a now k room m m (map.get m k) (Ok change.Row)
-looks a now k room m is = subst (λ (b : Act). ChangedOn b now k room m m (map.get m k) (Ok change.Row)) (sym is) (sym (looked now k m), look_tell now (map.get m k), λ h. absurd (adds_none _ h))
+pub looks : (a : Act) (now : ℕ) (k : RowKey) (room : ℕ) (m : Rows) → a ≡ Look → ChangedOn a now k room m m (map.get m k) (Ok Change.Row)
+looks a now k room m is = subst (λ (b : Act). ChangedOn b now k room m m (map.get m k) (Ok Change.Row)) (sym is) (sym (looked now k m), look_tell now (map.get m k), λ h. absurd (adds_none _ h))

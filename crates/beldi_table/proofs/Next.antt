@@ -1,12 +1,8 @@
 -- The first row above a key.
-use Rattle.std.proofs.Common.{◌≡◌, true, false, ◌&&◌, List, [], ◌∷◌, Option, None, Some, refl, ap, sym, ◌∙◌, cond, if◌then◌else◌}
-use Rattle.std.specs.Option.{MatchOption}
-use Rattle.std.specs.List.{filter}
-use Rattle.std.specs.Ordering.{is_lt}
+use Rattle.std.specs.{Option.MatchOption, List.filter, Ordering.is_lt}
 use denote.Bor.{Bor}
-use Rattle.beldi_row.specs.Key.{RowKey, key_cmp}
-use Rattle.beldi_row.specs.Table.{first_above, entry_of}
-use Rattle.beldi_row.specs.declared.row.Row.{Row}
+use Rattle.std.proofs.Common.{◌≡◌, true, false, ◌&&◌, List, [], ◌∷◌, Option, None, Some, refl, ap, sym, ◌∙◌, cond, if◌then◌else◌}
+use Rattle.beldi_row.specs.{Key.RowKey, Key.key_cmp, Table.first_above, Table.entry_of, declared.row.Row.Row}
 
 abbrev head_of : List (RowKey × Row) → Option (RowKey × Row)
 head_of [] = None

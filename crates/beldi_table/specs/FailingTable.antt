@@ -1,8 +1,7 @@
 -- Which calls of a failing table fail.
 use Rattle.std.specs.Prelude.{◌≡◌, ℕ, ◌==◌, Bool, true, false, List, [], ◌∷◌, Some, if◌then◌else◌}
 use Rattle.beldi_row.specs.Table.{TableState, one_more}
-use Rattle.beldi_table.specs.MapTable.{rows_of}
-use Rattle.beldi_table.specs.declared.failing_table.FailingTable.{FailingTable}
+use Rattle.beldi_table.specs.{MapTable.rows_of, declared.failing_table.FailingTable.FailingTable}
 
 -- the number stands in the list
 abbrev pub stands_in : List ℕ → ℕ → Bool

@@ -1,17 +1,8 @@
 -- The rows of a table over an ordered map.
 use Rattle.std.specs.Prelude.{◌≡◌, ℕ, ◌<◌, Option, Some, None, Result, Ok, Err, IsTrue}
 use Rattle.std.specs.FinMap as map
-use Rattle.beldi_row.specs.Act.{said_by}
-use Rattle.beldi_row.specs.Table.{Rows, TableState, after_act, tell_act, adds, IsFull}
-use Rattle.beldi_row.specs.Key.{RowKey}
-use Rattle.beldi_row.specs.declared.row.Row.{Row}
-use Rattle.beldi_row.specs.declared.act.Act.{Act}
-use Rattle.beldi_row.specs.declared.act.Change.{Change}
-use Rattle.beldi_row.specs.declared.table.TableErr.{TableErr}
-use Rattle.beldi_row.specs.declared.table.TableErr.TheVariants.{OutOfMemory, Failed, Full}
-use Rattle.beldi_table.specs.declared.map_table.MapTable.{MapTable}
-use Rattle.beldi_table.specs.declared.map_table.Tried.{Tried}
-use Rattle.beldi_table.specs.declared.map_table.Tried.TheVariants.{Done, Absent}
+use Rattle.beldi_row.specs.{Act.said_by, Table.Rows, Table.TableState, Table.after_act, Table.tell_act, Table.adds, Table.IsFull, Key.RowKey, declared.row.Row.Row, declared.act.Act.Act, declared.act.Change.Change, declared.table.TableErr.TableErr, declared.table.TableErr.TheVariants.OutOfMemory, declared.table.TableErr.TheVariants.Failed, declared.table.TableErr.TheVariants.Full}
+use Rattle.beldi_table.specs.declared.map_table.{MapTable.MapTable, Tried.Tried, Tried.TheVariants.Done, Tried.TheVariants.Absent}
 
 abbrev pub rows_of : MapTable → Rows
 rows_of t = map.from_entries t.rows.entries

@@ -1,12 +1,5 @@
 -- Things of which no two have one name: that it was seen, and what was found of them.
-use Rattle.std.proofs.Common.{◌≡◌, ◌<◌, ◌≤◌, ◌+◌, ◌==◌, ◌∙◌, below_more, arith, eqb-true, ap, subst, sym, ℕ, true, false, List, Option, Some, None, not, length, slice_get, get_or}
-use Rattle.std.specs.Option.{option_eq}
-use Rattle.std.specs.List.{position}
-use Rattle.std.specs.Cmp.Lexicographic.{same_text}
-use Rattle.std.proofs.lemmas.Option.{slice_get-get_or, slice_get_within, get_or_from_slice_get}
-use Rattle.std.proofs.lemmas.Bool.{not-false}
-use Rattle.beldi_tree.specs.Bindings.{is_name}
-use Rattle.beldi_tree.specs.Apart.{AreApart}
+use Rattle.beldi_tree.proofs.Names.{AreApart, List, None, Option, Some, ap, arith, below_more, eqb-true, false, get_or, get_or_from_slice_get, is_name, length, not, not-false, option_eq, position, same_text, slice_get, slice_get-get_or, slice_get_within, subst, sym, true, ℕ, ◌+◌, ◌<◌, ◌==◌, ◌∙◌, ◌≡◌, ◌≤◌}
 
 -- what stands at a place and has the name is what the name means
 pub found : {A : Type 0} (name : A → List ℕ) (xs : List A) (i : ℕ) (n : List ℕ) (d : A) → AreApart name xs → i < length xs → true ≡ is_name (name (get_or xs i d)) n → Some i ≡ position (λ y. is_name (name y) n) xs

@@ -1,17 +1,5 @@
 -- A map that is made anew from another one's entries, one after another.
-use Rattle.std.proofs.Common.{◌≡◌, cond, Bool, true, false, List, [], ◌∷◌, None, Some, refl, ap, sym, ◌∙◌}
-use Rattle.std.specs.Option.{option_or}
-use Rattle.std.specs.Map.{lookup, keys_of}
-use Rattle.std.specs.BTreeMap.{is_at}
-use Rattle.std.specs.Cmp.{IsTotalOrder}
-use Rattle.std.proofs.lemmas.Map.Lookups.{CmpEqualImpliesEq}
-use Rattle.std.proofs.lemmas.Map.Keys.{sorted_head, sorted_tail}
-use Rattle.std.specs.List.Sorted.{IsStrictlySortedBy}
-use Rattle.std.specs.List.{AllByRecursion}
-use Rattle.std.specs.declared.cmp.Ordering.{Ordering}
-use Rattle.std.specs.declared.cmp.Ordering.TheVariants.{Less, Equal, Greater}
-use Rattle.std.specs.Ordering.{is_eq}
-use Rattle.std.specs.FinMap.{FinMap, get, insert, get-insert, same_map}
+use Rattle.beldi_tree.proofs.Names.{AllByRecursion, Bool, CmpEqualImpliesEq, Equal, FinMap, Greater, IsStrictlySortedBy, IsTotalOrder, Less, List, None, Ordering, Some, [], ap, cond, false, get, get-insert, insert, is_at, is_eq, keys_of, lookup, option_or, refl, same_map, sorted_head, sorted_tail, sym, true, ◌∙◌, ◌∷◌, ◌≡◌}
 
 -- the entries that are left, with what the new map has, are those of the old one
 pub record IsCopied {K X : Type 0} (R : K → K → Ordering) (copy old : FinMap R X) (es : List (K × X)) : Type 0 where

@@ -1,22 +1,7 @@
 -- The items of a list and the steps of a chain, evaluated one after another.
-use Rattle.std.proofs.Common.{◌≡◌, ℕ, suc, ◌+◌, ◌≤◌, ◌<◌, List, [], ◌∷◌, ◌++◌, length, get_or, refl, ap, sym, ◌∙◌, subst, arith, Result, Ok, Err}
-use Prim.Native.Nat as Nat
-use Rattle.beldi_value.specs.declared.outcome.Code.{Code}
-use Rattle.beldi_value.specs.declared.value.Value.{Value}
-use Rattle.beldi_value.specs.declared.value.Value.TheVariants.{Text}
-use Rattle.beldi_value.specs.Value.{datum_of}
-use Rattle.beldi_value.specs.Json.{text_of}
-use Rattle.beldi_value.specs.Datum.{Datum}
-use Rattle.beldi_tree.specs.declared.fault.EvalErr.{EvalErr}
-use Rattle.beldi_tree.specs.declared.fault.EvalErr.TheVariants.{OutOfMemory, Fault}
-use Rattle.beldi_tree.specs.declared.deployment.Expr.{Expr}
-use Rattle.beldi_tree.specs.declared.deployment.Step.{Step}
-use Rattle.beldi_tree.specs.declared.deployment.Step.TheVariants as step
-use Rattle.beldi_tree.specs.Term.{Term, term_size, terms_size, members_size}
-use Rattle.beldi_tree.specs.Expr.{term_of, applied, chained, items_view, members_view}
-use Rattle.beldi_tree.specs.Evaluate.{Bindings, IsFault, and_then, ◌>>=◌, term_value, value_at, limited, either, both, opposite, negated, compared, operate, field_of, element_of, length_of, pushed, with_field, on_two, on_three}
-use Rattle.beldi_tree.specs.Steps.{stepped, ended}
-use Rattle.beldi_tree.specs.Falls.{first_falls}
+use Rattle.beldi_tree.specs.Evaluate.{Bindings}
+use Rattle.beldi_tree.proofs.Names.{Code, Datum, Err, EvalErr, Expr, Fault, IsFault, List, Ok, OutOfMemory, Result, Step, Term, Text, Value, [], and_then, ap, applied, arith, both, chained, compared, datum_of, either, element_of, ended, field_of, first_falls, get_or, items_view, length, length_of, limited, members_size, members_view, negated, on_three, on_two, operate, opposite, pushed, refl, stepped, subst, suc, sym, term_of, term_size, term_value, terms_size, text_of, value_at, with_field, ℕ, ◌++◌, ◌+◌, ◌<◌, ◌>>=◌, ◌∙◌, ◌∷◌, ◌≡◌, ◌≤◌}
+use Rattle.beldi_tree.proofs.Names.Nat
 
 -- items before those that are evaluated
 abbrev pub onto : List Datum → Result (List Datum) Code → Result (List Datum) Code
@@ -44,32 +29,32 @@ seen_member_falls gs ms ts i m p q h is = subst (λ us. term_size (term_of m.1) 
 
 -- how large the parts of a step are
 abbrev pub step_size : Step → ℕ
-step_size (step.Or e) = term_size (term_of e)
-step_size (step.And e) = term_size (term_of e)
-step_size step.Not = 0
-step_size step.Negate = 0
-step_size (step.Compare r e) = term_size (term_of e)
-step_size (step.Binary o e) = term_size (term_of e)
-step_size (step.Field s) = 0
-step_size (step.Element e) = term_size (term_of e)
-step_size step.Len = 0
-step_size step.TextOf = 0
-step_size (step.Push e) = term_size (term_of e)
-step_size (step.With e f) = term_size (term_of e) + term_size (term_of f)
+step_size (Step.Or e) = term_size (term_of e)
+step_size (Step.And e) = term_size (term_of e)
+step_size Step.Not = 0
+step_size Step.Negate = 0
+step_size (Step.Compare r e) = term_size (term_of e)
+step_size (Step.Binary o e) = term_size (term_of e)
+step_size (Step.Field s) = 0
+step_size (Step.Element e) = term_size (term_of e)
+step_size Step.Len = 0
+step_size Step.TextOf = 0
+step_size (Step.Push e) = term_size (term_of e)
+step_size (Step.With e f) = term_size (term_of e) + term_size (term_of f)
 
 pub applied_size : (t : Term) (s : Step) → term_size t + step_size s + 2 ≤ term_size (applied t s)
-applied_size t (step.Or e) = omega arith
-applied_size t (step.And e) = omega arith
-applied_size t step.Not = omega arith
-applied_size t step.Negate = omega arith
-applied_size t (step.Compare r e) = omega arith
-applied_size t (step.Binary o e) = omega arith
-applied_size t (step.Field s) = omega arith
-applied_size t (step.Element e) = omega arith
-applied_size t step.Len = omega arith
-applied_size t step.TextOf = omega arith
-applied_size t (step.Push e) = omega arith
-applied_size t (step.With e f) = omega arith
+applied_size t (Step.Or e) = omega arith
+applied_size t (Step.And e) = omega arith
+applied_size t Step.Not = omega arith
+applied_size t Step.Negate = omega arith
+applied_size t (Step.Compare r e) = omega arith
+applied_size t (Step.Binary o e) = omega arith
+applied_size t (Step.Field s) = omega arith
+applied_size t (Step.Element e) = omega arith
+applied_size t Step.Len = omega arith
+applied_size t Step.TextOf = omega arith
+applied_size t (Step.Push e) = omega arith
+applied_size t (Step.With e f) = omega arith
 
 pub more_size : (t : Term) (ss : List Step) (i : ℕ) (s : Step) → i < length ss → s ≡ get_or ss i s → term_size t + step_size s + 2 ≤ term_size (chained t ss)
 more_size t [] i s h is = absurd (omega arith)
@@ -83,18 +68,18 @@ from_value f g h k (Err c) = k c
 
 -- a step goes on from the value before it
 one_step : (vs : Bindings) (t : Term) (s : Step) → term_value vs (applied t s) ≡ and_then (term_value vs t) (λ v. stepped vs v s)
-one_step vs t (step.Or e) = from_value (λ r. (either r (value_at vs e)) >>= limited) (λ v. stepped vs v (step.Or e)) (λ v. refl) (λ c. refl) (term_value vs t)
-one_step vs t (step.And e) = from_value (λ r. (both r (value_at vs e)) >>= limited) (λ v. stepped vs v (step.And e)) (λ v. refl) (λ c. refl) (term_value vs t)
-one_step vs t step.Not = from_value (λ r. (r >>= opposite) >>= limited) (λ v. stepped vs v step.Not) (λ v. refl) (λ c. refl) (term_value vs t)
-one_step vs t step.Negate = from_value (λ r. (r >>= negated) >>= limited) (λ v. stepped vs v step.Negate) (λ v. refl) (λ c. refl) (term_value vs t)
-one_step vs t (step.Compare q e) = from_value (λ r. (on_two (compared q) r (value_at vs e)) >>= limited) (λ v. stepped vs v (step.Compare q e)) (λ v. refl) (λ c. refl) (term_value vs t)
-one_step vs t (step.Binary o e) = from_value (λ r. (on_two (operate o) r (value_at vs e)) >>= limited) (λ v. stepped vs v (step.Binary o e)) (λ v. refl) (λ c. refl) (term_value vs t)
-one_step vs t (step.Field key) = from_value (λ r. (r >>= field_of key) >>= limited) (λ v. stepped vs v (step.Field key)) (λ v. refl) (λ c. refl) (term_value vs t)
-one_step vs t (step.Element e) = from_value (λ r. (on_two element_of r (value_at vs e)) >>= limited) (λ v. stepped vs v (step.Element e)) (λ v. refl) (λ c. refl) (term_value vs t)
-one_step vs t step.Len = from_value (λ r. (r >>= length_of) >>= limited) (λ v. stepped vs v step.Len) (λ v. refl) (λ c. refl) (term_value vs t)
-one_step vs t step.TextOf = from_value (λ r. (r >>= λ x. Ok (Text (text_of (datum_of x)))) >>= limited) (λ v. stepped vs v step.TextOf) (λ v. refl) (λ c. refl) (term_value vs t)
-one_step vs t (step.Push e) = from_value (λ r. (on_two pushed r (value_at vs e)) >>= limited) (λ v. stepped vs v (step.Push e)) (λ v. refl) (λ c. refl) (term_value vs t)
-one_step vs t (step.With e f) = from_value (λ r. (on_three with_field r (value_at vs e) (value_at vs f)) >>= limited) (λ v. stepped vs v (step.With e f)) (λ v. refl) (λ c. refl) (term_value vs t)
+one_step vs t (Step.Or e) = from_value (λ r. (either r (value_at vs e)) >>= limited) (λ v. stepped vs v (Step.Or e)) (λ v. refl) (λ c. refl) (term_value vs t)
+one_step vs t (Step.And e) = from_value (λ r. (both r (value_at vs e)) >>= limited) (λ v. stepped vs v (Step.And e)) (λ v. refl) (λ c. refl) (term_value vs t)
+one_step vs t Step.Not = from_value (λ r. (r >>= opposite) >>= limited) (λ v. stepped vs v Step.Not) (λ v. refl) (λ c. refl) (term_value vs t)
+one_step vs t Step.Negate = from_value (λ r. (r >>= negated) >>= limited) (λ v. stepped vs v Step.Negate) (λ v. refl) (λ c. refl) (term_value vs t)
+one_step vs t (Step.Compare q e) = from_value (λ r. (on_two (compared q) r (value_at vs e)) >>= limited) (λ v. stepped vs v (Step.Compare q e)) (λ v. refl) (λ c. refl) (term_value vs t)
+one_step vs t (Step.Binary o e) = from_value (λ r. (on_two (operate o) r (value_at vs e)) >>= limited) (λ v. stepped vs v (Step.Binary o e)) (λ v. refl) (λ c. refl) (term_value vs t)
+one_step vs t (Step.Field key) = from_value (λ r. (r >>= field_of key) >>= limited) (λ v. stepped vs v (Step.Field key)) (λ v. refl) (λ c. refl) (term_value vs t)
+one_step vs t (Step.Element e) = from_value (λ r. (on_two element_of r (value_at vs e)) >>= limited) (λ v. stepped vs v (Step.Element e)) (λ v. refl) (λ c. refl) (term_value vs t)
+one_step vs t Step.Len = from_value (λ r. (r >>= length_of) >>= limited) (λ v. stepped vs v Step.Len) (λ v. refl) (λ c. refl) (term_value vs t)
+one_step vs t Step.TextOf = from_value (λ r. (r >>= λ x. Ok (Text (text_of (datum_of x)))) >>= limited) (λ v. stepped vs v Step.TextOf) (λ v. refl) (λ c. refl) (term_value vs t)
+one_step vs t (Step.Push e) = from_value (λ r. (on_two pushed r (value_at vs e)) >>= limited) (λ v. stepped vs v (Step.Push e)) (λ v. refl) (λ c. refl) (term_value vs t)
+one_step vs t (Step.With e f) = from_value (λ r. (on_three with_field r (value_at vs e) (value_at vs f)) >>= limited) (λ v. stepped vs v (Step.With e f)) (λ v. refl) (λ c. refl) (term_value vs t)
 
 all_steps : (vs : Bindings) (t : Term) (ss : List Step) → and_then (term_value vs t) (λ v. ended vs v ss) ≡ term_value vs (chained t ss)
 all_steps vs t [] = sym (from_value (λ r. r) Ok (λ v. refl) (λ c. refl) (term_value vs t))

@@ -1,3 +1,4 @@
 pub mod Aparts
 pub mod Copies
 pub mod Evaluated
+mod Names

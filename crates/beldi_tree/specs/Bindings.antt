@@ -1,12 +1,9 @@
 -- Names and their values.
 use Rattle.std.specs.Prelude.{ℕ, ◌==◌, Bool, List, Option, Some, None}
-use Rattle.std.specs.FinMap as map
-use Rattle.std.specs.FinMap.{FinMap}
-use Rattle.std.specs.Ordering.{nat_cmp}
-use Rattle.std.specs.Cmp.Lexicographic.{slice_cmp}
+use Rattle.std.specs.{FinMap.FinMap, Ordering.nat_cmp, Cmp.Lexicographic.slice_cmp}
 use lib.Pointwise.{pointwise}
-use Rattle.beldi_value.specs.declared.value.Value.{Value}
-use Rattle.beldi_value.specs.declared.value.Value.TheVariants.{Null}
+use Rattle.std.specs.FinMap as map
+use Rattle.beldi_value.specs.declared.value.Value.{Value, TheVariants.Null}
 
 -- two names are one
 abbrev pub is_name : List ℕ → List ℕ → Bool

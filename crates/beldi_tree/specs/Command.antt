@@ -1,9 +1,8 @@
 -- A statement as mathematics: what a `Stmt` stands for.
 use Rattle.std.specs.Prelude.{◌≡◌, ℕ, ◌+◌, ◌==◌, List, [], ◌∷◌, ◌++◌, refl, if◌then◌else◌}
-use Rattle.std.proofs.Common.{ap, ◌∙◌, append_assoc}
 use Rattle.std.specs.Coded.{Coded, code_by, coded×, coded_ℕ, coded_list}
-use Rattle.beldi_value.specs.declared.rel.Rel.{Rel}
-use Rattle.beldi_value.specs.declared.rel.Rel.TheVariants.{Eq}
+use Rattle.std.proofs.Common.{ap, ◌∙◌, append_assoc}
+use Rattle.beldi_value.specs.declared.rel.Rel.{Rel, TheVariants.Eq}
 use Rattle.beldi_value.specs.contracts.rel.Rel as rel
 use Rattle.beldi_tree.specs.Term.{Term, null, coded_term}
 

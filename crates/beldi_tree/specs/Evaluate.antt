@@ -1,32 +1,12 @@
 -- The value of an expression, or its fault. The parts are evaluated left to right, and the first fault ends the evaluation.
 use Rattle.std.specs.Prelude.{◌≡◌, ℕ, ◌^◌, nat_lt, nat_le, ℤ, pos, neg_ℤ, ◌+ℤ◌, ◌-ℤ◌, ◌*ℤ◌, int_div, int_rem, Bool, true, false, not, List, [], ◌∷◌, ◌++◌, length, Option, Some, None, option_map, Result, Ok, Err, if◌then◌else◌}
-use Rattle.std.specs.FinMap as map
-use Rattle.std.specs.Ordering.{int_eq}
-use Rattle.std.specs.declared.cmp.Ordering.{Ordering}
+use Rattle.std.specs.{Ordering.int_eq, declared.cmp.Ordering.Ordering}
 use lib.Signed.{mag}
-use Rattle.beldi_value.specs.declared.value.Value.{Value}
-use Rattle.beldi_value.specs.declared.value.Value.TheVariants.{Null, Bool as Truth, Int, Text, List as ListOf, Rec}
-use Rattle.beldi_value.specs.declared.outcome.Code.{Code}
-use Rattle.beldi_value.specs.declared.outcome.Code.TheVariants.{WrongType, Overflow, DivideByZero, ValueTooLarge}
-use Rattle.beldi_value.specs.declared.rel.Rel.{Rel}
-use Rattle.beldi_value.specs.declared.rel.Rel.TheVariants.{Eq, Ne, Lt, Le, Gt, Ge}
-use Rattle.beldi_value.specs.Datum.{Datum}
-use Rattle.beldi_value.specs.Value.{datum_of}
-use Rattle.beldi_value.specs.Injective.{value_of}
-use Rattle.beldi_value.specs.Json.{text_of}
-use Rattle.beldi_value.specs.Limits.{is_within}
-use Rattle.beldi_value.specs.Parts.{field_at, set_field, item_at}
-use Rattle.beldi_value.specs.Passes.{meets, order_of}
-use Rattle.beldi_value.specs.Same.{same_value}
-use Rattle.beldi_tree.specs.declared.fault.EvalErr.{EvalErr}
-use Rattle.beldi_tree.specs.declared.fault.EvalErr.TheVariants.{OutOfMemory, Fault}
-use Rattle.beldi_tree.specs.declared.deployment.Op.{Op}
-use Rattle.beldi_tree.specs.declared.deployment.Op.TheVariants.{Add, Sub, Join, Mul, Div, Rem}
-use Rattle.beldi_tree.specs.declared.deployment.Expr.{Expr}
-use Rattle.beldi_tree.specs.Term as term
-use Rattle.beldi_tree.specs.Term.{Term, Terms, Members}
-use Rattle.beldi_tree.specs.Expr.{term_of}
+use Rattle.std.specs.FinMap as map
+use Rattle.beldi_value.specs.{declared.value.Value.Value, declared.value.Value.TheVariants.Null, declared.value.Value.TheVariants.Bool as Truth, declared.value.Value.TheVariants.Int, declared.value.Value.TheVariants.Text, declared.value.Value.TheVariants.List as ListOf, declared.value.Value.TheVariants.Rec, declared.outcome.Code.Code, declared.outcome.Code.TheVariants.WrongType, declared.outcome.Code.TheVariants.Overflow, declared.outcome.Code.TheVariants.DivideByZero, declared.outcome.Code.TheVariants.ValueTooLarge, declared.rel.Rel.Rel, declared.rel.Rel.TheVariants.Eq, declared.rel.Rel.TheVariants.Ne, declared.rel.Rel.TheVariants.Lt, declared.rel.Rel.TheVariants.Le, declared.rel.Rel.TheVariants.Gt, declared.rel.Rel.TheVariants.Ge, Datum.Datum, Value.datum_of, Injective.value_of, Json.text_of, Limits.is_within, Parts.field_at, Parts.set_field, Parts.item_at, Passes.meets, Passes.order_of, Same.same_value}
+use Rattle.beldi_tree.specs.{declared.fault.EvalErr.EvalErr, declared.fault.EvalErr.TheVariants.OutOfMemory, declared.fault.EvalErr.TheVariants.Fault, declared.deployment.Op.Op, declared.deployment.Op.TheVariants.Add, declared.deployment.Op.TheVariants.Sub, declared.deployment.Op.TheVariants.Join, declared.deployment.Op.TheVariants.Mul, declared.deployment.Op.TheVariants.Div, declared.deployment.Op.TheVariants.Rem, declared.deployment.Expr.Expr, Term.Term, Term.Terms, Term.Members, Expr.term_of}
 pub use Rattle.beldi_tree.specs.Bindings.{Bindings, or_null}
+use Rattle.beldi_tree.specs.Term as term
 
 infixl 10 ◌>>=◌
 abbrev pub and_then : {A B : Type 0} → Result A Code → (A → Result B Code) → Result B Code

@@ -1,35 +1,32 @@
 -- The expression that an `Expr` stands for.
 use Rattle.std.specs.Prelude.{ℕ, List, [], ◌∷◌, map}
-use Rattle.beldi_tree.specs.declared.deployment.Expr.{Expr}
-use Rattle.beldi_tree.specs.declared.deployment.Expr.TheVariants as expr
-use Rattle.beldi_tree.specs.declared.deployment.Step.{Step}
-use Rattle.beldi_tree.specs.declared.deployment.Step.TheVariants as step
 use Rattle.beldi_tree.specs.Term.{Term, int, text, boolean, null, name, or, and, not, negate, compare, binary, field, element, list, fields, len, text_of, push, with, items_of, members_of}
+use Rattle.beldi_tree.specs.declared.deployment.{Expr.Expr, Step.Step}
 
 abbrev pub term_of : Expr → Term
-term_of (expr.Int z) = int z
-term_of (expr.Text s) = text s
-term_of (expr.Bool b) = boolean b
-term_of expr.Null = null
-term_of (expr.Name s) = name s
-term_of (expr.List ts) = list (items_of ts)
-term_of (expr.Record ms) = fields (members_of ms)
-term_of (expr.Chain t) = t
+term_of (Expr.Int z) = int z
+term_of (Expr.Text s) = text s
+term_of (Expr.Bool b) = boolean b
+term_of Expr.Null = null
+term_of (Expr.Name s) = name s
+term_of (Expr.List ts) = list (items_of ts)
+term_of (Expr.Record ms) = fields (members_of ms)
+term_of (Expr.Chain t) = t
 
 -- an expression with one step after it
 abbrev pub applied : Term → Step → Term
-applied t (step.Or e) = or t (term_of e)
-applied t (step.And e) = and t (term_of e)
-applied t step.Not = not t
-applied t step.Negate = negate t
-applied t (step.Compare r e) = compare r t (term_of e)
-applied t (step.Binary o e) = binary o t (term_of e)
-applied t (step.Field s) = field t s
-applied t (step.Element e) = element t (term_of e)
-applied t step.Len = len t
-applied t step.TextOf = text_of t
-applied t (step.Push e) = push t (term_of e)
-applied t (step.With e f) = with t (term_of e) (term_of f)
+applied t (Step.Or e) = or t (term_of e)
+applied t (Step.And e) = and t (term_of e)
+applied t Step.Not = not t
+applied t Step.Negate = negate t
+applied t (Step.Compare r e) = compare r t (term_of e)
+applied t (Step.Binary o e) = binary o t (term_of e)
+applied t (Step.Field s) = field t s
+applied t (Step.Element e) = element t (term_of e)
+applied t Step.Len = len t
+applied t Step.TextOf = text_of t
+applied t (Step.Push e) = push t (term_of e)
+applied t (Step.With e f) = with t (term_of e) (term_of f)
 
 -- an expression with these steps after it
 abbrev pub chained : Term → List Step → Term

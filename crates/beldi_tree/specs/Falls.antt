@@ -1,60 +1,47 @@
 -- Each part of an expression is smaller than the expression, and each part of a statement than the statement.
 use Rattle.std.specs.Prelude.{◌≡◌, ◌≤◌, ◌<◌, ℕ, suc, ◌+◌, max, List, [], ◌∷◌, length}
-use Prim.Native.Nat as Nat
-use Rattle.std.proofs.Common.{arith, ap, subst, get_or}
 use denote.Param.Weighed.{most}
-use Rattle.beldi_tree.specs.declared.deployment.Expr.{Expr}
-use Rattle.beldi_tree.specs.declared.deployment.Expr.TheVariants as expr
-use Rattle.beldi_tree.specs.declared.deployment.Step.{Step}
-use Rattle.beldi_tree.specs.declared.deployment.Step.TheVariants as step
-use Rattle.beldi_tree.specs.declared.deployment.Stmt.{Stmt}
-use Rattle.beldi_tree.specs.declared.deployment.Form.{Form}
-use Rattle.beldi_tree.specs.declared.deployment.Form.TheVariants as form
-use Rattle.beldi_tree.specs.declared.block.Block.TheDeep.{deep-Stmt, deep-Form}
-use Rattle.beldi_tree.specs.declared.parts.Chain.TheDeep.{deep-Expr, deep-Step}
-use Rattle.beldi_tree.specs.declared.parts.Chain.TheShapes.{weighed-Members-items-at-2}
-use Rattle.beldi_tree.specs.Term.{Term, term_size, terms_size, members_size}
-use Rattle.beldi_tree.specs.Expr.{term_of, applied, chained, items_view, members_view}
-use Rattle.beldi_tree.specs.Command.{Command, command_size, block_size}
-use Rattle.beldi_tree.specs.Statement.{command_of, command_at, statements_view}
+use Prim.Native.Nat
+use Rattle.std.proofs.Common.{arith, ap, subst, get_or}
+use Rattle.beldi_tree.specs.{declared.deployment.Expr.Expr, declared.deployment.Step.Step, declared.deployment.Stmt.Stmt, declared.deployment.Form.Form, declared.block.Block.TheDeep.deep-Stmt, declared.block.Block.TheDeep.deep-Form, declared.parts.Chain.TheDeep.deep-Expr, declared.parts.Chain.TheDeep.deep-Step, declared.parts.Chain.TheShapes.weighed-Members-items-at-2, Term.Term, Term.term_size, Term.terms_size, Term.members_size, Expr.term_of, Expr.applied, Expr.chained, Expr.items_view, Expr.members_view, Command.Command, Command.command_size, Command.block_size, Statement.command_of, Statement.command_at, Statement.statements_view}
 
 pub deep_expr : (e : Expr) → deep-Expr e ≤ term_size (term_of e) + 1
-deep_expr (expr.Int z) = omega arith
-deep_expr (expr.Text s) = omega arith
-deep_expr (expr.Bool b) = omega arith
-deep_expr expr.Null = omega arith
-deep_expr (expr.Name s) = omega arith
-deep_expr (expr.List ts) = omega arith
-deep_expr (expr.Record ms) = omega arith
-deep_expr (expr.Chain t) = omega arith
+deep_expr (Expr.Int z) = omega arith
+deep_expr (Expr.Text s) = omega arith
+deep_expr (Expr.Bool b) = omega arith
+deep_expr Expr.Null = omega arith
+deep_expr (Expr.Name s) = omega arith
+deep_expr (Expr.List ts) = omega arith
+deep_expr (Expr.Record ms) = omega arith
+deep_expr (Expr.Chain t) = omega arith
 
 pub step_falls : (t : Term) (s : Step) → term_size t + deep-Step s ≤ term_size (applied t s)
-step_falls t (step.Or e) = omega (arith, deep_expr e)
-step_falls t (step.And e) = omega (arith, deep_expr e)
-step_falls t step.Not = omega arith
-step_falls t step.Negate = omega arith
-step_falls t (step.Compare r e) = omega (arith, deep_expr e)
-step_falls t (step.Binary o e) = omega (arith, deep_expr e)
-step_falls t (step.Field s) = omega arith
-step_falls t (step.Element e) = omega (arith, deep_expr e)
-step_falls t step.Len = omega arith
-step_falls t step.TextOf = omega arith
-step_falls t (step.Push e) = omega (arith, deep_expr e)
-step_falls t (step.With e f) = omega (arith, deep_expr e, deep_expr f)
+step_falls t (Step.Or e) = omega (arith, deep_expr e)
+step_falls t (Step.And e) = omega (arith, deep_expr e)
+step_falls t Step.Not = omega arith
+step_falls t Step.Negate = omega arith
+step_falls t (Step.Compare r e) = omega (arith, deep_expr e)
+step_falls t (Step.Binary o e) = omega (arith, deep_expr e)
+step_falls t (Step.Field s) = omega arith
+step_falls t (Step.Element e) = omega (arith, deep_expr e)
+step_falls t Step.Len = omega arith
+step_falls t Step.TextOf = omega arith
+step_falls t (Step.Push e) = omega (arith, deep_expr e)
+step_falls t (Step.With e f) = omega (arith, deep_expr e, deep_expr f)
 
 least_step : (t : Term) (s : Step) → term_size t + 2 ≤ term_size (applied t s)
-least_step t (step.Or e) = omega arith
-least_step t (step.And e) = omega arith
-least_step t step.Not = omega arith
-least_step t step.Negate = omega arith
-least_step t (step.Compare r e) = omega arith
-least_step t (step.Binary o e) = omega arith
-least_step t (step.Field s) = omega arith
-least_step t (step.Element e) = omega arith
-least_step t step.Len = omega arith
-least_step t step.TextOf = omega arith
-least_step t (step.Push e) = omega arith
-least_step t (step.With e f) = omega arith
+least_step t (Step.Or e) = omega arith
+least_step t (Step.And e) = omega arith
+least_step t Step.Not = omega arith
+least_step t Step.Negate = omega arith
+least_step t (Step.Compare r e) = omega arith
+least_step t (Step.Binary o e) = omega arith
+least_step t (Step.Field s) = omega arith
+least_step t (Step.Element e) = omega arith
+least_step t Step.Len = omega arith
+least_step t Step.TextOf = omega arith
+least_step t (Step.Push e) = omega arith
+least_step t (Step.With e f) = omega arith
 
 pub first_falls : (t : Term) (ss : List Step) → term_size t ≤ term_size (chained t ss)
 first_falls t [] = omega arith
@@ -82,20 +69,20 @@ most_members [] = omega arith
 most_members (m ∷ ms) = omega (arith, member_falls m, most_members ms)
 
 deep_form : (l : ℕ) (f : Form) → deep-Form f ≤ command_size (command_at l f)
-deep_form l (form.Set n e) = omega arith
-deep_form l (form.Read n t k) = omega arith
-deep_form l (form.Write t k e) = omega arith
-deep_form l (form.CondWrite n t k r o e) = omega arith
-deep_form l (form.Call n f e) = omega arith
-deep_form l (form.Async f e) = omega arith
-deep_form l (form.Lock t k) = omega arith
-deep_form l (form.Unlock t k) = omega arith
-deep_form l (form.Transaction b c) = omega arith
-deep_form l form.Abort = omega arith
-deep_form l form.Break = omega arith
-deep_form l (form.If e b c) = omega arith
-deep_form l (form.Repeat n b) = omega arith
-deep_form l (form.Return e) = omega arith
+deep_form l (Form.Set n e) = omega arith
+deep_form l (Form.Read n t k) = omega arith
+deep_form l (Form.Write t k e) = omega arith
+deep_form l (Form.CondWrite n t k r o e) = omega arith
+deep_form l (Form.Call n f e) = omega arith
+deep_form l (Form.Async f e) = omega arith
+deep_form l (Form.Lock t k) = omega arith
+deep_form l (Form.Unlock t k) = omega arith
+deep_form l (Form.Transaction b c) = omega arith
+deep_form l Form.Abort = omega arith
+deep_form l Form.Break = omega arith
+deep_form l (Form.If e b c) = omega arith
+deep_form l (Form.Repeat n b) = omega arith
+deep_form l (Form.Return e) = omega arith
 
 deep_stmt : (s : Stmt) → deep-Stmt s ≤ command_size (command_of s)
 deep_stmt s = omega (arith, deep_form s.line s.form)

@@ -1,10 +1,7 @@
 -- What names mean in a deployment.
 use Rattle.std.specs.Prelude.{ℕ, zero, suc, List, Option, Some, None, slice_get, decimal}
 use Rattle.std.specs.List.{position}
-use Rattle.beldi_tree.specs.declared.deployment.Deployment.{Deployment}
-use Rattle.beldi_tree.specs.declared.deployment.Func.{Func}
-use Rattle.beldi_tree.specs.declared.deployment.TableHead.{TableHead}
-use Rattle.beldi_tree.specs.Bindings.{is_name}
+use Rattle.beldi_tree.specs.{declared.deployment.Deployment.Deployment, declared.deployment.Func.Func, declared.deployment.TableHead.TableHead, Bindings.is_name}
 
 -- where the first function of this name stands, from 0
 abbrev pub func_place : List Func → List ℕ → Option ℕ

@@ -1,11 +1,7 @@
 -- The value of an expression, lent or made.
 use Rattle.std.specs.Prelude.{◌≡◌, Result, Ok, Err}
-use Rattle.beldi_value.specs.declared.value.Value.{Value}
-use Rattle.beldi_value.specs.declared.outcome.Code.{Code}
-use Rattle.beldi_tree.specs.declared.fault.EvalErr.{EvalErr}
-use Rattle.beldi_tree.specs.declared.seen.Seen.{Seen}
-use Rattle.beldi_tree.specs.declared.seen.Seen.TheVariants.{Lent, Made}
-use Rattle.beldi_tree.specs.Evaluate.{IsFault}
+use Rattle.beldi_value.specs.declared.{value.Value.Value, outcome.Code.Code}
+use Rattle.beldi_tree.specs.{declared.fault.EvalErr.EvalErr, declared.seen.Seen.Seen, declared.seen.Seen.TheVariants.Lent, declared.seen.Seen.TheVariants.Made, Evaluate.IsFault}
 
 abbrev pub seen_value : Seen → Value
 seen_value (Lent v) = v.now

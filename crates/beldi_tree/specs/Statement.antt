@@ -1,26 +1,23 @@
 -- The command that a `Stmt` stands for.
 use Rattle.std.specs.Prelude.{ℕ, List, map}
-use Rattle.beldi_tree.specs.declared.deployment.Stmt.{Stmt}
-use Rattle.beldi_tree.specs.declared.deployment.Form.{Form}
-use Rattle.beldi_tree.specs.declared.deployment.Form.TheVariants as form
-use Rattle.beldi_tree.specs.Expr.{term_of}
 use Rattle.beldi_tree.specs.Command.{Command, set, read, write, condwrite, call, async, lock, unlock, transaction, abort, break, choose, repeat, return, commands_of}
+use Rattle.beldi_tree.specs.{declared.deployment.Stmt.Stmt, declared.deployment.Form.Form, Expr.term_of}
 
 abbrev pub command_at : ℕ → Form → Command
-command_at l (form.Set n e) = set l n (term_of e)
-command_at l (form.Read n t k) = read l n t (term_of k)
-command_at l (form.Write t k e) = write l t (term_of k) (term_of e)
-command_at l (form.CondWrite n t k r o e) = condwrite l n t (term_of k) r (term_of o) (term_of e)
-command_at l (form.Call n f e) = call l n f (term_of e)
-command_at l (form.Async f e) = async l f (term_of e)
-command_at l (form.Lock t k) = lock l t (term_of k)
-command_at l (form.Unlock t k) = unlock l t (term_of k)
-command_at l (form.Transaction b c) = transaction l (commands_of b) (commands_of c)
-command_at l form.Abort = abort l
-command_at l form.Break = break l
-command_at l (form.If e b c) = choose l (term_of e) (commands_of b) (commands_of c)
-command_at l (form.Repeat n b) = repeat l n (commands_of b)
-command_at l (form.Return e) = return l (term_of e)
+command_at l (Form.Set n e) = set l n (term_of e)
+command_at l (Form.Read n t k) = read l n t (term_of k)
+command_at l (Form.Write t k e) = write l t (term_of k) (term_of e)
+command_at l (Form.CondWrite n t k r o e) = condwrite l n t (term_of k) r (term_of o) (term_of e)
+command_at l (Form.Call n f e) = call l n f (term_of e)
+command_at l (Form.Async f e) = async l f (term_of e)
+command_at l (Form.Lock t k) = lock l t (term_of k)
+command_at l (Form.Unlock t k) = unlock l t (term_of k)
+command_at l (Form.Transaction b c) = transaction l (commands_of b) (commands_of c)
+command_at l Form.Abort = abort l
+command_at l Form.Break = break l
+command_at l (Form.If e b c) = choose l (term_of e) (commands_of b) (commands_of c)
+command_at l (Form.Repeat n b) = repeat l n (commands_of b)
+command_at l (Form.Return e) = return l (term_of e)
 
 abbrev pub command_of : Stmt → Command
 command_of s = command_at s.line s.form

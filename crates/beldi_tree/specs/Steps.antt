@@ -1,13 +1,9 @@
 -- The value of a chain, from the value before its steps on.
 use Rattle.std.specs.Prelude.{List, [], ◌∷◌, Result, Ok}
-use Rattle.beldi_value.specs.declared.value.Value.{Value}
-use Rattle.beldi_value.specs.declared.value.Value.TheVariants.{Text}
-use Rattle.beldi_value.specs.declared.outcome.Code.{Code}
-use Rattle.beldi_value.specs.Value.{datum_of}
-use Rattle.beldi_value.specs.Json.{text_of}
-use Rattle.beldi_tree.specs.declared.deployment.Step.{Step}
+use Rattle.beldi_value.specs.{declared.value.Value.Value, declared.value.Value.TheVariants.Text, declared.outcome.Code.Code, Value.datum_of, Json.text_of}
 use Rattle.beldi_tree.specs.declared.deployment.Step.TheVariants.{Or, And, Not, Negate, Compare, Binary, Field, Element, Len, TextOf, Push, With}
 use Rattle.beldi_tree.specs.Evaluate.{Bindings, ◌>>=◌, value_at, limited, either, both, opposite, negated, compared, operate, field_of, element_of, length_of, pushed, with_field, on_two, on_three}
+use Rattle.beldi_tree.specs.declared.deployment.Step.{Step}
 
 -- what a step makes of a value, before its size is looked at
 abbrev pub plain_step : Bindings → Value → Step → Result Value Code

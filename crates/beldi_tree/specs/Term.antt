@@ -1,11 +1,9 @@
 -- An expression as mathematics: what an `Expr` stands for.
 use Rattle.std.specs.Prelude.{◌≡◌, ℕ, ◌+◌, ◌==◌, ℤ, pos, Bool, false, List, [], ◌∷◌, ◌++◌, refl, if◌then◌else◌}
-use Rattle.std.proofs.Common.{ap, ◌∙◌, append_assoc}
 use Rattle.std.specs.Coded.{Coded, code_by, coded×, coded_ℕ, coded_ℤ, coded_bool, coded_list}
-use Rattle.beldi_tree.specs.declared.deployment.Op.{Op}
-use Rattle.beldi_tree.specs.declared.deployment.Op.TheVariants.{Add, Sub, Join, Mul, Div, Rem}
-use Rattle.beldi_value.specs.declared.rel.Rel.{Rel}
-use Rattle.beldi_value.specs.declared.rel.Rel.TheVariants.{Eq, Ne, Lt, Le, Gt, Ge}
+use Rattle.std.proofs.Common.{ap, ◌∙◌, append_assoc}
+use Rattle.beldi_value.specs.declared.rel.Rel.{Rel, TheVariants.Eq, TheVariants.Ne, TheVariants.Lt, TheVariants.Le, TheVariants.Gt, TheVariants.Ge}
+use Rattle.beldi_tree.specs.declared.deployment.Op.{Op, TheVariants.Add, TheVariants.Sub, TheVariants.Join, TheVariants.Mul, TheVariants.Div, TheVariants.Rem}
 
 mutual
   pub data Term : Type 0 where

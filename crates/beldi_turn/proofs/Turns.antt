@@ -1,35 +1,16 @@
 -- A run that was told: by what its stage says, or by the body that it finds.
-use Rattle.std.proofs.Common.{◌≡◌, ℕ, Bool, true, false, Option, Some, None, is_some, Result, Ok, Err, IfOk, refl, ap, sym, ◌∙◌, subst, Bor}
 use Rattle.std.specs.Prelude.{option_copied}
 use Rattle.std.specs.declared.alloc.AllocError.{AllocError}
-use Rattle.beldi_tree.specs.declared.deployment.Deployment.{Deployment}
-use Rattle.beldi_tree.specs.declared.deployment.Func.{Func}
-use Rattle.beldi_tree.specs.Names.{func_at}
-use Rattle.beldi_lang.specs.declared.effect.Answer.{Answer}
-use Rattle.beldi_lang.specs.declared.effect.Effect.{Effect}
-use Rattle.beldi_lang.specs.declared.effect.Effect.TheVariants as effect
-use Rattle.beldi_lang.specs.declared.machine.Machine.{Machine}
-use Rattle.beldi_lang.specs.Machine.{begun}
-use Rattle.beldi_value.specs.declared.id.IntentId.{IntentId}
-use Rattle.beldi_value.specs.declared.place.Caller.{Caller}
+use Rattle.std.proofs.Common.{◌≡◌, ℕ, Bool, true, false, Option, Some, None, is_some, Result, Ok, Err, IfOk, refl, ap, sym, ◌∙◌, subst, Bor}
+use Rattle.beldi_value.specs.declared.{id.IntentId.IntentId, place.Caller.Caller}
+use Rattle.beldi_tree.specs.{declared.deployment.Deployment.Deployment, declared.deployment.Func.Func, Names.func_at}
+use Rattle.beldi_lang.specs.{declared.effect.Answer.Answer, declared.effect.Effect.Effect, declared.machine.Machine.Machine, Machine.begun}
 use Rattle.beldi_row.specs.declared.row.Body.{Body}
 use Rattle.beldi_walk.specs.Query.{Told}
-use Rattle.beldi_txn.specs.declared.end.EndGoes.{EndGoes}
-use Rattle.beldi_txn.specs.declared.end.EndGoes.TheVariants as ends
-use Rattle.beldi_txn.specs.declared.end.Visit.{Visit}
-use Rattle.beldi_step.specs.declared.run.Mark.{Mark}
-use Rattle.beldi_step.specs.declared.run.RunTx.{RunTx}
-use Rattle.beldi_step.specs.declared.run.RunTx.TheVariants.{Own}
-use Rattle.beldi_step.specs.declared.run.Run.{Run}
-use Rattle.beldi_step.specs.declared.run.RunAt.{RunAt}
-use Rattle.beldi_step.specs.declared.run.RunAt.TheVariants.{Begins}
-use Rattle.beldi_step.specs.declared.run.Begun.{Begun}
-use Rattle.beldi_step.specs.declared.run.Says.{Says}
+use Rattle.beldi_txn.specs.declared.end.{EndGoes.EndGoes, Visit.Visit}
 use Rattle.beldi_step.specs.declared.run.Says.TheVariants.{On, Stays, Opens, Starts, Waits, Answers, Ends}
-use Rattle.beldi_step.specs.declared.run.Stage.{Stage}
-use Rattle.beldi_step.specs.declared.run.Stage.TheVariants.{Decide, End, Close}
-use Rattle.beldi_step.specs.declared.run.TurnSays.{TurnSays}
 use Rattle.beldi_step.specs.Run.{Turns, within, run_told, told_at, turned_by, stage_says, decided_says, visit_says, decide_here_says, end_here_says, left_of, at_stage, mark_of, followed, plain_says, takes, at_state, goes_to, goes_from, begin_in, body_found}
+use Rattle.beldi_step.specs.declared.run.{Mark.Mark, RunTx.RunTx, RunTx.TheVariants.Own, Run.Run, RunAt.RunAt, RunAt.TheVariants.Begins, Begun.Begun, Says.Says, Stage.Stage, Stage.TheVariants.Decide, Stage.TheVariants.End, Stage.TheVariants.Close, TurnSays.TurnSays}
 
 -- out of memory, the mark of its act is told
 marks : (r : Run) (p : Machine × Option RunTx) (c : Option Caller) (k : Option Mark) (s : Option Stage) → (goes_from r p c k s).mark ≡ k
@@ -65,19 +46,19 @@ leaves_stage (Waits w) = false
 leaves_stage x = true
 
 decided_leaves : (commit : Bool) (m : Mark) (g : EndGoes) → leaves_stage (decided_says commit m g) ≡ true
-decided_leaves commit m (ends.Decided first) = refl
+decided_leaves commit m (EndGoes.Decided first) = refl
 decided_leaves commit m g = refl
 
 visit_leaves : (commit : Bool) (v : Visit) (g : EndGoes) → leaves_stage (visit_says commit v g) ≡ true
-visit_leaves commit v ends.Done = refl
+visit_leaves commit v EndGoes.Done = refl
 visit_leaves commit v g = refl
 
 decide_leaves : (id : IntentId) (func step : ℕ) (e : Effect) (m : Mark) (o : Option RunTx) (t : Told) → leaves_stage (decide_here_says id func step e m o t) ≡ true
-decide_leaves id func step (effect.End commit) m (Some (Own o)) t = decided_leaves commit m _
+decide_leaves id func step (Effect.End commit) m (Some (Own o)) t = decided_leaves commit m _
 decide_leaves id func step e m o t = refl
 
 end_leaves : (id : IntentId) (func step : ℕ) (e : Effect) (v : Visit) (o : Option RunTx) (t : Told) → leaves_stage (end_here_says id func step e v o t) ≡ true
-end_leaves id func step (effect.End commit) v (Some (Own o)) t = visit_leaves commit v _
+end_leaves id func step (Effect.End commit) v (Some (Own o)) t = visit_leaves commit v _
 end_leaves id func step e v o t = refl
 
 -- so it turns alike from any stage

@@ -1,30 +1,6 @@
 -- The rows of the calls of an intent, in the order of their steps.
-use Rattle.std.proofs.Common.{◌≡◌, ℕ, ◌<◌, ◌≤◌, ◌==◌, ◌&&◌, Bool, true, false, Option, None, Some, refl, ap, sym, ◌∙◌, if◌then◌else◌, eqb-true, eq-eqb, arith}
-use Rattle.std.specs.FinMap as map
-use Rattle.std.specs.Option.{option_map}
-use Rattle.std.specs.Cmp.{nat_cmp_total}
-use Rattle.std.specs.Ordering.{nat_cmp, ordering_then, ordering_reverse}
-use Rattle.std.specs.declared.cmp.Ordering.{Ordering}
-use Rattle.std.specs.declared.cmp.Ordering.TheVariants.{Less, Equal, Greater}
-use Rattle.std.specs.Cmp.Lexicographic.{slice_cmp}
-use Rattle.std.proofs.lemmas.Cmp.{tied_itself}
-use Rattle.beldi_value.specs.declared.id.IntentId.{IntentId}
-use Rattle.beldi_value.specs.Id.{id_cmp, id_total, id_exact}
-use Rattle.beldi_row.specs.declared.key.Kind.{Kind}
-use Rattle.beldi_row.specs.declared.key.Kind.TheVariants as kinds
-use Rattle.beldi_row.specs.declared.row.Row.{Row}
-use Rattle.beldi_row.specs.Key.{RowKey, key_cmp}
-use Rattle.beldi_row.specs.KeyOrder.{key_total, key_exact}
-use Rattle.beldi_row.specs.Log.{id_eq}
-use Rattle.beldi_row.specs.Table.{Rows, IsNext, next_row}
-use Rattle.beldi_row.proofs.Least.{next_row_least}
-use Rattle.beldi_row.proofs.Logs.{id_same, id_self}
-use Rattle.beldi_walk.specs.Walk.{Promises}
-use Rattle.beldi_walk.proofs.Promises.{promised}
-use Rattle.beldi_lock.specs.Lockset.{most, id_before, AreHops, IsFit, AreFit, IsFirstFrom}
-use Rattle.beldi_lock.proofs.Firsts.{below, is_less, parts, between, irreflexive, precedes}
-use Rattle.beldi_txn.specs.declared.way.Called.{Called}
-use Rattle.beldi_txn.specs.Invokes.{call_key, invokes_after, invokes_asks, invokes_found, func_called, call_of, call_after, IsNextCall, FindsCall, CallsFollow}
+use Rattle.beldi_txn.proofs.Names.{AreFit, AreHops, Bool, Called, CallsFollow, Equal, FindsCall, Greater, IntentId, IsFirstFrom, IsFit, IsNext, IsNextCall, Kind, Less, None, Option, Ordering, Promises, Row, RowKey, Rows, Some, ap, arith, below, between, call_after, call_key, call_of, eq-eqb, eqb-true, false, func_called, id_before, id_cmp, id_eq, id_exact, id_same, id_self, id_total, if◌then◌else◌, invokes_after, invokes_asks, invokes_found, irreflexive, is_less, key_cmp, key_exact, key_total, most, nat_cmp, nat_cmp_total, next_row, next_row_least, option_map, ordering_reverse, ordering_then, parts, precedes, promised, refl, slice_cmp, sym, tied_itself, true, ℕ, ◌&&◌, ◌<◌, ◌==◌, ◌∙◌, ◌≡◌, ◌≤◌}
+use Rattle.beldi_txn.proofs.Names.map
 
 pub by_order : (o : Ordering) (P : Type 0) → (o ≡ Less → P) → (o ≡ Equal → P) → (o ≡ Greater → P) → P
 by_order Less P less equal greater = less refl
@@ -89,7 +65,7 @@ module _ (home : ℕ) (id : IntentId) where
 
   -- .. and only of such a row
   is_call : (room : ℕ) (kind : Kind) (r : Row) (c : Called) → call_of home id (record { home = room; kind = kind }) kind r ≡ Some c → (record { home = room; kind = kind } ≡ ck c.step) × (func_called r ≡ c.func)
-  is_call room (kinds.Invoke p) r c h = (elim (id_eq p.intent id && (room == home)) as (λ z. (id_eq p.intent id && (room == home)) ≡ z
+  is_call room (Kind.Invoke p) r c h = (elim (id_eq p.intent id && (room == home)) as (λ z. (id_eq p.intent id && (room == home)) ≡ z
       → (if z then Some (record { step = p.step; func = func_called r }) else None) ≡ Some c → (call_key room p.intent p.step ≡ ck c.step) × (func_called r ≡ c.func)) [
         | true ↦ λ e g.
             let q = both (id_eq p.intent id) (room == home) e in
@@ -109,17 +85,17 @@ module _ (home : ℕ) (id : IntentId) where
   -- what stands between two of them is one
   within : (a q : ℕ) (room : ℕ) (kind : Kind) → key_cmp (ck a) (record { home = room; kind = kind }) ≡ Less → key_cmp (record { home = room; kind = kind }) (ck q) ≡ Less
       → (j : ℕ) × (record { home = room; kind = kind } ≡ ck j)
-  within a q room (kinds.Invoke p) h g =
+  within a q room (Kind.Invoke p) h g =
       between home room home (ordering_then (id_cmp id p.intent) (steps a p.step)) (ordering_then (id_cmp p.intent id) (steps p.step q)) (irreflexive home)
       (sym (by_steps home room id p.intent a p.step) ∙ h) (sym (by_steps room home p.intent id p.step q) ∙ g) ((j : ℕ) × (call_key room p.intent p.step ≡ ck j))
       (λ e f r s. parts (id_cmp id p.intent) (steps a p.step) r ((j : ℕ) × (call_key room p.intent p.step ≡ ck j))
       (λ l. absurd (reversed id p.intent l (steps p.step q) s))
       (λ l z. let same = sym (id_exact id p.intent l) in (p.step, λ y. call_key (f y) (same y) p.step)))
-  within a q room (kinds.Intent i) h g = no_first home room _ _ h g
-  within a q room (kinds.ReadLog p) h g = no_first home room _ _ h g
-  within a q room (kinds.Data t k r) h g = no_second home room _ _ h g
-  within a q room (kinds.Shadow x t k r) h g = no_second home room _ _ h g
-  within a q room (kinds.Lockset i b t k) h g = no_second home room _ _ h g
+  within a q room (Kind.Intent i) h g = no_first home room _ _ h g
+  within a q room (Kind.ReadLog p) h g = no_first home room _ _ h g
+  within a q room (Kind.Data t k r) h g = no_second home room _ _ h g
+  within a q room (Kind.Shadow x t k r) h g = no_second home room _ _ h g
+  within a q room (Kind.Lockset i b t k) h g = no_second home room _ _ h g
 
   -- none is below the least key
   above : (q : ℕ) → key_cmp (ck q) (ck 0) ≡ Less → ⊥
@@ -181,11 +157,11 @@ module _ (home : ℕ) (id : IntentId) where
 -- ---- the first of them
 -- the row of a call has its widths
 abbrev pub IsNarrow : Kind → Type 0
-IsNarrow (kinds.Invoke p) = AreHops 63 p.intent.hops × (p.step ≤ most)
+IsNarrow (Kind.Invoke p) = AreHops 63 p.intent.hops × (p.step ≤ most)
 IsNarrow kind = Unit {0}
 
 fit_narrow : (kind : Kind) → IsFit kind → IsNarrow kind
-fit_narrow (kinds.Invoke p) fit = fit
+fit_narrow (Kind.Invoke p) fit = fit
 fit_narrow kind fit = tt
 
 module _ (home : ℕ) (id : IntentId) (some : 1 ≤ id.ticket) (hops : AreHops 63 id.hops) where
@@ -203,7 +179,7 @@ module _ (home : ℕ) (id : IntentId) (some : 1 ≤ id.ticket) (hops : AreHops 6
 
   -- between the two is no row
   none_passed : (room : ℕ) (kind : Kind) → IsNarrow kind → key_cmp start (record { home = room; kind = kind }) ≡ Less → key_cmp (record { home = room; kind = kind }) least ≡ Less → ⊥
-  none_passed room (kinds.Invoke p) fit h g =
+  none_passed room (Kind.Invoke p) fit h g =
       between home room home (ordering_then (id_cmp (id_before id) p.intent) (steps most p.step)) (ordering_then (id_cmp p.intent id) (steps p.step 0)) (irreflexive home)
       (sym (by_steps home room (id_before id) p.intent most p.step) ∙ h) (sym (by_steps room home p.intent id p.step 0) ∙ g) ⊥
       (λ e f r s. parts (id_cmp (id_before id) p.intent) (steps most p.step) r ⊥
@@ -211,11 +187,11 @@ module _ (home : ℕ) (id : IntentId) (some : 1 ≤ id.ticket) (hops : AreHops 6
       (λ k. (precedes id some hops).none p.intent fit.0 l k)
       (λ k z. let y = steps_below p.step 0 z in omega (arith, y)))
       (λ l z. let y = steps_below most p.step z in let w = fit.1 in omega (arith, y, w)))
-  none_passed room (kinds.Intent i) fit h g = no_first home room _ ⊥ h g
-  none_passed room (kinds.ReadLog p) fit h g = no_first home room _ ⊥ h g
-  none_passed room (kinds.Data t k r) fit h g = no_second home room _ ⊥ h g
-  none_passed room (kinds.Shadow x t k r) fit h g = no_second home room _ ⊥ h g
-  none_passed room (kinds.Lockset i b t k) fit h g = no_second home room _ ⊥ h g
+  none_passed room (Kind.Intent i) fit h g = no_first home room _ ⊥ h g
+  none_passed room (Kind.ReadLog p) fit h g = no_first home room _ ⊥ h g
+  none_passed room (Kind.Data t k r) fit h g = no_second home room _ ⊥ h g
+  none_passed room (Kind.Shadow x t k r) fit h g = no_second home room _ ⊥ h g
+  none_passed room (Kind.Lockset i b t k) fit h g = no_second home room _ ⊥ h g
 
   -- what is not below the first key is past the start
   past : (q : RowKey) → (key_cmp q least ≡ Less → ⊥) → key_cmp start q ≡ Less

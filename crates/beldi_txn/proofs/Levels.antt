@@ -1,21 +1,6 @@
 -- The calls that lead to who is visited, and what is closed of their callees.
-use Rattle.std.proofs.Common.{◌≡◌, ℕ, zero, suc, ◌-◌, ◌<◌, ◌≤◌, true, false, List, [], ◌∷◌, ◌++◌, length, Option, None, Some, refl, ap, sym, ◌∙◌, subst, if◌then◌else◌, ltb-true, is_some, arith}
-use Rattle.std.specs.FinMap as map
-use Rattle.beldi_value.specs.declared.id.IntentId.{IntentId}
-use Rattle.beldi_value.specs.Id.{child_of, has_callees}
-use Rattle.beldi_row.specs.declared.row.Row.{Row}
-use Rattle.beldi_row.specs.Table.{Rows}
-use Rattle.beldi_lock.specs.Last.{split_last}
-use Rattle.beldi_lock.specs.Lockset.{most, AreHops, AreFit}
-use Rattle.beldi_lock.proofs.Last.{split_front}
-use Rattle.beldi_txn.specs.declared.way.Called.{Called}
-use Rattle.beldi_txn.specs.declared.end.Visit.{Visit}
-use Rattle.beldi_txn.specs.End.{back_from}
-use Rattle.beldi_txn.specs.Invokes.{call_key, func_called}
-use Rattle.std.specs.Option.{option_map}
-use Rattle.std.specs.Prelude.{option_to_list, slice_get}
-use Rattle.beldi_txn.specs.Way.{Member, callee_id, callee_of, member_at, front_of, last_of, is_owner}
-use Rattle.beldi_txn.specs.Visited.{AtEnd, IsCall, IsWay, AreClosed, Levels}
+use Rattle.beldi_txn.proofs.Names.{AreClosed, AreFit, AreHops, AtEnd, Called, IntentId, IsCall, IsWay, Levels, List, Member, None, Option, Row, Rows, Some, Visit, [], ap, arith, back_from, call_key, callee_id, callee_of, child_of, false, front_of, func_called, has_callees, if◌then◌else◌, is_owner, is_some, last_of, length, ltb-true, member_at, most, option_map, option_to_list, refl, slice_get, split_front, split_last, subst, suc, sym, true, zero, ℕ, ◌++◌, ◌-◌, ◌<◌, ◌∙◌, ◌∷◌, ◌≡◌, ◌≤◌}
+use Rattle.beldi_txn.proofs.Names.map
 
 -- ---- lists of calls
 pub record EndsIn (cs : List Called) : Type 0 where

@@ -1,5 +1,6 @@
 pub mod Calls
 pub mod Levels
 pub mod Locks
+mod Names
 pub mod TxTurn
 pub mod Visited

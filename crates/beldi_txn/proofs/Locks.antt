@@ -1,25 +1,7 @@
 -- The rows of the locks that an intent asked for in a transaction, in the order of their items.
-use Rattle.std.proofs.Common.{◌≡◌, ℕ, ◌==◌, ◌&&◌, true, false, List, [], Option, None, Some, refl, ap, sym, ◌∙◌, if◌then◌else◌, eqb-true, eq-eqb}
-use Rattle.std.specs.FinMap as map
-use Rattle.std.specs.Cmp.{nat_cmp_total}
-use Rattle.std.specs.Ordering.{nat_cmp, ordering_then, ordering_reverse}
-use Rattle.std.specs.declared.cmp.Ordering.{Ordering}
-use Rattle.std.specs.declared.cmp.Ordering.TheVariants.{Less, Greater}
-use Rattle.std.proofs.lemmas.Cmp.{tied_itself}
-use Rattle.beldi_value.specs.declared.id.IntentId.{IntentId}
-use Rattle.beldi_value.specs.Id.{id_cmp, id_total, id_exact}
-use Rattle.beldi_row.specs.declared.key.Kind.{Kind}
-use Rattle.beldi_row.specs.declared.key.Kind.TheVariants as kinds
-use Rattle.beldi_row.specs.declared.row.Row.{Row}
-use Rattle.beldi_row.specs.Key.{RowKey, key_cmp}
-use Rattle.beldi_row.specs.KeyOrder.{key_total, key_exact}
-use Rattle.beldi_row.specs.Log.{id_eq}
-use Rattle.beldi_row.specs.Table.{Rows, IsNext}
-use Rattle.beldi_row.proofs.Logs.{id_same, id_self}
-use Rattle.beldi_lock.specs.Lock.{lockset_key}
-use Rattle.beldi_lock.specs.Lockset.{IsFirstFrom, item_of, item_after}
-use Rattle.beldi_lock.proofs.Firsts.{parts, between, irreflexive, items, rest, by_parts, no_item}
+use Rattle.beldi_txn.proofs.Names.{Greater, IntentId, IsFirstFrom, IsNext, Kind, Less, List, None, Option, Ordering, Row, RowKey, Rows, Some, [], ap, between, by_parts, eq-eqb, eqb-true, false, id_cmp, id_eq, id_exact, id_same, id_self, id_total, if◌then◌else◌, irreflexive, item_after, item_of, items, key_cmp, key_exact, key_total, lockset_key, nat_cmp, nat_cmp_total, no_item, ordering_reverse, ordering_then, parts, refl, rest, sym, tied_itself, true, ℕ, ◌&&◌, ◌==◌, ◌∙◌, ◌≡◌}
 use Rattle.beldi_txn.proofs.Calls.{by_order, both}
+use Rattle.beldi_txn.proofs.Names.map
 
 abbrev pub Item : Type 0
 Item = ℕ × List ℕ
@@ -30,7 +12,7 @@ or_else i None = i
 or_else i (Some j) = j
 
 abbrev pub item_at : Kind → Item
-item_at (kinds.Lockset i b t k) = (t, k)
+item_at (Kind.Lockset i b t k) = (t, k)
 item_at k = (0, [])
 
 module _ (home : ℕ) (id : IntentId) (begin : ℕ) where
@@ -46,7 +28,7 @@ module _ (home : ℕ) (id : IntentId) (begin : ℕ) where
 
   -- .. and only of such a row
   is_item : (room : ℕ) (kind : Kind) (j : Item) → item_of home id begin (record { home = room; kind = kind }) kind ≡ Some j → record { home = room; kind = kind } ≡ ls j
-  is_item room (kinds.Lockset i b t k) j h = (elim ((id_eq i id && (b == begin)) && (room == home)) as (λ z. ((id_eq i id && (b == begin)) && (room == home)) ≡ z
+  is_item room (Kind.Lockset i b t k) j h = (elim ((id_eq i id && (b == begin)) && (room == home)) as (λ z. ((id_eq i id && (b == begin)) && (room == home)) ≡ z
       → (if z then Some (t, k) else None) ≡ Some j → lockset_key room i b t k ≡ ls j) [
         | true ↦ λ e g.
             let p = both (id_eq i id && (b == begin)) (room == home) e in
@@ -59,7 +41,7 @@ module _ (home : ℕ) (id : IntentId) (begin : ℕ) where
   -- what stands between two of them is one
   within : (a q : Item) (room : ℕ) (kind : Kind) → key_cmp (ls a) (record { home = room; kind = kind }) ≡ Less → key_cmp (record { home = room; kind = kind }) (ls q) ≡ Less
       → (j : Item) × (record { home = room; kind = kind } ≡ ls j)
-  within a q room (kinds.Lockset i b t k) h g =
+  within a q room (Kind.Lockset i b t k) h g =
       between home room home (ordering_then (id_cmp id i) (rest begin b a.0 t a.1 k)) (ordering_then (id_cmp i id) (rest b begin t q.0 k q.1)) (irreflexive home)
       (sym (by_parts home room id i begin b a.0 t a.1 k) ∙ h) (sym (by_parts room home i id b begin t q.0 k q.1) ∙ g) ((j : Item) × (lockset_key room i b t k ≡ ls j))
       (λ e f r s. parts (id_cmp id i) (rest begin b a.0 t a.1 k) r ((j : Item) × (lockset_key room i b t k ≡ ls j))

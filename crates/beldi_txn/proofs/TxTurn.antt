@@ -1,61 +1,7 @@
 -- What a turn of an operation of a transaction leaves.
-use Rattle.std.proofs.Common.{◌≡◌, inl, inr, ℕ, true, false, cond, List, Option, None, Some, refl, ap, sym, ◌∙◌, subst}
-use Rattle.std.specs.Option.{option_map}
-use Rattle.std.specs.FinMap as map
-use Rattle.std.specs.Ordering.{is_eq}
-use Rattle.beldi_value.specs.declared.place.Owner.{Owner}
-use Rattle.beldi_value.specs.declared.place.Owner.TheVariants as owner
-use Rattle.beldi_value.specs.declared.place.Place.{Place}
-use Rattle.beldi_value.specs.declared.place.TxId.{TxId}
-use Rattle.beldi_value.specs.declared.rel.Rel.{Rel}
-use Rattle.beldi_value.specs.declared.value.Value.{Value}
-use Rattle.beldi_value.specs.declared.value.Value.TheVariants as value
-use Rattle.beldi_lang.specs.declared.effect.Effect.{Effect}
-use Rattle.beldi_lang.specs.declared.effect.Effect.TheVariants.{Read, Write, CondWrite}
-use Rattle.beldi_row.specs.declared.act.Act.{Act}
-use Rattle.beldi_row.specs.declared.act.Act.TheVariants.{Look, PutRead, PutLockset, MakeCell}
-use Rattle.beldi_row.specs.declared.notes.Note.TheVariants as note
-use Rattle.beldi_row.specs.declared.row.Row.{Row}
-use Rattle.beldi_row.specs.declared.row.Row.TheVariants as rows
-use Rattle.beldi_row.specs.Act.{act, other_owner}
-use Rattle.beldi_row.specs.Key.{RowKey, key_cmp, rank_of}
-use Rattle.beldi_row.specs.Log.{note_at}
-use Rattle.beldi_row.specs.Table.{Rows, set_row}
-use Rattle.beldi_row.proofs.Gets.{got, key_self, key_same}
-use Rattle.beldi_row.proofs.Unchanged.{looked}
-use Rattle.beldi_walk.specs.declared.query.Query.{Query}
-use Rattle.beldi_walk.specs.declared.query.Query.TheVariants as query
-use Rattle.beldi_walk.specs.Query.{said, told_by, rows_after}
-use Rattle.beldi_walk.proofs.Promises.{turned}
-use Rattle.beldi_daal.specs.declared.cell.CellOp.{CellOp}
-use Rattle.beldi_daal.specs.declared.cell.CellOp.TheVariants as op
-use Rattle.beldi_daal.specs.declared.cell.ReadGoes.TheVariants as reads
-use Rattle.beldi_daal.specs.declared.cell.WriteAt.{WriteAt}
-use Rattle.beldi_daal.specs.declared.cell.WriteAt.TheVariants.{Try, Make}
-use Rattle.beldi_daal.specs.declared.cell.WriteGoes.{WriteGoes}
-use Rattle.beldi_daal.specs.declared.cell.WriteGoes.TheVariants as writes
-use Rattle.beldi_daal.specs.declared.walk.Item.TheVariants.{Plain, Shadow}
-use Rattle.beldi_daal.specs.declared.walk.WriteSays.{WriteSays}
-use Rattle.beldi_daal.specs.declared.walk.WriteSays.TheVariants as wsays
-use Rattle.beldi_daal.specs.declared.walk.WriteWalk.{WriteWalk}
-use Rattle.beldi_daal.specs.Cell.{cell_key, shadow_key, read_goes, cell_goes, write_asks, write_goes}
-use Rattle.beldi_daal.specs.Content.{Content, content_in, SoundAt}
-use Rattle.beldi_daal.specs.Logged.{waited, dies, owner_after, DidAs, Logs, LoggedTurn}
-use Rattle.beldi_daal.specs.Walk.{walk_so as logged_so}
-use Rattle.beldi_daal.proofs.Bars.{taken}
-use Rattle.beldi_daal.proofs.Logged.{by_op}
-use Rattle.beldi_lock.specs.declared.lock.LockAt.{LockAt}
-use Rattle.beldi_lock.specs.declared.lock.LockAt.TheVariants.{Lockset, Item as AtItem}
-use Rattle.beldi_lock.specs.Lock.{lockset_key, item_goes as lock_item}
-use Rattle.beldi_readlog.specs.ReadLog.{log_key, given, given_in}
-use Rattle.beldi_txn.specs.declared.tx.TxAt.{TxAt}
-use Rattle.beldi_txn.specs.declared.tx.TxAt.TheVariants as at
-use Rattle.beldi_txn.specs.declared.tx.TxGoes.{TxGoes}
-use Rattle.beldi_txn.specs.declared.tx.TxGoes.TheVariants as goes
-use Rattle.beldi_txn.specs.declared.tx_walk.TxWalk.{TxWalk}
-use Rattle.beldi_txn.specs.Tx.{item_of, op_of, item_asks, asks_of, lock_leads, locked_goes, shadow_read, item_goes, item_leads, write_leads, tx_goes}
-use Rattle.beldi_txn.specs.TxWalk.{walk_asks, walk_next, walk_says, gone, said_of}
-use Rattle.beldi_txn.specs.TxTurn.{Fits, HasLock, Stands, key_asked, shadow_value, Finds, LockMoves, ItemMoves, AsideMoves, ShadowMoves, IsSo, TxTurn, OperationsAreSo, OperationsBegin}
+use Rattle.beldi_txn.specs.{Tx.item_of, TxWalk.walk_asks, TxWalk.walk_next, TxWalk.walk_says, TxWalk.said_of}
+use Rattle.beldi_txn.proofs.Names.{Act, AsideMoves, AtItem, CellOp, CondWrite, Content, DidAs, Effect, Finds, Fits, HasLock, IsSo, ItemMoves, List, LockAt, LockMoves, Lockset, LoggedTurn, Logs, Look, Make, MakeCell, None, OperationsAreSo, OperationsBegin, Option, Owner, Place, Plain, PutLockset, PutRead, Query, Read, Rel, Row, RowKey, Rows, Shadow, ShadowMoves, Some, SoundAt, Stands, Try, TxAt, TxGoes, TxId, TxTurn, TxWalk, Value, Write, WriteAt, WriteGoes, WriteSays, WriteWalk, act, ap, asks_of, by_op, cell_goes, cell_key, cond, content_in, dies, false, given, given_in, gone, got, inl, inr, is_eq, item_asks, item_goes, item_leads, key_asked, key_cmp, key_same, key_self, lock_item, lock_leads, locked_goes, lockset_key, log_key, logged_so, looked, note_at, op_of, option_map, other_owner, owner_after, rank_of, read_goes, refl, rows_after, said, set_row, shadow_key, shadow_read, shadow_value, subst, sym, taken, told_by, true, turned, tx_goes, waited, write_asks, write_goes, write_leads, ℕ, ◌∙◌, ◌≡◌, Note, ReadGoes}
+use Rattle.beldi_txn.proofs.Names.map
 
 -- ---- rows at other keys
 pub apart : (q k : RowKey) → (q ≡ k → ⊥) → is_eq (key_cmp q k) ≡ false
@@ -71,43 +17,43 @@ pub here_set : (m : Rows) (k : RowKey) (v : Option Row) → map.get (set_row m k
 here_set m k v = got m k k v ∙ ap (λ b. cond b v (map.get m k)) (key_self k)
 
 -- a Look at a sound chain tells its value
-pub shadow_told : (now : ℕ) (r : Option Row) → SoundAt r → read_goes None (said (act Look now r).1) ≡ reads.Got (shadow_value r)
+pub shadow_told : (now : ℕ) (r : Option Row) → SoundAt r → read_goes None (said (act Look now r).1) ≡ ReadGoes.Got (shadow_value r)
 shadow_told now None sound = refl
-shadow_told now (Some (rows.Cell c)) sound = ap (cell_goes None c) sound.0
+shadow_told now (Some (Row.Cell c)) sound = ap (cell_goes None c) sound.0
 shadow_told now (Some r) sound = absurd sound
 
 -- ---- moves that change nothing
 item_same : (a : TxAt) (p : Place) (who : Owner) (c d : Content) → d ≡ c → ItemMoves a p who c d
-item_same at.Log p who c d h = h
-item_same (at.Lock l) p who c d h = inl h
-item_same at.Shadow p who c d h = h
-item_same at.Item p who c d h = h
-item_same (at.Keep v) p who c d h = h
-item_same (at.Head v) p who c d h = h
-item_same (at.Write w) p who c d h = h
+item_same TxAt.Log p who c d h = h
+item_same (TxAt.Lock l) p who c d h = inl h
+item_same TxAt.Shadow p who c d h = h
+item_same TxAt.Item p who c d h = h
+item_same (TxAt.Keep v) p who c d h = h
+item_same (TxAt.Head v) p who c d h = h
+item_same (TxAt.Write w) p who c d h = h
 
 aside_same : (o : Option CellOp) (p : Place) (who : Owner) (c d : Content) → d ≡ c → AsideMoves o p who c d
 aside_same None p who c d h = h
 aside_same (Some o) p who c d h = inl h
 
 shadow_same : (e : Effect) (a : TxAt) (p : Place) (who : Owner) (r s : Option Row) → s ≡ r → ShadowMoves e a p who r s
-shadow_same e at.Log p who r s h = h
-shadow_same e (at.Lock l) p who r s h = h
-shadow_same e at.Shadow p who r s h = h
-shadow_same e at.Item p who r s h = h
-shadow_same e (at.Keep v) p who r s h = h
-shadow_same e (at.Head v) p who r s h = inl h
-shadow_same e (at.Write w) p who r s h = aside_same (op_of e) p who (content_in r) (content_in s) (ap content_in h)
+shadow_same e TxAt.Log p who r s h = h
+shadow_same e (TxAt.Lock l) p who r s h = h
+shadow_same e TxAt.Shadow p who r s h = h
+shadow_same e TxAt.Item p who r s h = h
+shadow_same e (TxAt.Keep v) p who r s h = h
+shadow_same e (TxAt.Head v) p who r s h = inl h
+shadow_same e (TxAt.Write w) p who r s h = aside_same (op_of e) p who (content_in r) (content_in s) (ap content_in h)
 
 -- ---- what the walks of a cell did
 -- a lock changes the item only by itself
-lock_moved : (p : Place) (who : Owner) (c d : Content) (s : WriteSays) → Logs p who op.Lock s c d → LockMoves p who c d
-lock_moved p who c d wsays.Going l = inl l
-lock_moved p who c d (wsays.Done n true) l = inr (l.1.0, l.1.1)
-lock_moved p who c d (wsays.Done n false) l = inl l.1
-lock_moved p who c d wsays.NotOwner l = inl l.2
-lock_moved p who c d (wsays.Held o) l = inl l.2
-lock_moved p who c d wsays.Worn l = absurd l
+lock_moved : (p : Place) (who : Owner) (c d : Content) (s : WriteSays) → Logs p who CellOp.Lock s c d → LockMoves p who c d
+lock_moved p who c d WriteSays.Going l = inl l
+lock_moved p who c d (WriteSays.Done n true) l = inr (l.1.0, l.1.1)
+lock_moved p who c d (WriteSays.Done n false) l = inl l.1
+lock_moved p who c d WriteSays.NotOwner l = inl l.2
+lock_moved p who c d (WriteSays.Held o) l = inl l.2
+lock_moved p who c d WriteSays.Worn l = absurd l
 
 -- the shadow changes only by its operation, and stays without an owner
 abbrev Aside : Place → Owner → CellOp → Content → Content → Type 0
@@ -119,18 +65,18 @@ module _ (p : Place) (who : Owner) (o : CellOp) (c d : Content) (alive : dies wh
   as_before is = (inl is, ap (λ (z : Content). z.owner) is ∙ unowned)
 
   aside_moved : (s : WriteSays) → Logs p who o s c d → Aside p who o c d
-  aside_moved wsays.Going l = as_before l
-  aside_moved (wsays.Done n true) l =
+  aside_moved WriteSays.Going l = as_before l
+  aside_moved (WriteSays.Done n true) l =
       let did = (subst (λ z. DidAs p who o z c d) alive l.1.1).1 in
       (inr (l.1.0, did), ap (λ (z : Content). z.owner) did ∙ keeps ∙ unowned)
-  aside_moved (wsays.Done n false) l = as_before l.1
-  aside_moved wsays.NotOwner l = as_before l.2
-  aside_moved (wsays.Held w) l = as_before l.2
-  aside_moved wsays.Worn l = absurd l
+  aside_moved (WriteSays.Done n false) l = as_before l.1
+  aside_moved WriteSays.NotOwner l = as_before l.2
+  aside_moved (WriteSays.Held w) l = as_before l.2
+  aside_moved WriteSays.Worn l = absurd l
 
 module _ (home : ℕ) (p : Place) (x : TxId) (e : Effect) (t : ℕ) (k : List ℕ) where
   abbrev who : Owner
-  who = owner.Tx x
+  who = Owner.Tx x
 
   abbrev walk : TxAt → TxWalk
   walk a = record { home = home; place = p; tx = x; effect = e; at = a }
@@ -177,16 +123,16 @@ module _ (home : ℕ) (p : Place) (x : TxId) (e : Effect) (t : ℕ) (k : List �
 
     -- a Look changes nothing
     look : (z : RowKey) (now : ℕ) (g : TxGoes) → Finds a (gone a g) (map.get m sk) (map.get m ck) → IsSo e p who (said_of a g) (given m lk) (content_in (map.get m ck)) (content_in (map.get m sk)) → Onto a (content_in (map.get m ck)) g
-        → Leads a (query.Act z Look) m (rows_after (query.Act z Look) now m) g
-    look z now g finds so onto = subst (λ n. Leads a (query.Act z Look) m n g) (sym (looked now z m)) (beside (query.Act z Look) m g (λ y off. refl) refl refl finds so onto)
+        → Leads a (Query.Act z Look) m (rows_after (Query.Act z Look) now m) g
+    look z now g finds so onto = subst (λ n. Leads a (Query.Act z Look) m n g) (sym (looked now z m)) (beside (Query.Act z Look) m g (λ y off. refl) refl refl finds so onto)
 
     -- a row that is neither was set
     set : (b : Act) (z : RowKey) (now : ℕ) (g : TxGoes) → (ck ≡ z → ⊥) → (sk ≡ z → ⊥) → Finds a (gone a g) (map.get m sk) (map.get m ck)
-        → IsSo e p who (said_of a g) (given (rows_after (query.Act z b) now m) lk) (content_in (map.get (rows_after (query.Act z b) now m) ck)) (content_in (map.get (rows_after (query.Act z b) now m) sk))
-        → Onto a (content_in (map.get m ck)) g → Leads a (query.Act z b) m (rows_after (query.Act z b) now m) g
+        → IsSo e p who (said_of a g) (given (rows_after (Query.Act z b) now m) lk) (content_in (map.get (rows_after (Query.Act z b) now m) ck)) (content_in (map.get (rows_after (Query.Act z b) now m) sk))
+        → Onto a (content_in (map.get m ck)) g → Leads a (Query.Act z b) m (rows_after (Query.Act z b) now m) g
     set b z now g not_item not_shadow finds so onto =
         let v = (act b now (map.get m z)).0 in
-        beside (query.Act z b) (rows_after (query.Act z b) now m) g (others_set m z v) (others_set m z v ck (apart ck z not_item)) (others_set m z v sk (apart sk z not_shadow)) finds so onto
+        beside (Query.Act z b) (rows_after (Query.Act z b) now m) g (others_set m z v) (others_set m z v ck (apart ck z not_item)) (others_set m z v sk (apart sk z not_shadow)) finds so onto
 
 -- ---- the stages, one by one
 pub ranks : (a b : RowKey) → (rank_of a.kind ≡ rank_of b.kind → ⊥) → a ≡ b → ⊥
@@ -196,7 +142,7 @@ pub asked : (z : RowKey) (p : Place) (who : Owner) (o : CellOp) (w : WriteAt) �
 asked z p who o Try = refl
 asked z p who o Make = refl
 
-fits_lock : (e : Effect) (l j : LockAt) → Fits e (at.Lock l) → Fits e (at.Lock j)
+fits_lock : (e : Effect) (l j : LockAt) → Fits e (TxAt.Lock l) → Fits e (TxAt.Lock j)
 fits_lock (Read t k) l j h = h
 fits_lock (Write t k v) l j h = h
 fits_lock (CondWrite t k r o v) l j h = h
@@ -204,7 +150,7 @@ fits_lock e l j h = absurd h
 
 module _ (home : ℕ) (p : Place) (x : TxId) (t : ℕ) (k : List ℕ) where
   abbrev me : Owner
-  me = owner.Tx x
+  me = Owner.Tx x
 
   abbrev item_row : RowKey
   item_row = cell_key home t k
@@ -223,84 +169,84 @@ module _ (home : ℕ) (p : Place) (x : TxId) (t : ℕ) (k : List ℕ) where
   Turns e a now m = let q = item_asks home p x e t k a in Leads home p x e t k a q m (rows_after q now m) (tx_goes p x.begin e a (told_by q now m))
 
   -- ---- what was kept
-  log_turn : (u : ℕ) (j : List ℕ) (now : ℕ) (m : Rows) → Stands (start (Read u j) at.Log) t k m → Turns (Read u j) at.Log now m
+  log_turn : (u : ℕ) (j : List ℕ) (now : ℕ) (m : Rows) → Stands (start (Read u j) TxAt.Log) t k m → Turns (Read u j) TxAt.Log now m
   log_turn u j now m h = by (map.get m log_row) refl
     where
-      by : (o : Option Row) → map.get m log_row ≡ o → Leads home p x (Read u j) t k at.Log (query.Act log_row Look) m (rows_after (query.Act log_row Look) now m) (tx_goes p x.begin (Read u j) at.Log (said (act Look now o).1))
-      by None is = look home p x (Read u j) t k at.Log m h log_row now (goes.On (at.Lock (Lockset x.begin))) tt tt (tt, tt)
-      by (Some r) is = look home p x (Read u j) t k at.Log m h log_row now (goes.Value (given_in r)) tt (ap (option_map given_in) is) (tt, tt)
+      by : (o : Option Row) → map.get m log_row ≡ o → Leads home p x (Read u j) t k TxAt.Log (Query.Act log_row Look) m (rows_after (Query.Act log_row Look) now m) (tx_goes p x.begin (Read u j) TxAt.Log (said (act Look now o).1))
+      by None is = look home p x (Read u j) t k TxAt.Log m h log_row now (TxGoes.On (TxAt.Lock (Lockset x.begin))) tt tt (tt, tt)
+      by (Some r) is = look home p x (Read u j) t k TxAt.Log m h log_row now (TxGoes.Value (given_in r)) tt (ap (option_map given_in) is) (tt, tt)
 
-  module _ (u : ℕ) (j : List ℕ) (v : Value) (now : ℕ) (m : Rows) (h : Stands (start (Read u j) (at.Keep v)) t k m) where
+  module _ (u : ℕ) (j : List ℕ) (v : Value) (now : ℕ) (m : Rows) (h : Stands (start (Read u j) (TxAt.Keep v)) t k m) where
     abbrev kept_after : Rows
-    kept_after = rows_after (query.Act log_row (PutRead v)) now m
+    kept_after = rows_after (Query.Act log_row (PutRead v)) now m
 
     abbrev Keeps : TxGoes → Type 0
-    Keeps g = Leads home p x (Read u j) t k (at.Keep v) (query.Act log_row (PutRead v)) m kept_after g
+    Keeps g = Leads home p x (Read u j) t k (TxAt.Keep v) (Query.Act log_row (PutRead v)) m kept_after g
 
     kept_there : (o : Option Row) → map.get m log_row ≡ o → given kept_after log_row ≡ option_map given_in (act (PutRead v) now o).0
     kept_there o is = ap (option_map given_in) (here_set m log_row (act (PutRead v) now (map.get m log_row)).0 ∙ ap (λ r. (act (PutRead v) now r).0) is)
 
-    kept_so : (g : TxGoes) → IsSo (Read u j) p me (said_of (at.Keep v) g) (given kept_after log_row) (content_in (map.get kept_after item_row)) (content_in (map.get kept_after aside_row))
-        → Onto home p x (Read u j) t k (at.Keep v) (content_in (map.get m item_row)) g → Keeps g
-    kept_so g so onto = set home p x (Read u j) t k (at.Keep v) m h (PutRead v) log_row now g (ranks item_row log_row (λ z. cc)) (ranks aside_row log_row (λ z. cc)) tt so onto
+    kept_so : (g : TxGoes) → IsSo (Read u j) p me (said_of (TxAt.Keep v) g) (given kept_after log_row) (content_in (map.get kept_after item_row)) (content_in (map.get kept_after aside_row))
+        → Onto home p x (Read u j) t k (TxAt.Keep v) (content_in (map.get m item_row)) g → Keeps g
+    kept_so g so onto = set home p x (Read u j) t k (TxAt.Keep v) m h (PutRead v) log_row now g (ranks item_row log_row (λ z. cc)) (ranks aside_row log_row (λ z. cc)) tt so onto
 
-    by_kept : (o : Option Row) → map.get m log_row ≡ o → Keeps (tx_goes p x.begin (Read u j) (at.Keep v) (said (act (PutRead v) now o).1))
-    by_kept None is = kept_so goes.Put (kept_there None is) (tt, tt)
-    by_kept (Some (rows.ReadLog w)) is = kept_so (goes.Value w) (kept_there (Some (rows.ReadLog w)) is) (h.fits, h.locked)
-    by_kept (Some r) is = kept_so (goes.Value value.Null) (kept_there (Some r) is) (h.fits, h.locked)
+    by_kept : (o : Option Row) → map.get m log_row ≡ o → Keeps (tx_goes p x.begin (Read u j) (TxAt.Keep v) (said (act (PutRead v) now o).1))
+    by_kept None is = kept_so TxGoes.Put (kept_there None is) (tt, tt)
+    by_kept (Some (Row.ReadLog w)) is = kept_so (TxGoes.Value w) (kept_there (Some (Row.ReadLog w)) is) (h.fits, h.locked)
+    by_kept (Some r) is = kept_so (TxGoes.Value Value.Null) (kept_there (Some r) is) (h.fits, h.locked)
 
-    keep_turn : Turns (Read u j) (at.Keep v) now m
+    keep_turn : Turns (Read u j) (TxAt.Keep v) now m
     keep_turn = by_kept (map.get m log_row) refl
 
   -- ---- the shadow and the item are looked at
   abbrev Looks : Effect → TxAt → RowKey → ℕ → Rows → TxGoes → Type 0
-  Looks e a z now m g = Leads home p x e t k a (query.Act z Look) m (rows_after (query.Act z Look) now m) g
+  Looks e a z now m g = Leads home p x e t k a (Query.Act z Look) m (rows_after (Query.Act z Look) now m) g
 
-  shadow_turn : (u : ℕ) (j : List ℕ) (now : ℕ) (m : Rows) → Stands (start (Read u j) at.Shadow) t k m → Turns (Read u j) at.Shadow now m
-  shadow_turn u j now m h = subst (λ g. Looks (Read u j) at.Shadow aside_row now m (shadow_read g)) (sym (shadow_told now (map.get m aside_row) h.shadow)) (by (map.get m aside_row) refl h.shadow)
+  shadow_turn : (u : ℕ) (j : List ℕ) (now : ℕ) (m : Rows) → Stands (start (Read u j) TxAt.Shadow) t k m → Turns (Read u j) TxAt.Shadow now m
+  shadow_turn u j now m h = subst (λ g. Looks (Read u j) TxAt.Shadow aside_row now m (shadow_read g)) (sym (shadow_told now (map.get m aside_row) h.shadow)) (by (map.get m aside_row) refl h.shadow)
     where
-      by : (o : Option Row) → map.get m aside_row ≡ o → SoundAt o → Looks (Read u j) at.Shadow aside_row now m (shadow_read (reads.Got (shadow_value o)))
-      by None is sound = look home p x (Read u j) t k at.Shadow m h aside_row now (goes.On at.Item) is tt (tt, h.locked)
-      by (Some (rows.Cell c)) is sound = look home p x (Read u j) t k at.Shadow m h aside_row now (goes.On (at.Keep c.value)) (ap shadow_value is) tt (tt, h.locked)
+      by : (o : Option Row) → map.get m aside_row ≡ o → SoundAt o → Looks (Read u j) TxAt.Shadow aside_row now m (shadow_read (ReadGoes.Got (shadow_value o)))
+      by None is sound = look home p x (Read u j) t k TxAt.Shadow m h aside_row now (TxGoes.On TxAt.Item) is tt (tt, h.locked)
+      by (Some (Row.Cell c)) is sound = look home p x (Read u j) t k TxAt.Shadow m h aside_row now (TxGoes.On (TxAt.Keep c.value)) (ap shadow_value is) tt (tt, h.locked)
       by (Some r) is sound = absurd sound
 
   -- what is found in the item is its value
-  item_found : (e : Effect) (now : ℕ) (m : Rows) → Stands (start e at.Item) t k m
-      → ((v : Value) → v ≡ (content_in (map.get m item_row)).value → Looks e at.Item item_row now m (item_leads e v)) → Turns e at.Item now m
-  item_found e now m h found = subst (λ g. Looks e at.Item item_row now m (item_goes e g)) (sym (shadow_told now (map.get m item_row) h.item)) (by (map.get m item_row) refl h.item)
+  item_found : (e : Effect) (now : ℕ) (m : Rows) → Stands (start e TxAt.Item) t k m
+      → ((v : Value) → v ≡ (content_in (map.get m item_row)).value → Looks e TxAt.Item item_row now m (item_leads e v)) → Turns e TxAt.Item now m
+  item_found e now m h found = subst (λ g. Looks e TxAt.Item item_row now m (item_goes e g)) (sym (shadow_told now (map.get m item_row) h.item)) (by (map.get m item_row) refl h.item)
     where
-      by : (o : Option Row) → map.get m item_row ≡ o → SoundAt o → Looks e at.Item item_row now m (item_goes e (reads.Got (shadow_value o)))
-      by None is sound = found value.Null (sym (ap (λ r. (content_in r).value) is))
-      by (Some (rows.Cell c)) is sound = found c.value (sym (ap (λ r. (content_in r).value) is))
+      by : (o : Option Row) → map.get m item_row ≡ o → SoundAt o → Looks e TxAt.Item item_row now m (item_goes e (ReadGoes.Got (shadow_value o)))
+      by None is sound = found Value.Null (sym (ap (λ r. (content_in r).value) is))
+      by (Some (Row.Cell c)) is sound = found c.value (sym (ap (λ r. (content_in r).value) is))
       by (Some r) is sound = absurd sound
 
-  item_turn : (u : ℕ) (j : List ℕ) (now : ℕ) (m : Rows) → Stands (start (Read u j) at.Item) t k m → Turns (Read u j) at.Item now m
-  item_turn u j now m h = item_found (Read u j) now m h (λ v is. look home p x (Read u j) t k at.Item m h item_row now (goes.On (at.Keep v)) is tt (tt, h.locked))
+  item_turn : (u : ℕ) (j : List ℕ) (now : ℕ) (m : Rows) → Stands (start (Read u j) TxAt.Item) t k m → Turns (Read u j) TxAt.Item now m
+  item_turn u j now m h = item_found (Read u j) now m h (λ v is. look home p x (Read u j) t k TxAt.Item m h item_row now (TxGoes.On (TxAt.Keep v)) is tt (tt, h.locked))
 
   -- .. for a condition, whose shadow is made where there is none
   module _ (u : ℕ) (j : List ℕ) (r : Rel) (w v : Value) where
     abbrev cond_op : Effect
     cond_op = CondWrite u j r w v
 
-    head_turn : (now : ℕ) (m : Rows) → Stands (start cond_op at.Shadow) t k m → Turns cond_op at.Shadow now m
+    head_turn : (now : ℕ) (m : Rows) → Stands (start cond_op TxAt.Shadow) t k m → Turns cond_op TxAt.Shadow now m
     head_turn now m h = by (map.get m aside_row) refl
       where
-        by : (o : Option Row) → map.get m aside_row ≡ o → Looks cond_op at.Shadow aside_row now m (tx_goes p x.begin cond_op at.Shadow (said (act Look now o).1))
-        by None is = look home p x cond_op t k at.Shadow m h aside_row now (goes.On at.Item) is tt (tt, h.locked)
-        by (Some c) is = look home p x cond_op t k at.Shadow m h aside_row now (goes.On (at.Write Try)) tt tt (tt, h.locked)
+        by : (o : Option Row) → map.get m aside_row ≡ o → Looks cond_op TxAt.Shadow aside_row now m (tx_goes p x.begin cond_op TxAt.Shadow (said (act Look now o).1))
+        by None is = look home p x cond_op t k TxAt.Shadow m h aside_row now (TxGoes.On TxAt.Item) is tt (tt, h.locked)
+        by (Some c) is = look home p x cond_op t k TxAt.Shadow m h aside_row now (TxGoes.On (TxAt.Write Try)) tt tt (tt, h.locked)
 
-    found_turn : (now : ℕ) (m : Rows) → Stands (start cond_op at.Item) t k m → Turns cond_op at.Item now m
-    found_turn now m h = item_found cond_op now m h (λ c is. look home p x cond_op t k at.Item m h item_row now (goes.On (at.Head c)) is tt (tt, h.locked))
+    found_turn : (now : ℕ) (m : Rows) → Stands (start cond_op TxAt.Item) t k m → Turns cond_op TxAt.Item now m
+    found_turn now m h = item_found cond_op now m h (λ c is. look home p x cond_op t k TxAt.Item m h item_row now (TxGoes.On (TxAt.Head c)) is tt (tt, h.locked))
 
-    module _ (first : Value) (now : ℕ) (m : Rows) (h : Stands (start cond_op (at.Head first)) t k m) where
+    module _ (first : Value) (now : ℕ) (m : Rows) (h : Stands (start cond_op (TxAt.Head first)) t k m) where
       abbrev put : Act
       put = MakeCell first None
 
       abbrev made_after : Rows
-      made_after = rows_after (query.Act aside_row put) now m
+      made_after = rows_after (Query.Act aside_row put) now m
 
       abbrev Makes : TxGoes → Type 0
-      Makes g = Leads home p x cond_op t k (at.Head first) (query.Act aside_row put) m made_after g
+      Makes g = Leads home p x cond_op t k (TxAt.Head first) (Query.Act aside_row put) m made_after g
 
       made_there : (o : Option Row) → map.get m aside_row ≡ o → map.get made_after aside_row ≡ (act put now o).0
       made_there o is = here_set m aside_row (act put now (map.get m aside_row)).0 ∙ ap (λ z. (act put now z).0) is
@@ -308,7 +254,7 @@ module _ (home : ℕ) (p : Place) (x : TxId) (t : ℕ) (k : List ℕ) where
       not_item : map.get made_after item_row ≡ map.get m item_row
       not_item = others_set m aside_row (act put now (map.get m aside_row)).0 item_row (apart item_row aside_row (ranks item_row aside_row (λ z. cc)))
 
-      by_made : (o : Option Row) → map.get m aside_row ≡ o → Makes (tx_goes p x.begin cond_op (at.Head first) (said (act put now o).1))
+      by_made : (o : Option Row) → map.get m aside_row ≡ o → Makes (tx_goes p x.begin cond_op (TxAt.Head first) (said (act put now o).1))
       by_made None is = record {
         others = others_set m aside_row (act put now (map.get m aside_row)).0;
         item = ap content_in not_item;
@@ -323,42 +269,42 @@ module _ (home : ℕ) (p : Place) (x : TxId) (t : ℕ) (k : List ℕ) where
           locked = ap (λ z. note_at (content_in z).notes p) not_item ∙ h.locked;
         };
       }
-      by_made (Some c) is = beside home p x cond_op t k (at.Head first) m h (query.Act aside_row put) made_after (goes.On (at.Write Try)) (others_set m aside_row (act put now (map.get m aside_row)).0)
+      by_made (Some c) is = beside home p x cond_op t k (TxAt.Head first) m h (Query.Act aside_row put) made_after (TxGoes.On (TxAt.Write Try)) (others_set m aside_row (act put now (map.get m aside_row)).0)
           not_item (made_there (Some c) is ∙ sym is) tt tt (tt, h.locked)
 
-      made_turn : Turns cond_op (at.Head first) now m
+      made_turn : Turns cond_op (TxAt.Head first) now m
       made_turn = by_made (map.get m aside_row) refl
 
   -- ---- the lock
   module _ (e : Effect) (m : Rows) where
-    module _ (b now : ℕ) (h : Stands (start e (at.Lock (Lockset b))) t k m) where
+    module _ (b now : ℕ) (h : Stands (start e (TxAt.Lock (Lockset b))) t k m) where
       abbrev lockset_row : RowKey
       lockset_row = lockset_key home p.intent b t k
 
-      by_put : (o : Option Row) → Leads home p x e t k (at.Lock (Lockset b)) (query.Act lockset_row PutLockset) m (rows_after (query.Act lockset_row PutLockset) now m)
-          (tx_goes p x.begin e (at.Lock (Lockset b)) (said (act PutLockset now o).1))
-      by_put None = set home p x e t k (at.Lock (Lockset b)) m h PutLockset lockset_row now (goes.On (at.Lock (AtItem Try))) (ranks item_row lockset_row (λ y. cc)) (ranks aside_row lockset_row (λ y. cc)) tt tt (fits_lock e (Lockset b) (AtItem Try) h.fits, tt)
-      by_put (Some r) = set home p x e t k (at.Lock (Lockset b)) m h PutLockset lockset_row now (goes.On (at.Lock (AtItem Try))) (ranks item_row lockset_row (λ y. cc)) (ranks aside_row lockset_row (λ y. cc)) tt tt (fits_lock e (Lockset b) (AtItem Try) h.fits, tt)
+      by_put : (o : Option Row) → Leads home p x e t k (TxAt.Lock (Lockset b)) (Query.Act lockset_row PutLockset) m (rows_after (Query.Act lockset_row PutLockset) now m)
+          (tx_goes p x.begin e (TxAt.Lock (Lockset b)) (said (act PutLockset now o).1))
+      by_put None = set home p x e t k (TxAt.Lock (Lockset b)) m h PutLockset lockset_row now (TxGoes.On (TxAt.Lock (AtItem Try))) (ranks item_row lockset_row (λ y. cc)) (ranks aside_row lockset_row (λ y. cc)) tt tt (fits_lock e (Lockset b) (AtItem Try) h.fits, tt)
+      by_put (Some r) = set home p x e t k (TxAt.Lock (Lockset b)) m h PutLockset lockset_row now (TxGoes.On (TxAt.Lock (AtItem Try))) (ranks item_row lockset_row (λ y. cc)) (ranks aside_row lockset_row (λ y. cc)) tt tt (fits_lock e (Lockset b) (AtItem Try) h.fits, tt)
 
-      put_turn : Turns e (at.Lock (Lockset b)) now m
+      put_turn : Turns e (TxAt.Lock (Lockset b)) now m
       put_turn = by_put (map.get m lockset_row)
 
-    module _ (w : WriteAt) (h : Stands (start e (at.Lock (AtItem w))) t k m) (n : Rows) where
+    module _ (w : WriteAt) (h : Stands (start e (TxAt.Lock (AtItem w))) t k m) (n : Rows) where
       abbrev lock_stage : TxAt
-      lock_stage = at.Lock (AtItem w)
+      lock_stage = TxAt.Lock (AtItem w)
 
       abbrev as_lock : WriteWalk
-      as_lock = record { home = home; item = Plain t k; place = p; who = me; op = op.Lock; at = w }
+      as_lock = record { home = home; item = Plain t k; place = p; who = me; op = CellOp.Lock; at = w }
 
       abbrev Locks : TxGoes → Type 0
-      Locks g = Leads home p x e t k lock_stage (write_asks item_row p me op.Lock w) m n g
+      Locks g = Leads home p x e t k lock_stage (write_asks item_row p me CellOp.Lock w) m n g
 
       lock_to : (s : WriteSays) (g : TxGoes) → LoggedTurn as_lock m n s → IsSo e p me (said_of lock_stage g) (given n log_row) (content_in (map.get n item_row)) (content_in (map.get n aside_row))
           → Onto home p x e t k lock_stage (content_in (map.get n item_row)) g → Locks g
       lock_to s g l so onto =
           let aside : map.get n aside_row ≡ map.get m aside_row = l.others aside_row (apart aside_row item_row (ranks aside_row item_row (λ z. cc))) in
           record {
-            others = λ z off. l.others z (sym (ap (λ y. is_eq (key_cmp z y)) (asked item_row p me op.Lock w)) ∙ off);
+            others = λ z off. l.others z (sym (ap (λ y. is_eq (key_cmp z y)) (asked item_row p me CellOp.Lock w)) ∙ off);
             item = lock_moved p me (content_in (map.get m item_row)) (content_in (map.get n item_row)) s l.logs;
             shadow = aside;
             finds = tt;
@@ -366,43 +312,43 @@ module _ (home : ℕ) (p : Place) (x : TxId) (t : ℕ) (k : List ℕ) where
             stands = standing home p x e t k lock_stage m h n g l.sound (subst SoundAt (sym aside) h.shadow) (ap (λ z. (content_in z).owner) aside ∙ h.unowned) onto;
           }
 
-      again : (s : WriteSays) (j : LockAt) → LoggedTurn as_lock m n s → Locks (goes.On (at.Lock j))
-      again s j l = lock_to s (goes.On (at.Lock j)) l tt (fits_lock e (AtItem w) j h.fits, tt)
+      again : (s : WriteSays) (j : LockAt) → LoggedTurn as_lock m n s → Locks (TxGoes.On (TxAt.Lock j))
+      again s j l = lock_to s (TxGoes.On (TxAt.Lock j)) l tt (fits_lock e (AtItem w) j h.fits, tt)
 
   -- the place has the lock: the shadow comes next
-  got_turn : (e : Effect) (m : Rows) (w : WriteAt) (h : Stands (start e (at.Lock (AtItem w))) t k m) (n : Rows) (s : WriteSays) → LoggedTurn (as_lock e m w h n) m n s
-      → note_at (content_in (map.get n item_row)).notes p ≡ Some note.Got → Locks e m w h n (locked_goes e)
-  got_turn (Read u j) m w h n s l got = lock_to (Read u j) m w h n s (goes.On at.Shadow) l tt (tt, got)
-  got_turn (Write u j v) m w h n s l got = lock_to (Write u j v) m w h n s (goes.On (at.Write Try)) l tt (tt, got)
-  got_turn (CondWrite u j r o v) m w h n s l got = lock_to (CondWrite u j r o v) m w h n s (goes.On at.Shadow) l tt (tt, got)
+  got_turn : (e : Effect) (m : Rows) (w : WriteAt) (h : Stands (start e (TxAt.Lock (AtItem w))) t k m) (n : Rows) (s : WriteSays) → LoggedTurn (as_lock e m w h n) m n s
+      → note_at (content_in (map.get n item_row)).notes p ≡ Some Note.Got → Locks e m w h n (locked_goes e)
+  got_turn (Read u j) m w h n s l got = lock_to (Read u j) m w h n s (TxGoes.On TxAt.Shadow) l tt (tt, got)
+  got_turn (Write u j v) m w h n s l got = lock_to (Write u j v) m w h n s (TxGoes.On (TxAt.Write Try)) l tt (tt, got)
+  got_turn (CondWrite u j r o v) m w h n s l got = lock_to (CondWrite u j r o v) m w h n s (TxGoes.On TxAt.Shadow) l tt (tt, got)
   got_turn e m w h n s l got = absurd h.fits
 
-  lock_turn : (e : Effect) (m : Rows) (w : WriteAt) (h : Stands (start e (at.Lock (AtItem w))) t k m) (n : Rows) (g : WriteGoes) → LoggedTurn (as_lock e m w h n) m n (logged_so g)
+  lock_turn : (e : Effect) (m : Rows) (w : WriteAt) (h : Stands (start e (TxAt.Lock (AtItem w))) t k m) (n : Rows) (g : WriteGoes) → LoggedTurn (as_lock e m w h n) m n (logged_so g)
       → Locks e m w h n (lock_leads p e (lock_item w g))
-  lock_turn e m w h n (writes.On j) l = again e m w h n (logged_so (writes.On j)) (AtItem j) l
-  lock_turn e m w h n (writes.Done note.Wrote f) l = again e m w h n (wsays.Done note.Wrote f) (AtItem w) l
-  lock_turn e m w h n (writes.Done (note.Cond b) f) l = again e m w h n (wsays.Done (note.Cond b) f) (AtItem w) l
-  lock_turn e m w h n (writes.Done note.Got f) l = got_turn e m w h n (wsays.Done note.Got f) l l.logs.0
-  lock_turn e m w h n (writes.Done (note.Died a) f) l = lock_to e m w h n (wsays.Done (note.Died a) f) (goes.Died (record { place = p; holder = Some a })) l (a, refl, l.logs.0) (h.fits, tt)
-  lock_turn e m w h n (writes.Done note.Freed f) l = again e m w h n (wsays.Done note.Freed f) (AtItem w) l
-  lock_turn e m w h n writes.NotOwner l = again e m w h n wsays.NotOwner (AtItem w) l
-  lock_turn e m w h n (writes.Held o) l =
+  lock_turn e m w h n (WriteGoes.On j) l = again e m w h n (logged_so (WriteGoes.On j)) (AtItem j) l
+  lock_turn e m w h n (WriteGoes.Done Note.Wrote f) l = again e m w h n (WriteSays.Done Note.Wrote f) (AtItem w) l
+  lock_turn e m w h n (WriteGoes.Done (Note.Cond b) f) l = again e m w h n (WriteSays.Done (Note.Cond b) f) (AtItem w) l
+  lock_turn e m w h n (WriteGoes.Done Note.Got f) l = got_turn e m w h n (WriteSays.Done Note.Got f) l l.logs.0
+  lock_turn e m w h n (WriteGoes.Done (Note.Died a) f) l = lock_to e m w h n (WriteSays.Done (Note.Died a) f) (TxGoes.Died (record { place = p; holder = Some a })) l (a, refl, l.logs.0) (h.fits, tt)
+  lock_turn e m w h n (WriteGoes.Done Note.Freed f) l = again e m w h n (WriteSays.Done Note.Freed f) (AtItem w) l
+  lock_turn e m w h n WriteGoes.NotOwner l = again e m w h n WriteSays.NotOwner (AtItem w) l
+  lock_turn e m w h n (WriteGoes.Held o) l =
       let c = content_in (map.get m item_row) in
       let same = l.logs.2 in
-      lock_to e m w h n (wsays.Held o) (goes.Held o) l
+      lock_to e m w h n (WriteSays.Held o) (TxGoes.Held o) l
       (ap (λ (z : Content). note_at z.notes p) same ∙ l.logs.0, ap (λ (z : Content). waited me (other_owner me z.owner)) same ∙ taken (waited me (other_owner me c.owner)) o l.logs.1)
       (h.fits, tt)
 
   -- ---- the write of the shadow
-  module _ (e : Effect) (o : CellOp) (w : WriteAt) (m : Rows) (h : Stands (start e (at.Write w)) t k m) (n : Rows) where
+  module _ (e : Effect) (o : CellOp) (w : WriteAt) (m : Rows) (h : Stands (start e (TxAt.Write w)) t k m) (n : Rows) where
     abbrev as_write : WriteWalk
     as_write = record { home = home; item = Shadow x t k; place = p; who = me; op = o; at = w }
 
     abbrev Writes : TxGoes → Type 0
-    Writes g = Leads home p x e t k (at.Write w) (write_asks aside_row p me o w) m n g
+    Writes g = Leads home p x e t k (TxAt.Write w) (write_asks aside_row p me o w) m n g
 
     write_to : (s : WriteSays) (g : TxGoes) → op_of e ≡ Some o → Aside p me o (content_in (map.get m aside_row)) (content_in (map.get n aside_row)) → LoggedTurn as_write m n s
-        → IsSo e p me (said_of (at.Write w) g) (given n log_row) (content_in (map.get n item_row)) (content_in (map.get n aside_row)) → Onto home p x e t k (at.Write w) (content_in (map.get m item_row)) g → Writes g
+        → IsSo e p me (said_of (TxAt.Write w) g) (given n log_row) (content_in (map.get n item_row)) (content_in (map.get n aside_row)) → Onto home p x e t k (TxAt.Write w) (content_in (map.get m item_row)) g → Writes g
     write_to s g is moved l so onto =
         let item : map.get n item_row ≡ map.get m item_row = l.others item_row (apart item_row aside_row (ranks item_row aside_row (λ z. cc))) in
         record {
@@ -411,81 +357,81 @@ module _ (home : ℕ) (p : Place) (x : TxId) (t : ℕ) (k : List ℕ) where
           shadow = subst (λ z. AsideMoves z p me (content_in (map.get m aside_row)) (content_in (map.get n aside_row))) (sym is) moved.0;
           finds = tt;
           so = so;
-          stands = standing home p x e t k (at.Write w) m h n g (subst SoundAt (sym item) h.item) l.sound moved.1 (subst (λ z. Onto home p x e t k (at.Write w) (content_in z) g) (sym item) onto);
+          stands = standing home p x e t k (TxAt.Write w) m h n g (subst SoundAt (sym item) h.item) l.sound moved.1 (subst (λ z. Onto home p x e t k (TxAt.Write w) (content_in z) g) (sym item) onto);
         }
 
   abbrev Content_at : RowKey → Rows → Content
   Content_at z m = content_in (map.get m z)
 
-  module _ (u : ℕ) (j : List ℕ) (v : Value) (w : WriteAt) (m : Rows) (h : Stands (start (Write u j v) (at.Write w)) t k m) (n : Rows) where
+  module _ (u : ℕ) (j : List ℕ) (v : Value) (w : WriteAt) (m : Rows) (h : Stands (start (Write u j v) (TxAt.Write w)) t k m) (n : Rows) where
     abbrev we : Effect
     we = Write u j v
 
     abbrev wo : CellOp
-    wo = op.Write v
+    wo = CellOp.Write v
 
     wrote_to : (s : WriteSays) (y : TxGoes) → LoggedTurn (as_write we wo w m h n) m n s
-        → IsSo we p me (said_of (at.Write w) y) (given n log_row) (content_in (map.get n item_row)) (content_in (map.get n aside_row)) → Onto home p x we t k (at.Write w) (content_in (map.get m item_row)) y → Writes we wo w m h n y
+        → IsSo we p me (said_of (TxAt.Write w) y) (given n log_row) (content_in (map.get n item_row)) (content_in (map.get n aside_row)) → Onto home p x we t k (TxAt.Write w) (content_in (map.get m item_row)) y → Writes we wo w m h n y
     wrote_to s y l so onto = write_to we wo w m h n s y refl (aside_moved p me wo (Content_at aside_row m) (Content_at aside_row n) refl refl h.unowned s l.logs) l so onto
 
     write_by : (g : WriteGoes) → LoggedTurn (as_write we wo w m h n) m n (logged_so g) → Writes we wo w m h n (write_leads we g)
-    write_by (writes.On i) l = wrote_to wsays.Going (goes.On (at.Write i)) l tt (tt, h.locked)
-    write_by (writes.Done note.Wrote f) l = wrote_to (wsays.Done note.Wrote f) goes.Done l l.logs.0 (tt, h.locked)
-    write_by (writes.Done (note.Cond b) f) l = wrote_to (wsays.Done (note.Cond b) f) goes.Stays l tt (tt, h.locked)
-    write_by (writes.Done note.Got f) l = wrote_to (wsays.Done note.Got f) goes.Stays l tt (tt, h.locked)
-    write_by (writes.Done (note.Died a) f) l = wrote_to (wsays.Done (note.Died a) f) goes.Stays l tt (tt, h.locked)
-    write_by (writes.Done note.Freed f) l = wrote_to (wsays.Done note.Freed f) goes.Stays l tt (tt, h.locked)
-    write_by writes.NotOwner l = wrote_to wsays.NotOwner goes.Stays l tt (tt, h.locked)
-    write_by (writes.Held o) l = wrote_to (wsays.Held o) goes.Stays l tt (tt, h.locked)
+    write_by (WriteGoes.On i) l = wrote_to WriteSays.Going (TxGoes.On (TxAt.Write i)) l tt (tt, h.locked)
+    write_by (WriteGoes.Done Note.Wrote f) l = wrote_to (WriteSays.Done Note.Wrote f) TxGoes.Done l l.logs.0 (tt, h.locked)
+    write_by (WriteGoes.Done (Note.Cond b) f) l = wrote_to (WriteSays.Done (Note.Cond b) f) TxGoes.Stays l tt (tt, h.locked)
+    write_by (WriteGoes.Done Note.Got f) l = wrote_to (WriteSays.Done Note.Got f) TxGoes.Stays l tt (tt, h.locked)
+    write_by (WriteGoes.Done (Note.Died a) f) l = wrote_to (WriteSays.Done (Note.Died a) f) TxGoes.Stays l tt (tt, h.locked)
+    write_by (WriteGoes.Done Note.Freed f) l = wrote_to (WriteSays.Done Note.Freed f) TxGoes.Stays l tt (tt, h.locked)
+    write_by WriteGoes.NotOwner l = wrote_to WriteSays.NotOwner TxGoes.Stays l tt (tt, h.locked)
+    write_by (WriteGoes.Held o) l = wrote_to (WriteSays.Held o) TxGoes.Stays l tt (tt, h.locked)
 
-  module _ (u : ℕ) (j : List ℕ) (r : Rel) (c v : Value) (w : WriteAt) (m : Rows) (h : Stands (start (CondWrite u j r c v) (at.Write w)) t k m) (n : Rows) where
+  module _ (u : ℕ) (j : List ℕ) (r : Rel) (c v : Value) (w : WriteAt) (m : Rows) (h : Stands (start (CondWrite u j r c v) (TxAt.Write w)) t k m) (n : Rows) where
     abbrev ce : Effect
     ce = CondWrite u j r c v
 
     abbrev co : CellOp
-    co = op.Cond r c v
+    co = CellOp.Cond r c v
 
     cond_to : (s : WriteSays) (y : TxGoes) → LoggedTurn (as_write ce co w m h n) m n s
-        → IsSo ce p me (said_of (at.Write w) y) (given n log_row) (content_in (map.get n item_row)) (content_in (map.get n aside_row)) → Onto home p x ce t k (at.Write w) (content_in (map.get m item_row)) y → Writes ce co w m h n y
+        → IsSo ce p me (said_of (TxAt.Write w) y) (given n log_row) (content_in (map.get n item_row)) (content_in (map.get n aside_row)) → Onto home p x ce t k (TxAt.Write w) (content_in (map.get m item_row)) y → Writes ce co w m h n y
     cond_to s y l so onto = write_to ce co w m h n s y refl (aside_moved p me co (Content_at aside_row m) (Content_at aside_row n) refl refl h.unowned s l.logs) l so onto
 
     cond_by : (g : WriteGoes) → LoggedTurn (as_write ce co w m h n) m n (logged_so g) → Writes ce co w m h n (write_leads ce g)
-    cond_by (writes.On i) l = cond_to wsays.Going (goes.On (at.Write i)) l tt (tt, h.locked)
-    cond_by (writes.Done (note.Cond b) f) l = cond_to (wsays.Done (note.Cond b) f) (goes.Value (value.Bool b)) l (b, refl, l.logs.0) (tt, h.locked)
-    cond_by (writes.Done note.Wrote f) l = cond_to (wsays.Done note.Wrote f) goes.Stays l tt (tt, h.locked)
-    cond_by (writes.Done note.Got f) l = cond_to (wsays.Done note.Got f) goes.Stays l tt (tt, h.locked)
-    cond_by (writes.Done (note.Died a) f) l = cond_to (wsays.Done (note.Died a) f) goes.Stays l tt (tt, h.locked)
-    cond_by (writes.Done note.Freed f) l = cond_to (wsays.Done note.Freed f) goes.Stays l tt (tt, h.locked)
-    cond_by writes.NotOwner l = cond_to wsays.NotOwner goes.Stays l tt (tt, h.locked)
-    cond_by (writes.Held o) l = cond_to (wsays.Held o) goes.Stays l tt (tt, h.locked)
+    cond_by (WriteGoes.On i) l = cond_to WriteSays.Going (TxGoes.On (TxAt.Write i)) l tt (tt, h.locked)
+    cond_by (WriteGoes.Done (Note.Cond b) f) l = cond_to (WriteSays.Done (Note.Cond b) f) (TxGoes.Value (Value.Bool b)) l (b, refl, l.logs.0) (tt, h.locked)
+    cond_by (WriteGoes.Done Note.Wrote f) l = cond_to (WriteSays.Done Note.Wrote f) TxGoes.Stays l tt (tt, h.locked)
+    cond_by (WriteGoes.Done Note.Got f) l = cond_to (WriteSays.Done Note.Got f) TxGoes.Stays l tt (tt, h.locked)
+    cond_by (WriteGoes.Done (Note.Died a) f) l = cond_to (WriteSays.Done (Note.Died a) f) TxGoes.Stays l tt (tt, h.locked)
+    cond_by (WriteGoes.Done Note.Freed f) l = cond_to (WriteSays.Done Note.Freed f) TxGoes.Stays l tt (tt, h.locked)
+    cond_by WriteGoes.NotOwner l = cond_to WriteSays.NotOwner TxGoes.Stays l tt (tt, h.locked)
+    cond_by (WriteGoes.Held o) l = cond_to (WriteSays.Held o) TxGoes.Stays l tt (tt, h.locked)
 
   -- ---- all stages
-  lock_stage_turn : (e : Effect) (l : LockAt) (now : ℕ) (m : Rows) → Stands (start e (at.Lock l)) t k m → Turns e (at.Lock l) now m
+  lock_stage_turn : (e : Effect) (l : LockAt) (now : ℕ) (m : Rows) → Stands (start e (TxAt.Lock l)) t k m → Turns e (TxAt.Lock l) now m
   lock_stage_turn e (Lockset b) now m h = put_turn e m b now h
   lock_stage_turn e (AtItem w) now m h =
-      let q = write_asks item_row p me op.Lock w in
+      let q = write_asks item_row p me CellOp.Lock w in
       let n = rows_after q now m in
-      lock_turn e m w h n (write_goes note.Got (told_by q now m)) (by_op (as_lock e m w h n) m n h.item w now refl)
+      lock_turn e m w h n (write_goes Note.Got (told_by q now m)) (by_op (as_lock e m w h n) m n h.item w now refl)
 
   turns : (e : Effect) (a : TxAt) (now : ℕ) (m : Rows) → Stands (start e a) t k m → Turns e a now m
-  turns e (at.Lock l) now m h = lock_stage_turn e l now m h
-  turns (Read u j) at.Log now m h = log_turn u j now m h
-  turns (Read u j) at.Shadow now m h = shadow_turn u j now m h
-  turns (Read u j) at.Item now m h = item_turn u j now m h
-  turns (Read u j) (at.Keep v) now m h = keep_turn u j v now m h
+  turns e (TxAt.Lock l) now m h = lock_stage_turn e l now m h
+  turns (Read u j) TxAt.Log now m h = log_turn u j now m h
+  turns (Read u j) TxAt.Shadow now m h = shadow_turn u j now m h
+  turns (Read u j) TxAt.Item now m h = item_turn u j now m h
+  turns (Read u j) (TxAt.Keep v) now m h = keep_turn u j v now m h
   turns (Read u j) a now m h = absurd h.fits
-  turns (Write u j v) (at.Write w) now m h =
-      let q = write_asks aside_row p me (op.Write v) w in
+  turns (Write u j v) (TxAt.Write w) now m h =
+      let q = write_asks aside_row p me (CellOp.Write v) w in
       let n = rows_after q now m in
-      write_by u j v w m h n (write_goes note.Wrote (told_by q now m)) (by_op (as_write (Write u j v) (op.Write v) w m h n) m n h.shadow w now refl)
+      write_by u j v w m h n (write_goes Note.Wrote (told_by q now m)) (by_op (as_write (Write u j v) (CellOp.Write v) w m h n) m n h.shadow w now refl)
   turns (Write u j v) a now m h = absurd h.fits
-  turns (CondWrite u j r c v) at.Shadow now m h = head_turn u j r c v now m h
-  turns (CondWrite u j r c v) at.Item now m h = found_turn u j r c v now m h
-  turns (CondWrite u j r c v) (at.Head f) now m h = made_turn u j r c v f now m h
-  turns (CondWrite u j r c v) (at.Write w) now m h =
-      let q = write_asks aside_row p me (op.Cond r c v) w in
+  turns (CondWrite u j r c v) TxAt.Shadow now m h = head_turn u j r c v now m h
+  turns (CondWrite u j r c v) TxAt.Item now m h = found_turn u j r c v now m h
+  turns (CondWrite u j r c v) (TxAt.Head f) now m h = made_turn u j r c v f now m h
+  turns (CondWrite u j r c v) (TxAt.Write w) now m h =
+      let q = write_asks aside_row p me (CellOp.Cond r c v) w in
       let n = rows_after q now m in
-      cond_by u j r c v w m h n (write_goes (note.Cond true) (told_by q now m)) (by_op (as_write (CondWrite u j r c v) (op.Cond r c v) w m h n) m n h.shadow w now refl)
+      cond_by u j r c v w m h n (write_goes (Note.Cond true) (told_by q now m)) (by_op (as_write (CondWrite u j r c v) (CellOp.Cond r c v) w m h n) m n h.shadow w now refl)
   turns (CondWrite u j r c v) a now m h = absurd h.fits
   turns e a now m h = absurd h.fits
 

@@ -1,70 +1,8 @@
 -- The end of a transaction visits all who took part, and passes all rows of their locks, one after another.
-use Rattle.std.proofs.Common.{◌≡◌, ◌⊎◌, inl, inr, ℕ, zero, suc, ◌<◌, ◌≤◌, Bool, true, false, List, [], ◌∷◌, ◌++◌, Option, None, Some, is_some, is_none, refl, ap, sym, ◌∙◌, subst, if◌then◌else◌, ltb-true, ltb-false, arith}
-use Rattle.std.specs.FinMap as map
-use Rattle.std.specs.Option.{option_map}
-use Rattle.std.specs.Ordering.{is_eq, ordering_reverse}
-use Rattle.std.specs.declared.cmp.Ordering.TheVariants.{Less}
-use Rattle.beldi_value.specs.declared.id.IntentId.{IntentId}
-use Rattle.beldi_value.specs.declared.place.Owner.TheVariants as owner
-use Rattle.beldi_value.specs.declared.place.Place.{Place}
-use Rattle.beldi_value.specs.declared.place.TxId.{TxId}
-use Rattle.beldi_value.specs.declared.value.Value.{Value}
-use Rattle.beldi_value.specs.declared.value.Value.TheVariants as value
-use Rattle.beldi_value.specs.Id.{child_of, has_callees, has_no_hops, home_of}
-use Rattle.beldi_value.proofs.Callees.{no_root}
-use Rattle.beldi_row.specs.declared.act.Act.TheVariants.{PutRead, Stamp as StampAct}
-use Rattle.beldi_row.specs.declared.key.Kind.{Kind}
-use Rattle.beldi_row.specs.declared.key.Kind.TheVariants as kinds
-use Rattle.beldi_row.specs.declared.notes.Note.TheVariants as note
-use Rattle.beldi_row.specs.declared.row.Row.{Row}
-use Rattle.beldi_row.specs.declared.row.Row.TheVariants as rows
-use Rattle.beldi_row.specs.Act.{act, owns, stamp_with}
-use Rattle.beldi_row.specs.Key.{RowKey, key_cmp, rank_of}
-use Rattle.beldi_row.specs.KeyOrder.{key_total, key_exact}
-use Rattle.beldi_row.specs.Log.{note_at}
-use Rattle.beldi_row.specs.Table.{Rows, IsNext, next_row}
-use Rattle.beldi_row.proofs.Gets.{key_same}
-use Rattle.beldi_row.proofs.Least.{next_row_least}
-use Rattle.beldi_row.proofs.Unchanged.{looked, left as left_row}
-use Rattle.beldi_walk.specs.declared.query.Query.{Query}
-use Rattle.beldi_walk.specs.Query.{said, told_by, rows_after}
-use Rattle.beldi_walk.proofs.Promises.{turned}
-use Rattle.beldi_daal.specs.declared.cell.CellOp.TheVariants as op
-use Rattle.beldi_daal.specs.declared.cell.WriteAt.{WriteAt}
-use Rattle.beldi_daal.specs.declared.cell.WriteAt.TheVariants.{Try}
-use Rattle.beldi_daal.specs.declared.cell.WriteGoes.{WriteGoes}
-use Rattle.beldi_daal.specs.declared.cell.WriteGoes.TheVariants as writes
-use Rattle.beldi_daal.specs.declared.walk.Item.TheVariants.{Plain}
-use Rattle.beldi_daal.specs.declared.walk.WriteSays.{WriteSays}
-use Rattle.beldi_daal.specs.declared.walk.WriteSays.TheVariants as wsays
-use Rattle.beldi_daal.specs.declared.walk.WriteWalk.{WriteWalk}
-use Rattle.beldi_daal.specs.Cell.{write_goes}
-use Rattle.beldi_daal.specs.Content.{Content, content_in, SoundAt}
-use Rattle.beldi_daal.specs.Logged.{unless_owned, LoggedTurn}
-use Rattle.beldi_daal.specs.Walk.{walk_so as logged_so}
-use Rattle.beldi_daal.proofs.Logged.{by_op}
-use Rattle.beldi_intent.specs.Intent.{intent_key}
-use Rattle.beldi_lock.specs.Lock.{lockset_key}
-use Rattle.beldi_lock.specs.Lockset.{AreFit, IsFirstFrom, lockset_after, item_after}
-use Rattle.beldi_lock.proofs.Firsts.{first_from}
-use Rattle.beldi_lock.proofs.Last.{split_front}
-use Rattle.beldi_txn.specs.declared.end.EndAt.{EndAt}
-use Rattle.beldi_txn.specs.declared.end.EndAt.TheVariants.{Decide, Callees, Next, Shadow, Free, Stamp}
-use Rattle.beldi_txn.specs.declared.end.EndGoes.{EndGoes}
-use Rattle.beldi_txn.specs.declared.end.EndGoes.TheVariants as goes
-use Rattle.beldi_txn.specs.declared.end.EndSays.TheVariants as says
-use Rattle.beldi_txn.specs.declared.end.Visit.{Visit}
-use Rattle.beldi_txn.specs.declared.end_walk.EndWalk.{EndWalk}
-use Rattle.beldi_txn.specs.declared.way.Called.{Called}
-use Rattle.beldi_txn.specs.Invokes.{call_key, invokes_after, func_called, call_after, IsAfter, IsNextCall}
-use Rattle.beldi_txn.specs.Way.{Member, callee_of, member_at, is_owner}
-use Rattle.beldi_txn.specs.End.{first_visit, visited_by, calls_after, counts, free_place, decide_goes, call_goes, calls_goes, last_goes, next_goes, value_goes, freed_goes, free_first, back_from, moved, said_of, walk_asks, walk_goes, walk_next, walk_says}
-use Rattle.beldi_txn.specs.TxTurn.{key_asked, shadow_value}
-use Rattle.beldi_txn.specs.Visited.{AtEnd, decision_row, item_row, aside_row, lock_row, item_in, is_own, IsDecided, given_value, called_at, IsCall, IsWay, IsWithin, StartsWithin, owner_of, IsMember, row_closed, is_closed, AreClosed, AllFreed, IsReleased, AreReleased, DecidedAt, HasItem, HasWay, IsFrom, Gives, IsPassed, Levels, IsPast, AreSound, AreMarked, Visited, AllReleased, Frees, Stamps, LeftAt, EndTurn, EndsAreVisits, Leaves, VisitsStand, VisitsBegin}
-use Rattle.beldi_txn.proofs.TxTurn.{apart, others_set, here_set, shadow_told, ranks, asked}
-use Rattle.beldi_txn.proofs.Calls.{by_order, next_call, first_call}
-use Rattle.beldi_txn.proofs.Locks.{Item, item_at, none_past, none_first, none_between, none_before}
+use Rattle.beldi_txn.{specs.declared.end.EndAt.TheVariants.Shadow, proofs.TxTurn.apart, proofs.TxTurn.others_set, proofs.TxTurn.here_set, proofs.TxTurn.shadow_told, proofs.TxTurn.ranks, proofs.TxTurn.asked, proofs.Calls.by_order, proofs.Calls.next_call, proofs.Calls.first_call, proofs.Locks.Item, proofs.Locks.item_at, proofs.Locks.none_past, proofs.Locks.none_first, proofs.Locks.none_between, proofs.Locks.none_before}
+use Rattle.beldi_txn.proofs.Names.{AllFreed, AllReleased, AreClosed, AreFit, AreMarked, AreReleased, AreSound, AtEnd, Bool, Called, Callees, Content, Decide, DecidedAt, EndAt, EndGoes, EndTurn, EndWalk, EndsAreVisits, Free, Frees, Gives, HasItem, HasWay, IntentId, IsAfter, IsCall, IsDecided, IsFirstFrom, IsFrom, IsMember, IsNext, IsNextCall, IsPassed, IsPast, IsReleased, IsWay, IsWithin, Kind, Leaves, LeftAt, Less, Levels, List, LoggedTurn, Member, Next, None, Option, Place, Plain, PutRead, Query, Row, RowKey, Rows, Some, SoundAt, Stamp, StampAct, Stamps, StartsWithin, Try, TxId, Value, Visit, Visited, VisitsBegin, VisitsStand, WriteAt, WriteGoes, WriteSays, WriteWalk, [], act, ap, arith, aside_row, back_from, by_op, call_after, call_goes, call_key, called_at, callee_of, calls_after, calls_goes, child_of, content_in, counts, decide_goes, decision_row, false, first_from, first_visit, free_first, free_place, freed_goes, func_called, given_value, has_callees, has_no_hops, home_of, if◌then◌else◌, inl, inr, intent_key, invokes_after, is_closed, is_eq, is_none, is_own, is_owner, is_some, item_after, item_in, item_row, key_asked, key_cmp, key_exact, key_same, key_total, last_goes, left_row, lock_row, lockset_after, lockset_key, logged_so, looked, ltb-false, ltb-true, member_at, moved, next_goes, next_row, next_row_least, no_root, note_at, option_map, ordering_reverse, owner_of, owns, rank_of, refl, row_closed, rows_after, said, said_of, shadow_value, split_front, stamp_with, subst, suc, sym, told_by, true, turned, unless_owned, value_goes, visited_by, walk_asks, walk_goes, walk_next, walk_says, write_goes, zero, ℕ, ◌++◌, ◌<◌, ◌∙◌, ◌∷◌, ◌≡◌, ◌≤◌, ◌⊎◌, Note, CellOp, Owner, EndSays}
 use Rattle.beldi_txn.proofs.Levels.{ends_in, member_more, way_more, way_front, way_last, levels_top, levels_with, levels_pushed, levels_last, levels_popped, member_fit}
+use Rattle.beldi_txn.proofs.Names.map
 
 is_owned : (b : Bool) (s : Option WriteSays) → unless_owned b ≡ s → b ≡ is_none s
 is_owned true s h = ap is_none h
@@ -190,13 +128,13 @@ at_end At (c ∷ cs) n h = tt
 -- ---- the decision
 -- a row that is there is this decision, or the end stays at it
 abbrev Decided_by : Bool → Row → EndGoes → Type 0
-Decided_by c r g = ((r ≡ rows.ReadLog (value.Bool c)) × (g ≡ goes.Decided false)) ⊎ ((r ≡ rows.ReadLog (value.Bool c) → ⊥) × (g ≡ goes.On Decide))
+Decided_by c r g = ((r ≡ Row.ReadLog (Value.Bool c)) × (g ≡ EndGoes.Decided false)) ⊎ ((r ≡ Row.ReadLog (Value.Bool c) → ⊥) × (g ≡ EndGoes.On Decide))
 
-by_row : (c : Bool) (now : ℕ) (r : Row) → Decided_by c r (decide_goes c (said (act (PutRead (value.Bool c)) now (Some r)).1))
-by_row true now (rows.ReadLog (value.Bool true)) = inl (refl, refl)
-by_row true now (rows.ReadLog (value.Bool false)) = inr (λ h. cc, refl)
-by_row false now (rows.ReadLog (value.Bool true)) = inr (λ h. cc, refl)
-by_row false now (rows.ReadLog (value.Bool false)) = inl (refl, refl)
+by_row : (c : Bool) (now : ℕ) (r : Row) → Decided_by c r (decide_goes c (said (act (PutRead (Value.Bool c)) now (Some r)).1))
+by_row true now (Row.ReadLog (Value.Bool true)) = inl (refl, refl)
+by_row true now (Row.ReadLog (Value.Bool false)) = inr (λ h. cc, refl)
+by_row false now (Row.ReadLog (Value.Bool true)) = inr (λ h. cc, refl)
+by_row false now (Row.ReadLog (Value.Bool false)) = inl (refl, refl)
 by_row c now r = inr (λ h. cc, refl)
 
 -- ---- a participant gets its finish
@@ -211,7 +149,7 @@ owner_not [] c = refl
 owner_not (d ∷ ds) c = refl
 
 abbrev id_in : Kind → IntentId
-id_in (kinds.Intent i) = i
+id_in (Kind.Intent i) = i
 id_in k = record { ticket = 0; hops = [] }
 
 home_is : (p : Member) → has_no_hops p.0.hops ≡ false → home_of p.0 p.1 ≡ p.1
@@ -226,9 +164,9 @@ same_member p q hp hq h =
 
 -- what it leaves is closed
 stamp_leaves : (now : ℕ) (r : Option Row) → Stamps r (act StampAct now r).0
-stamp_leaves now (Some (rows.Intent i)) = by i.finish refl
+stamp_leaves now (Some (Row.Intent i)) = by i.finish refl
   where
-    by : (o : Option ℕ) → i.finish ≡ o → Stamps (Some (rows.Intent i)) (Some (rows.Intent (stamp_with now i o).0))
+    by : (o : Option ℕ) → i.finish ≡ o → Stamps (Some (Row.Intent i)) (Some (Row.Intent (stamp_with now i o).0))
     by None is = inr (record { intent = i; before = refl; none = is; finish = now; now = refl })
     by (Some t) is = inl (refl, ap is_some is)
 stamp_leaves now r = inl (refl, refl)
@@ -262,7 +200,7 @@ module _ (x : TxId) (end : ℕ) (commit : Bool) where
     pub others : (k : RowKey) → is_eq (key_cmp k (key_asked q)) ≡ false → map.get n k ≡ map.get m k
     pub left : LeftAt z.at (walk z) z.item (said_of g) m n
     pub visited : Visited (walk (moved commit z g)) n
-    pub done : said_of g ≡ says.Done → IsDecided (walk z) n × AllReleased (walk z) n
+    pub done : said_of g ≡ EndSays.Done → IsDecided (walk z) n × AllReleased (walk z) n
 
   -- a turn of the walk at a visit ..
   abbrev Turns : Visit → ℕ → Rows → Type 0
@@ -273,7 +211,7 @@ module _ (x : TxId) (end : ℕ) (commit : Bool) where
   Moves z m g = Leads z (walk_asks (walk z)) m m g
 
   -- unless it is the last, it says what is so of where it goes
-  moves : (z : Visit) (m : Rows) (g : EndGoes) → LeftAt z.at (walk z) z.item (said_of g) m m → (said_of g ≡ says.Done → ⊥) → Visited (walk (moved commit z g)) m → Moves z m g
+  moves : (z : Visit) (m : Rows) (g : EndGoes) → LeftAt z.at (walk z) z.item (said_of g) m m → (said_of g ≡ EndSays.Done → ⊥) → Visited (walk (moved commit z g)) m → Moves z m g
   moves z m g left on v = record { others = λ k off. refl; left = left; visited = v; done = λ h. absurd (on h) }
 
   -- at the same rows, all that is said of everyone is so at any visit
@@ -368,14 +306,14 @@ module _ (x : TxId) (end : ℕ) (commit : Bool) where
     abbrev dn : Rows
     dn = rows_after (walk_asks (walk dz)) now m
 
-    put_first : map.get m dk ≡ None → Leads dz (walk_asks (walk dz)) m dn (goes.Decided true)
+    put_first : map.get m dk ≡ None → Leads dz (walk_asks (walk dz)) m dn (EndGoes.Decided true)
     put_first none = record { others = others_set m dk s; left = (none, there); visited = decides dn (stands m dn shows dz v) there; done = λ is. cc }
       where
         s : Option Row
-        s = (act (PutRead (value.Bool commit)) now (map.get m dk)).0
+        s = (act (PutRead (Value.Bool commit)) now (map.get m dk)).0
 
-        there : map.get dn dk ≡ Some (rows.ReadLog (value.Bool commit))
-        there = here_set m dk s ∙ ap (λ o. (act (PutRead (value.Bool commit)) now o).0) none
+        there : map.get dn dk ≡ Some (Row.ReadLog (Value.Bool commit))
+        there = here_set m dk s ∙ ap (λ o. (act (PutRead (Value.Bool commit)) now o).0) none
 
         same : (q : RowKey) → (rank_of q.kind ≡ 1 → ⊥) → map.get dn q ≡ map.get m q
         same q h = others_set m dk s q (apart q dk (ranks q dk h))
@@ -394,14 +332,14 @@ module _ (x : TxId) (end : ℕ) (commit : Bool) where
 
     -- it was there, and stays as it is
     stood : (r : Row) (g : EndGoes) → map.get m dk ≡ Some r → Decided_by commit r g → Moves dz m g
-    stood r g is (inl h) = let there = is ∙ ap (λ s. Some s) h.0 in subst (Moves dz m) (sym h.1) (moves dz m (goes.Decided false) (there, refl) (λ e. cc) (decides m v there))
-    stood r g is (inr h) = subst (Moves dz m) (sym h.1) (moves dz m (goes.On Decide) (λ was. h.0 (let e = sym is ∙ was in cc), refl) (λ e. cc) v)
+    stood r g is (inl h) = let there = is ∙ ap (λ s. Some s) h.0 in subst (Moves dz m) (sym h.1) (moves dz m (EndGoes.Decided false) (there, refl) (λ e. cc) (decides m v there))
+    stood r g is (inr h) = subst (Moves dz m) (sym h.1) (moves dz m (EndGoes.On Decide) (λ was. h.0 (let e = sym is ∙ was in cc), refl) (λ e. cc) v)
 
-    by_told : (o : Option Row) → map.get m dk ≡ o → Leads dz (walk_asks (walk dz)) m dn (decide_goes commit (said (act (PutRead (value.Bool commit)) now o).1))
+    by_told : (o : Option Row) → map.get m dk ≡ o → Leads dz (walk_asks (walk dz)) m dn (decide_goes commit (said (act (PutRead (Value.Bool commit)) now o).1))
     by_told None is = put_first is
     by_told (Some r) is =
-        let g = decide_goes commit (said (act (PutRead (value.Bool commit)) now (Some r)).1) in
-        subst (λ n. Leads dz (walk_asks (walk dz)) m n g) (sym (left_row (PutRead (value.Bool commit)) now dk m (Some r) is refl)) (stood r g is (by_row commit now r))
+        let g = decide_goes commit (said (act (PutRead (Value.Bool commit)) now (Some r)).1) in
+        subst (λ n. Leads dz (walk_asks (walk dz)) m n g) (sym (left_row (PutRead (Value.Bool commit)) now dk m (Some r) is refl)) (stood r g is (by_row commit now r))
 
   -- ---- the next call of who is visited
   from_none : (cs : List Called) → IsFrom bare cs None
@@ -448,8 +386,8 @@ module _ (x : TxId) (end : ℕ) (commit : Bool) where
         let r = row_in o (was_called o c.func k.1) in
         levels_top m owns_all (IsWithin bare) cs (IsPassed Callees af) v.callees c k (at.0, seen c.step r.0 r.1 at.0 at.1)
 
-    to_locks : AreClosed m (who cs) (λ n. AtEnd (IsWithin bare) cs n × Unit {0}) → Moves cz m (goes.On Next)
-    to_locks closed = moves cz m (goes.On Next) refl (λ h. cc)
+    to_locks : AreClosed m (who cs) (λ n. AtEnd (IsWithin bare) cs n × Unit {0}) → Moves cz m (EndGoes.On Next)
+    to_locks closed = moves cz m (EndGoes.On Next) refl (λ h. cc)
         (goes_to cz (visit cs af None u Next) m v v.decided tt tt v.from v.member tt (levels_with m owns_all (IsWithin bare) cs (IsPassed Callees af) (IsPassed Next af) v.callees closed) (λ q r here past. absurd past))
 
     module _ (c : Called) (next : IsNextCall (who cs).1 (who cs).0 (calls_after x cs af) m (Some c)) where
@@ -460,14 +398,14 @@ module _ (x : TxId) (end : ℕ) (commit : Bool) where
       seen_before q r here at less = seen q r here at (λ l. next.1.1 q l less)
 
       by_callees : (b : Bool) → has_callees (who cs).0 ≡ b → counts end cs c ≡ true → Moves cz m (call_goes b cs c)
-      by_callees true has counted = moves cz m (goes.Callee (cs ++ c ∷ [])) refl (λ h. cc)
+      by_callees true has counted = moves cz m (EndGoes.Callee (cs ++ c ∷ [])) refl (λ h. cc)
           (to_calls cz (cs ++ c ∷ []) None None m v v.decided (from_none (cs ++ c ∷ [])) (starts_within cs c v.member.0 from counted, way_more m owns_all cs c v.member.1 (has, next.1.0))
           (levels_pushed m owns_all (IsWithin bare) cs c (IsPassed Callees af) (IsPassed Callees None) v.callees (closed_if (λ n. n < c.step) seen_before) (λ d k at. absurd at.1)))
-      by_callees false has counted = moves cz m (goes.Passed c.step) refl (λ h. cc)
+      by_callees false has counted = moves cz m (EndGoes.Passed c.step) refl (λ h. cc)
           (to_calls cz cs (Some c.step) u m v v.decided from v.member
           (levels_with m owns_all (IsWithin bare) cs (IsPassed Callees af) (IsPassed Callees (Some c.step)) v.callees (λ d k at. let clash = sym has ∙ k.0 in cc)))
 
-      by_counts : (b : Bool) → counts end cs c ≡ b → Moves cz m (if b then call_goes (has_callees (who cs).0) cs c else goes.On Next)
+      by_counts : (b : Bool) → counts end cs c ≡ b → Moves cz m (if b then call_goes (has_callees (who cs).0) cs c else EndGoes.On Next)
       by_counts true h = by_callees (has_callees (who cs).0) refl h
       by_counts false h = to_locks (closed_if (λ n. Unit {0}) (λ q r here at y. seen_before q r here at (counted_before cs c q h at)))
 
@@ -501,7 +439,7 @@ module _ (x : TxId) (end : ℕ) (commit : Bool) where
     where
       closed : (c : Called) (cs : List Called) → IsMember bare m (c ∷ cs) → is_closed m (who (c ∷ cs)) ≡ true
       closed = all_closed m v.released (λ c k at. v.callees c k (at, tt))
-  past_locks (c ∷ cs) af i u m v freed = moves (visit (c ∷ cs) af i u Next) m (goes.On Stamp) refl (λ h. cc)
+  past_locks (c ∷ cs) af i u m v freed = moves (visit (c ∷ cs) af i u Next) m (EndGoes.On Stamp) refl (λ h. cc)
       (goes_to (visit (c ∷ cs) af i u Next) (visit (c ∷ cs) af i u Stamp) m v v.decided tt refl tt v.member tt v.callees (λ q r here past. freed q r here))
 
   module _ (cs : List Called) (af : Option ℕ) (u : Option Value) (m : Rows) (first : FindsFirstLock x (who cs) m) where
@@ -539,7 +477,7 @@ module _ (x : TxId) (end : ℕ) (commit : Bool) where
 
         by : (f : Option Item) → item_after (who cs).1 (who cs).0 x.begin found ≡ f → Moves (nz i) m (next_goes cs f)
         by None is = past_locks cs af i u m v (freed_all i v found least is)
-        by (Some j) is = moves (nz i) m (goes.Item j.0 j.1) refl (λ h. cc) (at_item i v j (λ q r here less. freed_before i v j q r found least is here less) commit refl)
+        by (Some j) is = moves (nz i) m (EndGoes.Item j.0 j.1) refl (λ h. cc) (at_item i v j (λ q r here less. freed_before i v j q r found least is here less) commit refl)
 
   -- ---- the shadow of an item
   look_turn : (cs : List Called) (af : Option ℕ) (j : Item) (u : Option Value) (now : ℕ) (m : Rows) → let z = visit cs af (Some j) u Shadow in Visited (walk z) m → Turns z now m
@@ -549,7 +487,7 @@ module _ (x : TxId) (end : ℕ) (commit : Bool) where
       let s = shadow_value (map.get m k) in
       subst (λ n. Leads z (walk_asks (walk z)) m n (walk_goes (walk z) (told_by (walk_asks (walk z)) now m))) (sym (looked now k m))
       (subst (λ g. Moves z m (value_goes g)) (sym (shadow_told now (map.get m k) (v.sound (who cs).1 j).1))
-      (moves z m (goes.Value s) refl (λ h. cc)
+      (moves z m (EndGoes.Value s) refl (λ h. cc)
       (goes_to z (visit cs af (Some j) s (Free Try)) m v v.decided refl tt v.from v.member (ap (λ c. given_value c (map.get m k)) (sym v.gives)) v.callees v.freed)))
 
   -- ---- an item is given back
@@ -561,7 +499,7 @@ module _ (x : TxId) (end : ℕ) (commit : Bool) where
     place = free_place x end cs
 
     abbrev as_free : WriteWalk
-    as_free = record { home = (who cs).1; item = Plain j.0 j.1; place = place; who = owner.Tx x; op = op.Free u; at = f }
+    as_free = record { home = (who cs).1; item = Plain j.0 j.1; place = place; who = Owner.Tx x; op = CellOp.Free u; at = f }
 
     abbrev Frees_to : EndGoes → Type 0
     Frees_to g = Leads fz (walk_asks (walk fz)) m n g
@@ -593,40 +531,40 @@ module _ (x : TxId) (end : ℕ) (commit : Bool) where
         );
       }) fz v
 
-      freed_to : (g : EndGoes) → Frees place (owner.Tx x) u (item_in (who cs).1 m j) (item_in (who cs).1 n j) → (said_of g ≡ says.Done → ⊥) → Visited (walk (moved commit fz g)) n → Frees_to g
+      freed_to : (g : EndGoes) → Frees place (Owner.Tx x) u (item_in (who cs).1 m j) (item_in (who cs).1 n j) → (said_of g ≡ EndSays.Done → ⊥) → Visited (walk (moved commit fz g)) n → Frees_to g
       freed_to g left going w = record {
-        others = λ k off. l.others k (sym (ap (λ y. is_eq (key_cmp k y)) (asked (item_row (who cs).1 j) place (owner.Tx x) (op.Free u) f)) ∙ off);
+        others = λ k off. l.others k (sym (ap (λ y. is_eq (key_cmp k y)) (asked (item_row (who cs).1 j) place (Owner.Tx x) (CellOp.Free u) f)) ∙ off);
         left = left;
         visited = w;
         done = λ h. absurd (going h);
       }
 
     -- it goes on at this item
-    again : (s : WriteSays) (l : LoggedTurn as_free m n s) (a : WriteAt) → item_in (who cs).1 n j ≡ item_in (who cs).1 m j → Frees_to (goes.On (Free a))
+    again : (s : WriteSays) (l : LoggedTurn as_free m n s) (a : WriteAt) → item_in (who cs).1 n j ≡ item_in (who cs).1 m j → Frees_to (EndGoes.On (Free a))
     again s l a same =
         let w = stood_free s l (inl same) in
-        freed_to s l (inl same) (goes.On (Free a)) (inl same) (λ h. cc) (goes_to fz (visit cs af (Some j) u (Free a)) n w w.decided refl tt w.from w.member w.gives w.callees w.freed)
+        freed_to s l (inl same) (EndGoes.On (Free a)) (inl same) (λ h. cc) (goes_to fz (visit cs af (Some j) u (Free a)) n w w.decided refl tt w.from w.member w.gives w.callees w.freed)
 
     -- or past it, as it is not the transaction's
-    onward : (s : WriteSays) (l : LoggedTurn as_free m n s) → Frees place (owner.Tx x) u (item_in (who cs).1 m j) (item_in (who cs).1 n j) → is_own bare (item_in (who cs).1 n j) ≡ false → Frees_to (goes.On Next)
+    onward : (s : WriteSays) (l : LoggedTurn as_free m n s) → Frees place (Owner.Tx x) u (item_in (who cs).1 m j) (item_in (who cs).1 n j) → is_own bare (item_in (who cs).1 n j) ≡ false → Frees_to (EndGoes.On Next)
     onward s l left not_own =
         let w = stood_free s l (inr not_own) in
-        freed_to s l (inr not_own) (goes.On Next) left (λ h. cc) (goes_to fz (visit cs af (Some j) u Next) n w w.decided tt tt w.from w.member tt w.callees
+        freed_to s l (inr not_own) (EndGoes.On Next) left (λ h. cc) (goes_to fz (visit cs af (Some j) u Next) n w w.decided tt tt w.from w.member tt w.callees
         (λ q r here past. by_order (key_cmp (lock_row bare (who cs) q) (lock_row bare (who cs) j)) (is_own bare (item_in (who cs).1 n q) ≡ false)
         (λ less. w.freed q r here less)
         (λ level. subst (λ (i : Item). is_own bare (item_in (who cs).1 n i) ≡ false) (sym (ap (λ (k : RowKey). item_at k.kind) (key_exact (lock_row bare (who cs) q) (lock_row bare (who cs) j) level))) not_own)
         (λ greater. absurd (past (key_total.antisymm (lock_row bare (who cs) j) (lock_row bare (who cs) q) ∙ ap ordering_reverse greater)))))
 
     free_by : (g : WriteGoes) → LoggedTurn as_free m n (logged_so g) → Frees_to (freed_goes f g)
-    free_by (writes.On a) l = again (logged_so (writes.On a)) l a l.logs
-    free_by (writes.Done nt true) l =
+    free_by (WriteGoes.On a) l = again (logged_so (WriteGoes.On a)) l a l.logs
+    free_by (WriteGoes.Done nt true) l =
         let did = l.logs.1.1 in
-        onward (wsays.Done nt true) l (inr (l.logs.1.0, is_owned (owns (owner.Tx x) (item_in (who cs).1 m j).owner) None did.0, did.1)) (ap (is_own bare) did.1)
-    free_by (writes.Done nt false) l =
+        onward (WriteSays.Done nt true) l (inr (l.logs.1.0, is_owned (owns (Owner.Tx x) (item_in (who cs).1 m j).owner) None did.0, did.1)) (ap (is_own bare) did.1)
+    free_by (WriteGoes.Done nt false) l =
         let same = l.logs.1 in
-        onward (wsays.Done nt false) l (inl same) (ap (is_own bare) same ∙ v.marked cs v.member j nt (ap (λ (c : Content). note_at c.notes place) (sym same) ∙ l.logs.0))
-    free_by writes.NotOwner l = onward wsays.NotOwner l (inl l.logs.2) (ap (is_own bare) l.logs.2 ∙ is_owned (owns (owner.Tx x) (item_in (who cs).1 m j).owner) (Some wsays.NotOwner) l.logs.1)
-    free_by (writes.Held o) l = again (wsays.Held o) l f l.logs.2
+        onward (WriteSays.Done nt false) l (inl same) (ap (is_own bare) same ∙ v.marked cs v.member j nt (ap (λ (c : Content). note_at c.notes place) (sym same) ∙ l.logs.0))
+    free_by WriteGoes.NotOwner l = onward WriteSays.NotOwner l (inl l.logs.2) (ap (is_own bare) l.logs.2 ∙ is_owned (owns (Owner.Tx x) (item_in (who cs).1 m j).owner) (Some WriteSays.NotOwner) l.logs.1)
+    free_by (WriteGoes.Held o) l = again (WriteSays.Held o) l f l.logs.2
 
   -- ---- a participant gets its finish
   module _ (front : List Called) (c : Called) (af : Option ℕ) (i : Option Item) (u : Option Value) (now : ℕ) (m : Rows) (v : Visited (walk (visit (front ++ c ∷ []) af i u Stamp)) m) where
@@ -717,7 +655,7 @@ module _ (x : TxId) (end : ℕ) (commit : Bool) where
     turns cs af (Some j) u (Free f) calls locks v =
         let q = walk_asks (walk (visit cs af (Some j) u (Free f))) in
         let n = rows_after q now m in
-        free_by cs af j u f m n v (write_goes note.Freed (told_by q now m)) (by_op (as_free cs af j u f m n v) m n (v.sound (who cs).1 j).0 f now refl)
+        free_by cs af j u f m n v (write_goes Note.Freed (told_by q now m)) (by_op (as_free cs af j u f m n v) m n (v.sound (who cs).1 j).0 f now refl)
     turns cs af None u Shadow calls locks v = let clash = v.item in cc
     turns cs af None u (Free f) calls locks v = let clash = v.item in cc
     turns cs af i u Stamp calls locks v =

@@ -2,41 +2,14 @@
 -- intent is to visit each of its callees, by the row of its next call; then to give back each item that it asked the lock of, once, by
 -- the row of its next lock; and then to give a participant's row its finish.
 use Rattle.std.specs.Prelude.{ℕ, nat_lt, Bool, true, false, List, [], ◌∷◌, ◌++◌, Option, Some, None, if◌then◌else◌}
-use Rattle.beldi_value.specs.declared.place.Owner.TheVariants as owner
-use Rattle.beldi_value.specs.declared.place.Place.{Place}
-use Rattle.beldi_value.specs.declared.place.TxId.{TxId}
-use Rattle.beldi_value.specs.declared.value.Value.{Value}
-use Rattle.beldi_value.specs.declared.value.Value.TheVariants as value
-use Rattle.beldi_row.specs.declared.act.Act.TheVariants.{Look}
-use Rattle.beldi_row.specs.declared.notes.Note.TheVariants as note
-use Rattle.beldi_row.specs.Act.{added, kept}
-use Rattle.beldi_walk.specs.declared.query.Query.{Query}
-use Rattle.beldi_walk.specs.declared.query.Query.TheVariants.{Act}
-use Rattle.beldi_walk.specs.Query.{Told, said}
-use Rattle.beldi_daal.specs.declared.cell.CellOp.TheVariants as op
-use Rattle.beldi_daal.specs.declared.cell.ReadGoes.{ReadGoes}
-use Rattle.beldi_daal.specs.declared.cell.ReadGoes.TheVariants as reads
-use Rattle.beldi_daal.specs.declared.cell.WriteAt.{WriteAt}
-use Rattle.beldi_daal.specs.declared.cell.WriteAt.TheVariants.{Try}
-use Rattle.beldi_daal.specs.declared.cell.WriteGoes.{WriteGoes}
-use Rattle.beldi_daal.specs.declared.cell.WriteGoes.TheVariants as writes
-use Rattle.beldi_daal.specs.Cell.{cell_key, shadow_key, read_goes, write_asks, write_goes}
-use Rattle.beldi_lock.specs.Last.{split_last}
-use Rattle.beldi_lock.specs.Lockset.{most, lockset_asks, lockset_found}
+use Rattle.beldi_value.specs.{declared.place.Place.Place, declared.place.TxId.TxId, declared.value.Value.Value, Id.has_callees, declared.place.Owner.Owner}
+use Rattle.beldi_row.specs.{declared.act.Act.TheVariants.Look, Act.added, Act.kept, declared.notes.Note.Note}
+use Rattle.beldi_walk.specs.{declared.query.Query.Query, declared.query.Query.TheVariants.Act, Query.Told, Query.said}
+use Rattle.beldi_daal.specs.{declared.cell.ReadGoes.ReadGoes, declared.cell.WriteAt.WriteAt, declared.cell.WriteAt.TheVariants.Try, declared.cell.WriteGoes.WriteGoes, Cell.cell_key, Cell.shadow_key, Cell.read_goes, Cell.write_asks, Cell.write_goes, declared.cell.CellOp.CellOp}
+use Rattle.beldi_lock.specs.{Last.split_last, Lockset.most, Lockset.lockset_asks, Lockset.lockset_found}
 use Rattle.beldi_readlog.specs.ReadLog.{keep_asks}
 use Rattle.beldi_intent.specs.Intent.{stamp_asks}
-use Rattle.beldi_value.specs.Id.{has_callees}
-use Rattle.beldi_txn.specs.Invokes.{invokes_asks, invokes_found}
-use Rattle.beldi_txn.specs.Way.{Member, member_at, is_owner}
-use Rattle.beldi_txn.specs.declared.way.Called.{Called}
-use Rattle.beldi_txn.specs.declared.end.EndAt.{EndAt}
-use Rattle.beldi_txn.specs.declared.end.EndAt.TheVariants.{Decide, Callees, Next, Shadow, Free, Stamp}
-use Rattle.beldi_txn.specs.declared.end.EndGoes.{EndGoes}
-use Rattle.beldi_txn.specs.declared.end.EndGoes.TheVariants as goes
-use Rattle.beldi_txn.specs.declared.end.EndSays.{EndSays}
-use Rattle.beldi_txn.specs.declared.end.EndSays.TheVariants as says
-use Rattle.beldi_txn.specs.declared.end.Visit.{Visit}
-use Rattle.beldi_txn.specs.declared.end_walk.EndWalk.{EndWalk}
+use Rattle.beldi_txn.specs.{Invokes.invokes_asks, Invokes.invokes_found, Way.Member, Way.member_at, Way.is_owner, declared.way.Called.Called, declared.end.EndAt.EndAt, declared.end.EndAt.TheVariants.Decide, declared.end.EndAt.TheVariants.Callees, declared.end.EndAt.TheVariants.Next, declared.end.EndAt.TheVariants.Shadow, declared.end.EndAt.TheVariants.Free, declared.end.EndAt.TheVariants.Stamp, declared.end.EndGoes.EndGoes, declared.end.EndSays.EndSays, declared.end.Visit.Visit, declared.end_walk.EndWalk.EndWalk}
 
 -- the places of the transaction's begin, and of its end
 abbrev pub begin_place : TxId → Place
@@ -73,11 +46,11 @@ shadow_asks x p (Some i) = Act (shadow_key p.1 x i.0 i.1) Look
 shadow_asks x p None = lockset_asks p.1 p.0 x.begin None
 
 abbrev pub free_asks : TxId → Member → Place → Option Value → WriteAt → Option (ℕ × List ℕ) → Query
-free_asks x p at v w (Some i) = write_asks (cell_key p.1 i.0 i.1) at (owner.Tx x) (op.Free v) w
+free_asks x p at v w (Some i) = write_asks (cell_key p.1 i.0 i.1) at (Owner.Tx x) (CellOp.Free v) w
 free_asks x p at v w None = lockset_asks p.1 p.0 x.begin None
 
 abbrev pub visit_asks : TxId → ℕ → Bool → List Called → Option ℕ → Option (ℕ × List ℕ) → Option Value → EndAt → Query
-visit_asks x end commit cs after i v Decide = keep_asks x.func (begin_place x) (value.Bool commit)
+visit_asks x end commit cs after i v Decide = keep_asks x.func (begin_place x) (Value.Bool commit)
 visit_asks x end commit cs after i v Callees = let p = visited_by x cs in invokes_asks p.1 p.0 (calls_after x cs after)
 visit_asks x end commit cs after i v Next = let p = visited_by x cs in lockset_asks p.1 p.0 x.begin i
 visit_asks x end commit cs after i v Shadow = shadow_asks x (visited_by x cs) i
@@ -87,55 +60,55 @@ visit_asks x end commit cs after i v Stamp = let p = visited_by x cs in stamp_as
 -- ---- where it goes after it was told
 -- it stays at another decision than its own
 abbrev pub decided_by : Bool → Bool → EndGoes
-decided_by true true = goes.Decided false
-decided_by true false = goes.On Decide
-decided_by false true = goes.On Decide
-decided_by false false = goes.Decided false
+decided_by true true = EndGoes.Decided false
+decided_by true false = EndGoes.On Decide
+decided_by false true = EndGoes.On Decide
+decided_by false false = EndGoes.Decided false
 
 abbrev pub decide_goes : Bool → Told → EndGoes
-decide_goes commit (said added) = goes.Decided true
-decide_goes commit (said (kept (value.Bool b))) = decided_by commit b
-decide_goes commit t = goes.On Decide
+decide_goes commit (said added) = EndGoes.Decided true
+decide_goes commit (said (kept (Value.Bool b))) = decided_by commit b
+decide_goes commit t = EndGoes.On Decide
 
 -- the callee of a call is visited next; a call of an intent whose callees have no id is passed over
 abbrev pub call_goes : Bool → List Called → Called → EndGoes
-call_goes true cs c = goes.Callee (cs ++ c ∷ [])
-call_goes false cs c = goes.Passed c.step
+call_goes true cs c = EndGoes.Callee (cs ++ c ∷ [])
+call_goes false cs c = EndGoes.Passed c.step
 
 -- after the last call come the locks
 abbrev pub calls_goes : ℕ → Member → List Called → Option Called → EndGoes
-calls_goes end p cs None = goes.On Next
-calls_goes end p cs (Some c) = if counts end cs c then call_goes (has_callees p.0) cs c else goes.On Next
+calls_goes end p cs None = EndGoes.On Next
+calls_goes end p cs (Some c) = if counts end cs c then call_goes (has_callees p.0) cs c else EndGoes.On Next
 
 -- after the last lock the owner is done, and a participant is stamped
 abbrev pub last_goes : Bool → EndGoes
-last_goes true = goes.Done
-last_goes false = goes.On Stamp
+last_goes true = EndGoes.Done
+last_goes false = EndGoes.On Stamp
 
 abbrev pub next_goes : List Called → Option (ℕ × List ℕ) → EndGoes
 next_goes cs None = last_goes (is_owner cs)
-next_goes cs (Some i) = goes.Item i.0 i.1
+next_goes cs (Some i) = EndGoes.Item i.0 i.1
 
 -- the item is given back with the shadow's value, if there is a shadow
 abbrev pub value_goes : ReadGoes → EndGoes
-value_goes reads.On = goes.On Shadow
-value_goes (reads.Got v) = goes.Value v
-value_goes (reads.Held o) = goes.On Shadow
+value_goes ReadGoes.On = EndGoes.On Shadow
+value_goes (ReadGoes.Got v) = EndGoes.Value v
+value_goes (ReadGoes.Held o) = EndGoes.On Shadow
 
 -- the next item comes once this one was given back, or is another's; a free waits for nobody
 abbrev pub freed_goes : WriteAt → WriteGoes → EndGoes
-freed_goes w (writes.On next) = goes.On (Free next)
-freed_goes w (writes.Done n first) = goes.On Next
-freed_goes w writes.NotOwner = goes.On Next
-freed_goes w (writes.Held o) = goes.On (Free w)
+freed_goes w (WriteGoes.On next) = EndGoes.On (Free next)
+freed_goes w (WriteGoes.Done n first) = EndGoes.On Next
+freed_goes w WriteGoes.NotOwner = EndGoes.On Next
+freed_goes w (WriteGoes.Held o) = EndGoes.On (Free w)
 
 abbrev pub end_goes : TxId → ℕ → Bool → List Called → EndAt → Told → EndGoes
 end_goes x end commit cs Decide t = decide_goes commit t
 end_goes x end commit cs Callees t = let p = visited_by x cs in calls_goes end p cs (invokes_found p.1 p.0 t)
 end_goes x end commit cs Next t = let p = visited_by x cs in next_goes cs (lockset_found p.1 p.0 x.begin t)
 end_goes x end commit cs Shadow t = value_goes (read_goes None t)
-end_goes x end commit cs (Free w) t = freed_goes w (write_goes note.Freed t)
-end_goes x end commit cs Stamp t = goes.Back
+end_goes x end commit cs (Free w) t = freed_goes w (write_goes Note.Freed t)
+end_goes x end commit cs Stamp t = EndGoes.Back
 
 -- ---- the way on
 -- a commit gives an item back with the shadow's value, so it looks at the shadow
@@ -153,24 +126,24 @@ back_from v None = v
 back_from v (Some s) = at_calls s.0 (Some s.1.step)
 
 abbrev pub moved : Bool → Visit → EndGoes → Visit
-moved commit v (goes.On a) = record v { at = a }
-moved commit v (goes.Decided first) = record v { at = Callees }
-moved commit v (goes.Passed s) = record v { after = Some s }
-moved commit v (goes.Callee cs) = at_calls cs None
-moved commit v (goes.Item t k) = record v { item = Some (t, k); value = None; at = free_first commit }
-moved commit v (goes.Value u) = record v { value = u; at = Free Try }
-moved commit v goes.Back = back_from v (split_last v.way)
-moved commit v goes.Done = v
+moved commit v (EndGoes.On a) = record v { at = a }
+moved commit v (EndGoes.Decided first) = record v { at = Callees }
+moved commit v (EndGoes.Passed s) = record v { after = Some s }
+moved commit v (EndGoes.Callee cs) = at_calls cs None
+moved commit v (EndGoes.Item t k) = record v { item = Some (t, k); value = None; at = free_first commit }
+moved commit v (EndGoes.Value u) = record v { value = u; at = Free Try }
+moved commit v EndGoes.Back = back_from v (split_last v.way)
+moved commit v EndGoes.Done = v
 
 abbrev pub said_of : EndGoes → EndSays
-said_of (goes.On a) = says.Going
-said_of (goes.Decided first) = says.Decided first
-said_of (goes.Passed s) = says.Going
-said_of (goes.Callee cs) = says.Going
-said_of (goes.Item t k) = says.Going
-said_of (goes.Value u) = says.Going
-said_of goes.Back = says.Going
-said_of goes.Done = says.Done
+said_of (EndGoes.On a) = EndSays.Going
+said_of (EndGoes.Decided first) = EndSays.Decided first
+said_of (EndGoes.Passed s) = EndSays.Going
+said_of (EndGoes.Callee cs) = EndSays.Going
+said_of (EndGoes.Item t k) = EndSays.Going
+said_of (EndGoes.Value u) = EndSays.Going
+said_of EndGoes.Back = EndSays.Going
+said_of EndGoes.Done = EndSays.Done
 
 -- ---- the walk
 abbrev pub first_end : TxId → ℕ → Bool → EndWalk

@@ -1,19 +1,10 @@
 -- The rows of the calls of an intent, one after another.
 use Rattle.std.specs.Prelude.{◌≡◌, ℕ, ◌≤◌, ◌<◌, ◌==◌, ◌&&◌, Option, Some, None, if◌then◌else◌}
-use Rattle.std.specs.FinMap as map
 use Rattle.std.specs.Option.{option_map}
+use Rattle.std.specs.FinMap as map
 use Rattle.beldi_value.specs.declared.id.IntentId.{IntentId}
-use Rattle.beldi_row.specs.Key.{RowKey}
-use Rattle.beldi_row.specs.declared.key.Kind.{Kind}
-use Rattle.beldi_row.specs.declared.key.Kind.TheVariants as kinds
-use Rattle.beldi_row.specs.declared.row.InvokeRow.{InvokeRow}
-use Rattle.beldi_row.specs.declared.row.Row.{Row}
-use Rattle.beldi_row.specs.Log.{id_eq}
-use Rattle.beldi_row.specs.Table.{Rows}
-use Rattle.beldi_walk.specs.declared.query.Query.{Query}
-use Rattle.beldi_walk.specs.declared.query.Query.TheVariants.{After}
-use Rattle.beldi_walk.specs.Query.{Told, found}
-use Rattle.beldi_walk.specs.Walk.{Promises}
+use Rattle.beldi_row.specs.{Key.RowKey, declared.key.Kind.Kind, declared.row.InvokeRow.InvokeRow, declared.row.Row.Row, Log.id_eq, Table.Rows}
+use Rattle.beldi_walk.specs.{declared.query.Query.Query, declared.query.Query.TheVariants.After, Query.Told, Query.found, Walk.Promises}
 use Rattle.beldi_lock.specs.Lockset.{most, id_before, AreHops, AreFit}
 use Rattle.beldi_invokelog.specs.InvokeLog.{invoke_key, call_in}
 use Rattle.beldi_txn.specs.declared.way.Called.{Called}
@@ -40,7 +31,7 @@ func_called r = func_in (call_in (Some r))
 
 -- the call of a row, where it is one that the intent made
 abbrev pub call_of : ℕ → IntentId → RowKey → Kind → Row → Option Called
-call_of home id k (kinds.Invoke p) r = if id_eq p.intent id && (k.home == home) then Some (record { step = p.step; func = func_called r }) else None
+call_of home id k (Kind.Invoke p) r = if id_eq p.intent id && (k.home == home) then Some (record { step = p.step; func = func_called r }) else None
 call_of home id k kind r = None
 
 abbrev pub call_after : ℕ → IntentId → Option (RowKey × Row) → Option Called

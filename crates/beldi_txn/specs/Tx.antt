@@ -1,40 +1,15 @@
 -- An operation of a transaction on an item, as a machine that asks one thing a turn: it takes the lock of the item, and then works on
 -- the transaction's own copy of the item, its shadow.
 use Rattle.std.specs.Prelude.{ℕ, Bool, true, false, List, Option, Some, None}
-use Rattle.beldi_value.specs.declared.id.IntentId.{IntentId}
-use Rattle.beldi_value.specs.declared.place.Owner.TheVariants as owner
-use Rattle.beldi_value.specs.declared.place.Place.{Place}
-use Rattle.beldi_value.specs.declared.place.TxId.{TxId}
-use Rattle.beldi_value.specs.declared.value.Value.{Value}
-use Rattle.beldi_value.specs.declared.value.Value.TheVariants as value
-use Rattle.beldi_lang.specs.declared.effect.Effect.{Effect}
-use Rattle.beldi_lang.specs.declared.effect.Effect.TheVariants.{Read, Write, CondWrite}
-use Rattle.beldi_row.specs.declared.act.Act.TheVariants.{Look, MakeCell}
-use Rattle.beldi_row.specs.Key.{RowKey}
-use Rattle.beldi_row.specs.declared.notes.Note.{Note}
-use Rattle.beldi_row.specs.declared.notes.Note.TheVariants as note
-use Rattle.beldi_row.specs.Act.{absent, here, added, present, kept}
-use Rattle.beldi_walk.specs.declared.query.Query.{Query}
-use Rattle.beldi_walk.specs.declared.query.Query.TheVariants.{Act}
-use Rattle.beldi_walk.specs.Query.{Told, said}
-use Rattle.beldi_daal.specs.declared.cell.CellOp.{CellOp}
-use Rattle.beldi_daal.specs.declared.cell.CellOp.TheVariants as op
-use Rattle.beldi_daal.specs.declared.cell.ReadGoes.{ReadGoes}
-use Rattle.beldi_daal.specs.declared.cell.ReadGoes.TheVariants as reads
-use Rattle.beldi_daal.specs.declared.cell.WriteAt.{WriteAt}
-use Rattle.beldi_daal.specs.declared.cell.WriteAt.TheVariants.{Try}
-use Rattle.beldi_daal.specs.declared.cell.WriteGoes.{WriteGoes}
-use Rattle.beldi_daal.specs.declared.cell.WriteGoes.TheVariants as writes
-use Rattle.beldi_daal.specs.Cell.{cell_key, shadow_key, read_goes, write_asks, write_goes}
-use Rattle.beldi_lock.specs.declared.lock.LockAt.TheVariants.{Lockset}
-use Rattle.beldi_lock.specs.declared.lock.LockGoes.{LockGoes}
-use Rattle.beldi_lock.specs.declared.lock.LockGoes.TheVariants as locks
-use Rattle.beldi_lock.specs.Lock.{asks_at, lock_goes}
+use Rattle.beldi_value.specs.declared.{id.IntentId.IntentId, place.Place.Place, place.TxId.TxId, value.Value.Value, place.Owner.Owner}
+use Rattle.beldi_lang.specs.declared.effect.Effect.{Effect, TheVariants.Read, TheVariants.Write, TheVariants.CondWrite}
+use Rattle.beldi_row.specs.{declared.act.Act.TheVariants.Look, declared.act.Act.TheVariants.MakeCell, Key.RowKey, declared.notes.Note.Note, Act.absent, Act.here, Act.added, Act.present, Act.kept}
+use Rattle.beldi_walk.specs.{declared.query.Query.Query, declared.query.Query.TheVariants.Act, Query.Told, Query.said}
+use Rattle.beldi_daal.specs.{declared.cell.CellOp.CellOp, declared.cell.ReadGoes.ReadGoes, declared.cell.WriteAt.WriteAt, declared.cell.WriteAt.TheVariants.Try, declared.cell.WriteGoes.WriteGoes, Cell.cell_key, Cell.shadow_key, Cell.read_goes, Cell.write_asks, Cell.write_goes}
+use Rattle.beldi_lock.specs.{declared.lock.LockAt.TheVariants.Lockset, declared.lock.LockGoes.LockGoes, Lock.asks_at, Lock.lock_goes}
 use Rattle.beldi_readlog.specs.ReadLog.{given_asks, given_of, keep_asks}
-use Rattle.beldi_txn.specs.declared.tx.TxAt.{TxAt}
-use Rattle.beldi_txn.specs.declared.tx.TxAt.TheVariants as at
-use Rattle.beldi_txn.specs.declared.tx.TxGoes.{TxGoes}
 use Rattle.beldi_txn.specs.declared.tx.TxGoes.TheVariants.{On, Stays, Put, Died, Held, Value as Gives, Done}
+use Rattle.beldi_txn.specs.declared.tx.{TxAt.TxAt, TxGoes.TxGoes}
 
 -- ---- the operation
 abbrev pub is_operation : Effect → Bool
@@ -52,33 +27,33 @@ item_of e = None
 
 -- what it does to the shadow, and the note that it leaves where its act says that it was done
 abbrev pub op_of : Effect → Option CellOp
-op_of (Write t k v) = Some (op.Write v)
-op_of (CondWrite t k r o v) = Some (op.Cond r o v)
+op_of (Write t k v) = Some (CellOp.Write v)
+op_of (CondWrite t k r o v) = Some (CellOp.Cond r o v)
 op_of e = None
 
 abbrev pub done_of : Effect → Note
-done_of (CondWrite t k r o v) = note.Cond true
-done_of e = note.Wrote
+done_of (CondWrite t k r o v) = Note.Cond true
+done_of e = Note.Wrote
 
 -- where it begins: a read, with what was kept for it; another, with the row that says that the lock is asked for
 abbrev pub tx_first : ℕ → Effect → TxAt
-tx_first begin (Read t k) = at.Log
-tx_first begin e = at.Lock (Lockset begin)
+tx_first begin (Read t k) = TxAt.Log
+tx_first begin e = TxAt.Lock (Lockset begin)
 
 -- ---- what it asks
 -- of the shadow, where it writes; what was kept, where it does not
 abbrev pub aside_asks : ℕ → Place → TxId → RowKey → WriteAt → Option CellOp → Query
-aside_asks home p x k w (Some o) = write_asks k p (owner.Tx x) o w
+aside_asks home p x k w (Some o) = write_asks k p (Owner.Tx x) o w
 aside_asks home p x k w None = given_asks home p
 
 abbrev pub item_asks : ℕ → Place → TxId → Effect → ℕ → List ℕ → TxAt → Query
-item_asks home p x e t k at.Log = given_asks home p
-item_asks home p x e t k (at.Lock l) = asks_at home t k p (owner.Tx x) l
-item_asks home p x e t k at.Shadow = Act (shadow_key home x t k) Look
-item_asks home p x e t k at.Item = Act (cell_key home t k) Look
-item_asks home p x e t k (at.Keep v) = keep_asks home p v
-item_asks home p x e t k (at.Head v) = Act (shadow_key home x t k) (MakeCell v None)
-item_asks home p x e t k (at.Write w) = aside_asks home p x (shadow_key home x t k) w (op_of e)
+item_asks home p x e t k TxAt.Log = given_asks home p
+item_asks home p x e t k (TxAt.Lock l) = asks_at home t k p (Owner.Tx x) l
+item_asks home p x e t k TxAt.Shadow = Act (shadow_key home x t k) Look
+item_asks home p x e t k TxAt.Item = Act (cell_key home t k) Look
+item_asks home p x e t k (TxAt.Keep v) = keep_asks home p v
+item_asks home p x e t k (TxAt.Head v) = Act (shadow_key home x t k) (MakeCell v None)
+item_asks home p x e t k (TxAt.Write w) = aside_asks home p x (shadow_key home x t k) w (op_of e)
 
 abbrev pub asks_of : ℕ → Place → TxId → Effect → TxAt → Option (ℕ × List ℕ) → Query
 asks_of home p x e a (Some i) = item_asks home p x e i.0 i.1 a
@@ -91,13 +66,13 @@ tx_asks home p x e a = asks_of home p x e a (item_of e)
 -- the value that was kept is the answer; without one the lock is asked for
 abbrev pub given_goes : ℕ → Option Value → TxGoes
 given_goes begin (Some v) = Gives v
-given_goes begin None = On (at.Lock (Lockset begin))
+given_goes begin None = On (TxAt.Lock (Lockset begin))
 
 -- once the place has the lock, the shadow comes next
 abbrev pub locked_goes : Effect → TxGoes
-locked_goes (Read t k) = On at.Shadow
-locked_goes (Write t k v) = On (at.Write Try)
-locked_goes (CondWrite t k r o v) = On at.Shadow
+locked_goes (Read t k) = On TxAt.Shadow
+locked_goes (Write t k v) = On (TxAt.Write Try)
+locked_goes (CondWrite t k r o v) = On TxAt.Shadow
 locked_goes e = Stays
 
 -- a death ends the operation, with the place and the owner that it died of
@@ -105,22 +80,22 @@ abbrev pub died_goes : Place → IntentId → TxGoes
 died_goes p a = Died (record { place = p; holder = Some a })
 
 abbrev pub lock_leads : Place → Effect → LockGoes → TxGoes
-lock_leads p e (locks.On l) = On (at.Lock l)
-lock_leads p e (locks.Got first) = locked_goes e
-lock_leads p e (locks.Died a) = died_goes p a
-lock_leads p e (locks.Held o) = Held o
+lock_leads p e (LockGoes.On l) = On (TxAt.Lock l)
+lock_leads p e (LockGoes.Got first) = locked_goes e
+lock_leads p e (LockGoes.Died a) = died_goes p a
+lock_leads p e (LockGoes.Held o) = Held o
 
 -- a read takes the value of the shadow; without a shadow, the item's
 abbrev pub shadow_read : ReadGoes → TxGoes
-shadow_read reads.On = Stays
-shadow_read (reads.Got None) = On at.Item
-shadow_read (reads.Got (Some v)) = On (at.Keep v)
-shadow_read (reads.Held o) = Stays
+shadow_read ReadGoes.On = Stays
+shadow_read (ReadGoes.Got None) = On TxAt.Item
+shadow_read (ReadGoes.Got (Some v)) = On (TxAt.Keep v)
+shadow_read (ReadGoes.Held o) = Stays
 
 -- a condition is tested on the shadow; without one, one is made with the item's value
 abbrev pub head_goes : Told → TxGoes
-head_goes (said absent) = On at.Item
-head_goes (said (here r)) = On (at.Write Try)
+head_goes (said absent) = On TxAt.Item
+head_goes (said (here r)) = On (TxAt.Write Try)
 head_goes t = Stays
 
 abbrev pub shadow_goes : Effect → Told → TxGoes
@@ -129,47 +104,47 @@ shadow_goes (CondWrite t k r o v) s = head_goes s
 shadow_goes e s = Stays
 
 abbrev pub item_leads : Effect → Value → TxGoes
-item_leads (Read t k) v = On (at.Keep v)
-item_leads (CondWrite t k r o u) v = On (at.Head v)
+item_leads (Read t k) v = On (TxAt.Keep v)
+item_leads (CondWrite t k r o u) v = On (TxAt.Head v)
 item_leads e v = Stays
 
 -- an item without a row is null
 abbrev pub item_goes : Effect → ReadGoes → TxGoes
-item_goes e reads.On = Stays
-item_goes e (reads.Got None) = item_leads e value.Null
-item_goes e (reads.Got (Some v)) = item_leads e v
-item_goes e (reads.Held o) = Stays
+item_goes e ReadGoes.On = Stays
+item_goes e (ReadGoes.Got None) = item_leads e Value.Null
+item_goes e (ReadGoes.Got (Some v)) = item_leads e v
+item_goes e (ReadGoes.Held o) = Stays
 
 -- the kept value is the answer: this one, or the one that was there; a row of another kind reads as null
 abbrev pub keep_goes : Told → TxGoes
 keep_goes (said added) = Put
 keep_goes (said (kept v)) = Gives v
-keep_goes t = Gives value.Null
+keep_goes t = Gives Value.Null
 
 -- once the shadow is there, it is written
 abbrev pub head_made : Told → TxGoes
-head_made (said added) = On (at.Write Try)
-head_made (said present) = On (at.Write Try)
+head_made (said added) = On (TxAt.Write Try)
+head_made (said present) = On (TxAt.Write Try)
 head_made t = Stays
 
 -- the note of the place, read as the answer; the operation stays at a note of another kind
 abbrev pub note_goes : Effect → Note → TxGoes
-note_goes (Write t k v) note.Wrote = Done
-note_goes (CondWrite t k r o v) (note.Cond b) = Gives (value.Bool b)
+note_goes (Write t k v) Note.Wrote = Done
+note_goes (CondWrite t k r o v) (Note.Cond b) = Gives (Value.Bool b)
 note_goes e n = Stays
 
 -- nobody owns a shadow
 abbrev pub write_leads : Effect → WriteGoes → TxGoes
-write_leads e (writes.On w) = On (at.Write w)
-write_leads e (writes.Done n first) = note_goes e n
-write_leads e writes.NotOwner = Stays
-write_leads e (writes.Held o) = Stays
+write_leads e (WriteGoes.On w) = On (TxAt.Write w)
+write_leads e (WriteGoes.Done n first) = note_goes e n
+write_leads e WriteGoes.NotOwner = Stays
+write_leads e (WriteGoes.Held o) = Stays
 
 abbrev pub tx_goes : Place → ℕ → Effect → TxAt → Told → TxGoes
-tx_goes p begin e at.Log t = given_goes begin (given_of t)
-tx_goes p begin e (at.Lock l) t = lock_leads p e (lock_goes l t)
-tx_goes p begin e at.Shadow t = shadow_goes e t
-tx_goes p begin e at.Item t = item_goes e (read_goes None t)
-tx_goes p begin e (at.Keep v) t = keep_goes t
-tx_goes p begin e (at.Head v) t = head_made t
-tx_goes p begin e (at.Write w) t = write_leads e (write_goes (done_of e) t)
+tx_goes p begin e TxAt.Log t = given_goes begin (given_of t)
+tx_goes p begin e (TxAt.Lock l) t = lock_leads p e (lock_goes l t)
+tx_goes p begin e TxAt.Shadow t = shadow_goes e t
+tx_goes p begin e TxAt.Item t = item_goes e (read_goes None t)
+tx_goes p begin e (TxAt.Keep v) t = keep_goes t
+tx_goes p begin e (TxAt.Head v) t = head_made t
+tx_goes p begin e (TxAt.Write w) t = write_leads e (write_goes (done_of e) t)

@@ -1,60 +1,34 @@
 -- What a turn of an operation of a transaction leaves, and that what it answers is so of the rows.
 use Rattle.std.specs.Prelude.{◌≡◌, ◌⊎◌, ℕ, Bool, false, List, [], Option, Some, None, Ok}
-use Rattle.std.specs.FinMap as map
 use Rattle.std.specs.Ordering.{is_eq}
-use Rattle.beldi_value.specs.declared.id.IntentId.{IntentId}
-use Rattle.beldi_value.specs.declared.outcome.Cause.{Cause}
-use Rattle.beldi_value.specs.declared.place.Owner.{Owner}
-use Rattle.beldi_value.specs.declared.place.Owner.TheVariants as owner
-use Rattle.beldi_value.specs.declared.place.Place.{Place}
-use Rattle.beldi_value.specs.declared.place.TxId.{TxId}
-use Rattle.beldi_value.specs.declared.value.Value.{Value}
-use Rattle.beldi_value.specs.declared.value.Value.TheVariants as value
-use Rattle.beldi_lang.specs.declared.effect.Effect.{Effect}
-use Rattle.beldi_lang.specs.declared.effect.Effect.TheVariants.{Read, Write, CondWrite}
-use Rattle.beldi_row.specs.declared.notes.Note.TheVariants as note
-use Rattle.beldi_row.specs.declared.row.Row.{Row}
-use Rattle.beldi_row.specs.declared.row.Row.TheVariants as rows
-use Rattle.beldi_row.specs.Act.{other_owner}
-use Rattle.beldi_row.specs.Key.{RowKey, key_cmp}
-use Rattle.beldi_row.specs.Log.{note_at}
-use Rattle.beldi_row.specs.Table.{Rows, TableState, Tells}
-use Rattle.beldi_walk.specs.declared.query.Query.{Query}
-use Rattle.beldi_walk.specs.declared.query.Query.TheVariants.{Act, After}
-use Rattle.beldi_walk.specs.Walk.{Turned}
-use Rattle.beldi_daal.specs.declared.cell.CellOp.{CellOp}
-use Rattle.beldi_daal.specs.declared.cell.CellOp.TheVariants.{Lock}
-use Rattle.beldi_daal.specs.Cell.{cell_key, shadow_key}
-use Rattle.beldi_daal.specs.Content.{Content, content_in, SoundAt}
-use Rattle.beldi_daal.specs.Logged.{waited, dies, done_to, DidAs}
+use Rattle.std.specs.FinMap as map
+use Rattle.beldi_value.specs.declared.{id.IntentId.IntentId, outcome.Cause.Cause, place.Owner.Owner, place.Place.Place, place.TxId.TxId, value.Value.Value}
+use Rattle.beldi_lang.specs.declared.effect.Effect.{Effect, TheVariants.Read, TheVariants.Write, TheVariants.CondWrite}
+use Rattle.beldi_row.specs.{declared.row.Row.Row, Act.other_owner, Key.RowKey, Key.key_cmp, Log.note_at, Table.Rows, Table.TableState, Table.Tells, declared.notes.Note.Note}
+use Rattle.beldi_walk.specs.{declared.query.Query.Query, declared.query.Query.TheVariants.Act, declared.query.Query.TheVariants.After, Walk.Turned}
+use Rattle.beldi_daal.specs.{declared.cell.CellOp.CellOp, declared.cell.CellOp.TheVariants.Lock, Cell.cell_key, Cell.shadow_key, Content.Content, Content.content_in, Content.SoundAt, Logged.waited, Logged.dies, Logged.done_to, Logged.DidAs}
 use Rattle.beldi_readlog.specs.ReadLog.{log_key, given}
-use Rattle.beldi_txn.specs.declared.tx.TxAt.{TxAt}
-use Rattle.beldi_txn.specs.declared.tx.TxAt.TheVariants as at
-use Rattle.beldi_txn.specs.declared.tx.TxSays.{TxSays}
-use Rattle.beldi_txn.specs.declared.tx.TxSays.TheVariants as says
-use Rattle.beldi_txn.specs.declared.tx_walk.TxWalk.{TxWalk}
-use Rattle.beldi_txn.specs.Tx.{item_of, op_of}
-use Rattle.beldi_txn.specs.TxWalk.{first_tx, walk_asks, walk_next, walk_says}
+use Rattle.beldi_txn.specs.{declared.tx.TxAt.TxAt, declared.tx.TxSays.TxSays, declared.tx_walk.TxWalk.TxWalk, Tx.item_of, Tx.op_of, TxWalk.first_tx, TxWalk.walk_asks, TxWalk.walk_next, TxWalk.walk_says}
 
 -- ---- where an operation may stand
 -- each has stages of its own
 abbrev pub Fits : Effect → TxAt → Type 0
-Fits (Read t k) (at.Head v) = ⊥
-Fits (Read t k) (at.Write w) = ⊥
+Fits (Read t k) (TxAt.Head v) = ⊥
+Fits (Read t k) (TxAt.Write w) = ⊥
 Fits (Read t k) a = Unit {0}
-Fits (Write t k v) (at.Lock l) = Unit {0}
-Fits (Write t k v) (at.Write w) = Unit {0}
+Fits (Write t k v) (TxAt.Lock l) = Unit {0}
+Fits (Write t k v) (TxAt.Write w) = Unit {0}
 Fits (Write t k v) a = ⊥
-Fits (CondWrite t k r o v) at.Log = ⊥
-Fits (CondWrite t k r o v) (at.Keep u) = ⊥
+Fits (CondWrite t k r o v) TxAt.Log = ⊥
+Fits (CondWrite t k r o v) (TxAt.Keep u) = ⊥
 Fits (CondWrite t k r o v) a = Unit {0}
 Fits e a = ⊥
 
 -- past its lock the place has it
 abbrev pub HasLock : TxAt → Place → Content → Type 0
-HasLock at.Log p c = Unit {0}
-HasLock (at.Lock l) p c = Unit {0}
-HasLock a p c = note_at c.notes p ≡ Some note.Got
+HasLock TxAt.Log p c = Unit {0}
+HasLock (TxAt.Lock l) p c = Unit {0}
+HasLock a p c = note_at c.notes p ≡ Some Note.Got
 
 -- the rows of its item and of the transaction's shadow of it, by table and key
 abbrev pub item_key : TxWalk → ℕ → List ℕ → RowKey
@@ -81,7 +55,7 @@ abbrev pub LockMoves : Place → Owner → Content → Content → Type 0
 LockMoves p who c d = (d ≡ c) ⊎ ((note_at c.notes p ≡ None) × DidAs p who Lock (dies who Lock c.owner) c d)
 
 abbrev pub ItemMoves : TxAt → Place → Owner → Content → Content → Type 0
-ItemMoves (at.Lock l) p who c d = LockMoves p who c d
+ItemMoves (TxAt.Lock l) p who c d = LockMoves p who c d
 ItemMoves a p who c d = d ≡ c
 
 -- the shadow changes only by this operation, where the place had no note ..
@@ -91,55 +65,55 @@ AsideMoves (Some o) p who c d = (d ≡ c) ⊎ ((note_at c.notes p ≡ None) × (
 
 -- .. or by a first row, with the value that was found and no notes
 abbrev pub ShadowMoves : Effect → TxAt → Place → Owner → Option Row → Option Row → Type 0
-ShadowMoves e (at.Head v) p who r s = (s ≡ r) ⊎ ((r ≡ None) × (content_in s ≡ record { value = v; owner = None; notes = [] }))
-ShadowMoves e (at.Write w) p who r s = AsideMoves (op_of e) p who (content_in r) (content_in s)
+ShadowMoves e (TxAt.Head v) p who r s = (s ≡ r) ⊎ ((r ≡ None) × (content_in s ≡ record { value = v; owner = None; notes = [] }))
+ShadowMoves e (TxAt.Write w) p who r s = AsideMoves (op_of e) p who (content_in r) (content_in s)
 ShadowMoves e a p who r s = s ≡ r
 
 -- a read and a condition find the shadow's value, or, where there is no shadow, the item's: by where the operation stood, where it
 -- stands then, and the rows of the shadow and of the item
 abbrev pub shadow_value : Option Row → Option Value
-shadow_value (Some (rows.Cell c)) = Some c.value
+shadow_value (Some (Row.Cell c)) = Some c.value
 shadow_value r = None
 
 abbrev pub Finds : TxAt → TxAt → Option Row → Option Row → Type 0
-Finds at.Shadow (at.Keep v) r s = shadow_value r ≡ Some v
-Finds at.Shadow at.Item r s = r ≡ None
-Finds at.Item (at.Keep v) r s = v ≡ (content_in s).value
-Finds at.Item (at.Head v) r s = v ≡ (content_in s).value
+Finds TxAt.Shadow (TxAt.Keep v) r s = shadow_value r ≡ Some v
+Finds TxAt.Shadow TxAt.Item r s = r ≡ None
+Finds TxAt.Item (TxAt.Keep v) r s = v ≡ (content_in s).value
+Finds TxAt.Item (TxAt.Head v) r s = v ≡ (content_in s).value
 Finds a b r s = Unit {0}
 
 -- ---- what is said
 -- it died of the owner in the cause
 abbrev pub HasDied : Place → Cause → Content → Type 0
-HasDied p a c = (h : IntentId) × (a ≡ record { place = p; holder = Some h }) × (note_at c.notes p ≡ Some (note.Died h))
+HasDied p a c = (h : IntentId) × (a ≡ record { place = p; holder = Some h }) × (note_at c.notes p ≡ Some (Note.Died h))
 
 -- the value is the one that was kept for the read, or whether the condition was noted as passed
 abbrev pub Gave : Effect → Place → Value → Option Value → Content → Type 0
 Gave (Read t k) p v g d = g ≡ Some v
-Gave (CondWrite t k r o u) p v g d = (b : Bool) × (v ≡ value.Bool b) × (note_at d.notes p ≡ Some (note.Cond b))
+Gave (CondWrite t k r o u) p v g d = (b : Bool) × (v ≡ Value.Bool b) × (note_at d.notes p ≡ Some (Note.Cond b))
 Gave e p v g d = ⊥
 
 abbrev pub WasDone : Effect → Place → Content → Type 0
-WasDone (Write t k v) p d = note_at d.notes p ≡ Some note.Wrote
+WasDone (Write t k v) p d = note_at d.notes p ≡ Some Note.Wrote
 WasDone e p d = ⊥
 
 -- by what was kept for the place, and the contents of the item and of the shadow, after the turn
 abbrev pub IsSo : Effect → Place → Owner → TxSays → Option Value → Content → Content → Type 0
-IsSo e p who says.Going g c d = Unit {0}
-IsSo e p who (says.Died a) g c d = HasDied p a c
-IsSo e p who (says.Held o) g c d = (note_at c.notes p ≡ None) × (waited who (other_owner who c.owner) ≡ Some o)
-IsSo e p who says.Worn g c d = ⊥
-IsSo e p who (says.Value v) g c d = Gave e p v g d
-IsSo e p who says.Done g c d = WasDone e p d
+IsSo e p who TxSays.Going g c d = Unit {0}
+IsSo e p who (TxSays.Died a) g c d = HasDied p a c
+IsSo e p who (TxSays.Held o) g c d = (note_at c.notes p ≡ None) × (waited who (other_owner who c.owner) ≡ Some o)
+IsSo e p who TxSays.Worn g c d = ⊥
+IsSo e p who (TxSays.Value v) g c d = Gave e p v g d
+IsSo e p who TxSays.Done g c d = WasDone e p d
 
 pub record TxTurn (w x : TxWalk) (t : ℕ) (k : List ℕ) (m n : Rows) (s : TxSays) : Type 0 where
   -- every row but the one that it asks for is as before
   pub others : (q : RowKey) → is_eq (key_cmp q (key_asked (walk_asks w))) ≡ false → map.get n q ≡ map.get m q
-  pub item : ItemMoves w.at w.place (owner.Tx w.tx) (content_in (map.get m (item_key w t k))) (content_in (map.get n (item_key w t k)))
-  pub shadow : ShadowMoves w.effect w.at w.place (owner.Tx w.tx) (map.get m (aside_key w t k)) (map.get n (aside_key w t k))
+  pub item : ItemMoves w.at w.place (Owner.Tx w.tx) (content_in (map.get m (item_key w t k))) (content_in (map.get n (item_key w t k)))
+  pub shadow : ShadowMoves w.effect w.at w.place (Owner.Tx w.tx) (map.get m (aside_key w t k)) (map.get n (aside_key w t k))
   pub finds : Finds w.at x.at (map.get m (aside_key w t k)) (map.get m (item_key w t k))
   -- what it says is so
-  pub so : IsSo w.effect w.place (owner.Tx w.tx) s (given n (log_key w.home w.place)) (content_in (map.get n (item_key w t k))) (content_in (map.get n (aside_key w t k)))
+  pub so : IsSo w.effect w.place (Owner.Tx w.tx) s (given n (log_key w.home w.place)) (content_in (map.get n (item_key w t k))) (content_in (map.get n (aside_key w t k)))
   -- it goes on in the same operation, from where it may stand
   pub same : x ≡ record w { at = x.at }
   pub stands : Stands x t k n

@@ -1,44 +1,17 @@
 -- What the end of a transaction leaves, and that at its end no item that the transaction asked the lock of is its own any more, and each
 -- of its participants has its finish.
 use Rattle.std.specs.Prelude.{◌≡◌, ◌⊎◌, ◌≤◌, ◌<◌, ℕ, Bool, true, false, List, [], ◌∷◌, Option, Some, None, is_some, Ok}
+use Rattle.std.specs.{Option.option_map, Ordering.is_eq, declared.cmp.Ordering.TheVariants.Less}
 use Rattle.std.specs.FinMap as map
-use Rattle.std.specs.Option.{option_map}
-use Rattle.std.specs.Ordering.{is_eq}
-use Rattle.std.specs.declared.cmp.Ordering.TheVariants.{Less}
-use Rattle.beldi_value.specs.declared.place.Owner.{Owner}
-use Rattle.beldi_value.specs.declared.place.Owner.TheVariants as owner
-use Rattle.beldi_value.specs.declared.place.Place.{Place}
-use Rattle.beldi_value.specs.declared.place.TxId.{TxId}
-use Rattle.beldi_value.specs.declared.value.Value.{Value}
-use Rattle.beldi_value.specs.declared.value.Value.TheVariants as value
-use Rattle.beldi_row.specs.declared.notes.Note.{Note}
-use Rattle.beldi_row.specs.declared.row.IntentRow.{IntentRow}
-use Rattle.beldi_row.specs.declared.row.Row.{Row}
-use Rattle.beldi_row.specs.declared.row.Row.TheVariants as rows
-use Rattle.beldi_row.specs.Act.{owns}
-use Rattle.beldi_row.specs.Key.{RowKey, key_cmp}
-use Rattle.beldi_row.specs.Log.{note_at}
-use Rattle.beldi_row.specs.Table.{Rows, TableState, Tells}
+use Rattle.beldi_value.specs.{declared.place.Owner.Owner, declared.place.Place.Place, declared.place.TxId.TxId, declared.value.Value.Value, Id.has_callees}
+use Rattle.beldi_row.specs.{declared.notes.Note.Note, declared.row.IntentRow.IntentRow, declared.row.Row.Row, Act.owns, Key.RowKey, Key.key_cmp, Log.note_at, Table.Rows, Table.TableState, Table.Tells}
 use Rattle.beldi_walk.specs.Walk.{Turned}
-use Rattle.beldi_daal.specs.declared.cell.CellOp.TheVariants.{Free as FreeOp}
-use Rattle.beldi_daal.specs.Cell.{cell_key, shadow_key}
-use Rattle.beldi_daal.specs.Content.{Content, content_in, SoundAt}
-use Rattle.beldi_daal.specs.Logged.{done_to}
-use Rattle.beldi_lock.specs.Lock.{lockset_key}
-use Rattle.beldi_lock.specs.Lockset.{AreHops, AreFit}
+use Rattle.beldi_daal.specs.{declared.cell.CellOp.TheVariants.Free as FreeOp, Cell.cell_key, Cell.shadow_key, Content.Content, Content.content_in, Content.SoundAt, Logged.done_to}
+use Rattle.beldi_lock.specs.{Lock.lockset_key, Lockset.AreHops, Lockset.AreFit}
 use Rattle.beldi_readlog.specs.ReadLog.{log_key}
 use Rattle.beldi_intent.specs.Intent.{intent_key}
-use Rattle.beldi_value.specs.Id.{has_callees}
-use Rattle.beldi_txn.specs.declared.way.Called.{Called}
-use Rattle.beldi_txn.specs.Invokes.{call_key, func_called}
-use Rattle.beldi_txn.specs.Way.{Member, callee_of, is_owner}
-use Rattle.beldi_txn.specs.declared.end.EndAt.{EndAt}
-use Rattle.beldi_txn.specs.declared.end.EndAt.TheVariants.{Decide, Callees, Next, Shadow, Free, Stamp}
-use Rattle.beldi_txn.specs.declared.end.EndSays.{EndSays}
-use Rattle.beldi_txn.specs.declared.end.EndSays.TheVariants as says
-use Rattle.beldi_txn.specs.declared.end_walk.EndWalk.{EndWalk}
 use Rattle.beldi_txn.specs.End.{begin_place, visited_by, free_place, first_end, walk_asks, walk_next, walk_says}
-use Rattle.beldi_txn.specs.TxTurn.{key_asked, shadow_value}
+use Rattle.beldi_txn.specs.{declared.way.Called.Called, Invokes.call_key, Invokes.func_called, Way.Member, Way.callee_of, Way.is_owner, declared.end.EndAt.EndAt, declared.end.EndAt.TheVariants.Decide, declared.end.EndAt.TheVariants.Callees, declared.end.EndAt.TheVariants.Next, declared.end.EndAt.TheVariants.Shadow, declared.end.EndAt.TheVariants.Free, declared.end.EndAt.TheVariants.Stamp, declared.end.EndSays.EndSays, declared.end_walk.EndWalk.EndWalk, TxTurn.key_asked, TxTurn.shadow_value}
 
 -- ---- the rows: the decision, and by its table and key an item of a function, the transaction's shadow of it, and that a member asked
 -- for its lock
@@ -59,11 +32,11 @@ item_in f m i = content_in (map.get m (item_row f i))
 
 -- the transaction owns an item with this content
 abbrev pub is_own : EndWalk → Content → Bool
-is_own w c = owns (owner.Tx w.tx) c.owner
+is_own w c = owns (Owner.Tx w.tx) c.owner
 
 -- the decision is kept
 abbrev pub IsDecided : EndWalk → Rows → Type 0
-IsDecided w m = map.get m (decision_row w) ≡ Some (rows.ReadLog (value.Bool w.commit))
+IsDecided w m = map.get m (decision_row w) ≡ Some (Row.ReadLog (Value.Bool w.commit))
 
 -- the value that an item is given back with: that of the shadow, none where there is none; and none at an abort
 abbrev pub given_value : Bool → Option Row → Option Value
@@ -100,7 +73,7 @@ IsMember w m cs = StartsWithin w cs × IsWay m (owner_of w) cs
 
 -- the row of a participant has its finish, or is absent
 abbrev pub row_closed : Option Row → Bool
-row_closed (Some (rows.Intent i)) = is_some i.finish
+row_closed (Some (Row.Intent i)) = is_some i.finish
 row_closed r = true
 
 abbrev pub is_closed : Rows → Member → Bool
@@ -210,11 +183,11 @@ pub record AllReleased (w : EndWalk) (m : Rows) : Type 0 where
 -- ---- a turn of its own
 -- the decision is put once; the end stays at another decision than its own
 abbrev pub Decides : EndSays → Value → Option Row → Option Row → Type 0
-Decides (says.Decided true) v r s = (r ≡ None) × (s ≡ Some (rows.ReadLog v))
-Decides (says.Decided false) v r s = (r ≡ Some (rows.ReadLog v)) × (s ≡ r)
-Decides says.Going v r s = (r ≡ Some (rows.ReadLog v) → ⊥) × (s ≡ r)
-Decides says.Worn v r s = ⊥
-Decides says.Done v r s = ⊥
+Decides (EndSays.Decided true) v r s = (r ≡ None) × (s ≡ Some (Row.ReadLog v))
+Decides (EndSays.Decided false) v r s = (r ≡ Some (Row.ReadLog v)) × (s ≡ r)
+Decides EndSays.Going v r s = (r ≡ Some (Row.ReadLog v) → ⊥) × (s ≡ r)
+Decides EndSays.Worn v r s = ⊥
+Decides EndSays.Done v r s = ⊥
 
 -- an item that is the transaction's is given back, where its place has no note; any other stands
 abbrev pub Frees : Place → Owner → Option Value → Content → Content → Type 0
@@ -223,17 +196,17 @@ Frees p who v c d = (d ≡ c) ⊎ ((note_at c.notes p ≡ None) × (owns who c.o
 -- a participant gets its finish, where it is there and has none
 pub record GetsFinish (r s : Option Row) : Type 0 where
   pub intent : IntentRow
-  pub before : r ≡ Some (rows.Intent intent)
+  pub before : r ≡ Some (Row.Intent intent)
   pub none : intent.finish ≡ None
   pub finish : ℕ
-  pub now : s ≡ Some (rows.Intent (record intent { finish = Some finish }))
+  pub now : s ≡ Some (Row.Intent (record intent { finish = Some finish }))
 
 abbrev pub Stamps : Option Row → Option Row → Type 0
 Stamps r s = ((s ≡ r) × (row_closed r ≡ true)) ⊎ GetsFinish r s
 
 abbrev pub LeftAt : EndAt → EndWalk → Option (ℕ × List ℕ) → EndSays → Rows → Rows → Type 0
-LeftAt Decide w i s m n = Decides s (value.Bool w.commit) (map.get m (decision_row w)) (map.get n (decision_row w))
-LeftAt (Free f) w (Some i) s m n = let h = (visited_by w.tx w.visit.way).1 in Frees (free_place w.tx w.end w.visit.way) (owner.Tx w.tx) w.visit.value (item_in h m i) (item_in h n i)
+LeftAt Decide w i s m n = Decides s (Value.Bool w.commit) (map.get m (decision_row w)) (map.get n (decision_row w))
+LeftAt (Free f) w (Some i) s m n = let h = (visited_by w.tx w.visit.way).1 in Frees (free_place w.tx w.end w.visit.way) (Owner.Tx w.tx) w.visit.value (item_in h m i) (item_in h n i)
 LeftAt Stamp w i s m n = let p = visited_by w.tx w.visit.way in Stamps (map.get m (intent_key p.0 p.1)) (map.get n (intent_key p.0 p.1))
 LeftAt a w i s m n = n ≡ m
 
@@ -243,7 +216,7 @@ pub record EndTurn (w x : EndWalk) (m n : Rows) (s : EndSays) : Type 0 where
   pub left : LeftAt w.visit.at w w.visit.item s m n
   pub same : x ≡ record w { visit = x.visit }
   pub visited : Visited x n
-  pub done : s ≡ says.Done → IsDecided w n × AllReleased w n
+  pub done : s ≡ EndSays.Done → IsDecided w n × AllReleased w n
 
 -- for every turn that says something, over every table that tells its rows
 abbrev pub EndsAreVisits : Type 0

@@ -1,7 +1,6 @@
 -- The calls on the way from the owner of a transaction to a participant, and the intent that they lead to.
 use Rattle.std.specs.Prelude.{ℕ, Bool, true, false, List, [], ◌∷◌, Option, Some, None, if◌then◌else◌}
-use Rattle.beldi_value.specs.declared.id.IntentId.{IntentId}
-use Rattle.beldi_value.specs.Id.{child_of, has_callees}
+use Rattle.beldi_value.specs.{declared.id.IntentId.IntentId, Id.child_of, Id.has_callees}
 use Rattle.beldi_txn.specs.declared.way.Called.{Called}
 
 -- an intent and its function

@@ -1,11 +1,5 @@
 -- Ages are a total order.
-use Rattle.std.proofs.Common.{◌≡◌, false, IsTrue, refl, ap, sym, ◌∙◌}
-use Rattle.std.specs.Ordering.{is_lt, ordering_reverse}
-use Rattle.std.specs.declared.cmp.Ordering.{Ordering}
-use Rattle.std.specs.declared.cmp.Ordering.TheVariants.{Less, Equal, Greater}
-use Rattle.std.proofs.lemmas.Cmp.{tied_itself}
-use Rattle.beldi_value.specs.declared.id.IntentId.{IntentId}
-use Rattle.beldi_value.specs.Id.{id_cmp, id_total, id_exact, is_older}
+use Rattle.beldi_value.proofs.Names.{Equal, Greater, IntentId, IsTrue, Less, Ordering, ap, false, id_cmp, id_exact, id_total, is_lt, is_older, ordering_reverse, refl, sym, tied_itself, ◌∙◌, ◌≡◌}
 
 less : (o : Ordering) → IsTrue (is_lt o) → o ≡ Less
 less Less h = refl

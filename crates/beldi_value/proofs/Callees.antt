@@ -1,7 +1,5 @@
 -- Ids of callees.
-use Rattle.std.proofs.Common.{◌≡◌, ℕ, false, List, [], ◌∷◌, ◌++◌, refl, ap}
-use Rattle.beldi_value.specs.Id.{child_of, has_no_hops}
-use Rattle.beldi_value.specs.declared.id.IntentId.{IntentId}
+use Rattle.beldi_value.proofs.Names.{IntentId, List, [], ap, child_of, false, has_no_hops, refl, ℕ, ◌++◌, ◌∷◌, ◌≡◌}
 
 last_same : (xs ys : List ℕ) (m n : ℕ) → xs ++ m ∷ [] ≡ ys ++ n ∷ [] → (xs ≡ ys) × (m ≡ n)
 last_same [] [] m n h = (refl, cc)

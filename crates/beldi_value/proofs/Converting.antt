@@ -1,21 +1,7 @@
 -- JSON is converted item by item, and member by member.
-use Rattle.std.proofs.Common.{◌≡◌, ℕ, List, [], ◌∷◌, ◌++◌, map, Option, None, Some, refl, ap, sym, ◌∙◌, string_bytes}
-use Rattle.std.specs.Prelude.{option_map, option_and_then, String}
-use Rattle.std.specs.declared.alloc.Global.{Global}
-use Rattle.std.specs.String.{string_cmp}
-use Rattle.std.specs.Map.{keys_of}
-use Rattle.std.specs.List.{AllByRecursion}
-use Rattle.std.specs.List.Sorted.{IsStrictlySortedBy}
-use Rattle.std.proofs.lemmas.Map.Keys.{sorted_head, sorted_tail}
-use Rattle.std.specs.declared.cmp.Ordering.TheVariants.{Less}
-use Rattle.serde_json.specs.Data as json
-use Rattle.beldi_value.specs.Datum.{Datum, Datums, no_items, item, Fields, no_fields, field, items_of, fields_of, IsRecord, IsAbove}
-use Rattle.beldi_value.specs.Json.{of_json, of_items, of_members}
-use Rattle.std.specs.Ordering.{nat_cmp}
-use Rattle.std.specs.Cmp.Lexicographic.{slice_cmp}
-use Rattle.beldi_value.specs.declared.convert.ConvertErr.{ConvertErr}
-use Rattle.beldi_value.specs.declared.convert.ConvertErr.TheVariants.{OutOfMemory, NotInt}
-use Rattle.beldi_value.specs.Convert.{Refuses}
+use Rattle.beldi_value.specs.declared.convert.ConvertErr.TheVariants.{NotInt}
+use Rattle.beldi_value.proofs.Names.{AllByRecursion, ConvertErr, Datum, Datums, Fields, Global, IsAbove, IsRecord, IsStrictlySortedBy, Less, List, None, Option, OutOfMemory, Refuses, Some, String, [], ap, field, fields_of, item, items_of, keys_of, map, nat_cmp, no_fields, no_items, of_items, of_json, of_members, option_and_then, option_map, refl, slice_cmp, sorted_head, sorted_tail, string_bytes, string_cmp, sym, ℕ, ◌++◌, ◌∙◌, ◌∷◌, ◌≡◌}
+use Rattle.beldi_value.proofs.Names.json
 
 -- these values, and then what is made of the rest
 abbrev pub onto_items : List Datum → Option Datums → Option Datums

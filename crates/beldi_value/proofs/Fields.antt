@@ -1,18 +1,7 @@
 -- Fields in the order of their keys.
-use Rattle.std.proofs.Common.{◌≡◌, ℕ, suc, ◌+◌, ◌<◌, List, [], ◌∷◌, ◌++◌, length, get_or, Ok, Err, take, drop, refl, ap, sym, ◌∙◌, subst, arith, add-one, append_assoc}
-use Prim.Native.Nat as Nat
-use Rattle.std.specs.Prelude.{slice_get, slice_set, Option, Some, None, option_map}
-use Rattle.std.specs.Ordering.{nat_cmp, ordering_reverse, match_ordering}
-use Rattle.std.specs.Cmp.Lexicographic.{slice_cmp}
-use Rattle.std.specs.declared.cmp.Ordering.{Ordering}
-use Rattle.std.specs.declared.cmp.Ordering.TheVariants.{Less, Equal, Greater}
-use Rattle.std.proofs.lemmas.Cmp.{nat_list_cmp_total}
-use Rattle.std.proofs.lemmas.Map.Lookups.{exact_bytes}
-use Rattle.beldi_value.specs.declared.value.Value.{Value}
-use Rattle.beldi_value.specs.Datum.{Datum, IsAbove, IsRecord}
-use Rattle.beldi_value.specs.Value.{datum_of, items_view, fields_view}
-use Rattle.beldi_value.specs.Injective.{value_of, value_back}
-use Rattle.beldi_value.specs.Parts.{set_field, IsPlace}
+use Rattle.std.specs.Prelude.{Option, Some, None}
+use Rattle.beldi_value.proofs.Names.{Datum, Equal, Err, Greater, IsAbove, IsPlace, IsRecord, Less, List, Ok, Ordering, Value, [], add-one, ap, append_assoc, arith, datum_of, drop, exact_bytes, fields_view, get_or, items_view, length, match_ordering, nat_cmp, nat_list_cmp_total, option_map, ordering_reverse, refl, set_field, slice_cmp, slice_get, slice_set, subst, suc, sym, take, value_back, value_of, ℕ, ◌++◌, ◌+◌, ◌<◌, ◌∙◌, ◌∷◌, ◌≡◌}
+use Rattle.beldi_value.proofs.Names.Nat
 
 abbrev key_cmp : List ℕ → List ℕ → Ordering
 key_cmp = slice_cmp nat_cmp

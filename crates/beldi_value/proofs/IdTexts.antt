@@ -1,19 +1,6 @@
 -- An id's text is read as the id, and no other text is.
-use Rattle.std.proofs.Common.{◌≡◌, ℕ, suc, ◌-◌, ◌^◌, ◌<◌, ◌≤◌, ◌==◌, true, false, List, [], ◌∷◌, ◌++◌, map, length, Option, Some, None, refl, ap, sym, ◌∙◌, arith, if◌then◌else◌, append-nil}
-use Rattle.std.specs.Prelude.{nat_lt, decimal, option_map, option_and_then}
-use Rattle.std.specs.List.{AllByRecursion}
-use Rattle.std.specs.Char.{is_ascii_digit}
-use Rattle.std.specs.Str.{all_ascii_digits}
-use Rattle.std.proofs.lemmas.Bool.Decides.{nat_tests}
-use Rattle.std.proofs.lemmas.Bool.{and_parts}
-use Rattle.std.proofs.lemmas.Fmt.{digits_decimal}
-use Rattle.std.proofs.lemmas.Option.{same_Some}
-use borrow.Author.Tests.{eqb-true}
-use Rattle.beldi_value.specs.declared.id.IntentId.{IntentId}
-use Rattle.beldi_value.specs.Text.{hops_text, id_text}
-use Rattle.beldi_value.specs.IdAt.{onto_first, parts_of, step_at, ticket_at, steps_at, hops_at, with_hops, id_from, id_at}
-use Rattle.beldi_value.proofs.Ints.{own, numeral_of, numeral_back}
-use Rattle.beldi_value.proofs.Slashes.{parts_cut}
+use Rattle.beldi_value.proofs.Names.{AllByRecursion, IntentId, List, None, Option, Some, [], all_ascii_digits, and_parts, ap, append-nil, arith, decimal, digits_decimal, eqb-true, false, hops_at, hops_text, id_at, id_from, id_text, if◌then◌else◌, is_ascii_digit, length, map, nat_lt, nat_tests, onto_first, option_and_then, option_map, parts_of, refl, same_Some, step_at, steps_at, suc, sym, ticket_at, true, with_hops, ℕ, ◌++◌, ◌-◌, ◌<◌, ◌==◌, ◌^◌, ◌∙◌, ◌∷◌, ◌≡◌, ◌≤◌}
+use Rattle.beldi_value.proofs.{Ints.own, Ints.numeral_of, Ints.numeral_back, Slashes.parts_cut}
 
 -- ---- from an id to its text, and back
 no_slash : (b : ℕ) → is_ascii_digit b ≡ true → (b == 47) ≡ false

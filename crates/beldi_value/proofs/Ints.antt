@@ -1,17 +1,7 @@
 -- The text of a whole number of 64 bits is read as it, and no other text is.
-use Rattle.std.proofs.Common.{◌≡◌, ℕ, suc, ◌-◌, ◌^◌, ◌<◌, ◌≤◌, ◌==◌, ℤ, pos, negsuc, Bool, true, false, ◌&&◌, List, [], ◌∷◌, length, get_or, Option, Some, None, refl, ap, sym, ◌∙◌, subst, arith, rules, if◌then◌else◌}
-use Prim.Native.Nat as Nat
-use Rattle.std.specs.Prelude.{nat_le, decimal, option_map, option_and_then}
-use Rattle.std.specs.Str.{all_ascii_digits}
-use Rattle.std.proofs.lemmas.Str.Parse.{IsNumeralModel, numerals_by_fold, digit_at}
-use Rattle.std.proofs.lemmas.Fmt.{digits_decimal, digits_value-decimal, decimal-digits_value, decimal_nonempty, decimal_digit, first_decimal}
-use Rattle.std.proofs.lemmas.Bool.Decides.{nat_tests}
-use borrow.Author.Tests.{leb-true, eqb-true}
-use lib.Signed.{mag}
-use Rattle.beldi_value.specs.Datum.{int}
-use Rattle.beldi_value.specs.Json.{text_of}
-use Rattle.beldi_value.specs.Number.{is_numeral, is_plain, read_on, number_at, numeral_at, negated, int_at}
+use Rattle.beldi_value.proofs.Names.{Bool, IsNumeralModel, List, None, Option, Some, [], all_ascii_digits, ap, arith, decimal, decimal-digits_value, decimal_digit, decimal_nonempty, digit_at, digits_decimal, digits_value-decimal, eqb-true, false, first_decimal, get_or, if◌then◌else◌, int, int_at, is_numeral, is_plain, leb-true, length, mag, nat_le, nat_tests, negated, negsuc, number_at, numeral_at, numerals_by_fold, option_and_then, option_map, pos, read_on, refl, rules, subst, suc, sym, text_of, true, ℕ, ℤ, ◌&&◌, ◌-◌, ◌<◌, ◌==◌, ◌^◌, ◌∙◌, ◌∷◌, ◌≡◌, ◌≤◌}
 use Rattle.beldi_value.proofs.Numbers.{all_read}
+use Rattle.beldi_value.proofs.Names.Nat
 
 pub own : IsNumeralModel (λ ds. all_ascii_digits ds ≡ true) (read_on 0)
 own = numerals_by_fold _ (search rules) read_on (search rules)

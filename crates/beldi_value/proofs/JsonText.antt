@@ -1,10 +1,7 @@
 -- What is read as JSON.
-use Rattle.std.proofs.Common.{◌≡◌, ℕ, true, false, List, Some, None, refl, ap, ◌∙◌, if◌then◌else◌}
-use Rattle.std.specs.Str.{IsUtf8, is_utf8}
-use Rattle.std.proofs.lemmas.Str.{IsUtf8-from_is_utf8, is_utf8-from_IsUtf8}
-use Rattle.serde_json.specs.Data.{Data}
-use Rattle.serde_json.specs.Read as serde
-use Rattle.beldi_value.specs.Reading.{json_at}
+use Rattle.std.specs.Str.{IsUtf8}
+use Rattle.beldi_value.proofs.Names.{Data, IsUtf8-from_is_utf8, List, None, Some, ap, false, if◌then◌else◌, is_utf8, is_utf8-from_IsUtf8, json_at, refl, true, ℕ, ◌∙◌, ◌≡◌}
+use Rattle.beldi_value.proofs.Names.serde
 
 pub json_read : (bytes : List ℕ) (d : Data) → IsUtf8 bytes → serde.read bytes ≡ Some d → json_at bytes ≡ Some d
 json_read bytes d utf8 e = ap (λ b. if b then serde.read bytes else None) (is_utf8-from_IsUtf8 bytes utf8) ∙ e

@@ -7,6 +7,7 @@ pub mod Ints
 pub mod JsonText
 pub mod Maps
 pub mod Marks
+mod Names
 pub mod Numbers
 pub mod ReadAgain
 pub mod Results

@@ -1,19 +1,5 @@
 -- The finite map that a map's entries make.
-use Rattle.std.proofs.Common.{◌≡◌, cond, List, [], ◌∷◌, None, Some, refl, ap, sym, ◌∙◌}
-use Rattle.std.specs.Map.{lookup, keys_of}
-use Rattle.std.proofs.lemmas.List.{nil_from_length}
-use Rattle.std.specs.BTreeMap.{is_at}
-use Rattle.std.specs.Cmp.{IsTotalOrder}
-use Rattle.std.proofs.lemmas.Cmp.{eq_by_cmp_equiv}
-use Rattle.std.proofs.lemmas.Map.Lookups.{CmpEqualImpliesEq}
-use Rattle.std.proofs.lemmas.Map.Keys.{sorted_head, sorted_tail}
-use Rattle.std.specs.List.Sorted.{IsStrictlySortedBy}
-use Rattle.std.specs.List.{AllByRecursion}
-use Rattle.std.specs.declared.cmp.Ordering.{Ordering}
-use Rattle.std.specs.declared.cmp.Ordering.TheVariants.{Less}
-use Rattle.std.specs.Ordering.{is_eq}
-use Rattle.std.specs.FinMap.Entries.{put, by_order}
-use Rattle.std.specs.FinMap.{empty, len-entries, len-empty, entries, entries-insert, from_entries, find, get, insert, remove, get-from_entries, get-insert, get-remove, same_map}
+use Rattle.beldi_value.proofs.Names.{AllByRecursion, CmpEqualImpliesEq, IsStrictlySortedBy, IsTotalOrder, Less, List, None, Ordering, Some, [], ap, by_order, cond, empty, entries, entries-insert, eq_by_cmp_equiv, find, from_entries, get, get-from_entries, get-insert, get-remove, insert, is_at, is_eq, keys_of, len-empty, len-entries, lookup, nil_from_length, put, refl, remove, same_map, sorted_head, sorted_tail, sym, ◌∙◌, ◌∷◌, ◌≡◌}
 
 module _ {K X : Type 0} {R : K → K → Ordering} (o : IsTotalOrder R) where
   find_lookup : (es : List (K × X)) (q : K) → find R q es ≡ lookup (is_at (R q)) es

@@ -1,13 +1,5 @@
 -- A text cut at its first mark, by the mark's place.
-use Rattle.std.proofs.Common.{◌≡◌, ℕ, suc, ◌+◌, ◌-◌, ◌<◌, ◌≤◌, ◌==◌, true, false, not, cond, List, [], ◌∷◌, length, take, drop, Some, None, refl, ap, sym, ◌∙◌, arith, if◌then◌else◌}
-use Rattle.std.specs.Prelude.{nat_lt}
-use Rattle.std.proofs.lemmas.List.{take_all}
-use Rattle.std.specs.List.{position, position_or_len}
-use Rattle.std.proofs.lemmas.Option.{cond_some}
-use Rattle.std.proofs.lemmas.Slice.{between_to_end}
-use Rattle.std.proofs.lemmas.Bool.Decides.{nat_tests}
-use borrow.Author.Tests.{ltb-true}
-use Rattle.beldi_value.specs.Cut.{before, after}
+use Rattle.beldi_value.proofs.Names.{List, None, Some, [], after, ap, arith, before, between_to_end, cond, cond_some, drop, false, if◌then◌else◌, length, ltb-true, nat_lt, nat_tests, not, position, position_or_len, refl, suc, sym, take, take_all, true, ℕ, ◌+◌, ◌-◌, ◌<◌, ◌==◌, ◌∙◌, ◌∷◌, ◌≡◌, ◌≤◌}
 
 -- how many bytes stand before the first mark
 abbrev place : ℕ → List ℕ → ℕ

@@ -1,10 +1,5 @@
 -- A number in decimal, digit by digit.
-use Rattle.std.proofs.Common.{◌≡◌, ℕ, ◌+◌, ◌-◌, ◌*◌, ◌<◌, ◌≤◌, ◌==◌, Bool, true, false, ◌&&◌, List, [], ◌∷◌, length, get_or, drop, drop-cons, Some, None, refl, ap, sym, ◌∙◌, arith, add-one, if◌then◌else◌}
-use Rattle.std.specs.Prelude.{nat_le}
-use borrow.Author.Tests.{leb-true}
-use Rattle.std.specs.Char.{is_ascii_digit}
-use Rattle.std.specs.Str.{all_ascii_digits}
-use Rattle.beldi_value.specs.Number.{is_numeral, read_on, number_at}
+use Rattle.beldi_value.proofs.Names.{Bool, List, None, Some, [], add-one, all_ascii_digits, ap, arith, drop, drop-cons, false, get_or, if◌then◌else◌, is_ascii_digit, is_numeral, leb-true, length, nat_le, number_at, read_on, refl, sym, true, ℕ, ◌&&◌, ◌*◌, ◌+◌, ◌-◌, ◌<◌, ◌==◌, ◌∙◌, ◌∷◌, ◌≡◌, ◌≤◌}
 
 grows : (n : ℕ) (bs : List ℕ) → n ≤ read_on n bs
 grows n [] = omega arith

@@ -1,34 +1,12 @@
 -- The canonical text of a value is read as that value.
-use Rattle.std.proofs.Common.{◌≡◌, ℕ, suc, ◌^◌, ◌<◌, ◌≤◌, max, ℤ, pos, negsuc, Bool, true, false, List, [], ◌∷◌, ◌++◌, Option, Some, None, refl, ap, ap₂, sym, ◌∙◌, arith, IsUtf8, append-nil, if◌then◌else◌, lt-ltb, leb-true}
-use Rattle.std.specs.Prelude.{nat_le, decimal, option_map, option_and_then, ok_or, Ok, Err}
-use Rattle.std.specs.Ordering.{nat_cmp, ordering_reverse, match_ordering}
-use Rattle.std.specs.declared.cmp.Ordering.TheVariants.{Less, Greater}
-use Rattle.std.specs.Cmp.Lexicographic.{slice_cmp, nat_list_cmp_total}
-use Rattle.std.proofs.lemmas.Str.{IsUtf8-append, IsUtf8-nil, is_utf8-from_IsUtf8, IsUtf8-from_ascii}
-use Rattle.std.proofs.lemmas.Fmt.{IsAscii-signed}
-use Rattle.std.proofs.lemmas.Bool.{and_parts}
-use lib.Signed.{mag}
-use Rattle.json.specs.Json as syntax
-use Rattle.json.specs.Tree as tree
-use Rattle.json.specs.Token.{Token}
-use Rattle.json.specs.Print.{quoted, IsNumber}
-use Rattle.json.specs.Lex.{tokens}
-use Rattle.json.proofs.Printed.Decimals.{IsNumber-signed_decimal}
-use Rattle.json.proofs.Printed.Tokens.{tokens-print}
-use Rattle.json.proofs.Printed.Trees.{value-json_tokens, ArePrintable-json_tokens}
-use Rattle.json.proofs.Printed.Utf8.{IsUtf8-are_ascii, IsUtf8-quoted, IsUtf8-boolean}
-use Rattle.serde_json.specs.Data as json
-use Rattle.serde_json.specs.Read as serde
-use Rattle.serde_json.specs.Written.{outline, items_outline, members_outline, number_text, comma_if, items_text, members_text}
-use Rattle.serde_json.proofs.Numbers.{number_of-decimal, number_of-negative}
-use Rattle.serde_json.proofs.Texts.{print-outline}
-use Rattle.beldi_value.specs.Datum.{Datum, null, boolean, int, text, list, fields, Datums, no_items, item, Fields, no_fields, field, IsAbove, IsRecord}
-use Rattle.beldi_value.specs.Injective.{pairs_of}
-use Rattle.beldi_value.specs.Formed.{IsFormed, AreFormed, HaveForm}
-use Rattle.beldi_value.specs.Limits.{depth_of, items_depth, fields_depth, text_size, most_depth, most_bytes}
-use Rattle.beldi_value.specs.Json.{number_of, json_of, json_items, json_fields, text_of, of_json, of_items, of_members, int_of}
-use Rattle.beldi_value.specs.declared.read.ValueErr.TheVariants.{NotJson, TooDeep, NotInt, TooLarge}
-use Rattle.beldi_value.specs.Reading.{◌>>=◌, json_at, if_shallow, if_small, IsReadAgain}
+use Rattle.std.specs.Prelude.{Ok, Err}
+use Rattle.std.specs.Cmp.Lexicographic.{nat_list_cmp_total}
+use Rattle.std.proofs.Common.{leb-true}
+use Rattle.beldi_value.proofs.Names.{AreFormed, ArePrintable-json_tokens, Bool, Datum, Datums, Fields, Greater, HaveForm, IsAbove, IsAscii-signed, IsFormed, IsNumber, IsNumber-signed_decimal, IsReadAgain, IsRecord, IsUtf8, IsUtf8-append, IsUtf8-are_ascii, IsUtf8-boolean, IsUtf8-from_ascii, IsUtf8-nil, IsUtf8-quoted, Less, List, None, NotInt, NotJson, Option, Some, Token, TooDeep, TooLarge, [], and_parts, ap, append-nil, ap₂, arith, boolean, comma_if, decimal, depth_of, false, field, fields, fields_depth, if_shallow, if_small, if◌then◌else◌, int, int_of, is_utf8-from_IsUtf8, item, items_depth, items_outline, items_text, json_at, json_fields, json_items, json_of, list, lt-ltb, mag, match_ordering, max, members_outline, members_text, most_bytes, most_depth, nat_cmp, nat_le, negsuc, no_fields, no_items, null, number_of, number_of-decimal, number_of-negative, number_text, of_items, of_json, of_members, ok_or, option_and_then, option_map, ordering_reverse, outline, pairs_of, pos, print-outline, quoted, refl, slice_cmp, suc, sym, text, text_of, text_size, tokens, tokens-print, true, value-json_tokens, ℕ, ℤ, ◌++◌, ◌<◌, ◌>>=◌, ◌^◌, ◌∙◌, ◌∷◌, ◌≡◌, ◌≤◌}
+use Rattle.beldi_value.proofs.Names.json
+use Rattle.beldi_value.proofs.Names.serde
+use Rattle.beldi_value.proofs.Names.syntax
+use Rattle.beldi_value.proofs.Names.tree
 
 -- ---- its text is UTF-8
 number_utf8 : (z : ℤ) → mag z < 2 ^ 63 → IsUtf8 (number_text (number_of z))

@@ -1,5 +1,5 @@
 -- A fact that holds whatever was answered.
-use Rattle.std.proofs.Common.{Result, Ok, Err, OnOk}
+use Rattle.beldi_value.proofs.Names.{Err, Ok, OnOk, Result}
 
 pub always : {A E : Type 0} (r : Result A E) (P : Type 0) → P → OnOk r P
 always (Ok x) P p = p

@@ -1,10 +1,6 @@
 -- An id's text cut at its slashes.
-use Rattle.std.proofs.Common.{◌≡◌, ℕ, ◌+◌, ◌<◌, ◌==◌, true, false, List, [], ◌∷◌, ◌++◌, length, Option, Some, None, refl, ap, ◌∙◌, sym, arith, if◌then◌else◌, append_assoc, lt-ltb}
-use Rattle.std.specs.Prelude.{nat_lt, option_map, option_and_then}
-use Rattle.beldi_value.specs.Cut.{before, after}
-use Rattle.beldi_value.specs.IdAt.{onto_first, parts_of, rest_parts, step_at, steps_at, hops_at, ticket_at, with_hops, id_from, RefusesId}
-use Rattle.beldi_value.specs.declared.read_id.IdErr.{IdErr}
-use Rattle.beldi_value.specs.declared.read_id.IdErr.TheVariants.{OutOfMemory, BadId}
+use Rattle.beldi_value.specs.declared.read_id.IdErr.TheVariants.{OutOfMemory}
+use Rattle.beldi_value.proofs.Names.{BadId, IdErr, List, None, Option, RefusesId, Some, [], after, ap, append_assoc, arith, before, false, hops_at, id_from, if◌then◌else◌, length, lt-ltb, nat_lt, onto_first, option_and_then, option_map, parts_of, refl, rest_parts, step_at, steps_at, sym, ticket_at, true, with_hops, ℕ, ◌++◌, ◌+◌, ◌<◌, ◌==◌, ◌∙◌, ◌∷◌, ◌≡◌}
 
 -- the first part stands before the first slash
 pub parts_cut : (bs : List ℕ) → parts_of bs ≡ before 47 bs ∷ rest_parts (after 47 bs)

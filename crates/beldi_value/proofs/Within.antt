@@ -1,19 +1,6 @@
 -- What is read is within the limits.
-use Rattle.std.proofs.Common.{◌≡◌, ℕ, ◌<◌, ◌≤◌, ◌^◌, ℤ, length, max, suc, true, false, ◌&&◌, List, Option, Some, None, Result, Ok, Err, IsTrue, IfOk, refl, ap, ap₂, ◌∙◌, subst, arith, if◌then◌else◌}
-use Rattle.std.specs.Prelude.{nat_le, ok_or, option_map, option_and_then}
-use Rattle.std.specs.Fmt.{signed_decimal}
-use Rattle.std.proofs.lemmas.Bool.Decides.{nat_tests}
-use Rattle.std.proofs.lemmas.Fmt.{length_signed_le}
-use lib.Signed.{mag}
-use Rattle.serde_json.specs.Data as json
-use Rattle.beldi_value.specs.declared.value.Value.{Value}
-use Rattle.beldi_value.specs.declared.read.ValueErr.{ValueErr}
-use Rattle.beldi_value.specs.declared.read.ValueErr.TheVariants.{NotJson, TooDeep, NotInt, TooLarge}
-use Rattle.beldi_value.specs.Datum.{Datum, int, list, fields, item, field}
-use Rattle.beldi_value.specs.Limits.{depth_of, items_depth, fields_depth, is_within, text_size, most_depth, most_bytes}
-use Rattle.beldi_value.specs.Json.{of_json, of_items, of_members, int_of}
-use Rattle.beldi_value.specs.Reading.{◌>>=◌, json_at, if_shallow, if_small, read_of, ReadsValue}
-use Rattle.beldi_value.specs.Value.{datum_of}
+use Rattle.beldi_value.proofs.Names.{Datum, Err, IfOk, IsTrue, List, None, NotInt, NotJson, Ok, Option, ReadsValue, Result, Some, TooDeep, TooLarge, Value, ValueErr, ap, ap₂, arith, datum_of, depth_of, false, field, fields, fields_depth, if_shallow, if_small, if◌then◌else◌, int, int_of, is_within, item, items_depth, json_at, length, length_signed_le, list, mag, max, most_bytes, most_depth, nat_le, nat_tests, of_items, of_json, of_members, ok_or, option_and_then, option_map, read_of, refl, signed_decimal, subst, suc, text_size, true, ℕ, ℤ, ◌&&◌, ◌<◌, ◌>>=◌, ◌^◌, ◌∙◌, ◌≡◌, ◌≤◌}
+use Rattle.beldi_value.proofs.Names.json
 
 -- a reading nests as deep as n
 abbrev Nests : {A : Type 0} → (A → ℕ) → ℕ → Option A → Type 0

@@ -1,12 +1,7 @@
 -- What is made of JSON: the value that it is, or a refusal where a number is no whole number of 64 bits.
 use Rattle.std.specs.Prelude.{◌≡◌, ℕ, List, Option, Some, None, Result, Ok, Err}
 use Rattle.serde_json.specs.Data as json
-use Rattle.beldi_value.specs.declared.value.Value.{Value}
-use Rattle.beldi_value.specs.declared.convert.ConvertErr.{ConvertErr}
-use Rattle.beldi_value.specs.declared.convert.ConvertErr.TheVariants.{OutOfMemory, NotInt}
-use Rattle.beldi_value.specs.Datum.{Datum, items_of, fields_of}
-use Rattle.beldi_value.specs.Value.{datum_of}
-use Rattle.beldi_value.specs.Json.{of_json, of_items, of_members}
+use Rattle.beldi_value.specs.{declared.value.Value.Value, declared.convert.ConvertErr.ConvertErr, declared.convert.ConvertErr.TheVariants.OutOfMemory, declared.convert.ConvertErr.TheVariants.NotInt, Datum.Datum, Datum.items_of, Datum.fields_of, Value.datum_of, Json.of_json, Json.of_items, Json.of_members}
 
 -- out of memory is a free answer; the other refusal comes where nothing is read
 abbrev pub Refuses : {A : Type 0} → Option A → ConvertErr → Type 0

@@ -1,13 +1,8 @@
 -- Each value in a list or a record is smaller than the list or the record.
 use Rattle.std.specs.Prelude.{◌≤◌, ℕ, max, List, [], ◌∷◌}
-use Rattle.std.proofs.Common.{arith}
 use denote.Param.Weighed.{most}
-use Rattle.beldi_value.specs.declared.value.Value.{Value}
-use Rattle.beldi_value.specs.declared.value.Value.TheVariants.{Null, Bool, Int, Text, List as ListOf, Rec}
-use Rattle.beldi_value.specs.declared.value.Rec.TheDeep.{deep-Value}
-use Rattle.beldi_value.specs.declared.value.Rec.TheShapes.{weighed-Rec-fields-at-2}
-use Rattle.beldi_value.specs.Datum.{datum_size, datums_size, fields_size}
-use Rattle.beldi_value.specs.Value.{datum_of, items_view, fields_view}
+use Rattle.std.proofs.Common.{arith}
+use Rattle.beldi_value.specs.{declared.value.Value.Value, declared.value.Value.TheVariants.Null, declared.value.Value.TheVariants.Bool, declared.value.Value.TheVariants.Int, declared.value.Value.TheVariants.Text, declared.value.Value.TheVariants.List as ListOf, declared.value.Value.TheVariants.Rec, declared.value.Rec.TheDeep.deep-Value, declared.value.Rec.TheShapes.weighed-Rec-fields-at-2, Datum.datum_size, Datum.datums_size, Datum.fields_size, Value.datum_of, Value.items_view, Value.fields_view}
 
 deep_value : (v : Value) → deep-Value v ≤ datum_size (datum_of v)
 deep_value Null = omega arith

@@ -1,9 +1,6 @@
 -- Reading an id from its text.
 use Rattle.std.specs.Prelude.{◌≡◌, ℕ, ◌-◌, ◌^◌, ◌==◌, nat_lt, List, [], ◌∷◌, length, Option, Some, None, Result, Ok, Err, option_map, option_and_then, if◌then◌else◌}
-use Rattle.beldi_value.specs.declared.id.IntentId.{IntentId}
-use Rattle.beldi_value.specs.declared.read_id.IdErr.{IdErr}
-use Rattle.beldi_value.specs.declared.read_id.IdErr.TheVariants.{OutOfMemory, BadId}
-use Rattle.beldi_value.specs.Number.{numeral_at}
+use Rattle.beldi_value.specs.{declared.id.IntentId.IntentId, declared.read_id.IdErr.IdErr, declared.read_id.IdErr.TheVariants.OutOfMemory, declared.read_id.IdErr.TheVariants.BadId, Number.numeral_at}
 
 -- the byte goes onto the first part
 abbrev pub onto_first : ℕ → List (List ℕ) → List (List ℕ)

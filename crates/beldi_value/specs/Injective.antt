@@ -1,10 +1,8 @@
 -- Values that stand for one datum are one value.
-use Rattle.std.proofs.Common.{◌≡◌, ℕ, List, [], ◌∷◌, map, refl, ap, sym, ◌∙◌}
-use Rattle.beldi_value.specs.declared.value.Value.{Value}
-use Rattle.beldi_value.specs.declared.value.Value.TheVariants.{Null, Bool, Int, Text, List as ListOf, Rec}
 use Rattle.std.specs.Coded.{Coded, code_by}
+use Rattle.std.proofs.Common.{◌≡◌, ℕ, List, [], ◌∷◌, map, refl, ap, sym, ◌∙◌}
 use Rattle.beldi_value.specs.Datum.{coded_datum, Datum, null, boolean, int, text, list, fields, items_of, fields_of, Datums, no_items, item, Fields, no_fields, field}
-use Rattle.beldi_value.specs.Value.{datum_of, items_view, fields_view}
+use Rattle.beldi_value.specs.{declared.value.Value.Value, declared.value.Value.TheVariants.Null, declared.value.Value.TheVariants.Bool, declared.value.Value.TheVariants.Int, declared.value.Value.TheVariants.Text, declared.value.Value.TheVariants.List as ListOf, declared.value.Value.TheVariants.Rec, Value.datum_of, Value.items_view, Value.fields_view}
 
 abbrev pub list_of : Datums → List Datum
 list_of no_items = []

@@ -1,8 +1,7 @@
 -- The canonical text of a value, by what `serde_json` writes.
 use Rattle.std.specs.Prelude.{ℕ, ℤ, pos, negsuc, List, Option, Some, option_map, option_and_then}
+use Rattle.serde_json.specs.{Written.compact_text, Find.as_i64}
 use Rattle.serde_json.specs.Data as json
-use Rattle.serde_json.specs.Written.{compact_text}
-use Rattle.serde_json.specs.Find.{as_i64}
 use Rattle.beldi_value.specs.Datum.{Datum, null, boolean, int, text, list, fields, Datums, no_items, item, Fields, no_fields, field}
 
 abbrev pub number_of : ℤ → json.Num

@@ -2,15 +2,7 @@
 use Rattle.std.specs.Prelude.{◌≡◌, ◌<◌, ◌≤◌, ◌^◌, ◌∷◌, decimal, false, IsTrue, List, length, ℕ, ℤ, Some}
 use Rattle.std.specs.List.{AllByRecursion}
 use lib.Signed.{mag}
-use Rattle.beldi_value.specs.declared.id.IntentId.{IntentId}
-use Rattle.beldi_value.specs.Datum.{Datum, int}
-use Rattle.beldi_value.specs.Formed.{IsFormed}
-use Rattle.beldi_value.specs.Id.{is_older}
-use Rattle.beldi_value.specs.IdAt.{id_at}
-use Rattle.beldi_value.specs.Json.{text_of}
-use Rattle.beldi_value.specs.Number.{int_at, number_at, numeral_at}
-use Rattle.beldi_value.specs.Reading.{IsReadAgain}
-use Rattle.beldi_value.specs.Text.{id_text}
+use Rattle.beldi_value.specs.{declared.id.IntentId.IntentId, Datum.Datum, Datum.int, Formed.IsFormed, Id.is_older, IdAt.id_at, Json.text_of, Number.int_at, Number.number_at, Number.numeral_at, Reading.IsReadAgain, Text.id_text}
 
 -- of two ids that are not one, just one is older, and what is older than an older one is older
 pub record AgesAreOrdered : Type 0 where

@@ -1,11 +1,9 @@
 -- The limits of values: how deep lists and records nest, and how many bytes the canonical text has.
 use Rattle.std.specs.Prelude.{ℕ, ◌+◌, max, nat_le, Bool, ◌&&◌, List, length}
-use Rattle.beldi_value.specs.Datum.{Datum, null, boolean, int, text, list, fields, Datums, no_items, item, Fields, no_fields, field}
 use Rattle.json.specs.Print.{quoted}
 use Rattle.serde_json.specs.Written.{comma_if}
-use Rattle.beldi_value.specs.declared.value.Value.{Value}
-use Rattle.beldi_value.specs.Json.{text_of}
-use Rattle.beldi_value.specs.Value.{datum_of}
+use Rattle.beldi_value.specs.Datum.{Datum, null, boolean, int, text, list, fields, Datums, no_items, item, Fields, no_fields, field}
+use Rattle.beldi_value.specs.{declared.value.Value.Value, Json.text_of, Value.datum_of}
 
 -- how deep lists and records nest: the empty list has one level
 abbrev mutual

@@ -1,9 +1,6 @@
 -- The parts of records and lists.
 use Rattle.std.specs.Prelude.{◌≡◌, ℕ, ◌<◌, ◌≤◌, ◌+◌, ◌∷◌, ◌++◌, ℤ, pos, negsuc, List, length, Option, Some, None, option_and_then, slice_get, take, drop, Result, Ok, Err}
-use Rattle.std.specs.Map.{lookup}
-use Rattle.std.specs.BTreeMap.{is_at, insert_entry}
-use Rattle.std.specs.Ordering.{nat_cmp}
-use Rattle.std.specs.Cmp.Lexicographic.{slice_cmp}
+use Rattle.std.specs.{Map.lookup, BTreeMap.is_at, BTreeMap.insert_entry, Ordering.nat_cmp, Cmp.Lexicographic.slice_cmp}
 use Rattle.beldi_value.specs.Datum.{Datum}
 
 -- the field of this key, where there is one

@@ -1,13 +1,8 @@
 -- How a value stands to an operand.
 use Rattle.std.specs.Prelude.{Bool, false, not, Option, Some, None}
 use Rattle.std.specs.Ordering.{nat_cmp, int_cmp, is_eq, is_lt, is_le, is_gt, is_ge}
-use Rattle.std.specs.Cmp.Lexicographic.{slice_cmp}
-use Rattle.std.specs.declared.cmp.Ordering.{Ordering}
-use Rattle.beldi_value.specs.declared.rel.Rel.{Rel}
-use Rattle.beldi_value.specs.declared.rel.Rel.TheVariants.{Eq, Ne, Lt, Le, Gt, Ge}
-use Rattle.beldi_value.specs.declared.value.Value.{Value}
-use Rattle.beldi_value.specs.declared.value.Value.TheVariants.{Int, Text}
-use Rattle.beldi_value.specs.Same.{same_value}
+use Rattle.std.specs.{Cmp.Lexicographic.slice_cmp, declared.cmp.Ordering.Ordering}
+use Rattle.beldi_value.specs.{declared.rel.Rel.Rel, declared.rel.Rel.TheVariants.Eq, declared.rel.Rel.TheVariants.Ne, declared.rel.Rel.TheVariants.Lt, declared.rel.Rel.TheVariants.Le, declared.rel.Rel.TheVariants.Gt, declared.rel.Rel.TheVariants.Ge, declared.value.Value.Value, declared.value.Value.TheVariants.Int, declared.value.Value.TheVariants.Text, Same.same_value}
 
 -- the order of two whole numbers, or of two texts by their bytes
 abbrev pub order_of : Value → Value → Option Ordering

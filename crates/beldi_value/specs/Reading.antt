@@ -3,13 +3,7 @@ use Rattle.std.specs.Prelude.{◌≡◌, IsTrue, ℕ, nat_le, List, Option, None
 use Rattle.std.specs.Str.{is_utf8}
 use Rattle.serde_json.specs.Data as json
 use Rattle.serde_json.specs.Read as serde
-use Rattle.beldi_value.specs.declared.value.Value.{Value}
-use Rattle.beldi_value.specs.declared.read.ValueErr.{ValueErr}
-use Rattle.beldi_value.specs.declared.read.ValueErr.TheVariants.{OutOfMemory, NotJson, TooDeep, NotInt, TooLarge}
-use Rattle.beldi_value.specs.Datum.{Datum}
-use Rattle.beldi_value.specs.Json.{of_json, text_of}
-use Rattle.beldi_value.specs.Limits.{is_within, most_depth, most_bytes, text_size}
-use Rattle.beldi_value.specs.Value.{datum_of}
+use Rattle.beldi_value.specs.{declared.value.Value.Value, declared.read.ValueErr.ValueErr, declared.read.ValueErr.TheVariants.OutOfMemory, declared.read.ValueErr.TheVariants.NotJson, declared.read.ValueErr.TheVariants.TooDeep, declared.read.ValueErr.TheVariants.NotInt, declared.read.ValueErr.TheVariants.TooLarge, Datum.Datum, Json.of_json, Json.text_of, Limits.is_within, Limits.most_depth, Limits.most_bytes, Limits.text_size, Value.datum_of}
 
 -- `?`
 infixl 10 ◌>>=◌

@@ -1,15 +1,10 @@
 -- Whether two values are equal, as a test.
 use Rattle.std.specs.Prelude.{◌≡◌, ◌==◌, Bool, true, false, ◌&&◌, List, [], ◌∷◌, ◌++◌, map, refl}
-use Rattle.std.proofs.Common.{sym, ap, ◌∙◌}
-use Rattle.std.specs.Bool.{Decides}
-use Rattle.std.specs.Ordering.{int_eq}
-use Rattle.std.specs.Cmp.{unsigned_Decides, signed_Decides, booleans_Decides}
-use Rattle.std.specs.Bool.{beq}
+use Rattle.std.specs.{Bool.Decides, Bool.beq, Ordering.int_eq, Cmp.unsigned_Decides, Cmp.signed_Decides, Cmp.booleans_Decides}
 use lib.Pointwise.{pointwise, pointwise_decides}
-use Rattle.beldi_value.specs.declared.value.Value.{Value}
+use Rattle.std.proofs.Common.{sym, ap, ◌∙◌}
 use Rattle.beldi_value.specs.Datum.{Datum, Row, Token, row_of, token_of, token_back, write, read, top, again}
-use Rattle.beldi_value.specs.Value.{datum_of}
-use Rattle.beldi_value.specs.Injective.{same_values}
+use Rattle.beldi_value.specs.{declared.value.Value.Value, Value.datum_of, Injective.same_values}
 
 abbrev row_same : Row → Row → Bool
 row_same a b = (a.0 == b.0) && (beq a.1.0 b.1.0 && (int_eq a.1.1.0 b.1.1.0 && pointwise ◌==◌ a.1.1.1 b.1.1.1))

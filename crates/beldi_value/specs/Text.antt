@@ -1,15 +1,7 @@
 -- The texts of ids, places, owners and outcomes.
 use Rattle.std.specs.Prelude.{ℕ, List, [], ◌∷◌, ◌++◌, decimal, codes}
-use Rattle.beldi_value.specs.declared.id.IntentId.{IntentId}
-use Rattle.beldi_value.specs.declared.outcome.Code.{Code}
 use Rattle.beldi_value.specs.declared.outcome.Code.TheVariants.{WrongType, Overflow, DivideByZero, Steps, LocksHeld, ValueTooLarge, NoTx}
-use Rattle.beldi_value.specs.declared.outcome.Outcome.{Outcome}
-use Rattle.beldi_value.specs.declared.outcome.Outcome.TheVariants.{Value as Gives, Fault, Aborted}
-use Rattle.beldi_value.specs.declared.place.Owner.{Owner}
-use Rattle.beldi_value.specs.declared.place.Owner.TheVariants.{Intent, Tx}
-use Rattle.beldi_value.specs.declared.place.Place.{Place}
-use Rattle.beldi_value.specs.Json.{text_of}
-use Rattle.beldi_value.specs.Value.{datum_of}
+use Rattle.beldi_value.specs.{declared.id.IntentId.IntentId, declared.outcome.Code.Code, declared.outcome.Outcome.Outcome, declared.outcome.Outcome.TheVariants.Value as Gives, declared.outcome.Outcome.TheVariants.Fault, declared.outcome.Outcome.TheVariants.Aborted, declared.place.Owner.Owner, declared.place.Owner.TheVariants.Intent, declared.place.Owner.TheVariants.Tx, declared.place.Place.Place, Json.text_of, Value.datum_of}
 
 -- `/` and the step, for each hop
 abbrev pub hops_text : List ℕ → List ℕ

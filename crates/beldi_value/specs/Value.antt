@@ -1,8 +1,7 @@
 -- The value that a `Value` stands for.
 use Rattle.std.specs.Prelude.{ℕ, List, map}
-use Rattle.beldi_value.specs.declared.value.Value.{Value}
-use Rattle.beldi_value.specs.declared.value.Value.TheVariants.{Null, Bool, Int, Text, List as ListOf, Rec}
 use Rattle.beldi_value.specs.Datum.{Datum, null, boolean, int, text, list, fields, items_of, fields_of}
+use Rattle.beldi_value.specs.declared.value.Value.{Value, TheVariants.Null, TheVariants.Bool, TheVariants.Int, TheVariants.Text, TheVariants.List as ListOf, TheVariants.Rec}
 
 abbrev pub datum_of : Value → Datum
 datum_of Null = null

@@ -1,36 +1,12 @@
 -- An act that lends what lies in the row has left it as it was.
-use Rattle.std.proofs.Common.{◌≡◌, inl, inr, ℕ, ◌==◌, ◌&&◌, Bool, true, false, if◌then◌else◌, Option, None, Some, Ok, Err, refl, ap, sym, ◌∙◌, subst}
 use Rattle.std.specs.FinMap as map
-use Rattle.beldi_value.specs.declared.value.Value.{Value}
-use Rattle.beldi_value.specs.declared.outcome.Outcome.{Outcome}
-use Rattle.beldi_value.specs.declared.place.Place.{Place}
-use Rattle.beldi_value.specs.declared.place.Owner.{Owner}
-use Rattle.beldi_value.specs.declared.place.Owner.TheVariants as owner
-use Rattle.beldi_value.specs.Passes.{passes}
-use Rattle.beldi_value.specs.Same.{same_value}
-use Rattle.beldi_value.specs.declared.id.IntentId.{IntentId}
-use Rattle.beldi_value.specs.Id.{age_of}
-use Rattle.beldi_row.specs.declared.notes.Note.{Note}
-use Rattle.beldi_row.specs.declared.notes.Note.TheVariants.{Wrote, Got, Died, Freed}
-use Rattle.beldi_row.specs.declared.row.Row.{Row}
-use Rattle.beldi_row.specs.declared.row.Row.TheVariants as rows
-use Rattle.beldi_row.specs.declared.row.Body.{Body}
-use Rattle.beldi_row.specs.declared.row.Cell.{Cell}
-use Rattle.beldi_row.specs.declared.row.IntentRow.{IntentRow}
-use Rattle.beldi_row.specs.declared.row.InvokeRow.{InvokeRow}
-use Rattle.beldi_row.specs.declared.act.Act.{Act}
+use Rattle.std.proofs.Common.{◌≡◌, inl, inr, ℕ, ◌==◌, ◌&&◌, Bool, true, false, if◌then◌else◌, Option, None, Some, Ok, Err, refl, ap, sym, ◌∙◌, subst}
+use Rattle.beldi_value.specs.{declared.value.Value.Value, declared.outcome.Outcome.Outcome, declared.place.Place.Place, declared.place.Owner.Owner, Passes.passes, Same.same_value, declared.id.IntentId.IntentId, Id.age_of}
 use Rattle.beldi_row.specs.declared.act.Act.TheVariants.{Look, Issue, Bind, Register, End, Stamp, PutRead, OpenInvoke, CallBack, NoteRegistered, PutLockset, MakeCell, WriteCell, CondCell, LockCell, FreeCell}
-use Rattle.beldi_row.specs.Log.{note_at}
 use Rattle.beldi_row.specs.Act.{Tell, gone, no_row, did, not_owner, other, held, died, kept_tell, outcome_tell, off, on, on_intent, on_invoke, on_cell, bind_to, end_with, stamp_with, call_back_to, register_to, other_owner, owns, noted_or, next_or, held_or, waits_for, owned_or, at_tail, unless_held, if_owned, given_or, entered, write_at, cond_to, cond_at, lock_at, free_at}
-use Rattle.beldi_row.specs.declared.table.TableErr.{TableErr}
-use Rattle.beldi_row.specs.declared.table.TableErr.TheVariants.{OutOfMemory, Failed, Full}
-use Rattle.beldi_row.specs.Table.{Rows, TableState, Tells}
-use Rattle.beldi_row.proofs.Tells.{tells_map}
-use Rattle.beldi_row.proofs.Unchanged.{left}
-use Rattle.beldi_walk.specs.declared.query.Query.{Query}
-use Rattle.beldi_walk.specs.declared.query.Query.TheVariants as query
+use Rattle.beldi_row.{specs.declared.notes.Note.Note, specs.declared.notes.Note.TheVariants.Wrote, specs.declared.notes.Note.TheVariants.Got, specs.declared.notes.Note.TheVariants.Died, specs.declared.notes.Note.TheVariants.Freed, specs.declared.row.Row.Row, specs.declared.row.Body.Body, specs.declared.row.Cell.Cell, specs.declared.row.IntentRow.IntentRow, specs.declared.row.InvokeRow.InvokeRow, specs.declared.act.Act.Act, specs.Log.note_at, specs.declared.table.TableErr.TableErr, specs.declared.table.TableErr.TheVariants.OutOfMemory, specs.declared.table.TableErr.TheVariants.Failed, specs.declared.table.TableErr.TheVariants.Full, specs.Table.Rows, specs.Table.TableState, specs.Table.Tells, proofs.Tells.tells_map, proofs.Unchanged.left}
 use Rattle.beldi_walk.specs.Query.{Told, lent, lends, is_death, tells_death, may_die, may_tell_death, LentStands, OnlyTransactionsDie, rows_after, told_by, CameOn}
-use Rattle.beldi_walk.specs.Walk.{LeftAt, Left, Turned}
+use Rattle.beldi_walk.specs.{declared.query.Query.Query, Walk.LeftAt, Walk.Left, Walk.Turned}
 
 -- what lies in the row was lent, and it is no death
 abbrev quiet : Tell → Bool
@@ -99,25 +75,25 @@ module _ (c : Cell) where
 
 -- .. and so does an act that fits one kind of row
 intent_leaves : (f : IntentRow → IntentRow × Tell) (t : Tell) → ((i : IntentRow) → Leaves i (f i)) → (r : Row) → Leaves r (on_intent f t r)
-intent_leaves f t l (rows.Intent i) h = ap rows.Intent (l i h)
-intent_leaves f t l (rows.ReadLog v) h = refl
-intent_leaves f t l (rows.Invoke i) h = refl
-intent_leaves f t l (rows.Cell c) h = refl
-intent_leaves f t l rows.Lockset h = refl
+intent_leaves f t l (Row.Intent i) h = ap Row.Intent (l i h)
+intent_leaves f t l (Row.ReadLog v) h = refl
+intent_leaves f t l (Row.Invoke i) h = refl
+intent_leaves f t l (Row.Cell c) h = refl
+intent_leaves f t l Row.Lockset h = refl
 
 invoke_leaves : (f : InvokeRow → InvokeRow × Tell) (t : Tell) → ((i : InvokeRow) → Leaves i (f i)) → (r : Row) → Leaves r (on_invoke f t r)
-invoke_leaves f t l (rows.Intent i) h = refl
-invoke_leaves f t l (rows.ReadLog v) h = refl
-invoke_leaves f t l (rows.Invoke i) h = ap rows.Invoke (l i h)
-invoke_leaves f t l (rows.Cell c) h = refl
-invoke_leaves f t l rows.Lockset h = refl
+invoke_leaves f t l (Row.Intent i) h = refl
+invoke_leaves f t l (Row.ReadLog v) h = refl
+invoke_leaves f t l (Row.Invoke i) h = ap Row.Invoke (l i h)
+invoke_leaves f t l (Row.Cell c) h = refl
+invoke_leaves f t l Row.Lockset h = refl
 
 cell_leaves : (f : Cell → Cell × Tell) (t : Tell) → ((c : Cell) → Leaves c (f c)) → (r : Row) → Leaves r (on_cell f t r)
-cell_leaves f t l (rows.Intent i) h = refl
-cell_leaves f t l (rows.ReadLog v) h = refl
-cell_leaves f t l (rows.Invoke i) h = refl
-cell_leaves f t l (rows.Cell c) h = ap rows.Cell (l c h)
-cell_leaves f t l rows.Lockset h = refl
+cell_leaves f t l (Row.Intent i) h = refl
+cell_leaves f t l (Row.ReadLog v) h = refl
+cell_leaves f t l (Row.Invoke i) h = refl
+cell_leaves f t l (Row.Cell c) h = ap Row.Cell (l c h)
+cell_leaves f t l Row.Lockset h = refl
 
 none_there : (a : Act) (now : ℕ) → Leaves None (off a now)
 none_there Look now h = refl
@@ -205,7 +181,7 @@ module _ (c : Cell) where
   unheld_lives p w z l = last_lives p (unless_held w c z) (held_lives (other_owner w c.owner) z l)
 
   -- an intent waits for each other owner
-  intent_lives : (p : Place) (a : IntentId) (o : Option Owner) (z : Cell × Tell) → Lives z → Lives (owned_or p (owner.Intent a) c o z)
+  intent_lives : (p : Place) (a : IntentId) (o : Option Owner) (z : Cell × Tell) → Lives z → Lives (owned_or p (Owner.Intent a) c o z)
   intent_lives p a None z l = l
   intent_lives p a (Some o) z l = refl
 
@@ -217,19 +193,19 @@ module _ (c : Cell) where
       by_own false = refl
 
 on_intent_lives : (f : IntentRow → IntentRow × Tell) (t : Tell) → ((i : IntentRow) → Lives (f i)) → is_death t ≡ false → (r : Row) → Lives (on_intent f t r)
-on_intent_lives f t l g (rows.Intent i) = l i
+on_intent_lives f t l g (Row.Intent i) = l i
 on_intent_lives f t l g r = g
 
 on_invoke_lives : (f : InvokeRow → InvokeRow × Tell) (t : Tell) → ((i : InvokeRow) → Lives (f i)) → is_death t ≡ false → (r : Row) → Lives (on_invoke f t r)
-on_invoke_lives f t l g (rows.Invoke i) = l i
+on_invoke_lives f t l g (Row.Invoke i) = l i
 on_invoke_lives f t l g r = g
 
 on_cell_lives : (f : Cell → Cell × Tell) (t : Tell) → ((c : Cell) → Lives (f c)) → is_death t ≡ false → (r : Row) → Lives (on_cell f t r)
-on_cell_lives f t l g (rows.Cell c) = l c
+on_cell_lives f t l g (Row.Cell c) = l c
 on_cell_lives f t l g r = g
 
 kept_lives : (r : Row) → is_death (kept_tell (Some r)) ≡ false
-kept_lives (rows.ReadLog v) = refl
+kept_lives (Row.ReadLog v) = refl
 kept_lives r = refl
 
 there_lives : (a : Act) (now : ℕ) (r : Row) → may_die a ≡ false → Lives (on a now r)
@@ -247,11 +223,11 @@ there_lives PutLockset now r h = refl
 there_lives (MakeCell v o) now r h = refl
 there_lives (WriteCell p w v) now r h = on_cell_lives (write_at p w v) no_row (λ c. unheld_lives c p w (entered p Wrote v c.owner c, did) refl) refl r
 there_lives (CondCell p w k o v) now r h = on_cell_lives (cond_at p w k o v) no_row (λ c. unheld_lives c p w (cond_to (passes c.value k o) p v c) refl) refl r
-there_lives (LockCell p (owner.Intent a) s) now r h =
-    on_cell_lives (lock_at p (owner.Intent a)) no_row
-    (λ c. let z : Cell × Tell = (entered p Got c.value (Some (owner.Intent a)) c, did) in last_lives c p (owned_or p (owner.Intent a) c (other_owner (owner.Intent a) c.owner) z) (intent_lives c p a (other_owner (owner.Intent a) c.owner) z refl))
+there_lives (LockCell p (Owner.Intent a) s) now r h =
+    on_cell_lives (lock_at p (Owner.Intent a)) no_row
+    (λ c. let z : Cell × Tell = (entered p Got c.value (Some (Owner.Intent a)) c, did) in last_lives c p (owned_or p (Owner.Intent a) c (other_owner (Owner.Intent a) c.owner) z) (intent_lives c p a (other_owner (Owner.Intent a) c.owner) z refl))
     refl r
-there_lives (LockCell p (owner.Tx t) s) now r h = cc
+there_lives (LockCell p (Owner.Tx t) s) now r h = cc
 there_lives (FreeCell p w v) now r h = on_cell_lives (free_at p w v) no_row (λ c. owned_lives c p w (entered p Freed (given_or v c.value) None c, did) refl) refl r
 
 none_lives : (a : Act) (now : ℕ) → Lives (off a now)
@@ -266,13 +242,13 @@ only_transactions_die a now (Some r) h = there_lives a now r h
 -- ---- a query
 -- one that lends leaves the rows, unless it tells a death ..
 quiet_stand : (q : Query) (now : ℕ) (m : Rows) → tells_death (told_by q now m) ≡ false → lends (told_by q now m) ≡ true → rows_after q now m ≡ m
-quiet_stand (query.Act k a) now m g h = left a now k m (map.get m k) refl (stands a now (map.get m k) h g)
-quiet_stand (query.After k) now m g h = refl
+quiet_stand (Query.Act k a) now m g h = left a now k m (map.get m k) refl (stands a now (map.get m k) h g)
+quiet_stand (Query.After k) now m g h = refl
 
 -- .. which only a lock of a transaction does ..
 no_death : (q : Query) (now : ℕ) (m : Rows) → may_tell_death q ≡ false → tells_death (told_by q now m) ≡ false
-no_death (query.Act k a) now m h = only_transactions_die a now (map.get m k) h
-no_death (query.After k) now m h = refl
+no_death (Query.Act k a) now m h = only_transactions_die a now (map.get m k) h
+no_death (Query.After k) now m h = refl
 
 pub rows_stand : (q : Query) (now : ℕ) (m : Rows) → may_tell_death q ≡ false → lends (told_by q now m) ≡ true → rows_after q now m ≡ m
 rows_stand q now m lives h = quiet_stand q now m (no_death q now m lives) h
@@ -301,12 +277,12 @@ same_left e q now m n h = by_query (may_tell_death q) e
 
 -- .. and what a walk did not heed leaves them so: it lent, or it was refused
 pub refused_stand : (q : Query) (now room : ℕ) (e : TableErr) (m n : Rows) → CameOn q now room (Err e) m n → n ≡ m
-refused_stand (query.Act k a) now room OutOfMemory m n h = h
-refused_stand (query.Act k a) now room Failed m n h = h
-refused_stand (query.Act k a) now room (Full live most) m n h = h.0
-refused_stand (query.After k) now room OutOfMemory m n h = h
-refused_stand (query.After k) now room Failed m n h = h
-refused_stand (query.After k) now room (Full live most) m n h = absurd h
+refused_stand (Query.Act k a) now room OutOfMemory m n h = h
+refused_stand (Query.Act k a) now room Failed m n h = h
+refused_stand (Query.Act k a) now room (Full live most) m n h = h.0
+refused_stand (Query.After k) now room OutOfMemory m n h = h
+refused_stand (Query.After k) now room Failed m n h = h
+refused_stand (Query.After k) now room (Full live most) m n h = absurd h
 
 -- out of memory for what was told
 pub unheard_left : (q : Query) (now : ℕ) (e : TableErr) (t : Told) (m n : Rows) → e ≡ OutOfMemory → lends t ≡ true → n ≡ rows_after q now m → t ≡ told_by q now m → Left e q now m n

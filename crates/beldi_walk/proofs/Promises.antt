@@ -1,21 +1,9 @@
 -- What a call that makes one query promises, by what the query does to rows.
-use Rattle.std.proofs.Common.{◌≡◌, ℕ, true, false, cond, Option, Ok, Err, refl, ap, sym, ◌∙◌, subst}
-use Rattle.std.specs.FinMap as map
 use Rattle.std.specs.Ordering.{is_eq}
-use Rattle.beldi_row.specs.Key.{RowKey, key_cmp}
-use Rattle.beldi_row.specs.Act.{act}
-use Rattle.beldi_row.specs.declared.act.Act.{Act}
-use Rattle.beldi_row.specs.declared.row.Row.{Row}
-use Rattle.beldi_row.proofs.Gets.{got, key_same}
-use Rattle.beldi_row.specs.declared.table.TableErr.{TableErr}
-use Rattle.beldi_row.specs.declared.table.TableErr.TheVariants.{OutOfMemory, Failed, Full}
-use Rattle.beldi_row.specs.Table.{Rows, TableState, Tells}
-use Rattle.beldi_row.proofs.Tells.{tells_map}
-use Rattle.beldi_walk.specs.declared.query.Query.{Query}
-use Rattle.beldi_walk.specs.declared.query.Query.TheVariants as query
-use Rattle.beldi_walk.specs.Query.{Told, lends, rows_after, told_by, CameOn}
-use Rattle.beldi_walk.specs.Walk.{Turned, Leaves, Promises}
-use Rattle.beldi_walk.proofs.Lent.{same_left, unheard_left}
+use Rattle.std.specs.FinMap as map
+use Rattle.std.proofs.Common.{◌≡◌, ℕ, true, false, cond, Option, Ok, Err, refl, ap, sym, ◌∙◌, subst}
+use Rattle.beldi_row.{specs.Key.RowKey, specs.Key.key_cmp, specs.Act.act, specs.declared.act.Act.Act, specs.declared.row.Row.Row, proofs.Gets.got, proofs.Gets.key_same, specs.declared.table.TableErr.TableErr, specs.declared.table.TableErr.TheVariants.OutOfMemory, specs.declared.table.TableErr.TheVariants.Failed, specs.declared.table.TableErr.TheVariants.Full, specs.Table.Rows, specs.Table.TableState, specs.Table.Tells, proofs.Tells.tells_map}
+use Rattle.beldi_walk.{specs.declared.query.Query.Query, specs.Query.Told, specs.Query.lends, specs.Query.rows_after, specs.Query.told_by, specs.Query.CameOn, specs.Walk.Turned, specs.Walk.Leaves, specs.Walk.Promises, proofs.Lent.same_left, proofs.Lent.unheard_left}
 
 module _ {X : Type 0} (q : Query) (now : ℕ) (g : Told → X) (P : Rows → Rows → X → Type 0) (made : (m : Rows) → P m (rows_after q now m) (g (told_by q now m))) where
   answered : (m n : Rows) (x : X) (t : Told) → x ≡ g t → n ≡ rows_after q now m → t ≡ told_by q now m → P m n x
@@ -25,12 +13,12 @@ module _ {X : Type 0} (q : Query) (now : ℕ) (g : Told → X) (P : Rows → Row
   unheard m n e t is lent after by = subst (λ v. Leaves q now P m n (Err v)) (sym is) (unheard_left q now OutOfMemory t m n refl lent after by)
 
   refused : (p : Query) → p ≡ q → (room : ℕ) (e : TableErr) (m n : Rows) → CameOn p now room (Err e) m n → Leaves p now P m n (Err e)
-  refused (query.Act k a) is room OutOfMemory m n h = same_left OutOfMemory (query.Act k a) now m n h
-  refused (query.Act k a) is room Failed m n h = h
-  refused (query.Act k a) is room (Full live most) m n h = (h.0, h.1.more)
-  refused (query.After k) is room OutOfMemory m n h = same_left OutOfMemory (query.After k) now m n h
-  refused (query.After k) is room Failed m n h = h
-  refused (query.After k) is room (Full live most) m n h = absurd h
+  refused (Query.Act k a) is room OutOfMemory m n h = same_left OutOfMemory (Query.Act k a) now m n h
+  refused (Query.Act k a) is room Failed m n h = h
+  refused (Query.Act k a) is room (Full live most) m n h = (h.0, h.1.more)
+  refused (Query.After k) is room OutOfMemory m n h = same_left OutOfMemory (Query.After k) now m n h
+  refused (Query.After k) is room Failed m n h = h
+  refused (Query.After k) is room (Full live most) m n h = absurd h
 
   pub promised : Promises q now g P
   promised old new (Ok x) (Ok t, h, c) = tells_map {P = λ m n. CameOn q now old.room (Ok t) m n} {Q = λ m n. P m n x} old.rows new.rows (λ m n p. answered m n x t h.1 p.0 p.1) c.rows
@@ -49,10 +37,10 @@ turned q now f g P made w x old new s (Err v, h, c) = absurd h
 -- what is so of each row that an act finds, and of the one that it leaves, is so of each row before a query, and after it
 pub at_each : (P : Option Row → Option Row → Type 0) → ((r : Option Row) → P r r) → ((a : Act) (now : ℕ) (r : Option Row) → P r (act a now r).0)
     → (q : Query) (now : ℕ) (m : Rows) (k : RowKey) → P (map.get m k) (map.get (rows_after q now m) k)
-at_each P same made (query.Act k a) now m l =
+at_each P same made (Query.Act k a) now m l =
     let v : Option Row = (act a now (map.get m k)).0 in
-    (elim (is_eq (key_cmp l k)) as (λ b. is_eq (key_cmp l k) ≡ b → P (map.get m l) (map.get (rows_after (query.Act k a) now m) l)) [
+    (elim (is_eq (key_cmp l k)) as (λ b. is_eq (key_cmp l k) ≡ b → P (map.get m l) (map.get (rows_after (Query.Act k a) now m) l)) [
       | true ↦ λ e. subst (P (map.get m l)) (sym (got m k l v ∙ ap (λ b. cond b v (map.get m l)) e)) (subst (λ z. P (map.get m z) v) (sym (key_same l k e)) (made a now (map.get m k)))
       | false ↦ λ e. subst (P (map.get m l)) (sym (got m k l v ∙ ap (λ b. cond b v (map.get m l)) e)) (same (map.get m l))
     ]) refl
-at_each P same made (query.After k) now m l = same (map.get m l)
+at_each P same made (Query.After k) now m l = same (map.get m l)

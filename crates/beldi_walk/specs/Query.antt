@@ -1,19 +1,11 @@
 -- What is asked of a table, what it tells, and what a query came to.
 use Rattle.std.specs.Prelude.{◌≡◌, ℕ, ◌<◌, Bool, true, false, IsTrue, Option, Result, Ok, Err}
 use Rattle.std.specs.FinMap as map
-use Rattle.beldi_row.specs.Key.{RowKey}
-use Rattle.beldi_row.specs.declared.row.Row.{Row}
-use Rattle.beldi_row.specs.declared.act.Act.{Act}
-use Rattle.beldi_row.specs.declared.act.Act.TheVariants.{LockCell}
 use Rattle.beldi_value.specs.declared.place.Owner.TheVariants.{Tx}
-use Rattle.beldi_row.specs.declared.table.TableErr.{TableErr}
-use Rattle.beldi_row.specs.declared.table.TableErr.TheVariants.{OutOfMemory, Failed, Full}
 use Rattle.beldi_row.specs.Act.{Tell, here, other, ended, kept, noted, held, died, tell_of, act}
 use Rattle.beldi_row.specs.Table.{Rows, TableState, after_act, tell_act, adds, Refused, Tells, HasCause, AtMostOne, next_row, entry_of}
-use Rattle.beldi_walk.specs.declared.query.Query.{Query}
-use Rattle.beldi_walk.specs.declared.query.Query.TheVariants as query
-use Rattle.beldi_walk.specs.declared.query.Heard.{Heard}
-use Rattle.beldi_walk.specs.declared.query.Heard.TheVariants as heard
+use Rattle.beldi_row.specs.{Key.RowKey, declared.row.Row.Row, declared.act.Act.Act, declared.act.Act.TheVariants.LockCell, declared.table.TableErr.TableErr, declared.table.TableErr.TheVariants.OutOfMemory, declared.table.TableErr.TheVariants.Failed, declared.table.TableErr.TheVariants.Full}
+use Rattle.beldi_walk.specs.declared.query.{Query.Query, Heard.Heard}
 
 -- what a table told, without where it lies in memory
 pub data Told : Type 0 where
@@ -21,28 +13,28 @@ pub data Told : Type 0 where
   found : Option (RowKey × Row) → Told
 
 abbrev pub told_of : Heard → Told
-told_of (heard.Said s) = said (tell_of s)
-told_of (heard.Found e) = found (entry_of e)
+told_of (Heard.Said s) = said (tell_of s)
+told_of (Heard.Found e) = found (entry_of e)
 
 -- the rows after a query
 abbrev pub rows_after : Query → ℕ → Rows → Rows
-rows_after (query.Act k a) now m = after_act a now k m
-rows_after (query.After k) now m = m
+rows_after (Query.Act k a) now m = after_act a now k m
+rows_after (Query.After k) now m = m
 
 -- what it tells
 abbrev pub told_by : Query → ℕ → Rows → Told
-told_by (query.Act k a) now m = said (tell_act a now k m)
-told_by (query.After k) now m = found (next_row m k)
+told_by (Query.Act k a) now m = said (tell_act a now k m)
+told_by (Query.After k) now m = found (next_row m k)
 
 abbrev pub query_adds : Query → ℕ → Rows → Bool
-query_adds (query.Act k a) now m = adds a now k m
-query_adds (query.After k) now m = false
+query_adds (Query.Act k a) now m = adds a now k m
+query_adds (Query.After k) now m = false
 
 abbrev pub RefusedBy : Query → ℕ → ℕ → Rows → Rows → TableErr → Type 0
-RefusedBy (query.Act k a) now room m n e = Refused a now k room m n e
-RefusedBy (query.After k) now room m n OutOfMemory = n ≡ m
-RefusedBy (query.After k) now room m n Failed = n ≡ m
-RefusedBy (query.After k) now room m n (Full live most) = ⊥
+RefusedBy (Query.Act k a) now room m n e = Refused a now k room m n e
+RefusedBy (Query.After k) now room m n OutOfMemory = n ≡ m
+RefusedBy (Query.After k) now room m n Failed = n ≡ m
+RefusedBy (Query.After k) now room m n (Full live most) = ⊥
 
 -- what a query came to, over rows that are told
 abbrev pub CameOn : Query → ℕ → ℕ → Result Told TableErr → Rows → Rows → Type 0
@@ -86,8 +78,8 @@ may_die (LockCell p (Tx t) s) = true
 may_die a = false
 
 abbrev pub may_tell_death : Query → Bool
-may_tell_death (query.Act k a) = may_die a
-may_tell_death (query.After k) = false
+may_tell_death (Query.Act k a) = may_die a
+may_tell_death (Query.After k) = false
 
 -- an act that lends what lies in the row has left it as it was, unless it tells a death
 abbrev pub LentStands : Type 0

@@ -1,10 +1,8 @@
 -- One turn of a walk.
 use Rattle.std.specs.Prelude.{◌≡◌, ◌⊎◌, ℕ, Bool, true, false, IsTrue, Result, Ok, Err}
-use Rattle.beldi_row.specs.declared.table.TableErr.{TableErr}
-use Rattle.beldi_row.specs.declared.table.TableErr.TheVariants.{OutOfMemory, Failed, Full}
-use Rattle.beldi_row.specs.Table.{Rows, TableState, Tells}
-use Rattle.beldi_walk.specs.declared.query.Query.{Query}
+use Rattle.beldi_row.specs.{declared.table.TableErr.TableErr, declared.table.TableErr.TheVariants.OutOfMemory, declared.table.TableErr.TheVariants.Failed, declared.table.TableErr.TheVariants.Full, Table.Rows, Table.TableState, Table.Tells}
 use Rattle.beldi_walk.specs.Query.{Told, Came, lends, query_adds, rows_after, told_by, may_tell_death, tells_death}
+use Rattle.beldi_walk.specs.declared.query.Query.{Query}
 
 -- by what its query came to: the walk is moved and says so, or else it stands where it stood
 abbrev pub Heeds : {W X : Type 0} → (Told → W) → (Told → X) → W → W → Result X TableErr → Result Told TableErr → Type 0

@@ -1,6 +1,4 @@
-use Rattle.std.proofs.Common.{rules, ◌∙◌}
-use Rattle.std.proofs.Math.Seq.{map-set_same}
-use Rattle.beldi_tree.specs.Statement.{command_of}
+use Rattle.beldi_tree.proofs.Names.{command_of, map-set_same, rules, ◌∙◌}
 use Rattle.beldi_tree.proofs.+find.Goals as goal
 
 pub block::Block::find_names-loop-stmt-preserved :

@@ -1,5 +1,4 @@
-use Rattle.std.proofs.Common.{◌≡◌}
-use Rattle.beldi_tree.specs.Statement.{statements_view}
+use Rattle.beldi_tree.proofs.Names.{statements_view, ◌≡◌}
 use Rattle.beldi_tree.proofs.+find.Given as goal
 
 abbrev pub invariant-block::Block::find_names-loop-stmt :

@@ -1,5 +1,4 @@
-use Rattle.std.proofs.Common.{◌≡◌, ◌++◌, drop}
-use Rattle.beldi_book.specs.Order.{changes_of}
+use Rattle.beldi_book.proofs.Names.{changes_of, drop, ◌++◌, ◌≡◌}
 use Rattle.beldi_book.proofs.order.changes_of.Given as goal
 
 abbrev pub invariant-loop-entry : goal.invariant-loop-entry

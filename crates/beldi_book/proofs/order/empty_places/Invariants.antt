@@ -1,5 +1,4 @@
-use Rattle.std.proofs.Common.{◌≡◌, ◌++◌, [], map, drop}
-use Rattle.beldi_book.specs.Places.{empty_places}
+use Rattle.beldi_book.proofs.Names.{[], drop, empty_places, map, ◌++◌, ◌≡◌}
 use Rattle.beldi_book.proofs.order.empty_places.Given as goal
 
 abbrev pub invariant-loop-change : goal.invariant-loop-change

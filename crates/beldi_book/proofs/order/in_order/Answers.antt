@@ -1,7 +1,4 @@
-use Rattle.std.proofs.Common.{◌≡◌, IfOk, ◌∙◌, sym, ap, ap₂, subst, List}
-use Rattle.std.proofs.lemmas.List.{drop_all}
-use Rattle.beldi_book.specs.declared.entry.Entry.{Entry}
-use Rattle.beldi_book.specs.Places.{woven, put_all_in}
+use Rattle.beldi_book.proofs.Names.{Entry, IfOk, List, ap, ap₂, drop_all, put_all_in, subst, sym, woven, ◌∙◌, ◌≡◌}
 use Rattle.beldi_book.proofs.Places.{by_places}
 use Rattle.beldi_book.proofs.order.in_order.Goals as goal
 

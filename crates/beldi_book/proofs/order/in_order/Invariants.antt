@@ -1,6 +1,4 @@
-use Rattle.std.proofs.Common.{◌≡◌, ◌<◌, drop, length}
-use Rattle.beldi_book.specs.Order.{changes_of}
-use Rattle.beldi_book.specs.Places.{empty_places, put_all_in}
+use Rattle.beldi_book.proofs.Names.{changes_of, drop, empty_places, length, put_all_in, ◌<◌, ◌≡◌}
 use Rattle.beldi_book.proofs.order.in_order.Given as goal
 
 abbrev pub invariant-loop-entry : goal.invariant-loop-entry

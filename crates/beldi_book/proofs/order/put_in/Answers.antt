@@ -1,9 +1,6 @@
-use Rattle.std.proofs.Common.{◌∙◌, ap, ap₂, sym, arith, ◌++◌, ◌∷◌, [], get_or, slice_set}
-use Rattle.beldi_book.specs.Order.{seen_of}
-use Rattle.beldi_book.specs.Places.{put_by_seen}
-use Rattle.beldi_book.proofs.Places.{put_inside, put_last}
+use Rattle.beldi_book.proofs.Names.{[], ap, ap₂, arith, get_or, put_by_seen, seen_of, slice_set, sym, ◌++◌, ◌∙◌, ◌∷◌}
+use Rattle.beldi_book.proofs.{Places.put_inside, Places.put_last, order.put_in.Goals.then-seen-last, order.put_in.Goals.else-seen-last}
 use Rattle.beldi_book.proofs.order.put_in.Goals as goal
-use Rattle.beldi_book.proofs.order.put_in.Goals.{then-seen-last, else-seen-last}
 
 pub returns-in_ok-push-clause-places : goal.returns-in_ok-push-clause-places
 returns-in_ok-push-clause-places c =

@@ -1,7 +1,4 @@
-use Rattle.std.proofs.Common.{◌∙◌, ap, ap₂, sym, ◌++◌, length}
-use Rattle.std.specs.Prelude.{option_to_list}
-use Rattle.std.specs.Vec.Iter.{into_iter_items, into_iter_len}
-use Rattle.beldi_book.specs.Places.{woven}
+use Rattle.beldi_book.proofs.Names.{ap, ap₂, into_iter_items, into_iter_len, length, option_to_list, sym, woven, ◌++◌, ◌∙◌}
 use Rattle.beldi_book.proofs.Places.{at_end, one_place, one_less}
 use Rattle.beldi_book.proofs.order.woven.Goals as goal
 

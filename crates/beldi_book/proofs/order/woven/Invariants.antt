@@ -1,6 +1,4 @@
-use Rattle.std.proofs.Common.{◌≡◌, ◌++◌, length}
-use Rattle.std.specs.Vec.Iter.{into_iter_items, into_iter_len}
-use Rattle.beldi_book.specs.Places.{woven}
+use Rattle.beldi_book.proofs.Names.{into_iter_items, into_iter_len, length, woven, ◌++◌, ◌≡◌}
 use Rattle.beldi_book.proofs.order.woven.Given as goal
 
 -- what was put, and what is left woven, make all

@@ -1,5 +1,4 @@
-use Rattle.beldi_book.specs.Line.{IsArgs, Follows}
-use Rattle.beldi_book.proofs.Starts.{follows, ok_also}
+use Rattle.beldi_book.proofs.{Names.Follows, Names.IsArgs, Starts.follows, Starts.ok_also}
 use Rattle.beldi_book.proofs.reading.read_after.Goals as goal
 
 pub returns-in-Some : goal.returns-in-Some

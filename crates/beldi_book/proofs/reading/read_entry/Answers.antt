@@ -1,9 +1,4 @@
-use Rattle.std.proofs.Common.{◌≡◌, ◌∙◌, ap, sym, Option}
-use Rattle.std.specs.Prelude.{option_copied, codes}
-use Rattle.beldi_tree.specs.Bindings.{is_name}
-use Rattle.beldi_book.specs.declared.entry.Entry.{Entry}
-use Rattle.beldi_book.specs.Words.{other_at}
-use Rattle.beldi_book.specs.Line.{IsStart, IsEntryOf}
+use Rattle.beldi_book.proofs.Names.{Entry, IsEntryOf, IsStart, Option, ap, codes, is_name, option_copied, other_at, sym, ◌∙◌, ◌≡◌}
 use Rattle.beldi_book.proofs.Starts.{one_word, start_line, other_line, ok_also}
 use Rattle.beldi_book.proofs.reading.read_entry.Goals as goal
 

@@ -1,5 +1,4 @@
-use Rattle.std.proofs.Common.{◌≡◌}
-use Rattle.beldi_book.proofs.Starts.{NoneCalled}
+use Rattle.beldi_book.proofs.{Names.◌≡◌, Starts.NoneCalled}
 use Rattle.beldi_book.proofs.reading.read_named.Given as goal
 
 abbrev pub invariant-loop-func : goal.invariant-loop-func

@@ -1,9 +1,4 @@
-use Rattle.std.proofs.Common.{◌∙◌, ap, sym, subst, Some, None, Option}
-use Rattle.std.specs.Prelude.{option_copied}
-use Rattle.beldi_value.specs.Number.{numeral_at}
-use Rattle.beldi_value.specs.declared.value.Value.{Value}
-use Rattle.beldi_tree.specs.Names.{func_at}
-use Rattle.beldi_book.specs.Line.{IsArgs}
+use Rattle.beldi_book.proofs.Names.{IsArgs, None, Option, Some, Value, ap, func_at, numeral_at, option_copied, subst, sym, ◌∙◌}
 use Rattle.beldi_book.proofs.Starts.{no_number_rest, no_number, is_there, numbered, not_none, is_none}
 use Rattle.beldi_book.proofs.reading.read_numbered.Goals as goal
 

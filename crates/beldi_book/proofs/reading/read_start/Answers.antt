@@ -1,8 +1,4 @@
-use Rattle.std.proofs.Common.{◌∙◌, ap, sym, subst, Option, ℕ}
-use Rattle.std.specs.Prelude.{option_copied}
-use Rattle.beldi_value.specs.declared.value.Value.{Value}
-use Rattle.beldi_book.specs.Words.{small_at}
-use Rattle.beldi_book.specs.Line.{IsCall}
+use Rattle.beldi_book.proofs.Names.{IsCall, Option, Value, ap, option_copied, small_at, subst, sym, ℕ, ◌∙◌}
 use Rattle.beldi_book.proofs.Starts.{no_start_rest, no_ticket, no_call_there, is_start}
 use Rattle.beldi_book.proofs.reading.read_start.Goals as goal
 

@@ -1,5 +1,4 @@
-use Rattle.std.proofs.Common.{length}
-use Rattle.beldi_check.specs.Calls.{edge, IsGrid}
+use Rattle.beldi_check.proofs.Names.{IsGrid, edge, length}
 use Rattle.beldi_check.proofs.calls.edges.Given as goal
 
 abbrev pub invariant-loop-i : goal.invariant-loop-i

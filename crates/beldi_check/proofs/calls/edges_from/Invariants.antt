@@ -1,4 +1,4 @@
-use Rattle.beldi_check.specs.Calls.{edge, IsRow}
+use Rattle.beldi_check.proofs.Names.{IsRow, edge}
 use Rattle.beldi_check.proofs.calls.edges_from.Given as goal
 
 abbrev pub invariant-loop-j : goal.invariant-loop-j

@@ -1,8 +1,4 @@
-use Rattle.std.proofs.Common.{ap, sym, ◌∙◌}
-use Rattle.std.specs.List.{list_any}
-use Rattle.beldi_check.specs.Calls.{leads}
-use Rattle.beldi_check.specs.Site.{site_of}
-use Rattle.beldi_check.proofs.Firsts.{any_of_map}
+use Rattle.beldi_check.proofs.{Names.ap, Names.leads, Names.list_any, Names.site_of, Names.sym, Names.◌∙◌, Firsts.any_of_map}
 use Rattle.beldi_check.proofs.calls.has_lead.Goals as goal
 
 pub returns : goal.returns

@@ -1,7 +1,4 @@
-use Rattle.std.proofs.Common.{◌&&◌, ap, sym, ◌∙◌}
-use Rattle.std.specs.List.{list_any}
-use Rattle.beldi_check.specs.Calls.{leads}
-use Rattle.beldi_check.specs.Site.{site_of}
+use Rattle.beldi_check.proofs.Names.{ap, leads, list_any, site_of, sym, ◌&&◌, ◌∙◌}
 use Rattle.beldi_check.proofs.Firsts.{any_of_map}
 use Rattle.beldi_check.proofs.calls.has_lead_within.Goals as goal
 

@@ -1,5 +1,4 @@
-use Rattle.std.proofs.Common.{arith, subst, ◌+◌, length}
-use Rattle.beldi_check.specs.Calls.{edge, over, cell, row_at, IsGrid}
+use Rattle.beldi_check.proofs.Names.{IsGrid, arith, cell, edge, length, over, row_at, subst, ◌+◌}
 use Rattle.beldi_check.proofs.Grids.{begins, widens}
 use Rattle.beldi_check.proofs.calls.reach.Goals as goal
 

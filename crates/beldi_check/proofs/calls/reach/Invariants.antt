@@ -1,5 +1,4 @@
-use Rattle.std.proofs.Common.{◌+◌, length}
-use Rattle.beldi_check.specs.Calls.{edge, through, IsGrid}
+use Rattle.beldi_check.{proofs.Names.IsGrid, proofs.Names.edge, proofs.Names.length, proofs.Names.◌+◌, specs.Calls.through}
 use Rattle.beldi_check.proofs.calls.reach.Given as goal
 
 abbrev pub invariant-loop-by : goal.invariant-loop-by

@@ -1,5 +1,4 @@
-use Rattle.std.proofs.Common.{length}
-use Rattle.beldi_check.specs.Calls.{IsGrid, cell, over, row_at}
+use Rattle.beldi_check.proofs.Names.{IsGrid, cell, length, over, row_at}
 use Rattle.beldi_check.proofs.calls.widened.Given as goal
 
 abbrev pub invariant-loop-i : goal.invariant-loop-i

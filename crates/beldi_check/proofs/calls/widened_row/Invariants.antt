@@ -1,5 +1,4 @@
-use Rattle.std.proofs.Common.{◌||◌, ◌&&◌}
-use Rattle.beldi_check.specs.Calls.{IsRow, at}
+use Rattle.beldi_check.proofs.Names.{IsRow, at, ◌&&◌, ◌||◌}
 use Rattle.beldi_check.proofs.calls.widened_row.Given as goal
 
 abbrev pub invariant-loop-j : goal.invariant-loop-j

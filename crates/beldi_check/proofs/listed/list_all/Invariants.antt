@@ -1,4 +1,4 @@
-use Rattle.std.proofs.Common.{◌≡◌, take}
+use Rattle.beldi_check.proofs.Names.{take, ◌≡◌}
 use Rattle.beldi_check.proofs.listed.list_all.Given as goal
 
 abbrev pub invariant-loop-func : goal.invariant-loop-func

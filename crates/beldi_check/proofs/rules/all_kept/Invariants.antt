@@ -1,5 +1,4 @@
-use Rattle.std.proofs.Common.{◌≡◌, drop}
-use Rattle.beldi_check.specs.Rules.{first_broken}
+use Rattle.beldi_check.proofs.Names.{drop, first_broken, ◌≡◌}
 use Rattle.beldi_check.proofs.rules.all_kept.Given as goal
 
 abbrev pub invariant-loop-rule : goal.invariant-loop-rule

@@ -1,8 +1,4 @@
-use Rattle.std.proofs.Common.{◌≡◌, arith, ◌∙◌}
-use Rattle.beldi_check.specs.Calls.{reaches, blocks}
-use Rattle.beldi_check.specs.declared.calls.Link.TheVariants.{Call}
-use Rattle.beldi_check.proofs.Firsts.{next_from}
-use Rattle.beldi_check.proofs.Grids.{cell_is}
+use Rattle.beldi_check.proofs.{Names.Call, Names.arith, Names.blocks, Names.reaches, Names.◌∙◌, Names.◌≡◌, Firsts.next_from, Grids.cell_is}
 use Rattle.beldi_check.proofs.rules.kept.Goals as goal
 
 pub loop-i-preserved : goal.loop-i-preserved

@@ -1,5 +1,4 @@
-use Rattle.std.proofs.Common.{◌≡◌, drop}
-use Rattle.beldi_check.specs.Rules.{first_from, first_statement}
+use Rattle.beldi_check.proofs.Names.{drop, first_from, first_statement, ◌≡◌}
 use Rattle.beldi_check.proofs.rules.kept.Given as goal
 
 abbrev pub invariant-loop-i : goal.invariant-loop-i

@@ -1,6 +1,4 @@
-use Rattle.std.proofs.Common.{◌≡◌, map, drop}
-use Rattle.beldi_check.specs.Rules.{first_site}
-use Rattle.beldi_check.specs.Site.{site_of}
+use Rattle.beldi_check.proofs.Names.{drop, first_site, map, site_of, ◌≡◌}
 use Rattle.beldi_check.proofs.rules.kept_in.Given as goal
 
 abbrev pub invariant-loop-site : goal.invariant-loop-site

@@ -1,5 +1,4 @@
-use Rattle.std.proofs.Common.{◌≡◌, drop}
-use Rattle.beldi_check.specs.Rules.{first_cycle}
+use Rattle.beldi_check.proofs.Names.{drop, first_cycle, ◌≡◌}
 use Rattle.beldi_check.proofs.rules.no_cycle.Given as goal
 
 abbrev pub invariant-loop-i : goal.invariant-loop-i

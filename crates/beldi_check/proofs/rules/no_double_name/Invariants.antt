@@ -1,5 +1,4 @@
-use Rattle.std.proofs.Common.{◌≡◌, take, drop, []}
-use Rattle.beldi_check.specs.Rules.{double_name}
+use Rattle.beldi_check.proofs.Names.{[], double_name, drop, take, ◌≡◌}
 use Rattle.beldi_check.proofs.rules.no_double_name.Given as goal
 
 abbrev pub invariant-loop-i : goal.invariant-loop-i

@@ -1,5 +1,4 @@
-use Rattle.std.proofs.Common.{◌≡◌, drop}
-use Rattle.beldi_check.specs.Rules.{past_most}
+use Rattle.beldi_check.proofs.Names.{drop, past_most, ◌≡◌}
 use Rattle.beldi_check.proofs.rules.within_most.Given as goal
 
 abbrev pub invariant-loop-i : goal.invariant-loop-i

@@ -1,5 +1,4 @@
-use Rattle.std.proofs.Common.{arith}
-use Rattle.beldi_tree.specs.Falls.{seen_falls}
+use Rattle.beldi_check.proofs.Names.{arith, seen_falls}
 use Rattle.beldi_check.proofs.site.+walk.Goals as goal
 
 pub list_block-list_inside-requires : goal.list_block-list_inside-requires

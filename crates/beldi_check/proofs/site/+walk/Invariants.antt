@@ -1,7 +1,4 @@
-use Rattle.std.proofs.Common.{◌≡◌, ◌++◌, map, drop}
-use Rattle.beldi_tree.specs.Command.{commands_of, command_size, block_size}
-use Rattle.beldi_tree.specs.Statement.{command_of, statements_view}
-use Rattle.beldi_check.specs.Site.{sites, site_of}
+use Rattle.beldi_check.proofs.Names.{block_size, command_of, command_size, commands_of, drop, map, site_of, sites, statements_view, ◌++◌, ◌≡◌}
 use Rattle.beldi_check.proofs.site.+walk.Given as goal
 
 abbrev pub decreases-list_block : goal.decreases-list_block

@@ -1,5 +1,5 @@
-use Rattle.std.proofs.Common.{◌∙◌, map, rules}
 use Rattle.clap.specs.Simple.{app_of}
+use Rattle.std.proofs.Common.{◌∙◌, map, rules}
 use Rattle.beldi_command.proofs.Answered.{read, refused}
 use Rattle.beldi_command.proofs.reading.read_command.Goals as goal
 

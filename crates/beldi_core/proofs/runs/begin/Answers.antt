@@ -1,7 +1,5 @@
-use Rattle.std.proofs.Common.{ap, sym, ◌∙◌}
-use Rattle.std.specs.FinMap as map
-use Rattle.beldi_step.specs.declared.run.Run.{Run}
-use Rattle.beldi_core.proofs.Counting.{undone}
+use Rattle.beldi_core.proofs.{Names.Run, Names.ap, Names.sym, Names.◌∙◌, Counting.undone}
+use Rattle.beldi_core.proofs.Names.map
 use Rattle.beldi_core.proofs.runs.begin.Goals as goal
 
 pub returns-in-Err-clause-kept : goal.returns-in-Err-clause-kept

@@ -1,6 +1,4 @@
-use Rattle.std.specs.Cmp.{nat_cmp_total}
-use Rattle.std.specs.FinMap.{nat_cmp-IsAntisymmetric}
-use Rattle.beldi_row.proofs.Rows.{one_set}
+use Rattle.beldi_core.proofs.Names.{nat_cmp-IsAntisymmetric, nat_cmp_total, one_set}
 use Rattle.beldi_core.proofs.runs.put.Goals as goal
 
 pub returns-in-Ok-clause-ok : goal.returns-in-Ok-clause-ok

@@ -1,8 +1,4 @@
-use Rattle.std.proofs.Common.{sym, ◌∙◌}
-use Rattle.std.specs.FinMap.{nat_cmp-IsAntisymmetric}
-use Rattle.std.specs.Cmp.{nat_cmp_total}
-use Rattle.beldi_row.proofs.Rows.{get_rows}
-use Rattle.beldi_core.proofs.RunMaps.{one_removed}
+use Rattle.beldi_core.proofs.{Names.get_rows, Names.nat_cmp-IsAntisymmetric, Names.nat_cmp_total, Names.sym, Names.◌∙◌, RunMaps.one_removed}
 use Rattle.beldi_core.proofs.runs.take.Goals as goal
 
 pub returns-clause-run : goal.returns-clause-run

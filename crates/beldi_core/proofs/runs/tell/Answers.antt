@@ -1,12 +1,6 @@
-use Rattle.std.proofs.Common.{rules, Some, sym, ap, ◌∙◌}
-use Rattle.std.specs.Option.{option_copied_mut}
-use Rattle.std.specs.FinMap as map
-use Rattle.std.specs.FinMap.{nat_cmp-IsAntisymmetric}
-use Rattle.std.specs.Cmp.{nat_cmp_total}
-use Rattle.beldi_row.proofs.Rows.{get_rows, one_set}
-use Rattle.beldi_walk.specs.Query.{told_of}
-use Rattle.beldi_core.specs.Runs.{map_of, ends_run}
+use Rattle.beldi_core.proofs.Names.{Some, ap, ends_run, get_rows, map_of, nat_cmp-IsAntisymmetric, nat_cmp_total, one_set, option_copied_mut, rules, sym, told_of, ◌∙◌}
 use Rattle.beldi_core.proofs.RunMaps.{run_was_told, kept_told, absent_run}
+use Rattle.beldi_core.proofs.Names.map
 use Rattle.beldi_core.proofs.runs.tell.Goals as goal
 
 pub unreachable-requires : goal.unreachable-requires

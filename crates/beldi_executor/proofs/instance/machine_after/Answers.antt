@@ -1,10 +1,4 @@
-use Rattle.std.proofs.Common.{rules, arith, ◌≡◌, ◌+◌, ◌++◌, ◌∷◌, [], List, take, sym, ◌∙◌, ap, subst, true}
-use Rattle.std.proofs.lemmas.Grind.{common_steps}
-use Rattle.std.proofs.lemmas.List.{take_all}
-use Rattle.beldi_lang.specs.Machine.{IsAt, begun, resumed}
-use Rattle.beldi_lang.specs.Wants.{wants_answer}
-use Rattle.beldi_lang.specs.declared.effect.Answer.{Answer}
-use Rattle.beldi_lang.proofs.Resumes.{at_next}
+use Rattle.beldi_executor.proofs.Names.{Answer, IsAt, List, [], ap, arith, at_next, begun, common_steps, resumed, rules, subst, sym, take, take_all, true, wants_answer, ◌++◌, ◌+◌, ◌∙◌, ◌∷◌, ◌≡◌}
 use Rattle.beldi_executor.proofs.Kept.{stands_early, stands_there}
 use Rattle.beldi_executor.proofs.instance.machine_after.Goals as goal
 

@@ -1,5 +1,4 @@
-use Rattle.std.proofs.Common.{take}
-use Rattle.beldi_lang.specs.Machine.{IsAt}
+use Rattle.beldi_executor.proofs.Names.{IsAt, take}
 use Rattle.beldi_executor.proofs.instance.machine_after.Given as goal
 
 -- the machine stands where the answers so far have led

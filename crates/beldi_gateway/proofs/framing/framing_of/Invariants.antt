@@ -1,6 +1,4 @@
-use Rattle.std.proofs.Common.{◌≡◌, length, map, All}
-use Rattle.httparse.specs.Spans.{IsHeaderWithin, header_bytes}
-use Rattle.beldi_gateway.specs.Framing.{framed_by, plain}
+use Rattle.beldi_gateway.proofs.Names.{All, IsHeaderWithin, framed_by, header_bytes, length, map, plain, ◌≡◌}
 use Rattle.beldi_gateway.proofs.framing.framing_of.Given as goal
 
 abbrev pub invariant-loop-rest : goal.invariant-loop-rest

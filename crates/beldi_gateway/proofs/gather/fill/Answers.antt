@@ -1,4 +1,4 @@
-use Rattle.std.proofs.Common.{rules, ◌≡◌, inr, []}
+use Rattle.beldi_gateway.proofs.Names.{[], inr, rules, ◌≡◌}
 use Rattle.beldi_gateway.proofs.Moves.{gathers_then, lost_then, ends_then}
 use Rattle.beldi_gateway.proofs.gather.fill.Goals as goal
 

@@ -1,5 +1,4 @@
-use Rattle.std.proofs.Common.{◌≤◌, ◌-◌, length}
-use Rattle.beldi_gateway.specs.Taking.{Gathers}
+use Rattle.beldi_gateway.proofs.Names.{Gathers, length, ◌-◌, ◌≤◌}
 use Rattle.beldi_gateway.proofs.gather.fill.Given as goal
 
 abbrev pub invariant-loop-body : goal.invariant-loop-body

@@ -1,8 +1,5 @@
-use Rattle.std.proofs.Common.{rules, arith, ◌≡◌, ◌+◌, ◌-◌, ◌∙◌, ap, length, take, drop}
-use Rattle.std.proofs.lemmas.List.{length-drop, take_all}
-use Rattle.beldi_gateway.proofs.Moves.{head_grows, head_ends, lost_then}
-use Rattle.beldi_gateway.proofs.Scans.{scan_grows}
-use Rattle.beldi_gateway.specs.Scan.{scan_on}
+use Rattle.beldi_gateway.proofs.Names.{ap, arith, drop, length, length-drop, rules, scan_on, take, take_all, ◌+◌, ◌-◌, ◌∙◌, ◌≡◌}
+use Rattle.beldi_gateway.proofs.{Moves.head_grows, Moves.head_ends, Moves.lost_then, Scans.scan_grows}
 use Rattle.beldi_gateway.proofs.gather.gather.Goals as goal
 
 pub returns-in-Err-clause-takes : goal.returns-in-Err-clause-takes

@@ -1,6 +1,4 @@
-use Rattle.std.proofs.Common.{◌≡◌, ◌≤◌, ◌-◌, [], length}
-use Rattle.beldi_gateway.specs.Scan.{scan_on, start}
-use Rattle.beldi_gateway.specs.Taking.{Moves}
+use Rattle.beldi_gateway.proofs.Names.{Moves, [], length, scan_on, start, ◌-◌, ◌≡◌, ◌≤◌}
 use Rattle.beldi_gateway.proofs.gather.gather.Given as goal
 
 abbrev pub invariant-loop-scan : goal.invariant-loop-scan

@@ -1,5 +1,4 @@
-use Rattle.std.proofs.Common.{take}
-use Rattle.beldi_gateway.proofs.Moves.{reads}
+use Rattle.beldi_gateway.proofs.{Names.take, Moves.reads}
 use Rattle.beldi_gateway.proofs.gather.take_some.Goals as goal
 
 pub returns-in-Err-clause-takes : goal.returns-in-Err-clause-takes

@@ -1,5 +1,4 @@
-use Rattle.std.proofs.Common.{rules}
-use Rattle.beldi_gateway.proofs.Responses.{compose_parts}
+use Rattle.beldi_gateway.proofs.{Names.rules, Responses.compose_parts}
 use Rattle.beldi_gateway.proofs.response.compose.Goals as goal
 
 pub returns : goal.returns

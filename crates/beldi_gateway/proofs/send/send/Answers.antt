@@ -1,7 +1,4 @@
-use Rattle.std.proofs.Common.{arith, ◌≡◌, ◌≤◌, ◌+◌, ◌-◌, Ok, length, take, drop, subst}
-use Rattle.beldi_outside.specs.Outside.{Told}
-use Rattle.beldi_outside.specs.Connection.{LinkWrote}
-use Rattle.std.proofs.lemmas.List.{take-append-drop, length-drop, take_all}
+use Rattle.beldi_gateway.proofs.Names.{LinkWrote, Ok, Told, arith, drop, length, length-drop, subst, take, take-append-drop, take_all, ◌+◌, ◌-◌, ◌≡◌, ◌≤◌}
 use Rattle.beldi_gateway.proofs.Moves.{wrote_nothing, wrote_more}
 use Rattle.beldi_gateway.proofs.send.send.Goals as goal
 

@@ -1,5 +1,4 @@
-use Rattle.std.proofs.Common.{◌≤◌, ◌-◌, [], length, take}
-use Rattle.beldi_gateway.specs.Taking.{Moves}
+use Rattle.beldi_gateway.proofs.Names.{Moves, [], length, take, ◌-◌, ◌≤◌}
 use Rattle.beldi_gateway.proofs.send.send.Given as goal
 
 abbrev pub invariant-loop-at : goal.invariant-loop-at

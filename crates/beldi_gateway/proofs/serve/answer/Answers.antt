@@ -1,5 +1,4 @@
-use Rattle.std.proofs.Common.{rules}
-use Rattle.beldi_gateway.proofs.Replies.{answers_plan, replied_refused}
+use Rattle.beldi_gateway.proofs.{Names.rules, Replies.answers_plan, Replies.replied_refused}
 use Rattle.beldi_gateway.proofs.serve.answer.Goals as goal
 
 pub returns-in-Ok-Err-clause-answers : goal.returns-in-Ok-Err-clause-answers

@@ -1,5 +1,4 @@
-use Rattle.std.proofs.Common.{rules, ◌≡◌, [], subst}
-use Rattle.beldi_gateway.specs.Serve.{Replied}
+use Rattle.beldi_gateway.proofs.Names.{Replied, [], rules, subst, ◌≡◌}
 use Rattle.beldi_gateway.proofs.Whole.{front, lost, whole}
 use Rattle.beldi_gateway.proofs.serve.exchange.Goals as goal
 

@@ -1,5 +1,4 @@
-use Rattle.std.proofs.Common.{rules}
-use Rattle.beldi_host.proofs.Right.{one_answer_at}
+use Rattle.beldi_host.proofs.{Names.rules, Right.one_answer_at}
 use Rattle.beldi_host.proofs.laws.right_has_one_answer.Goals as goal
 
 pub returns : goal.returns

@@ -1,7 +1,4 @@
-use Rattle.std.proofs.Common.{Option, Ok, Err, refl}
-use Rattle.beldi_row.specs.declared.row.Row.{Row}
-use Rattle.beldi_step.specs.Tables.{value_in}
-use Rattle.beldi_host.specs.declared.survey.OpenErr.TheVariants.{OutOfMemory}
+use Rattle.beldi_host.proofs.Names.{Err, Ok, Option, OutOfMemory, Row, refl, value_in}
 use Rattle.beldi_host.proofs.Looks.{seen}
 use Rattle.beldi_host.proofs.survey.cell_value.Goals as goal
 

@@ -1,7 +1,4 @@
-use Rattle.std.proofs.Common.{rules, ◌≡◌, ℕ, Option, None, Some, sym, subst}
-use Rattle.beldi_row.specs.Key.{RowKey}
-use Rattle.beldi_row.specs.Table.{next_row}
-use Rattle.beldi_host.specs.Survey.{newest_of, next_key_of}
+use Rattle.beldi_host.proofs.Names.{None, Option, RowKey, Some, newest_of, next_key_of, next_row, rules, subst, sym, ℕ, ◌≡◌}
 use Rattle.beldi_host.proofs.Steps.{Newest, newest_first, newest_next, newest_last, begins, goes, ends}
 use Rattle.beldi_host.proofs.survey.find_newest.Goals as goal
 

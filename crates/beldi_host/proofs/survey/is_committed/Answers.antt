@@ -1,6 +1,4 @@
-use Rattle.std.proofs.Common.{Ok, refl}
-use Rattle.beldi_step.specs.Tables.{is_committed}
-use Rattle.beldi_host.proofs.Looks.{seen}
+use Rattle.beldi_host.proofs.{Names.Ok, Names.is_committed, Names.refl, Looks.seen}
 use Rattle.beldi_host.proofs.survey.is_committed.Goals as goal
 
 pub returns : goal.returns

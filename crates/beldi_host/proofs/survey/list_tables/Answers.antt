@@ -1,10 +1,6 @@
-use Rattle.std.proofs.Common.{◌≡◌, ℕ, List, Option, None, Some, sym, subst}
-use Rattle.beldi_row.specs.Key.{RowKey, least_key}
-use Rattle.beldi_row.specs.Table.{Rows, next_row}
-use Rattle.beldi_step.specs.Tables.{tables_text}
-use Rattle.beldi_host.specs.Survey.{next_line_of}
-use Rattle.beldi_host.proofs.Skips.{listed_past}
+use Rattle.beldi_host.proofs.Names.{List, None, Option, RowKey, Rows, Some, least_key, next_line_of, next_row, subst, sym, tables_text, ℕ, ◌≡◌}
 use Rattle.beldi_host.proofs.Steps.{Listed, listed_first, listed_next, listed_last, begins, goes, ends}
+use Rattle.beldi_host.proofs.Skips.{listed_past}
 use Rattle.beldi_host.proofs.survey.list_tables.Goals as goal
 
 pub loop-init : goal.loop-init

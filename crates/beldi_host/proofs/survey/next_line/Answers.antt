@@ -1,8 +1,4 @@
-use Rattle.std.proofs.Common.{◌≡◌, Option, Some, Ok}
-use Rattle.beldi_row.specs.Key.{RowKey}
-use Rattle.beldi_row.specs.Table.{next_row}
-use Rattle.beldi_host.specs.declared.survey.Owned.{Owned}
-use Rattle.beldi_host.specs.Survey.{next_seen_of, line_after, next_line_of}
+use Rattle.beldi_host.proofs.Names.{Ok, Option, Owned, RowKey, Some, line_after, next_line_of, next_row, next_seen_of, ◌≡◌}
 use Rattle.beldi_host.proofs.Steps.{reads_so, reads_then, seen_some}
 use Rattle.beldi_host.proofs.survey.next_line.Goals as goal
 

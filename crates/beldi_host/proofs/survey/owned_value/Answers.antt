@@ -1,8 +1,6 @@
-use Rattle.std.proofs.Common.{◌≡◌, Bool, true, false, Ok}
-use Rattle.std.specs.FinMap as map
-use Rattle.beldi_value.specs.declared.value.Value.{Value}
-use Rattle.beldi_step.specs.Tables.{is_committed, value_in, owned_value}
+use Rattle.beldi_host.proofs.Names.{Bool, Ok, Value, false, is_committed, owned_value, true, value_in, ◌≡◌}
 use Rattle.beldi_host.proofs.Steps.{reads_so, reads_then, owned_committed, owned_open}
+use Rattle.beldi_host.proofs.Names.map
 use Rattle.beldi_host.proofs.survey.owned_value.Goals as goal
 
 pub returns-in-Ok-true : goal.returns-in-Ok-true

@@ -1,7 +1,4 @@
-use Rattle.std.proofs.Common.{◌≡◌, ℕ, ap, sym, ◌∙◌, subst}
-use Rattle.std.specs.Ordering.{is_lt}
-use Rattle.beldi_row.specs.Key.{RowKey, key_cmp, rank_of}
-use Rattle.beldi_host.specs.Survey.{Past, last_rank}
+use Rattle.beldi_host.proofs.Names.{Past, RowKey, ap, is_lt, key_cmp, last_rank, rank_of, subst, sym, ℕ, ◌∙◌, ◌≡◌}
 use Rattle.beldi_host.proofs.Skips.{past_itself, past_last}
 use Rattle.beldi_host.proofs.survey.past_others.Goals as goal
 

@@ -1,8 +1,4 @@
-use Rattle.std.proofs.Common.{Ok, Err}
-use Rattle.beldi_intent.specs.Intent.{root_key}
-use Rattle.beldi_host.specs.declared.survey.OpenErr.TheVariants.{OutOfMemory}
-use Rattle.beldi_host.specs.Survey.{row_seen}
-use Rattle.beldi_host.proofs.Looks.{seen}
+use Rattle.beldi_host.proofs.{Names.Err, Names.Ok, Names.OutOfMemory, Names.root_key, Names.row_seen, Looks.seen}
 use Rattle.beldi_host.proofs.survey.read_reply.Goals as goal
 
 pub returns-in-Ok-clause-reads : goal.returns-in-Ok-clause-reads

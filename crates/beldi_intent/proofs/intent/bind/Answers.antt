@@ -1,9 +1,4 @@
-use Rattle.std.proofs.Common.{refl, ap, sym, Ok, Err}
-use Rattle.beldi_row.specs.declared.act.Act.TheVariants.{Bind}
-use Rattle.beldi_row.specs.Key.{RowKey}
-use Rattle.beldi_walk.specs.declared.query.Query.TheVariants.{Act}
-use Rattle.beldi_walk.proofs.Queries.{acted}
-use Rattle.beldi_intent.specs.Intent.{bind_asks}
+use Rattle.beldi_intent.proofs.Names.{Act, Bind, Err, Ok, RowKey, acted, ap, bind_asks, refl, sym}
 use Rattle.beldi_intent.proofs.intent.bind.Goals as goal
 
 pub returns-in-Ok-bind_told : goal.returns-in-Ok-bind_told

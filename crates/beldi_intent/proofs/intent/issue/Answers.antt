@@ -1,9 +1,4 @@
-use Rattle.std.proofs.Common.{refl, ap, sym, Ok, Err}
-use Rattle.beldi_row.specs.declared.act.Act.TheVariants.{Issue}
-use Rattle.beldi_row.specs.Key.{RowKey}
-use Rattle.beldi_walk.specs.declared.query.Query.TheVariants.{Act}
-use Rattle.beldi_walk.proofs.Queries.{acted}
-use Rattle.beldi_intent.specs.Intent.{issue_asks}
+use Rattle.beldi_intent.proofs.Names.{Act, Err, Issue, Ok, RowKey, acted, ap, issue_asks, refl, sym}
 use Rattle.beldi_intent.proofs.intent.issue.Goals as goal
 
 pub returns-in-Ok : goal.returns-in-Ok

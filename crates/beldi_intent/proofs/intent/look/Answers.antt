@@ -1,9 +1,4 @@
-use Rattle.std.proofs.Common.{refl, ap, sym, Ok, Err}
-use Rattle.beldi_row.specs.declared.act.Act.TheVariants.{Look}
-use Rattle.beldi_row.specs.Key.{RowKey}
-use Rattle.beldi_walk.specs.declared.query.Query.TheVariants.{Act}
-use Rattle.beldi_walk.proofs.Queries.{acted}
-use Rattle.beldi_intent.specs.Intent.{look_asks}
+use Rattle.beldi_intent.proofs.Names.{Act, Err, Look, Ok, RowKey, acted, ap, look_asks, refl, sym}
 use Rattle.beldi_intent.proofs.intent.look.Goals as goal
 
 pub returns-in-Ok-intent_told : goal.returns-in-Ok-intent_told

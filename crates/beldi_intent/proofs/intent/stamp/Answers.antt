@@ -1,9 +1,4 @@
-use Rattle.std.proofs.Common.{refl, ap, sym, Ok, Err}
-use Rattle.beldi_row.specs.declared.act.Act.TheVariants.{Stamp}
-use Rattle.beldi_row.specs.Key.{RowKey}
-use Rattle.beldi_walk.specs.declared.query.Query.TheVariants.{Act}
-use Rattle.beldi_walk.proofs.Queries.{acted}
-use Rattle.beldi_intent.specs.Intent.{stamp_asks}
+use Rattle.beldi_intent.proofs.Names.{Act, Err, Ok, RowKey, Stamp, acted, ap, refl, stamp_asks, sym}
 use Rattle.beldi_intent.proofs.intent.stamp.Goals as goal
 
 pub returns-in-Ok : goal.returns-in-Ok

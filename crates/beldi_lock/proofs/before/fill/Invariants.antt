@@ -1,5 +1,4 @@
-use Rattle.std.proofs.Common.{◌≡◌, ◌≤◌, length}
-use Rattle.beldi_lock.specs.Lockset.{filled}
+use Rattle.beldi_lock.proofs.Names.{filled, length, ◌≡◌, ◌≤◌}
 use Rattle.beldi_lock.proofs.before.fill.Given as goal
 
 abbrev pub invariant-loop : goal.invariant-loop

@@ -1,6 +1,4 @@
-use Rattle.std.proofs.Common.{rules, sym, ◌∙◌, ap}
-use Rattle.beldi_lock.specs.Lockset.{filled}
-use Rattle.beldi_lock.proofs.IdBefore.{before_zero, before_more}
+use Rattle.beldi_lock.proofs.{Names.ap, Names.filled, Names.rules, Names.sym, Names.◌∙◌, IdBefore.before_zero, IdBefore.before_more}
 use Rattle.beldi_lock.proofs.before.id_before.Goals as goal
 
 pub returns-in-Some-eq0 : goal.returns-in-Some-eq0

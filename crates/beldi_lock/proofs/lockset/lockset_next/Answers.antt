@@ -1,7 +1,4 @@
-use Rattle.std.proofs.Common.{refl, Err}
-use Rattle.beldi_row.specs.declared.table.TableErr.TheVariants.{OutOfMemory}
-use Rattle.beldi_walk.proofs.Queries.{unasked}
-use Rattle.beldi_lock.specs.Lockset.{lockset_asks, item_lent}
+use Rattle.beldi_lock.proofs.Names.{Err, OutOfMemory, item_lent, lockset_asks, refl, unasked}
 use Rattle.beldi_lock.proofs.lockset.lockset_next.Goals as goal
 
 pub returns-in-Err : goal.returns-in-Err

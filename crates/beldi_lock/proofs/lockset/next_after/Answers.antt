@@ -1,6 +1,4 @@
-use Rattle.std.proofs.Common.{refl, Ok, Err}
-use Rattle.beldi_walk.specs.declared.query.Query.TheVariants.{After}
-use Rattle.beldi_walk.proofs.Queries.{went}
+use Rattle.beldi_lock.proofs.Names.{After, Err, Ok, refl, went}
 use Rattle.beldi_lock.proofs.lockset.next_after.Goals as goal
 
 pub returns-in-Ok-lockset_told : goal.returns-in-Ok-lockset_told

@@ -1,7 +1,5 @@
 use Rattle.std.proofs.Common.{rules, ◌≡◌, ◌+◌, Err, sym, subst}
-use Rattle.beldi_outside.specs.Outside.{Told, ReadAllOn}
-use Rattle.beldi_outside.specs.declared.transfer.ReadErr.TheVariants.{OutOfMemory}
-use Rattle.beldi_outside.proofs.Transfers.{lost}
+use Rattle.beldi_outside.{specs.Outside.Told, specs.Outside.ReadAllOn, specs.declared.transfer.ReadErr.TheVariants.OutOfMemory, proofs.Transfers.lost}
 use Rattle.beldi_outside.proofs.transfer.read_up_to.Goals as goal
 
 pub returns-in_err-extend_from_slice-clause-bytes :

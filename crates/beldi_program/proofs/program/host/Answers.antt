@@ -1,12 +1,4 @@
-use Rattle.std.proofs.Common.{◌≡◌, inl, IfOk, ℕ, List, sym, subst}
-use Rattle.beldi_script.specs.Cut.{lines_of}
-use Rattle.beldi_tree.specs.declared.deployment.Deployment.{Deployment}
-use Rattle.beldi_outside.specs.Outside.{Told}
-use Rattle.beldi_program.specs.declared.program.Ended.{Ended}
-use Rattle.beldi_session.specs.Script.{is_whole}
-use Rattle.beldi_session.specs.Session.{Writes, sight}
-use Rattle.beldi_session.specs.Source.{numbered}
-use Rattle.beldi_program.specs.Headline.{SessionEnds}
+use Rattle.beldi_program.proofs.Names.{Deployment, Ended, IfOk, List, SessionEnds, Told, Writes, inl, is_whole, lines_of, numbered, sight, subst, sym, ℕ, ◌≡◌}
 use Rattle.beldi_program.proofs.Ends.{SessionBy, hosted, session_ends, not_opened}
 use Rattle.beldi_program.proofs.program.host.Goals as goal
 

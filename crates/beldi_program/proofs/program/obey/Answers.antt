@@ -1,6 +1,4 @@
-use Rattle.std.proofs.Common.{◌≤◌, length, sym, subst}
-use Rattle.beldi_outside.specs.Outside.{max_source}
-use Rattle.beldi_program.proofs.Ends.{command_ends, was_read}
+use Rattle.beldi_program.proofs.{Names.length, Names.max_source, Names.subst, Names.sym, Names.◌≤◌, Ends.command_ends, Ends.was_read}
 use Rattle.beldi_program.proofs.program.obey.Goals as goal
 
 pub returns-in-Ok : goal.returns-in-Ok

@@ -1,9 +1,4 @@
-use Rattle.std.proofs.Common.{◌≡◌, Err, Result, refl, sym, subst}
-use Rattle.beldi_script.specs.Cut.{lines_of}
-use Rattle.beldi_session.specs.declared.source.Accepted.{Accepted}
-use Rattle.beldi_session.specs.declared.refusal.Refusal.{Refusal}
-use Rattle.beldi_session.specs.Source.{numbered, source_at}
-use Rattle.beldi_program.specs.Headline.{SessionEnds, SourceEnds}
+use Rattle.beldi_program.proofs.Names.{Accepted, Err, Refusal, Result, SessionEnds, SourceEnds, lines_of, numbered, refl, source_at, subst, sym, ◌≡◌}
 use Rattle.beldi_program.proofs.Ends.{unread_source}
 use Rattle.beldi_program.proofs.program.run_source.Goals as goal
 

@@ -1,7 +1,4 @@
-use Rattle.std.proofs.Common.{◌≡◌, ℕ, List, Err, Result, sym, subst}
-use Rattle.beldi_session.specs.declared.refusal.Refusal.{Refusal}
-use Rattle.beldi_session.specs.Check.{check_at}
-use Rattle.beldi_program.specs.Headline.{CheckEnds}
+use Rattle.beldi_program.proofs.Names.{CheckEnds, Err, List, Refusal, Result, check_at, subst, sym, ℕ, ◌≡◌}
 use Rattle.beldi_program.proofs.Ends.{untold}
 use Rattle.beldi_program.proofs.program.test_source.Goals as goal
 

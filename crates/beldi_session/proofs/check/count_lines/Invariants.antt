@@ -1,7 +1,4 @@
-use Rattle.std.proofs.Common.{◌≡◌, ◌+◌, ◌≤◌, length}
-use Rattle.beldi_script.specs.Cut.{lines_of}
-use Rattle.beldi_session.specs.Check.{counted}
-use Rattle.beldi_session.specs.Source.{numbered}
+use Rattle.beldi_session.proofs.Names.{counted, length, lines_of, numbered, ◌+◌, ◌≡◌, ◌≤◌}
 use Rattle.beldi_session.proofs.check.count_lines.Given as goal
 
 abbrev pub invariant-loop-rest : goal.invariant-loop-rest

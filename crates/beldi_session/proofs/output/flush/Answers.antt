@@ -1,5 +1,4 @@
-use Rattle.std.proofs.Common.{◌++◌, ◌∙◌, ap}
-use Rattle.std.proofs.lemmas.List.{append-nil}
+use Rattle.beldi_session.proofs.Names.{ap, append-nil, ◌++◌, ◌∙◌}
 use Rattle.beldi_session.proofs.output.flush.Goals as goal
 
 pub returns-in-Ok-clause-text : goal.returns-in-Ok-clause-text

@@ -1,6 +1,4 @@
-use Rattle.std.proofs.Common.{codes}
-use Rattle.beldi_session.specs.Refusal.{cause_text, place_text}
-use Rattle.beldi_session.proofs.Refusals.{three_parts}
+use Rattle.beldi_session.proofs.{Names.cause_text, Names.codes, Names.place_text, Refusals.three_parts}
 use Rattle.beldi_session.proofs.refusal.write_refusal.Goals as goal
 
 pub returns : goal.returns

@@ -1,8 +1,4 @@
-use Rattle.std.proofs.Common.{◌≡◌, ◌++◌, ◌∙◌, [], ◌∷◌, refl, sym, subst}
-use Rattle.std.specs.Prelude.{OnOk}
-use Rattle.beldi_session.specs.Answer.{answer_text}
-use Rattle.beldi_session.specs.Script.{Carry}
-use Rattle.beldi_session.specs.Session.{Does, sight}
+use Rattle.beldi_session.proofs.Names.{Carry, Does, OnOk, [], answer_text, refl, sight, subst, sym, ◌++◌, ◌∙◌, ◌∷◌, ◌≡◌}
 use Rattle.beldi_session.proofs.Responses.{event_answered, event_broke}
 use Rattle.beldi_session.proofs.session.answer.Goals as goal
 

@@ -1,9 +1,4 @@
-use Rattle.std.proofs.Common.{◌≡◌, ◌++◌, [], ◌∷◌, refl, sym, subst, arith}
-use Rattle.std.specs.Prelude.{OnOk}
-use Rattle.beldi_row.specs.Table.{IsCount}
-use Rattle.beldi_session.specs.Script.{CountRows}
-use Rattle.beldi_session.specs.Response.{RowsAre}
-use Rattle.beldi_session.specs.Session.{Does, sight}
+use Rattle.beldi_session.proofs.Names.{CountRows, Does, IsCount, OnOk, RowsAre, [], arith, refl, sight, subst, sym, ◌++◌, ◌∷◌, ◌≡◌}
 use Rattle.beldi_session.proofs.Responses.{reported, counted_rows}
 use Rattle.beldi_session.proofs.session.count_rows.Goals as goal
 

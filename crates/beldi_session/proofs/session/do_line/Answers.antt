@@ -1,12 +1,5 @@
-use Rattle.std.proofs.Common.{◌≡◌, ◌++◌, ◌∙◌, [], ◌∷◌, true, false, IfOk, refl, ap, sym, subst, arith}
-use Rattle.std.specs.Prelude.{OnOk}
-use Rattle.beldi_host.specs.Host.{core_of}
-use Rattle.beldi_session.specs.Source.{Numbered, said_at}
-use Rattle.beldi_session.specs.Script.{Refuse, actions_of, and_then, is_ok}
-use Rattle.beldi_session.specs.Response.{LineRefused, report_text}
-use Rattle.beldi_session.specs.Session.{Does, IsReport, by_done, sight, state_at}
-use Rattle.beldi_session.proofs.Calls.{does_then, does_before, does_done, does_none, done_whole, flushed}
-use Rattle.beldi_session.proofs.Responses.{reported, tells_same}
+use Rattle.beldi_session.proofs.Names.{Does, IfOk, IsReport, LineRefused, Numbered, OnOk, Refuse, [], actions_of, and_then, ap, arith, by_done, core_of, false, is_ok, refl, report_text, said_at, sight, state_at, subst, sym, true, ◌++◌, ◌∙◌, ◌∷◌, ◌≡◌}
+use Rattle.beldi_session.proofs.{Calls.does_then, Calls.does_before, Calls.does_done, Calls.does_none, Calls.done_whole, Calls.flushed, Responses.reported, Responses.tells_same}
 use Rattle.beldi_session.proofs.session.do_line.Goals as goal
 
 pub returns-in-Ok-say-clause-does : goal.returns-in-Ok-say-clause-does

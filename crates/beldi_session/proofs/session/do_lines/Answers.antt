@@ -1,12 +1,5 @@
-use Rattle.std.proofs.Common.{◌≡◌, ◌++◌, ◌∙◌, [], ◌∷◌, false, refl, ap, length, sym, eqb-true}
-use Rattle.std.proofs.lemmas.List.{nil_from_length}
-use Rattle.beldi_script.specs.Cut.{lines_of}
-use Rattle.beldi_tree.specs.declared.deployment.Deployment.{Deployment}
-use Rattle.beldi_session.specs.Script.{actions_in, and_then, is_ok, is_whole}
-use Rattle.beldi_session.specs.Session.{sight}
-use Rattle.beldi_session.specs.Source.{Numbered, next, numbered, said_at}
-use Rattle.beldi_session.proofs.Calls.{does_nothing, does_then, does_before, does_so, lines_then, all_whole}
-use Rattle.beldi_session.proofs.Lines.{after_line, goes_on, is_refused, stops, whole_on, not_whole}
+use Rattle.beldi_session.proofs.Names.{Deployment, Numbered, [], actions_in, and_then, ap, eqb-true, false, is_ok, is_whole, length, lines_of, next, nil_from_length, numbered, refl, said_at, sight, sym, ◌++◌, ◌∙◌, ◌∷◌, ◌≡◌}
+use Rattle.beldi_session.proofs.{Calls.does_nothing, Calls.does_then, Calls.does_before, Calls.does_so, Calls.lines_then, Calls.all_whole, Lines.after_line, Lines.goes_on, Lines.is_refused, Lines.stops, Lines.whole_on, Lines.not_whole}
 use Rattle.beldi_session.proofs.session.do_lines.Goals as goal
 
 pub loop-rest-init : goal.loop-rest-init

@@ -1,8 +1,4 @@
-use Rattle.std.proofs.Common.{◌≡◌, ◌++◌, List, length}
-use Rattle.beldi_script.specs.Cut.{lines_of}
-use Rattle.beldi_session.specs.Script.{Action, actions_in, is_whole}
-use Rattle.beldi_session.specs.Session.{Does, sight}
-use Rattle.beldi_session.specs.Source.{numbered}
+use Rattle.beldi_session.proofs.Names.{Action, Does, List, actions_in, is_whole, length, lines_of, numbered, sight, ◌++◌, ◌≡◌}
 use Rattle.beldi_session.proofs.Went.{fine}
 use Rattle.beldi_session.proofs.session.do_lines.Given as goal
 

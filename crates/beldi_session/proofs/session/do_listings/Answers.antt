@@ -1,7 +1,4 @@
-use Rattle.std.proofs.Common.{[], ◌∷◌, true, Ok, refl, sym, subst}
-use Rattle.beldi_host.specs.Host.{core_of}
-use Rattle.beldi_session.specs.Script.{ListTables, ListBook}
-use Rattle.beldi_session.specs.Session.{Does, sight}
+use Rattle.beldi_session.proofs.Names.{Does, ListBook, ListTables, Ok, [], core_of, refl, sight, subst, sym, true, ◌∷◌}
 use Rattle.beldi_session.proofs.Calls.{does_then, does_before, does_done, flushed}
 use Rattle.beldi_session.proofs.session.do_listings.Goals as goal
 

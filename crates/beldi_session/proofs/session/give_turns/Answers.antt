@@ -1,9 +1,5 @@
-use Rattle.std.proofs.Common.{ℕ, ◌+◌, ◌-◌, ◌++◌, [], ◌∷◌, refl, subst, arith}
-use Rattle.beldi_step.specs.declared.event.Event.{Event}
-use Rattle.beldi_session.specs.Script.{Carry, times, turn_of}
-use Rattle.beldi_session.specs.Session.{Does, sight}
-use Rattle.beldi_session.proofs.Calls.{does_nothing, does_then, does_before, times_more, times_left}
-use Rattle.beldi_session.proofs.Went.{fine, broken}
+use Rattle.beldi_session.proofs.Names.{Carry, Does, Event, [], arith, refl, sight, subst, times, turn_of, ℕ, ◌++◌, ◌+◌, ◌-◌, ◌∷◌}
+use Rattle.beldi_session.proofs.{Calls.does_nothing, Calls.does_then, Calls.does_before, Calls.times_more, Calls.times_left, Went.fine, Went.broken}
 use Rattle.beldi_session.proofs.session.give_turns.Goals as goal
 
 pub loop-turn-init : goal.loop-turn-init

@@ -1,6 +1,4 @@
-use Rattle.std.proofs.Common.{ℕ, List, Option}
-use Rattle.beldi_session.specs.Script.{Carry, times, turn_of}
-use Rattle.beldi_session.specs.Session.{Does, sight}
+use Rattle.beldi_session.proofs.Names.{Carry, Does, List, Option, sight, times, turn_of, ℕ}
 use Rattle.beldi_session.proofs.Went.{fine}
 use Rattle.beldi_session.proofs.session.give_turns.Given as goal
 

@@ -1,10 +1,4 @@
-use Rattle.std.proofs.Common.{◌≡◌, ◌++◌, [], ◌∷◌, refl, sym, subst, arith}
-use Rattle.std.specs.Prelude.{OnOk}
-use Rattle.beldi_book.specs.Text.{book_text}
-use Rattle.beldi_book.specs.declared.book.Book.{Book}
-use Rattle.beldi_session.specs.Script.{ListBook}
-use Rattle.beldi_session.specs.Response.{BookIs, report_text}
-use Rattle.beldi_session.specs.Session.{Does, IsReport, sight, state_at}
+use Rattle.beldi_session.proofs.Names.{Book, BookIs, Does, IsReport, ListBook, OnOk, [], arith, book_text, refl, report_text, sight, state_at, subst, sym, ◌++◌, ◌∷◌, ◌≡◌}
 use Rattle.beldi_session.proofs.Responses.{reported, tells_same}
 use Rattle.beldi_session.proofs.session.list_book.Goals as goal
 

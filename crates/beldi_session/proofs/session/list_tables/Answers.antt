@@ -1,10 +1,4 @@
-use Rattle.std.proofs.Common.{◌≡◌, ◌++◌, [], ◌∷◌, None, Some, Ok, Err, refl, ap, sym, subst, arith}
-use Rattle.std.specs.Prelude.{OnOk}
-use Rattle.beldi_row.specs.Table.{Rows}
-use Rattle.beldi_step.specs.Tables.{tables_text}
-use Rattle.beldi_session.specs.Script.{ListTables}
-use Rattle.beldi_session.specs.Response.{TablesAre, report_text}
-use Rattle.beldi_session.specs.Session.{Does, IsReport, sight, state_at}
+use Rattle.beldi_session.proofs.Names.{Does, Err, IsReport, ListTables, None, Ok, OnOk, Rows, Some, TablesAre, [], ap, arith, refl, report_text, sight, state_at, subst, sym, tables_text, ◌++◌, ◌∷◌, ◌≡◌}
 use Rattle.beldi_session.proofs.Responses.{reported, unreported, read_rows, read_as, read_failed, tells_still, under_head, unread_under}
 use Rattle.beldi_session.proofs.session.list_tables.Goals as goal
 

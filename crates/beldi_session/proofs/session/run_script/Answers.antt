@@ -1,10 +1,4 @@
-use Rattle.std.proofs.Common.{◌≡◌, IfOk, sym, subst}
-use Rattle.std.proofs.lemmas.List.{append-nil}
-use Rattle.beldi_host.specs.Host.{core_of}
-use Rattle.beldi_script.specs.Cut.{lines_of}
-use Rattle.beldi_session.specs.Script.{actions_in, is_whole}
-use Rattle.beldi_session.specs.Source.{numbered}
-use Rattle.beldi_session.specs.Session.{Does, sight}
+use Rattle.beldi_session.proofs.Names.{Does, IfOk, actions_in, append-nil, core_of, is_whole, lines_of, numbered, sight, subst, sym, ◌≡◌}
 use Rattle.beldi_session.proofs.Calls.{does_then, does_done, done_whole, flushed}
 use Rattle.beldi_session.proofs.session.run_script.Goals as goal
 

@@ -1,7 +1,4 @@
-use Rattle.std.proofs.Common.{ap}
-use Rattle.beldi_session.specs.Script.{actions_of}
-use Rattle.beldi_session.specs.Session.{sight}
-use Rattle.beldi_session.proofs.Calls.{does_no_action}
+use Rattle.beldi_session.proofs.{Names.actions_of, Names.ap, Names.sight, Calls.does_no_action}
 use Rattle.beldi_session.proofs.session.say.Goals as goal
 
 pub returns-in-Blank : goal.returns-in-Blank

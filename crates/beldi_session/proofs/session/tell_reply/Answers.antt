@@ -1,11 +1,4 @@
-use Rattle.std.proofs.Common.{◌≡◌, ◌++◌, [], ◌∷◌, None, Some, Err, refl, ap, sym, subst}
-use Rattle.std.specs.Prelude.{OnOk}
-use Rattle.beldi_row.specs.Table.{Rows}
-use Rattle.beldi_host.specs.declared.survey.ReplySeen.{ReplySeen}
-use Rattle.beldi_host.specs.Survey.{reply_seen}
-use Rattle.beldi_session.specs.Script.{TellReply}
-use Rattle.beldi_session.specs.Response.{ReplyIs, report_text}
-use Rattle.beldi_session.specs.Session.{Does, IsReport, sight, state_at}
+use Rattle.beldi_session.proofs.Names.{Does, Err, IsReport, None, OnOk, ReplyIs, ReplySeen, Rows, Some, TellReply, [], ap, refl, reply_seen, report_text, sight, state_at, subst, sym, ◌++◌, ◌∷◌, ◌≡◌}
 use Rattle.beldi_session.proofs.Responses.{reported, unreported, read_rows, read_as, read_failed}
 use Rattle.beldi_session.proofs.session.tell_reply.Goals as goal
 

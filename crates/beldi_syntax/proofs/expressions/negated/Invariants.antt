@@ -1,7 +1,5 @@
-use Rattle.std.proofs.Common.{◌≡◌}
 use Rattle.beldi_tree.specs.Term.{not}
-use Rattle.beldi_tree.specs.Expr.{term_of}
-use Rattle.beldi_syntax.specs.Phrase.{times}
+use Rattle.beldi_syntax.proofs.Names.{term_of, times, ◌≡◌}
 use Rattle.beldi_syntax.proofs.expressions.negated.Given as goal
 
 abbrev pub invariant-loop-turn : goal.invariant-loop-turn

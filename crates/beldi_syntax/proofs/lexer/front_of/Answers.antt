@@ -1,5 +1,5 @@
-use Rattle.std.proofs.Common.{◌≡◌, ◌≤◌, ◌+◌, ◌<◌, Bool, false, length, ap, sym, subst, ◌∙◌, rules, arith}
-use Rattle.beldi_syntax.specs.Lexer.{token_of, is_bad, is_script, to_script}
+use Rattle.std.proofs.Common.{rules}
+use Rattle.beldi_syntax.proofs.Names.{Bool, ap, arith, false, is_bad, is_script, length, subst, sym, to_script, token_of, ◌+◌, ◌<◌, ◌∙◌, ◌≡◌, ◌≤◌}
 use Rattle.beldi_syntax.proofs.Pieces.{piece_fits, neither, gets_shorter, script_past}
 use Rattle.beldi_syntax.proofs.lexer.front_of.Goals as goal
 

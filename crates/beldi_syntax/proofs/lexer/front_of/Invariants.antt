@@ -1,5 +1,4 @@
-use Rattle.std.proofs.Common.{◌≡◌, ◌≤◌, ◌+◌, ◌-◌, length}
-use Rattle.beldi_syntax.specs.Lexer.{to_script}
+use Rattle.beldi_syntax.proofs.Names.{length, to_script, ◌+◌, ◌-◌, ◌≡◌, ◌≤◌}
 use Rattle.beldi_syntax.proofs.lexer.front_of.Given as goal
 
 abbrev pub invariant-pieces : goal.invariant-pieces

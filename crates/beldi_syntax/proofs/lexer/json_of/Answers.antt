@@ -1,6 +1,4 @@
-use Rattle.std.proofs.Common.{sym}
-use Rattle.serde_json.specs.View.{view}
-use Rattle.beldi_value.proofs.JsonText.{json_read, no_json}
+use Rattle.beldi_syntax.proofs.Names.{json_read, no_json, sym, view}
 use Rattle.beldi_syntax.proofs.lexer.json_of.Goals as goal
 
 pub returns-in-Ok : goal.returns-in-Ok

@@ -1,5 +1,4 @@
-use Rattle.std.proofs.Common.{◌≡◌, ◌+◌, drop, false}
-use Rattle.beldi_syntax.specs.Lexer.{text_len}
+use Rattle.beldi_syntax.proofs.Names.{drop, false, text_len, ◌+◌, ◌≡◌}
 use Rattle.beldi_syntax.proofs.lexer.text_len.Given as goal
 
 abbrev pub invariant-loop-byte : goal.invariant-loop-byte

@@ -1,5 +1,5 @@
-use Rattle.std.proofs.Common.{◌≡◌, ◌≤◌, ◌+◌, ◌<◌, false, length, sym, subst, ◌∙◌, rules, arith}
-use Rattle.beldi_syntax.specs.Lexer.{token_of, ends, line_after, lexemes}
+use Rattle.std.proofs.Common.{rules}
+use Rattle.beldi_syntax.proofs.Names.{arith, ends, false, length, lexemes, line_after, subst, sym, token_of, ◌+◌, ◌<◌, ◌∙◌, ◌≡◌, ◌≤◌}
 use Rattle.beldi_syntax.proofs.Pieces.{piece_fits, goes_past, gets_shorter, next_line}
 use Rattle.beldi_syntax.proofs.lexer.tokens_of.Goals as goal
 

@@ -1,5 +1,4 @@
-use Rattle.std.proofs.Common.{◌≡◌, ◌≤◌, ◌+◌, ◌++◌, length}
-use Rattle.beldi_syntax.specs.Lexer.{lexemes}
+use Rattle.beldi_syntax.proofs.Names.{length, lexemes, ◌++◌, ◌+◌, ◌≡◌, ◌≤◌}
 use Rattle.beldi_syntax.proofs.lexer.tokens_of.Given as goal
 
 abbrev pub invariant-pieces : goal.invariant-pieces

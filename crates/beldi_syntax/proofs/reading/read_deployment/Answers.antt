@@ -1,6 +1,4 @@
-use Rattle.std.proofs.Common.{◌≤◌, length, take, drop, ap, sym, subst, ◌∙◌}
-use Rattle.beldi_syntax.specs.Lexer.{to_script}
-use Rattle.beldi_syntax.specs.Deployments.{parts_at, ReadsText}
+use Rattle.beldi_syntax.proofs.Names.{ReadsText, ap, drop, length, parts_at, subst, sym, take, to_script, ◌∙◌, ◌≤◌}
 use Rattle.beldi_syntax.proofs.Pieces.{script_fits}
 use Rattle.beldi_syntax.proofs.reading.read_deployment.Goals as goal
 

@@ -1,5 +1,4 @@
-use Rattle.std.proofs.Common.{◌∙◌}
-use Rattle.beldi_syntax.proofs.Pieces.{no_fault, a_fault}
+use Rattle.beldi_syntax.proofs.{Names.◌∙◌, Pieces.no_fault, Pieces.a_fault}
 use Rattle.beldi_syntax.proofs.reading.utf8_fault.Goals as goal
 
 pub returns-in-Ok : goal.returns-in-Ok

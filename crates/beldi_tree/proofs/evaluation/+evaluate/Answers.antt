@@ -1,6 +1,5 @@
-use Rattle.std.proofs.Common.{arith, rules}
 use Rattle.beldi_tree.proofs.Evaluated.{seen_falls, seen_member_falls, first_fits, next_fits, more_fits, first_fault, next_fault, chain_begins}
-use Rattle.beldi_tree.specs.Seen.{seen_value}
+use Rattle.beldi_tree.proofs.Names.{arith, rules, seen_value}
 use Rattle.beldi_tree.proofs.evaluation.+evaluate.Goals as goal
 
 pub list-evaluate-requires : goal.list-evaluate-requires

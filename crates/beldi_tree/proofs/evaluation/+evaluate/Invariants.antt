@@ -1,9 +1,4 @@
-use Rattle.std.proofs.Common.{◌≡◌, ◌+◌, ◌*◌, drop, []}
-use Rattle.beldi_tree.specs.Term.{term_size, terms_size, members_size, items_of, members_of}
-use Rattle.beldi_tree.specs.Expr.{term_of, items_view, members_view}
-use Rattle.beldi_tree.specs.Evaluate.{items_value, fields_value, term_value}
-use Rattle.beldi_tree.specs.Seen.{seen_value}
-use Rattle.beldi_tree.specs.Steps.{ended}
+use Rattle.beldi_tree.proofs.Names.{[], drop, ended, fields_value, items_of, items_value, items_view, members_of, members_size, members_view, seen_value, term_of, term_size, term_value, terms_size, ◌*◌, ◌+◌, ◌≡◌}
 use Rattle.beldi_tree.proofs.Evaluated.{onto, step_size}
 use Rattle.beldi_tree.proofs.evaluation.+evaluate.Given as goal
 

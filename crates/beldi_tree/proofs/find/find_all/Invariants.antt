@@ -1,4 +1,4 @@
-use Rattle.std.proofs.Common.{◌≡◌}
+use Rattle.beldi_tree.proofs.Names.{◌≡◌}
 use Rattle.beldi_tree.proofs.find.find_all.Given as goal
 
 abbrev pub invariant-loop-place : goal.invariant-loop-place

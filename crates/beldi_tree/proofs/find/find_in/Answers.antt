@@ -1,8 +1,4 @@
-use Rattle.std.proofs.Common.{◌≡◌, ◌<◌, ◌∙◌, ℕ, List, length, ap, get_or, set, get_or-set_same}
-use Rattle.std.proofs.lemmas.List.{set-set, set-get_or}
-use Rattle.beldi_tree.specs.declared.deployment.Func.{Func}
-use Rattle.beldi_tree.specs.declared.deployment.TableHead.{TableHead}
-use Rattle.beldi_tree.specs.Command.{Command}
+use Rattle.beldi_tree.proofs.Names.{Command, Func, List, TableHead, ap, get_or, get_or-set_same, length, set, set-get_or, set-set, ℕ, ◌<◌, ◌∙◌, ◌≡◌}
 use Rattle.beldi_tree.proofs.find.find_in.Goals as goal
 
 abbrev made : Func → List TableHead → List Command → Func

@@ -1,5 +1,4 @@
-use Rattle.std.proofs.Common.{sym}
-use Rattle.beldi_tree.proofs.Aparts.{one_more, all_first}
+use Rattle.beldi_tree.proofs.{Names.sym, Aparts.one_more, Aparts.all_first}
 use Rattle.beldi_tree.proofs.find.tables_apart.Goals as goal
 
 pub loop-i-preserved : goal.loop-i-preserved

@@ -1,10 +1,4 @@
-use Rattle.std.proofs.Common.{true, IfOk, ◌≡◌, ap, sym, ◌∙◌, subst}
-use Rattle.beldi_walk.specs.Query.{told_of}
-use Rattle.beldi_row.specs.Table.{entry_of}
-use Rattle.beldi_txn.specs.Invokes.{call_after}
-use Rattle.beldi_txn.specs.declared.end.EndAt.TheVariants.{Callees}
-use Rattle.beldi_txn.specs.Way.{Member}
-use Rattle.beldi_txn.specs.End.{calls_goes, end_goes}
+use Rattle.beldi_txn.proofs.Names.{Callees, IfOk, Member, ap, call_after, calls_goes, end_goes, entry_of, subst, sym, told_of, true, ◌∙◌, ◌≡◌}
 use Rattle.beldi_txn.proofs.end.hear_call.Goals as goal
 
 pub returns-in-Some-clause-ok : goal.returns-in-Some-clause-ok

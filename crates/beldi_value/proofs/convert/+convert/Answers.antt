@@ -1,13 +1,7 @@
-use Rattle.std.proofs.Common.{arith, ◌≡◌, ◌+◌, [], ◌∷◌, ◌++◌, drop, map, sym, ap, ◌∙◌, append_assoc, add-one, drop-cons, suc, length-drop, string_bytes}
-use Rattle.std.proofs.lemmas.List.{append-nil, nil_from_length}
-use Rattle.std.specs.Map.{keys_of}
-use Rattle.serde_json.specs.Data as json
-use Rattle.serde_json.specs.View.{view, items_view as json_items_view, members_view}
-use Rattle.serde_json.proofs.Views.{Entry}
-use Rattle.beldi_value.specs.Value.{datum_of, items_view, fields_view}
-use Rattle.beldi_value.specs.Json.{of_items, of_members}
-use Rattle.beldi_value.proofs.Converting.{onto_items, onto_fields}
-use Rattle.beldi_value.proofs.Converting.{items_go, items_stop, fields_go, fields_stop, onto_end, fields_end, record_from, keys_push, map_push}
+use Rattle.std.proofs.lemmas.List.{append-nil}
+use Rattle.beldi_value.proofs.Names.{Entry, [], add-one, ap, append_assoc, arith, datum_of, drop, drop-cons, fields_view, items_view, json_items_view, keys_of, length-drop, map, members_view, nil_from_length, of_items, of_members, string_bytes, suc, sym, view, ◌++◌, ◌+◌, ◌∙◌, ◌∷◌, ◌≡◌}
+use Rattle.beldi_value.proofs.Converting.{onto_items, onto_fields, items_go, items_stop, fields_go, fields_stop, onto_end, fields_end, record_from, keys_push, map_push}
+use Rattle.beldi_value.proofs.Names.json
 use Rattle.beldi_value.proofs.convert.+convert.Goals as goal
 
 pub values_from-loop-json-preserved : goal.values_from-loop-json-preserved

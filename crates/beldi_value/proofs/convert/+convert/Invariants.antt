@@ -1,9 +1,4 @@
-use Rattle.std.proofs.Common.{◌≡◌, List, ◌++◌, drop, map, string_bytes}
-use Rattle.std.specs.Map.{keys_of}
-use Rattle.serde_json.specs.View.{items_view as json_items_view, members_view}
-use Rattle.serde_json.proofs.Views.{Entry}
-use Rattle.beldi_value.specs.Value.{items_view, fields_view}
-use Rattle.beldi_value.specs.Json.{of_items, of_members}
+use Rattle.beldi_value.proofs.Names.{Entry, List, drop, fields_view, items_view, json_items_view, keys_of, map, members_view, of_items, of_members, string_bytes, ◌++◌, ◌≡◌}
 use Rattle.beldi_value.proofs.Converting.{onto_items, onto_fields}
 use Rattle.beldi_value.proofs.convert.+convert.Given as goal
 

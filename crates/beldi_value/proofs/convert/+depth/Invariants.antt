@@ -1,6 +1,5 @@
-use Rattle.std.proofs.Common.{◌≡◌, drop, max}
-use Rattle.serde_json.specs.Data.{items_depth, members_depth}
-use Rattle.serde_json.specs.View.{items_view as json_items_view, members_view}
+use Rattle.serde_json.specs.Data.{items_depth}
+use Rattle.beldi_value.proofs.Names.{drop, json_items_view, max, members_depth, members_view, ◌≡◌}
 use Rattle.beldi_value.proofs.convert.+depth.Given as goal
 
 -- the deepest so far and those that are left are the deepest of all

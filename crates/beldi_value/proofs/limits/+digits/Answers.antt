@@ -1,6 +1,4 @@
-use Rattle.std.proofs.Common.{◌+◌, ◌/◌, ◌%◌, ◌∷◌, [], length, ap, sym, arith, length-append}
-use Rattle.std.specs.Prelude.{decimal}
-use Rattle.std.proofs.lemmas.Fmt.{decimal_step, decimal_digit, length-decimal-le}
+use Rattle.beldi_value.proofs.Names.{[], ap, arith, decimal, decimal_digit, decimal_step, length, length-append, length-decimal-le, sym, ◌%◌, ◌+◌, ◌/◌, ◌∷◌}
 use Rattle.beldi_value.proofs.limits.+digits.Goals as goal
 
 pub returns-then-number-lt10 : goal.returns-then-number-lt10

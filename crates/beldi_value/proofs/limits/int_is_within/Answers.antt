@@ -1,5 +1,4 @@
-use Rattle.std.proofs.Common.{arith}
-use Rattle.beldi_value.proofs.Within.{int_within}
+use Rattle.beldi_value.proofs.{Names.arith, Within.int_within}
 use Rattle.beldi_value.proofs.limits.int_is_within.Goals as goal
 
 pub returns : goal.returns

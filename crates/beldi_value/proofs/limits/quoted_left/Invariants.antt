@@ -1,5 +1,4 @@
-use Rattle.std.proofs.Common.{◌≡◌, ◌+◌, drop, length}
-use Rattle.json.specs.Print.{escape}
+use Rattle.beldi_value.proofs.Names.{drop, escape, length, ◌+◌, ◌≡◌}
 use Rattle.beldi_value.proofs.limits.quoted_left.Given as goal
 
 -- the budget pays for the whole text with its quotes, and what is left of it for what is left of the text

@@ -1,5 +1,4 @@
-use Rattle.std.proofs.Common.{arith, ◌+◌, ◌*◌, drop, sym, ◌∙◌}
-use Rattle.beldi_value.proofs.Numbers.{more_number, more_digits, no_more_digits, too_large}
+use Rattle.beldi_value.proofs.{Names.arith, Names.drop, Names.sym, Names.◌*◌, Names.◌+◌, Names.◌∙◌, Numbers.more_number, Numbers.more_digits, Numbers.no_more_digits, Numbers.too_large}
 use Rattle.beldi_value.proofs.number.read_number.Goals as goal
 
 pub returns-then-not-is_ascii_digit : goal.returns-then-not-is_ascii_digit

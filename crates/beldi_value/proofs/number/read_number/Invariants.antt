@@ -1,6 +1,4 @@
-use Rattle.std.proofs.Common.{◌≡◌, ◌≤◌, drop}
-use Rattle.std.specs.Str.{all_ascii_digits}
-use Rattle.beldi_value.specs.Number.{read_on}
+use Rattle.beldi_value.proofs.Names.{all_ascii_digits, drop, read_on, ◌≡◌, ◌≤◌}
 use Rattle.beldi_value.proofs.number.read_number.Given as goal
 
 -- the number so far and the digits that are left make what all make

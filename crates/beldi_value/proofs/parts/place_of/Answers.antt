@@ -1,5 +1,4 @@
-use Rattle.std.proofs.Common.{◌++◌, take, ap, ◌∙◌, arith, rules}
-use Rattle.beldi_value.specs.Value.{fields_view}
+use Rattle.beldi_value.proofs.Names.{ap, arith, fields_view, rules, take, ◌++◌, ◌∙◌}
 use Rattle.beldi_value.proofs.Fields.{below_it, at_it, after_it, view_length}
 use Rattle.beldi_value.proofs.parts.place_of.Goals as goal
 

@@ -1,7 +1,4 @@
-use Rattle.std.proofs.Common.{◌≡◌, ◌++◌, take, drop}
-use Rattle.beldi_value.specs.Datum.{Datum}
-use Rattle.beldi_value.specs.Value.{fields_view}
-use Rattle.beldi_value.specs.Parts.{set_field}
+use Rattle.beldi_value.proofs.Names.{Datum, drop, fields_view, set_field, take, ◌++◌, ◌≡◌}
 use Rattle.beldi_value.proofs.parts.place_of.Given as goal
 
 -- the fields before stay as they are

@@ -1,9 +1,5 @@
-use Rattle.std.proofs.Common.{◌≡◌, Ok, List, ℕ, sym, subst, arith, rules}
-use Rattle.beldi_value.specs.Datum.{int}
-use Rattle.beldi_value.specs.Reading.{read_of}
-use Rattle.beldi_value.proofs.Ints.{alone}
-use Rattle.beldi_value.proofs.ReadAgain.{read_again}
-use Rattle.beldi_value.proofs.Within.{int_within}
+use Rattle.beldi_value.proofs.Names.{List, Ok, arith, int, read_of, rules, subst, sym, ℕ, ◌≡◌}
+use Rattle.beldi_value.proofs.{Ints.alone, ReadAgain.read_again, Within.int_within}
 use Rattle.beldi_value.proofs.read.int_read.Goals as goal
 
 pub returns-clause-read : goal.returns-clause-read

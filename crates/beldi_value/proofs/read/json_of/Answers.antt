@@ -1,5 +1,4 @@
-use Rattle.serde_json.specs.View.{view}
-use Rattle.beldi_value.proofs.JsonText.{json_read, no_json}
+use Rattle.beldi_value.proofs.{Names.view, JsonText.json_read, JsonText.no_json}
 use Rattle.beldi_value.proofs.read.json_of.Goals as goal
 
 pub returns-in-Ok-clause-read : goal.returns-in-Ok-clause-read

@@ -1,5 +1,4 @@
-use Rattle.std.proofs.Common.{◌∙◌, ap, sym, arith, length, option_copied}
-use Rattle.beldi_value.specs.IdAt.{rest_parts, steps_at}
+use Rattle.beldi_value.proofs.Names.{ap, arith, length, option_copied, rest_parts, steps_at, sym, ◌∙◌}
 use Rattle.beldi_value.proofs.Slashes.{onto, cut_is, too_many, no_step, one_step}
 use Rattle.beldi_value.proofs.read_id.read_hops.Goals as goal
 

@@ -1,5 +1,4 @@
-use Rattle.std.proofs.Common.{◌≡◌, ◌≤◌, ◌-◌, ◌+◌, length, vec_len, option_copied}
-use Rattle.beldi_value.specs.IdAt.{rest_parts, steps_at}
+use Rattle.beldi_value.proofs.Names.{length, option_copied, rest_parts, steps_at, vec_len, ◌+◌, ◌-◌, ◌≡◌, ◌≤◌}
 use Rattle.beldi_value.proofs.Slashes.{onto}
 use Rattle.beldi_value.proofs.read_id.read_hops.Given as goal
 

@@ -1,8 +1,4 @@
-use Rattle.std.proofs.Common.{◌≡◌, drop}
-use Rattle.std.specs.Prelude.{nat_le}
-use Rattle.beldi_value.specs.Datum.{items_of, fields_of}
-use Rattle.beldi_value.specs.Limits.{items_depth, fields_depth}
-use Rattle.beldi_value.specs.Value.{items_view, fields_view}
+use Rattle.beldi_value.proofs.Names.{drop, fields_depth, fields_of, fields_view, items_depth, items_of, items_view, nat_le, ◌≡◌}
 use Rattle.beldi_value.proofs.value.+nests.Given as goal
 
 -- it is up to what is left

@@ -1,11 +1,5 @@
-use Rattle.std.proofs.Common.{◌≡◌, ◌≤◌, ℕ, List, [], drop, length, arith, ap, sym, ◌∙◌, subst, length-drop}
-use Rattle.std.proofs.lemmas.List.{nil_from_length}
+use Rattle.beldi_value.proofs.Names.{HaveForm, IsRecord, List, Value, [], ap, arith, drop, fields_of, fields_view, length, length-drop, nil_from_length, pairs_back, subst, sym, ℕ, ◌∙◌, ◌≡◌, ◌≤◌}
 use Rattle.beldi_value.proofs.Results.{always}
-use Rattle.beldi_value.specs.declared.value.Value.{Value}
-use Rattle.beldi_value.specs.Datum.{IsRecord, fields_of}
-use Rattle.beldi_value.specs.Formed.{HaveForm}
-use Rattle.beldi_value.specs.Injective.{pairs_back}
-use Rattle.beldi_value.specs.Value.{fields_view}
 use Rattle.beldi_value.proofs.value.+put.Goals as goal
 
 all_formed : (fs : List (List ℕ × Value)) (i : ℕ) → length fs ≤ i → (HaveForm (fields_of (fields_view (drop i fs))) → HaveForm (fields_of (fields_view fs))) → HaveForm (fields_of (fields_view fs))

@@ -1,6 +1,4 @@
-use Rattle.std.proofs.Common.{rules, arith, ◌≡◌, ℕ, ◌<◌, List, length, get_or, sym, ◌∙◌, ap}
-use Rattle.std.proofs.lemmas.List.{get_or_default}
-use Rattle.beldi_value.specs.Injective.{same_items, same_fields}
+use Rattle.beldi_value.proofs.Names.{List, ap, arith, get_or, get_or_default, length, rules, same_fields, same_items, sym, ℕ, ◌<◌, ◌∙◌, ◌≡◌}
 use Rattle.beldi_value.proofs.value.+same.Goals as goal
 
 -- two elements at one place of equal lists

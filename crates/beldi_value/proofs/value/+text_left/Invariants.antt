@@ -1,8 +1,4 @@
-use Rattle.std.proofs.Common.{◌≡◌, ◌+◌, drop, false, length}
-use Rattle.serde_json.specs.Written.{items_text, members_text}
-use Rattle.beldi_value.specs.Datum.{items_of, fields_of}
-use Rattle.beldi_value.specs.Json.{json_items, json_fields}
-use Rattle.beldi_value.specs.Value.{items_view, fields_view}
+use Rattle.beldi_value.proofs.Names.{drop, false, fields_of, fields_view, items_of, items_text, items_view, json_fields, json_items, length, members_text, ◌+◌, ◌≡◌}
 use Rattle.beldi_value.proofs.value.+text_left.Given as goal
 
 -- the budget pays for the whole text, and what is left of it for what is left of the text

@@ -1,5 +1,4 @@
-use Rattle.std.proofs.Common.{◌≡◌, ◌++◌, drop}
-use Rattle.beldi_value.specs.Text.{hops_text}
+use Rattle.beldi_value.proofs.Names.{drop, hops_text, ◌++◌, ◌≡◌}
 use Rattle.beldi_value.proofs.write.write_hops.Given as goal
 
 -- what is written and the hops that are left are the whole text

@@ -1,6 +1,4 @@
-use Rattle.std.proofs.Common.{◌∙◌, sym, ap, length}
-use Rattle.beldi_book.specs.Order.{count_changes, linear}
-use Rattle.beldi_book.proofs.Orders.{linear_changes}
+use Rattle.beldi_book.proofs.{Names.ap, Names.count_changes, Names.length, Names.linear, Names.sym, Names.◌∙◌, Orders.linear_changes}
 use Rattle.beldi_book.proofs.book.Book.linear.Goals as goal
 
 pub invariant_of-result : goal.invariant_of-result

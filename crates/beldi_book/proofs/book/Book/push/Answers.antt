@@ -1,6 +1,4 @@
-use Rattle.std.proofs.Common.{◌∙◌, ◌+◌, sym, ap, arith}
-use mir.Val.{bool_byte}
-use Rattle.beldi_book.specs.Order.{count_changes}
+use Rattle.beldi_book.proofs.Names.{ap, arith, bool_byte, count_changes, sym, ◌+◌, ◌∙◌}
 use Rattle.beldi_book.proofs.Orders.{few, counted, at_most_one}
 use Rattle.beldi_book.proofs.book.Book.push.Goals as goal
 

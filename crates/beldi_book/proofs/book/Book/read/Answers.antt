@@ -1,9 +1,5 @@
-use Rattle.std.proofs.Common.{◌∙◌, ap, sym, subst, Option, List, ℕ}
-use Rattle.std.specs.Prelude.{option_copied}
-use Rattle.beldi_book.specs.declared.entry.Entry.{Entry}
-use Rattle.beldi_book.specs.Line.{IsEntryOf, IsLineOf}
-use Rattle.beldi_book.proofs.Cuts.{rest_shorter}
-use Rattle.beldi_book.proofs.Books.{SoFar, line_read}
+use Rattle.beldi_book.proofs.Names.{Entry, IsEntryOf, IsLineOf, List, Option, ap, option_copied, subst, sym, ℕ, ◌∙◌}
+use Rattle.beldi_book.proofs.{Cuts.rest_shorter, Books.SoFar, Books.line_read}
 use Rattle.beldi_book.proofs.book.Book.read.Goals as goal
 
 pub loop-rest-smaller : goal.loop-rest-smaller

@@ -1,5 +1,4 @@
-use Rattle.std.proofs.Common.{length}
-use Rattle.beldi_book.proofs.Books.{SoFar}
+use Rattle.beldi_book.proofs.{Names.length, Books.SoFar}
 use Rattle.beldi_book.proofs.book.Book.read.Given as goal
 
 -- a front of the text has been read, and this is left

@@ -1,5 +1,4 @@
-use Rattle.std.proofs.Common.{◌≡◌, ◌++◌, drop}
-use Rattle.beldi_book.specs.Text.{book_text}
+use Rattle.beldi_book.proofs.Names.{book_text, drop, ◌++◌, ◌≡◌}
 use Rattle.beldi_book.proofs.book.Book.write.Given as goal
 
 abbrev pub invariant-loop-entry : goal.invariant-loop-entry

@@ -1,5 +1,4 @@
-use Rattle.std.proofs.Common.{◌≤◌, length, arith}
-use Rattle.beldi_check.proofs.Firsts.{few_of_checked}
+use Rattle.beldi_check.proofs.{Names.arith, Names.length, Names.◌≤◌, Firsts.few_of_checked}
 use Rattle.beldi_check.proofs.accept.Checked.func.Goals as goal
 
 pub overflow_cast-result : goal.overflow_cast-result

@@ -1,7 +1,5 @@
-use Rattle.std.proofs.Common.{◌∙◌, ap}
-use Rattle.std.specs.FinMap as map
-use Rattle.beldi_value.specs.Id.{id_total, id_exact}
-use Rattle.beldi_value.proofs.Maps.{set_made}
+use Rattle.beldi_core.proofs.Names.{ap, id_exact, id_total, set_made, ◌∙◌}
+use Rattle.beldi_core.proofs.Names.map
 use Rattle.beldi_core.proofs.counts.Counts.begin.Goals as goal
 
 pub returns-clause-ok : goal.returns-clause-ok

@@ -1,7 +1,5 @@
-use Rattle.std.proofs.Common.{is_some, ap, sym, ◌∙◌}
-use Rattle.std.specs.FinMap as map
-use Rattle.beldi_value.specs.Id.{id_total}
-use Rattle.beldi_value.proofs.Maps.{get_made}
+use Rattle.beldi_core.proofs.Names.{ap, get_made, id_total, is_some, sym, ◌∙◌}
+use Rattle.beldi_core.proofs.Names.map
 use Rattle.beldi_core.proofs.counts.Counts.has.Goals as goal
 
 pub returns : goal.returns

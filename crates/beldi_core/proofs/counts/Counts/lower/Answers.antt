@@ -1,9 +1,6 @@
-use Rattle.std.proofs.Common.{rules, true, false, ◌-◌, sym, ap, ◌∙◌}
-use Rattle.std.specs.Option.{option_copied_mut}
-use Rattle.std.specs.FinMap as map
-use Rattle.beldi_value.specs.Id.{id_total, id_exact}
-use Rattle.beldi_value.proofs.Maps.{get_made, set_made}
+use Rattle.beldi_core.proofs.Names.{ap, false, get_made, id_exact, id_total, option_copied_mut, rules, set_made, sym, true, ◌-◌, ◌∙◌}
 use Rattle.beldi_core.proofs.CountMaps.{lowered, not_lowered}
+use Rattle.beldi_core.proofs.Names.map
 use Rattle.beldi_core.proofs.counts.Counts.lower.Goals as goal
 
 pub returns-in_default : goal.returns-in_default

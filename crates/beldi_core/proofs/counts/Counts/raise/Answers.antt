@@ -1,10 +1,6 @@
-use Rattle.std.proofs.Common.{rules, ◌+◌, sym, ap, ◌∙◌, arith}
-use Rattle.std.specs.Option.{option_copied_mut}
-use Rattle.std.specs.FinMap as map
-use Rattle.beldi_value.specs.Id.{id_total, id_exact}
-use Rattle.beldi_value.proofs.Maps.{get_made, set_made}
-use Rattle.beldi_core.specs.Counts.{number_of}
+use Rattle.beldi_core.proofs.Names.{ap, arith, get_made, id_exact, id_total, number_of, option_copied_mut, rules, set_made, sym, ◌+◌, ◌∙◌}
 use Rattle.beldi_core.proofs.CountMaps.{raised, not_raised}
+use Rattle.beldi_core.proofs.Names.map
 use Rattle.beldi_core.proofs.counts.Counts.raise.Goals as goal
 
 pub returns-in_default : goal.returns-in_default

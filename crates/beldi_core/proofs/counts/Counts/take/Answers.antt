@@ -1,7 +1,5 @@
-use Rattle.std.proofs.Common.{rules, subst, ◌∙◌}
-use Rattle.std.specs.FinMap as map
-use Rattle.beldi_core.specs.Counts.{LoweredAt}
-use Rattle.beldi_core.proofs.CountMaps.{is_last}
+use Rattle.beldi_core.proofs.{Names.LoweredAt, Names.rules, Names.subst, Names.◌∙◌, CountMaps.is_last}
+use Rattle.beldi_core.proofs.Names.map
 use Rattle.beldi_core.proofs.counts.Counts.take.Goals as goal
 
 pub returns-then-not-lower : goal.returns-then-not-lower

@@ -1,8 +1,6 @@
-use Rattle.std.proofs.Common.{rules, sym, ap, ◌∙◌}
-use Rattle.std.specs.FinMap as map
-use Rattle.std.specs.Option.{option_copied}
-use Rattle.beldi_core.specs.Parts.{as_seen, core_in}
+use Rattle.beldi_core.proofs.Names.{ap, as_seen, core_in, option_copied, rules, sym, ◌∙◌}
 use Rattle.beldi_core.proofs.Plans.{idle}
+use Rattle.beldi_core.proofs.Names.map
 use Rattle.beldi_core.proofs.host_core.HostCore.crash.Goals as goal
 
 pub returns-in_default : goal.returns-in_default

@@ -1,5 +1,4 @@
-use Rattle.beldi_core.specs.Parts.{core_in}
-use Rattle.beldi_core.proofs.Plans.{planned_as}
+use Rattle.beldi_core.proofs.{Names.core_in, Plans.planned_as}
 use Rattle.beldi_core.proofs.host_core.HostCore.plan_counted.Goals as goal
 
 pub returns-in-Ticket : goal.returns-in-Ticket

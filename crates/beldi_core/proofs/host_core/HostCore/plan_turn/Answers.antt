@@ -1,6 +1,4 @@
-use Rattle.std.proofs.Common.{rules, sym, ap, ◌∙◌}
-use Rattle.std.specs.Option.{option_copied}
-use Rattle.beldi_core.specs.Parts.{as_seen, core_in}
+use Rattle.beldi_core.proofs.Names.{ap, as_seen, core_in, option_copied, rules, sym, ◌∙◌}
 use Rattle.beldi_core.proofs.Plans.{idle_turn, turn_without_memory, ended_core}
 use Rattle.beldi_core.proofs.host_core.HostCore.plan_turn.Goals as goal
 

@@ -1,8 +1,4 @@
-use Rattle.std.proofs.Common.{rules}
-use Rattle.beldi_walk.specs.Query.{told_of}
-use Rattle.beldi_step.specs.Host.{Core}
-use Rattle.beldi_core.specs.Parts.{core_in}
-use Rattle.beldi_core.proofs.Plans.{told_turn}
+use Rattle.beldi_core.proofs.{Names.Core, Names.core_in, Names.rules, Names.told_of, Plans.told_turn}
 use Rattle.beldi_core.proofs.host_core.HostCore.turned.Goals as goal
 
 pub returns-in-Ok : goal.returns-in-Ok

@@ -1,7 +1,4 @@
-use Rattle.std.proofs.Common.{rules}
-use Rattle.beldi_walk.specs.Query.{told_of}
-use Rattle.beldi_core.specs.Parts.{core_in}
-use Rattle.beldi_core.proofs.Plans.{unheard}
+use Rattle.beldi_core.proofs.{Names.core_in, Names.rules, Names.told_of, Plans.unheard}
 use Rattle.beldi_core.proofs.host_core.HostCore.unheard.Goals as goal
 
 pub returns : goal.returns

@@ -1,10 +1,5 @@
-use Rattle.std.proofs.Common.{Some, sym, ap, ◌∙◌}
-use Rattle.std.specs.Option.{option_copied}
-use Rattle.std.specs.FinMap as map
-use Rattle.std.specs.FinMap.{nat_cmp-IsAntisymmetric}
-use Rattle.std.specs.Cmp.{nat_cmp_total}
-use Rattle.beldi_row.proofs.Rows.{get_rows}
-use Rattle.beldi_core.specs.Runs.{Numbered}
+use Rattle.beldi_core.proofs.Names.{Numbered, Some, ap, get_rows, nat_cmp-IsAntisymmetric, nat_cmp_total, option_copied, sym, ◌∙◌}
+use Rattle.beldi_core.proofs.Names.map
 use Rattle.beldi_core.proofs.runs.Runs.get.Goals as goal
 
 pub returns-in-Some : goal.returns-in-Some

@@ -1,7 +1,4 @@
-use Rattle.std.proofs.Common.{ap, ◌∙◌}
-use Rattle.beldi_step.specs.Host.{has_run}
-use Rattle.beldi_core.specs.Runs.{Numbered, map_of}
-use Rattle.beldi_core.proofs.Counting.{any_counted}
+use Rattle.beldi_core.proofs.{Names.Numbered, Names.ap, Names.has_run, Names.map_of, Names.◌∙◌, Counting.any_counted}
 use Rattle.beldi_core.proofs.runs.Runs.has_run.Goals as goal
 
 pub returns : goal.returns

@@ -1,9 +1,5 @@
-use Rattle.std.proofs.Common.{ap, sym, ◌∙◌}
-use Rattle.std.specs.FinMap as map
-use Rattle.std.specs.FinMap.{nat_cmp-IsAntisymmetric}
-use Rattle.std.specs.Cmp.{nat_cmp_total}
-use Rattle.beldi_row.proofs.Rows.{len_rows}
-use Rattle.beldi_core.specs.Runs.{Numbered}
+use Rattle.beldi_core.proofs.Names.{Numbered, ap, len_rows, nat_cmp-IsAntisymmetric, nat_cmp_total, sym, ◌∙◌}
+use Rattle.beldi_core.proofs.Names.map
 use Rattle.beldi_core.proofs.runs.Runs.len.Goals as goal
 
 pub returns : goal.returns

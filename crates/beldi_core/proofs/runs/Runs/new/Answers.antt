@@ -1,7 +1,5 @@
-use Rattle.std.proofs.Common.{ap}
-use Rattle.std.specs.FinMap as map
-use Rattle.std.specs.Ordering.{nat_cmp}
-use Rattle.beldi_core.proofs.RunMaps.{none_kept}
+use Rattle.beldi_core.proofs.{Names.ap, Names.nat_cmp, RunMaps.none_kept}
+use Rattle.beldi_core.proofs.Names.map
 use Rattle.beldi_core.proofs.runs.Runs.new.Goals as goal
 
 pub invariant_of-result : goal.invariant_of-result

@@ -1,9 +1,4 @@
-use Rattle.std.proofs.Common.{ℕ, ap}
-use Rattle.std.specs.Option.{option_map}
-use denote.Bor.{Bor}
-use Rattle.beldi_step.specs.declared.run.Run.{Run}
-use Rattle.beldi_core.specs.Runs.{Numbered}
-use Rattle.beldi_core.proofs.Least.{next_is}
+use Rattle.beldi_core.proofs.{Names.Bor, Names.Numbered, Names.Run, Names.ap, Names.option_map, Names.ℕ, Least.next_is}
 use Rattle.beldi_core.proofs.runs.Runs.next_after.Goals as goal
 
 pub returns-in-Some : goal.returns-in-Some

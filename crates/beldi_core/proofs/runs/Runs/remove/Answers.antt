@@ -1,5 +1,4 @@
-use Rattle.beldi_core.specs.Runs.{map_of}
-use Rattle.beldi_core.proofs.RunMaps.{removed}
+use Rattle.beldi_core.proofs.{Names.map_of, RunMaps.removed}
 use Rattle.beldi_core.proofs.runs.Runs.remove.Goals as goal
 
 pub invariant_of-self : goal.invariant_of-self

@@ -1,7 +1,4 @@
-use Rattle.std.proofs.Common.{arith, ap, ◌∙◌}
-use Rattle.beldi_core.specs.Runs.{Numbered, map_of}
-use Rattle.beldi_core.proofs.Counting.{count_few}
-use Rattle.beldi_core.proofs.RunMaps.{begun, back}
+use Rattle.beldi_core.proofs.{Names.Numbered, Names.ap, Names.arith, Names.map_of, Names.◌∙◌, Counting.count_few, RunMaps.begun, RunMaps.back}
 use Rattle.beldi_core.proofs.runs.Runs.start.Goals as goal
 
 pub begin-requires : goal.begin-requires

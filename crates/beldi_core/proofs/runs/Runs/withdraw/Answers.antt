@@ -1,6 +1,4 @@
-use Rattle.std.proofs.Common.{rules}
-use Rattle.beldi_core.specs.Runs.{map_of}
-use Rattle.beldi_core.proofs.RunMaps.{taken_back}
+use Rattle.beldi_core.proofs.{Names.map_of, Names.rules, RunMaps.taken_back}
 use Rattle.beldi_core.proofs.runs.Runs.withdraw.Goals as goal
 
 pub invariant_of-self : goal.invariant_of-self

@@ -1,7 +1,5 @@
-use Rattle.std.proofs.Common.{◌∙◌, sym, ap}
-use Rattle.std.specs.FinMap as map
-use Rattle.beldi_value.proofs.Maps.{get_made, set_made}
-use Rattle.beldi_executor.specs.ByTable.{key_total, key_exact}
+use Rattle.beldi_executor.proofs.Names.{ap, get_made, key_exact, key_total, set_made, sym, ◌∙◌}
+use Rattle.beldi_executor.proofs.Names.map
 use Rattle.beldi_executor.proofs.cells.Cells.put.Goals as goal
 
 pub returns-clause-ok : goal.returns-clause-ok

@@ -1,7 +1,5 @@
-use Rattle.std.proofs.Common.{◌∙◌, ap}
-use Rattle.std.specs.FinMap as map
-use Rattle.beldi_value.proofs.Maps.{unset_made}
-use Rattle.beldi_executor.specs.ByTable.{key_total, key_exact}
+use Rattle.beldi_executor.proofs.Names.{ap, key_exact, key_total, unset_made, ◌∙◌}
+use Rattle.beldi_executor.proofs.Names.map
 use Rattle.beldi_executor.proofs.cells.Cells.unset.Goals as goal
 
 pub returns : goal.returns

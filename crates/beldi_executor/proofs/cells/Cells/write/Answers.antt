@@ -1,9 +1,5 @@
-use Rattle.std.proofs.Common.{◌∙◌, sym, ap, ◌++◌, List, ℕ}
-use Rattle.std.specs.FinMap as map
-use Rattle.beldi_value.proofs.Maps.{entries_made}
-use Rattle.beldi_value.specs.declared.value.Value.{Value}
-use Rattle.beldi_executor.specs.ByTable.{Cells, key_total, cells_at}
-use Rattle.beldi_plain.specs.Listing.{items_text}
+use Rattle.beldi_executor.proofs.Names.{Cells, List, Value, ap, cells_at, entries_made, items_text, key_total, sym, ℕ, ◌++◌, ◌∙◌}
+use Rattle.beldi_executor.proofs.Names.map
 use Rattle.beldi_executor.proofs.cells.Cells.write.Goals as goal
 
 pub loop-key-init : goal.loop-key-init

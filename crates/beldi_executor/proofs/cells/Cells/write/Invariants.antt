@@ -1,7 +1,5 @@
-use Rattle.std.proofs.Common.{◌≡◌, ◌++◌}
-use Rattle.std.specs.FinMap as map
-use Rattle.beldi_executor.specs.ByTable.{cells_at}
-use Rattle.beldi_plain.specs.Listing.{items_text}
+use Rattle.beldi_executor.proofs.Names.{cells_at, items_text, ◌++◌, ◌≡◌}
+use Rattle.beldi_executor.proofs.Names.map
 use Rattle.beldi_executor.proofs.cells.Cells.write.Given as goal
 
 -- what is written and the lines of the values that are left are all

@@ -1,6 +1,4 @@
-use Rattle.std.proofs.Common.{◌≡◌, ◌∙◌, sym, ap, [], ◌∷◌, ◌++◌}
-use Rattle.std.specs.Prelude.{option_to_list}
-use Rattle.beldi_executor.specs.Inside.{all_gone}
+use Rattle.beldi_executor.proofs.Names.{[], all_gone, ap, option_to_list, sym, ◌++◌, ◌∙◌, ◌∷◌, ◌≡◌}
 use Rattle.beldi_executor.proofs.Drafts.{gone_last}
 use Rattle.beldi_executor.proofs.draft.Members.forget.Goals as goal
 

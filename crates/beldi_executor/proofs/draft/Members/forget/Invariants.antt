@@ -1,5 +1,4 @@
-use Rattle.std.proofs.Common.{◌≡◌}
-use Rattle.beldi_executor.specs.Inside.{all_gone}
+use Rattle.beldi_executor.proofs.Names.{all_gone, ◌≡◌}
 use Rattle.beldi_executor.proofs.draft.Members.forget.Given as goal
 
 -- what is left is removed from here

@@ -1,7 +1,4 @@
-use Rattle.std.proofs.Common.{subst}
-use Rattle.std.specs.Prelude.{reverse}
-use Rattle.beldi_executor.specs.Inside.{Popped}
-use Rattle.beldi_executor.proofs.Drafts.{popped_so}
+use Rattle.beldi_executor.proofs.{Names.Popped, Names.reverse, Names.subst, Drafts.popped_so}
 use Rattle.beldi_executor.proofs.draft.Waiting.pop.Goals as goal
 
 pub returns : goal.returns

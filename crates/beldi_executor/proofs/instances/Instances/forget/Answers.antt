@@ -1,8 +1,5 @@
-use Rattle.std.proofs.Common.{◌∙◌, ap}
-use Rattle.std.specs.FinMap as map
-use Rattle.beldi_value.specs.Id.{id_total, id_exact}
-use Rattle.beldi_value.proofs.Maps.{unset_made}
-use Rattle.beldi_executor.proofs.Made.{rest_short}
+use Rattle.beldi_executor.proofs.{Names.ap, Names.id_exact, Names.id_total, Names.unset_made, Names.◌∙◌, Made.rest_short}
+use Rattle.beldi_executor.proofs.Names.map
 use Rattle.beldi_executor.proofs.instances.Instances.forget.Goals as goal
 
 pub invariant_of-self : goal.invariant_of-self

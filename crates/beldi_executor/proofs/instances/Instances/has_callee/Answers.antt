@@ -1,6 +1,4 @@
-use Rattle.std.proofs.Common.{rules, subst}
-use Rattle.beldi_plain.specs.Plain.{AllShort}
-use Rattle.beldi_executor.proofs.Made.{no_callee}
+use Rattle.beldi_executor.proofs.{Names.AllShort, Names.rules, Names.subst, Made.no_callee}
 use Rattle.beldi_executor.proofs.instances.Instances.has_callee.Goals as goal
 
 pub returns-then-not-has_callees : goal.returns-then-not-has_callees

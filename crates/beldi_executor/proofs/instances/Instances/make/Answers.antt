@@ -1,10 +1,6 @@
-use Rattle.std.proofs.Common.{rules, None, sym, ap, ◌∙◌, ◌≡◌}
-use Rattle.std.specs.Option.{option_copied_mut}
-use Rattle.std.specs.FinMap as map
-use Rattle.beldi_value.specs.Id.{id_total, id_exact}
-use Rattle.beldi_value.proofs.Maps.{get_made, set_made}
-use Rattle.beldi_executor.proofs.Kept.{acted_at}
-use Rattle.beldi_executor.proofs.Made.{one_short}
+use Rattle.beldi_executor.proofs.Names.{None, ap, get_made, id_exact, id_total, option_copied_mut, rules, set_made, sym, ◌∙◌, ◌≡◌}
+use Rattle.beldi_executor.proofs.{Kept.acted_at, Made.one_short}
+use Rattle.beldi_executor.proofs.Names.map
 use Rattle.beldi_executor.proofs.instances.Instances.make.Goals as goal
 
 pub returns : goal.returns

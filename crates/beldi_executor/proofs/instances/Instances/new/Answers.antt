@@ -1,6 +1,5 @@
-use Rattle.std.proofs.Common.{rules}
-use Rattle.std.specs.FinMap as map
-use Rattle.beldi_executor.proofs.Made.{none_long}
+use Rattle.beldi_executor.proofs.{Names.rules, Made.none_long}
+use Rattle.beldi_executor.proofs.Names.map
 use Rattle.beldi_executor.proofs.instances.Instances.new.Goals as goal
 
 pub invariant_of-result : goal.invariant_of-result

@@ -1,8 +1,5 @@
-use Rattle.std.proofs.Common.{◌∙◌, ap}
-use Rattle.std.specs.FinMap as map
-use Rattle.beldi_value.specs.Id.{id_total, id_exact}
-use Rattle.beldi_value.proofs.Maps.{set_made}
-use Rattle.beldi_executor.proofs.Made.{set_short}
+use Rattle.beldi_executor.proofs.{Names.ap, Names.id_exact, Names.id_total, Names.set_made, Names.◌∙◌, Made.set_short}
+use Rattle.beldi_executor.proofs.Names.map
 use Rattle.beldi_executor.proofs.instances.Instances.set.Goals as goal
 
 pub invariant_of-self-2 : goal.invariant_of-self-2

@@ -1,8 +1,6 @@
-use Rattle.std.proofs.Common.{◌∙◌, sym, ap, option_copied}
-use Rattle.std.specs.FinMap as map
-use Rattle.beldi_plain.specs.Item.{Item}
-use Rattle.beldi_executor.specs.ByTable.{at_key}
-use Rattle.beldi_executor.proofs.ByTable.{get_items}
+use Rattle.std.proofs.Common.{option_copied}
+use Rattle.beldi_executor.proofs.{Names.Item, Names.ap, Names.at_key, Names.sym, Names.◌∙◌, ByTable.get_items}
+use Rattle.beldi_executor.proofs.Names.map
 use Rattle.beldi_executor.proofs.items.Items.get.Goals as goal
 
 pub returns-in-Some : goal.returns-in-Some

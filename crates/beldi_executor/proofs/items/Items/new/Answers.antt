@@ -1,6 +1,4 @@
-use Rattle.std.proofs.Common.{◌∙◌, ap}
-use Rattle.beldi_executor.specs.ByTable.{items_of}
-use Rattle.beldi_executor.proofs.ByTable.{items_empty}
+use Rattle.beldi_executor.proofs.{Names.ap, Names.items_of, Names.◌∙◌, ByTable.items_empty}
 use Rattle.beldi_executor.proofs.items.Items.new.Goals as goal
 
 pub returns : goal.returns

@@ -1,7 +1,4 @@
-use Rattle.std.proofs.Common.{◌∙◌, ap, sym}
-use Rattle.beldi_plain.specs.Item.{Item}
-use Rattle.beldi_plain.specs.Operation.{set_item}
-use Rattle.beldi_executor.proofs.ByTable.{not_null}
+use Rattle.beldi_executor.proofs.{Names.Item, Names.ap, Names.set_item, Names.sym, Names.◌∙◌, ByTable.not_null}
 use Rattle.beldi_executor.proofs.items.Items.set.Goals as goal
 
 pub returns-in-Null-clause-ok : goal.returns-in-Null-clause-ok

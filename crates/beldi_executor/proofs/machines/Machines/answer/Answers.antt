@@ -1,4 +1,4 @@
-use Rattle.std.proofs.Common.{rules, inr}
+use Rattle.beldi_executor.proofs.Names.{inr, rules}
 use Rattle.beldi_executor.proofs.machines.Machines.answer.Goals as goal
 
 pub returns-then-is_answered : goal.returns-then-is_answered

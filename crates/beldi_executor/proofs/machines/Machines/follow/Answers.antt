@@ -1,8 +1,4 @@
-use Rattle.std.proofs.Common.{subst, sym}
-use Rattle.std.specs.FinMap.{FinMap}
-use Rattle.beldi_value.specs.Id.{id_cmp}
-use Rattle.beldi_lang.specs.declared.machine.Machine.{Machine}
-use Rattle.beldi_executor.specs.Executor.{Passes, Follows}
+use Rattle.beldi_executor.proofs.Names.{FinMap, Follows, Machine, Passes, id_cmp, subst, sym}
 use Rattle.beldi_executor.proofs.machines.Machines.follow.Goals as goal
 
 pub returns-in-Tells : goal.returns-in-Tells

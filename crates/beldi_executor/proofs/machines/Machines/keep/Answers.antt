@@ -1,10 +1,7 @@
-use Rattle.std.proofs.Common.{◌∙◌, sym, ap, inl, inr}
-use Rattle.std.specs.FinMap as map
-use Rattle.beldi_value.specs.Id.{id_total, id_exact}
-use Rattle.beldi_value.proofs.Maps.{get_made, set_made}
-use Rattle.beldi_executor.proofs.Finite.{absent_removed}
+use Rattle.beldi_executor.proofs.Names.{ap, get_made, id_exact, id_total, inl, inr, set_made, sym, ◌∙◌}
+use Rattle.beldi_executor.proofs.{Finite.absent_removed, machines.Machines.keep.Goals.in-Ok, machines.Machines.keep.Goals.in-Err}
+use Rattle.beldi_executor.proofs.Names.map
 use Rattle.beldi_executor.proofs.machines.Machines.keep.Goals as goal
-use Rattle.beldi_executor.proofs.machines.Machines.keep.Goals.{in-Ok, in-Err}
 
 pub returns : goal.returns
 returns c = elim c.match-insert.branch [

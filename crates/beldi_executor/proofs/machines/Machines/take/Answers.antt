@@ -1,7 +1,5 @@
-use Rattle.std.proofs.Common.{◌∙◌, sym, ap}
-use Rattle.std.specs.FinMap as map
-use Rattle.beldi_value.specs.Id.{id_total, id_exact}
-use Rattle.beldi_value.proofs.Maps.{get_made, unset_made}
+use Rattle.beldi_executor.proofs.Names.{ap, get_made, id_exact, id_total, sym, unset_made, ◌∙◌}
+use Rattle.beldi_executor.proofs.Names.map
 use Rattle.beldi_executor.proofs.machines.Machines.take.Goals as goal
 
 pub returns-clause-machine : goal.returns-clause-machine

@@ -1,6 +1,4 @@
-use Rattle.std.proofs.Common.{sym, subst}
-use Rattle.beldi_book.specs.declared.entry.Entry.{Entry}
-use Rattle.beldi_executor.specs.Answers.{Did}
+use Rattle.beldi_executor.proofs.Names.{Did, Entry, subst, sym}
 use Rattle.beldi_executor.proofs.plain.Plain.carry_out.Goals as goal
 
 pub returns-in-Read-clause-did : goal.returns-in-Read-clause-did

@@ -1,7 +1,4 @@
-use Rattle.std.proofs.Common.{subst, sym}
-use Rattle.beldi_executor.specs.Executor.{Executor}
-use Rattle.beldi_executor.specs.Answers.{IsReady}
-use Rattle.beldi_executor.proofs.Kept.{back_stand}
+use Rattle.beldi_executor.proofs.{Names.Executor, Names.IsReady, Names.subst, Names.sym, Kept.back_stand}
 use Rattle.beldi_executor.proofs.plain.Plain.keep.Goals as goal
 
 pub invariant_of-self : goal.invariant_of-self

@@ -1,7 +1,4 @@
-use Rattle.std.proofs.Common.{ap, sym, ◌∙◌, is_some}
-use Rattle.beldi_lang.specs.Wants.{wants_answer}
-use Rattle.beldi_plain.specs.Plain.{PlainState, waits_at}
-use Rattle.beldi_executor.specs.Executor.{Executor, IsNumber}
+use Rattle.beldi_executor.proofs.Names.{Executor, IsNumber, PlainState, ap, is_some, sym, waits_at, wants_answer, ◌∙◌}
 use Rattle.beldi_executor.proofs.plain.Plain.machine.Goals as goal
 
 pub returns-clause-stands : goal.returns-clause-stands

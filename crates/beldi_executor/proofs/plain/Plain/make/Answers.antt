@@ -1,10 +1,4 @@
-use Rattle.std.proofs.Common.{subst, sym, ap, ◌∙◌, Ok, is_some}
-use Rattle.beldi_tree.specs.declared.deployment.Deployment.{Deployment}
-use Rattle.beldi_lang.specs.Wants.{wants_answer}
-use Rattle.beldi_lang.specs.declared.effect.Effect.{Effect}
-use Rattle.beldi_plain.specs.Plain.{waits_at}
-use Rattle.beldi_executor.specs.Executor.{Executor, Made, Follows, IsNumber}
-use Rattle.beldi_executor.specs.Answers.{IsFree}
+use Rattle.beldi_executor.proofs.Names.{Deployment, Effect, Executor, Follows, IsFree, IsNumber, Made, Ok, ap, is_some, subst, sym, waits_at, wants_answer, ◌∙◌}
 use Rattle.beldi_executor.proofs.Kept.{step_stands}
 use Rattle.beldi_executor.proofs.plain.Plain.make.Goals as goal
 

@@ -1,8 +1,4 @@
-use Rattle.std.proofs.Common.{rules, ◌≡◌, Result, Err, subst, sym}
-use Rattle.beldi_book.specs.Order.{linear}
-use Rattle.beldi_executor.specs.Answers.{Ran}
-use Rattle.beldi_executor.specs.declared.plain.PlainErr.{PlainErr}
-use Rattle.beldi_executor.specs.declared.plain.PlainErr.TheVariants.{OutOfMemory}
+use Rattle.beldi_executor.proofs.Names.{Err, OutOfMemory, PlainErr, Ran, Result, linear, rules, subst, sym, ◌≡◌}
 use Rattle.beldi_executor.proofs.Runs.{none_done}
 use Rattle.beldi_executor.proofs.plain.Plain.run.Goals as goal
 

@@ -1,6 +1,4 @@
-use Rattle.std.proofs.Common.{rules, arith, Ok, Err, subst, ◌∙◌}
-use Rattle.beldi_tree.specs.declared.deployment.Deployment.{Deployment}
-use Rattle.beldi_executor.specs.Answers.{Did}
+use Rattle.beldi_executor.proofs.Names.{Deployment, Did, Err, Ok, arith, rules, subst, ◌∙◌}
 use Rattle.beldi_executor.proofs.Runs.{goes_on, stops, within}
 use Rattle.beldi_executor.proofs.plain.Plain.run_in_order.Goals as goal
 

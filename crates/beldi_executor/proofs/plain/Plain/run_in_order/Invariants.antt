@@ -1,5 +1,4 @@
-use Rattle.std.proofs.Common.{◌≡◌, take, Some}
-use Rattle.beldi_plain.specs.Legal.{run_from}
+use Rattle.beldi_executor.proofs.Names.{Some, run_from, take, ◌≡◌}
 use Rattle.beldi_executor.proofs.plain.Plain.run_in_order.Given as goal
 
 -- the entries so far were carried out

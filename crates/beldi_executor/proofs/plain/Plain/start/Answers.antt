@@ -1,5 +1,4 @@
-use Rattle.std.proofs.Common.{rules}
-use Rattle.beldi_executor.proofs.Kept.{started}
+use Rattle.beldi_executor.proofs.{Names.rules, Kept.started}
 use Rattle.beldi_executor.proofs.plain.Plain.start.Goals as goal
 
 pub invariant_of-self-2 : goal.invariant_of-self-2

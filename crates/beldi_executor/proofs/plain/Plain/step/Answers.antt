@@ -1,10 +1,4 @@
-use Rattle.std.proofs.Common.{rules, ◌∙◌, sym, ap, subst, Err}
-use Rattle.beldi_value.specs.declared.id.IntentId.{IntentId}
-use Rattle.beldi_plain.specs.Plain.{PlainState}
-use Rattle.beldi_executor.specs.Executor.{Executor}
-use Rattle.beldi_executor.specs.Answers.{IsFree, DidStep}
-use Rattle.beldi_executor.specs.declared.plain.Bar.TheVariants.{OtherEffect}
-use Rattle.beldi_executor.specs.declared.plain.PlainErr.TheVariants.{NotEnabled}
+use Rattle.beldi_executor.proofs.Names.{DidStep, Err, Executor, IntentId, IsFree, NotEnabled, OtherEffect, PlainState, ap, rules, subst, sym, ◌∙◌}
 use Rattle.beldi_executor.proofs.Bars.{not_built}
 use Rattle.beldi_executor.proofs.plain.Plain.step.Goals as goal
 

@@ -1,7 +1,4 @@
-use Rattle.std.proofs.Common.{subst, IfSome}
-use Rattle.beldi_executor.specs.Executor.{Executor}
-use Rattle.beldi_executor.specs.Answers.{IsReady}
-use Rattle.beldi_executor.proofs.Kept.{rest_stand, taken_so}
+use Rattle.beldi_executor.proofs.{Names.Executor, Names.IfSome, Names.IsReady, Names.subst, Kept.rest_stand, Kept.taken_so}
 use Rattle.beldi_executor.proofs.plain.Plain.take.Goals as goal
 
 pub invariant_of-self : goal.invariant_of-self

@@ -1,11 +1,5 @@
-use Rattle.std.proofs.Common.{◌∙◌, ap, sym, subst, Ok, Err}
-use Rattle.std.specs.Prelude.{option_copied}
-use Rattle.beldi_value.specs.declared.id.IntentId.{IntentId}
-use Rattle.beldi_tree.specs.declared.deployment.Deployment.{Deployment}
-use Rattle.beldi_executor.specs.Executor.{Executor, IsKept}
-use Rattle.beldi_executor.specs.Inside.{Begins, StandsAtBegin, Tried}
-use Rattle.beldi_executor.proofs.Bars.{no_try}
-use Rattle.beldi_executor.proofs.Kept.{transacted}
+use Rattle.beldi_executor.proofs.Names.{Begins, Deployment, Err, Executor, IntentId, IsKept, Ok, StandsAtBegin, Tried, ap, option_copied, subst, sym, ◌∙◌}
+use Rattle.beldi_executor.proofs.{Bars.no_try, Kept.transacted}
 use Rattle.beldi_executor.proofs.plain.Plain.try_piece.Goals as goal
 
 pub returns-in-Err-clause-did : goal.returns-in-Err-clause-did

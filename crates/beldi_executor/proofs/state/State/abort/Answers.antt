@@ -1,8 +1,5 @@
-use Rattle.std.proofs.Common.{rules, ◌≡◌, ap, sym, subst, refl, Some, true, false}
-use Rattle.std.specs.Prelude.{option_copied}
-use Rattle.beldi_lang.specs.Wants.{wants_answer}
 use Rattle.beldi_plain.specs.Piece.{enough}
-use Rattle.beldi_executor.specs.Inside.{Comes, is_stop, no_end}
+use Rattle.beldi_executor.proofs.Names.{Comes, Some, ap, false, is_stop, no_end, option_copied, refl, rules, subst, sym, true, wants_answer, ◌≡◌}
 use Rattle.beldi_executor.proofs.Leads.{enough_first, left_enough, falls_so, no_place}
 use Rattle.beldi_executor.proofs.state.State.abort.Goals as goal
 

@@ -1,7 +1,5 @@
-use Rattle.std.proofs.Common.{ap, sym, subst, true}
-use Rattle.beldi_lang.specs.Wants.{wants_answer}
 use Rattle.beldi_plain.specs.Piece.{enough}
-use Rattle.beldi_executor.specs.Inside.{Comes, no_end}
+use Rattle.beldi_executor.proofs.Names.{Comes, ap, no_end, subst, sym, true, wants_answer}
 use Rattle.beldi_executor.proofs.Leads.{enough_first, ends_so}
 use Rattle.beldi_executor.proofs.state.State.commit.Goals as goal
 

@@ -1,11 +1,6 @@
-use Rattle.std.proofs.Common.{ap, sym, ◌∙◌, subst, Ok}
-use Rattle.std.specs.Prelude.{option_copied}
-use Rattle.std.specs.FinMap as map
-use Rattle.beldi_lang.specs.declared.effect.Effect.TheVariants.{Return}
-use Rattle.beldi_plain.specs.Plain.{PlainState}
-use Rattle.beldi_executor.specs.Executor.{Made}
-use Rattle.beldi_executor.specs.declared.next.Next.TheVariants.{Tells}
+use Rattle.beldi_executor.proofs.Names.{Made, Ok, PlainState, Return, Tells, ap, option_copied, subst, sym, ◌∙◌}
 use Rattle.beldi_executor.proofs.Made.{tells_so}
+use Rattle.beldi_executor.proofs.Names.map
 use Rattle.beldi_executor.proofs.state.State.end.Goals as goal
 
 pub returns-in-Ok : goal.returns-in-Ok

@@ -1,9 +1,5 @@
-use Rattle.std.proofs.Common.{rules, ◌≡◌, ◌∙◌, sym, subst, true, false}
-use Rattle.std.specs.Prelude.{option_copied}
-use Rattle.beldi_plain.specs.Piece.{dies_at, ends_on}
-use Rattle.beldi_executor.specs.Inside.{Comes, seen, no_end}
-use Rattle.beldi_executor.proofs.Leads.{ends_so}
-use Rattle.beldi_executor.proofs.Falls.{dies_wants, not_dead, is_dead}
+use Rattle.beldi_executor.proofs.Names.{Comes, dies_at, ends_on, false, no_end, option_copied, rules, seen, subst, sym, true, ◌∙◌, ◌≡◌}
+use Rattle.beldi_executor.proofs.{Leads.ends_so, Falls.dies_wants, Falls.not_dead, Falls.is_dead}
 use Rattle.beldi_executor.proofs.state.State.fall.Goals as goal
 
 pub returns-then-not-dies : goal.returns-then-not-dies

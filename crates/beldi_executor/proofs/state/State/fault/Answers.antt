@@ -1,7 +1,4 @@
-use Rattle.std.proofs.Common.{rules, ◌≡◌, ◌∙◌, None, ap, sym, subst, false}
-use Rattle.std.specs.Prelude.{option_copied}
-use Rattle.beldi_plain.specs.Piece.{fault_by}
-use Rattle.beldi_executor.specs.Inside.{Comes, seen, no_end}
+use Rattle.beldi_executor.proofs.Names.{Comes, None, ap, false, fault_by, no_end, option_copied, rules, seen, subst, sym, ◌∙◌, ◌≡◌}
 use Rattle.beldi_executor.proofs.Falls.{fault_so}
 use Rattle.beldi_executor.proofs.state.State.fault.Goals as goal
 

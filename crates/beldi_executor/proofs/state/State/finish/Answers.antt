@@ -1,8 +1,4 @@
-use Rattle.std.proofs.Common.{rules, ◌≡◌, Err, true, false, subst, sym}
-use Rattle.std.specs.Prelude.{◌&&◌}
-use Rattle.beldi_plain.specs.Piece.{is_owner}
-use Rattle.beldi_executor.specs.Inside.{Comes, ends, no_end, over_at, seen}
-use Rattle.beldi_executor.specs.declared.plain.PlainErr.TheVariants.{OutOfMemory}
+use Rattle.beldi_executor.proofs.Names.{Comes, Err, OutOfMemory, ends, false, is_owner, no_end, over_at, rules, seen, subst, sym, true, ◌&&◌, ◌≡◌}
 use Rattle.beldi_executor.proofs.Falls.{over_wants, over_done, over_not}
 use Rattle.beldi_executor.proofs.state.State.finish.Goals as goal
 

@@ -1,9 +1,6 @@
-use Rattle.std.proofs.Common.{◌≡◌, ◌∙◌, ap, sym, subst}
-use Rattle.std.specs.FinMap as map
-use Rattle.beldi_plain.specs.Plain.{PlainState, answered}
-use Rattle.beldi_executor.specs.Executor.{at_one}
-use Rattle.beldi_executor.specs.Inside.{IsDraft}
+use Rattle.beldi_executor.proofs.Names.{IsDraft, PlainState, answered, ap, at_one, subst, sym, ◌∙◌, ◌≡◌}
 use Rattle.beldi_executor.proofs.Lines.{gives_so, gave}
+use Rattle.beldi_executor.proofs.Names.map
 use Rattle.beldi_executor.proofs.state.State.give.Goals as goal
 
 pub returns : goal.returns

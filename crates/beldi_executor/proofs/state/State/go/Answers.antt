@@ -1,6 +1,4 @@
-use Rattle.std.proofs.Common.{rules, arith, inl, inr, ◌≡◌, ◌∙◌, ◌<◌, ap, sym, true, false}
-use Rattle.std.specs.Prelude.{option_copied}
-use Rattle.beldi_executor.specs.Inside.{can_move, is_stop, going, most}
+use Rattle.beldi_executor.proofs.Names.{ap, arith, can_move, false, going, inl, inr, is_stop, most, option_copied, rules, sym, true, ◌<◌, ◌∙◌, ◌≡◌}
 use Rattle.beldi_executor.proofs.Leads.{first_turn, turned, halted}
 use Rattle.beldi_executor.proofs.state.State.go.Goals as goal
 

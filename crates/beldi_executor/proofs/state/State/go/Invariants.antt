@@ -1,7 +1,5 @@
-use Rattle.std.specs.Prelude.{ℕ, ◌≤◌, option_copied}
-use Rattle.beldi_value.specs.declared.place.TxId.{TxId}
-use Rattle.beldi_plain.specs.Plain.{PlainState, Instance}
-use Rattle.beldi_executor.specs.Inside.{GoesOn, Turned, most, going}
+use Rattle.std.specs.Prelude.{ℕ, ◌≤◌}
+use Rattle.beldi_executor.proofs.Names.{GoesOn, Instance, PlainState, Turned, TxId, going, most, option_copied}
 use Rattle.beldi_executor.proofs.state.State.go.Given as goal
 
 -- so many moves were made

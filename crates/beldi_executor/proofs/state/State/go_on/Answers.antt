@@ -1,7 +1,4 @@
-use Rattle.std.proofs.Common.{subst}
-use Rattle.std.specs.Prelude.{option_copied}
-use Rattle.beldi_executor.specs.Inside.{WentOn}
-use Rattle.beldi_executor.proofs.Lines.{gave_seen}
+use Rattle.beldi_executor.proofs.{Names.WentOn, Names.option_copied, Names.subst, Lines.gave_seen}
 use Rattle.beldi_executor.proofs.state.State.go_on.Goals as goal
 
 pub returns-in-Err : goal.returns-in-Err

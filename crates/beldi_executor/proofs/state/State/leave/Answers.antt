@@ -1,9 +1,6 @@
-use Rattle.std.proofs.Common.{◌∙◌, ap, subst, Ok}
-use Rattle.std.specs.FinMap as map
-use Rattle.beldi_plain.specs.Plain.{PlainState, ended}
-use Rattle.beldi_executor.specs.Executor.{at_one}
-use Rattle.beldi_executor.specs.Inside.{Gave}
+use Rattle.beldi_executor.proofs.Names.{Gave, Ok, PlainState, ap, at_one, ended, subst, ◌∙◌}
 use Rattle.beldi_executor.proofs.Returned.{left}
+use Rattle.beldi_executor.proofs.Names.map
 use Rattle.beldi_executor.proofs.state.State.leave.Goals as goal
 
 pub returns-in-Err : goal.returns-in-Err

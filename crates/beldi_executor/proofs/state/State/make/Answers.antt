@@ -1,8 +1,4 @@
-use Rattle.std.proofs.Common.{sym, ap, ◌∙◌}
-use Rattle.std.specs.Prelude.{is_none}
-use Rattle.beldi_plain.specs.Plain.{kind_of}
-use Rattle.beldi_executor.specs.Answers.{bar_made}
-use Rattle.beldi_executor.proofs.Made.{acted_so, acts_other, room}
+use Rattle.beldi_executor.proofs.{Names.ap, Names.bar_made, Names.is_none, Names.kind_of, Names.sym, Names.◌∙◌, Made.acted_so, Made.acts_other, Made.room}
 use Rattle.beldi_executor.proofs.state.State.make.Goals as goal
 
 pub returns-in_default : goal.returns-in_default

@@ -1,16 +1,5 @@
-use Rattle.std.proofs.Common.{◌∙◌, List, Option, Some, Ok, is_some, ap, sym, subst}
-use Rattle.beldi_value.specs.declared.place.TxId.{TxId}
-use Rattle.beldi_lang.specs.declared.effect.Answer.{Answer}
-use Rattle.beldi_lang.specs.declared.effect.Effect.{Effect}
-use Rattle.beldi_plain.specs.Operation.{touched}
-use Rattle.beldi_plain.specs.Plain.{PlainState}
-use Rattle.beldi_executor.specs.Undo.{Items, MadeIn}
-use Rattle.beldi_executor.specs.Inside.{IsDraft, GoesOn, Moved, can_move}
-use Rattle.beldi_executor.specs.declared.undo.Was.{Was}
-use Rattle.beldi_executor.specs.declared.draft.Draft.{Draft}
-use Rattle.beldi_executor.proofs.Entered.{call_room, entered_result}
-use Rattle.beldi_executor.proofs.Returned.{popped_goes, popped_callee, left_moved, awaited}
-use Rattle.beldi_executor.proofs.Touched.{touched_goes, touched_wants, touched_moved, can_touch}
+use Rattle.beldi_executor.proofs.Names.{Answer, Draft, Effect, GoesOn, IsDraft, Items, List, MadeIn, Moved, Ok, Option, PlainState, Some, TxId, Was, ap, can_move, is_some, subst, sym, touched, ◌∙◌}
+use Rattle.beldi_executor.proofs.{Entered.call_room, Entered.entered_result, Returned.popped_goes, Returned.popped_callee, Returned.left_moved, Returned.awaited, Touched.touched_goes, Touched.touched_wants, Touched.touched_moved, Touched.can_touch}
 use Rattle.beldi_executor.proofs.state.State.make_move.Goals as goal
 
 pub enter-requires : goal.enter-requires

@@ -1,6 +1,4 @@
-use Rattle.std.proofs.Common.{refl}
-use Rattle.beldi_plain.specs.Piece.{tx_begun}
-use Rattle.beldi_executor.proofs.Whole.{opens, comes_draft, pieced_ok, pieced_err}
+use Rattle.beldi_executor.proofs.{Names.refl, Names.tx_begun, Whole.opens, Whole.comes_draft, Whole.pieced_ok, Whole.pieced_err}
 use Rattle.beldi_executor.proofs.state.State.piece.Goals as goal
 
 pub reset-requires : goal.reset-requires

@@ -1,10 +1,6 @@
-use Rattle.std.proofs.Common.{◌∙◌, ap, sym, subst}
-use Rattle.std.specs.FinMap as map
-use Rattle.beldi_value.specs.declared.place.TxId.{TxId}
-use Rattle.beldi_plain.specs.Plain.{PlainState}
-use Rattle.beldi_executor.specs.Executor.{at_one, cut_to}
-use Rattle.beldi_executor.specs.Inside.{IsDraft}
+use Rattle.beldi_executor.proofs.Names.{IsDraft, PlainState, TxId, ap, at_one, cut_to, subst, sym, ◌∙◌}
 use Rattle.beldi_executor.proofs.Drafts.{reset_so}
+use Rattle.beldi_executor.proofs.Names.map
 use Rattle.beldi_executor.proofs.state.State.reset.Goals as goal
 
 pub returns : goal.returns

@@ -1,7 +1,5 @@
-use Rattle.std.proofs.Common.{◌∙◌, ap, refl}
-use Rattle.std.specs.FinMap as map
-use Rattle.beldi_plain.specs.Plain.{PlainState}
-use Rattle.beldi_executor.proofs.Made.{sends_so, unsent}
+use Rattle.beldi_executor.proofs.{Names.PlainState, Names.ap, Names.refl, Names.◌∙◌, Made.sends_so, Made.unsent}
+use Rattle.beldi_executor.proofs.Names.map
 use Rattle.beldi_executor.proofs.state.State.send.Goals as goal
 
 pub returns-in-Ok-answer : goal.returns-in-Ok-answer

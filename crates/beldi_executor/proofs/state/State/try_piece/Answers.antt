@@ -1,6 +1,4 @@
-use Rattle.std.proofs.Common.{rules, ◌≡◌, refl, true, false}
-use Rattle.std.specs.Prelude.{option_copied}
-use Rattle.beldi_plain.specs.Piece.{tx_begun, is_holder}
+use Rattle.beldi_executor.proofs.Names.{false, is_holder, option_copied, refl, rules, true, tx_begun, ◌≡◌}
 use Rattle.beldi_executor.proofs.Whole.{opens, comes_draft, not_older, tried_ok, tried_err}
 use Rattle.beldi_executor.proofs.state.State.try_piece.Goals as goal
 

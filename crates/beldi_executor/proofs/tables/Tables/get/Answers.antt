@@ -1,7 +1,5 @@
-use Rattle.std.proofs.Common.{◌∙◌, sym, ap}
-use Rattle.std.specs.FinMap as map
-use Rattle.beldi_value.proofs.Maps.{get_made}
-use Rattle.beldi_executor.specs.ByTable.{table_total}
+use Rattle.beldi_executor.proofs.Names.{ap, get_made, sym, table_total, ◌∙◌}
+use Rattle.beldi_executor.proofs.Names.map
 use Rattle.beldi_executor.proofs.tables.Tables.get.Goals as goal
 
 pub returns : goal.returns

@@ -1,9 +1,6 @@
-use Rattle.std.proofs.Common.{rules, ◌∙◌, sym, ap, is_some}
-use Rattle.std.specs.Option.{option_copied_mut}
-use Rattle.std.specs.FinMap as map
-use Rattle.beldi_value.proofs.Maps.{get_made, set_made}
-use Rattle.beldi_executor.specs.ByTable.{table_total, table_exact}
+use Rattle.beldi_executor.proofs.Names.{ap, get_made, is_some, option_copied_mut, rules, set_made, sym, table_exact, table_total, ◌∙◌}
 use Rattle.beldi_executor.proofs.ByTable.{none_of, one_put, none_put}
+use Rattle.beldi_executor.proofs.Names.map
 use Rattle.beldi_executor.proofs.tables.Tables.put.Goals as goal
 
 pub put_first-requires : goal.put_first-requires

@@ -1,8 +1,6 @@
-use Rattle.std.proofs.Common.{◌∙◌, ap, sym}
-use Rattle.std.specs.FinMap as map
-use Rattle.beldi_value.proofs.Maps.{set_made}
-use Rattle.beldi_executor.specs.ByTable.{table_total, table_exact, at_key}
+use Rattle.beldi_executor.proofs.Names.{ap, at_key, set_made, sym, table_exact, table_total, ◌∙◌}
 use Rattle.beldi_executor.proofs.ByTable.{first_put}
+use Rattle.beldi_executor.proofs.Names.map
 use Rattle.beldi_executor.proofs.tables.Tables.put_first.Goals as goal
 
 pub returns-clause-ok : goal.returns-clause-ok

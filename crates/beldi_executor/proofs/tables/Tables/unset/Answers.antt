@@ -1,8 +1,5 @@
-use Rattle.std.proofs.Common.{rules, ◌∙◌, sym, ap}
-use Rattle.std.specs.Option.{option_copied_mut}
-use Rattle.std.specs.FinMap as map
-use Rattle.beldi_value.proofs.Maps.{get_made, set_made}
-use Rattle.beldi_executor.specs.ByTable.{table_total, table_exact, unset_cell}
+use Rattle.beldi_executor.proofs.Names.{ap, get_made, option_copied_mut, rules, set_made, sym, table_exact, table_total, unset_cell, ◌∙◌}
+use Rattle.beldi_executor.proofs.Names.map
 use Rattle.beldi_executor.proofs.tables.Tables.unset.Goals as goal
 
 pub returns : goal.returns

@@ -1,10 +1,6 @@
-use Rattle.std.proofs.Common.{◌∙◌, sym, ap, ◌++◌, List, ℕ}
-use Rattle.std.specs.FinMap as map
-use Rattle.beldi_value.proofs.Maps.{entries_made}
-use Rattle.beldi_executor.specs.ByTable.{Cells, Tables, table_total, items_in}
-use Rattle.beldi_plain.specs.Listing.{items_text}
-use Rattle.beldi_executor.specs.declared.tables.TableId.{TableId}
+use Rattle.beldi_executor.proofs.Names.{Cells, List, TableId, Tables, ap, entries_made, items_in, items_text, sym, table_total, ℕ, ◌++◌, ◌∙◌}
 use Rattle.beldi_executor.proofs.ByTable.{entries_items}
+use Rattle.beldi_executor.proofs.Names.map
 use Rattle.beldi_executor.proofs.tables.Tables.write.Goals as goal
 
 pub loop-table-init : goal.loop-table-init

@@ -1,7 +1,5 @@
-use Rattle.std.proofs.Common.{◌≡◌, ◌++◌}
-use Rattle.std.specs.FinMap as map
-use Rattle.beldi_executor.specs.ByTable.{items_in, items_of}
-use Rattle.beldi_plain.specs.Listing.{items_text}
+use Rattle.beldi_executor.proofs.Names.{items_in, items_of, items_text, ◌++◌, ◌≡◌}
+use Rattle.beldi_executor.proofs.Names.map
 use Rattle.beldi_executor.proofs.tables.Tables.write.Given as goal
 
 -- what is written and the lines of the tables that are left are all

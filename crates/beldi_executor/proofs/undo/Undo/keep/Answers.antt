@@ -1,6 +1,4 @@
-use Rattle.std.proofs.Common.{◌≡◌, ◌∙◌, sym, ap, [], ◌∷◌, ◌++◌}
-use Rattle.std.specs.Prelude.{option_to_list}
-use Rattle.beldi_executor.specs.Undo.{all_swept}
+use Rattle.beldi_executor.proofs.Names.{[], all_swept, ap, option_to_list, sym, ◌++◌, ◌∙◌, ◌∷◌, ◌≡◌}
 use Rattle.beldi_executor.proofs.InPlace.{swept_last}
 use Rattle.beldi_executor.proofs.undo.Undo.keep.Goals as goal
 

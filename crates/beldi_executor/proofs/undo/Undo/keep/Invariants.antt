@@ -1,5 +1,4 @@
-use Rattle.std.proofs.Common.{◌≡◌}
-use Rattle.beldi_executor.specs.Undo.{all_swept}
+use Rattle.beldi_executor.proofs.Names.{all_swept, ◌≡◌}
 use Rattle.beldi_executor.proofs.undo.Undo.keep.Given as goal
 
 -- what is left is swept from here

@@ -1,6 +1,4 @@
-use Rattle.std.proofs.Common.{◌≡◌, ◌∙◌, sym, ap, subst, [], ◌∷◌, ◌++◌}
-use Rattle.std.specs.Prelude.{option_to_list}
-use Rattle.beldi_executor.specs.Undo.{AllHaveRoom, all_back}
+use Rattle.beldi_executor.proofs.Names.{AllHaveRoom, [], all_back, ap, option_to_list, subst, sym, ◌++◌, ◌∙◌, ◌∷◌, ◌≡◌}
 use Rattle.beldi_executor.proofs.InPlace.{back_last, room_parts}
 use Rattle.beldi_executor.proofs.undo.Undo.restore.Goals as goal
 

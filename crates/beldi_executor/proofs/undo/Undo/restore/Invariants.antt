@@ -1,5 +1,4 @@
-use Rattle.std.proofs.Common.{◌≡◌}
-use Rattle.beldi_executor.specs.Undo.{AllHaveRoom, all_back}
+use Rattle.beldi_executor.proofs.Names.{AllHaveRoom, all_back, ◌≡◌}
 use Rattle.beldi_executor.proofs.undo.Undo.restore.Given as goal
 
 -- what is left is put back from here

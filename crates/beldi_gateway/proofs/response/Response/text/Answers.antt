@@ -1,6 +1,4 @@
-use Rattle.std.proofs.Common.{rules}
-use Rattle.beldi_gateway.specs.Response.{allow_text, body_of, status_of}
-use Rattle.beldi_gateway.proofs.Responses.{composed_same}
+use Rattle.beldi_gateway.proofs.{Names.allow_text, Names.body_of, Names.rules, Names.status_of, Responses.composed_same}
 use Rattle.beldi_gateway.proofs.response.Response.text.Goals as goal
 
 pub returns : goal.returns

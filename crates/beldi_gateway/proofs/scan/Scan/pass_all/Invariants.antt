@@ -1,5 +1,4 @@
-use Rattle.std.proofs.Common.{◌≡◌, ◌≤◌, ◌+◌, length}
-use Rattle.beldi_gateway.specs.Scan.{scan_on}
+use Rattle.beldi_gateway.proofs.Names.{length, scan_on, ◌+◌, ◌≡◌, ◌≤◌}
 use Rattle.beldi_gateway.proofs.scan.Scan.pass_all.Given as goal
 
 abbrev pub invariant-loop-rest : goal.invariant-loop-rest

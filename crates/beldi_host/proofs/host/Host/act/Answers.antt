@@ -1,7 +1,4 @@
-use Rattle.std.proofs.Common.{Ok, Err, refl}
-use Rattle.beldi_walk.specs.declared.query.Query.TheVariants.{Act}
-use Rattle.beldi_walk.proofs.Queries.{acted}
-use Rattle.beldi_core.proofs.Plans.{query_asked}
+use Rattle.beldi_host.proofs.Names.{Act, Err, Ok, acted, query_asked, refl}
 use Rattle.beldi_host.proofs.host.Host.act.Goals as goal
 
 pub returns-in-Ok-clause-asked : goal.returns-in-Ok-clause-asked

@@ -1,5 +1,4 @@
-use Rattle.std.proofs.Common.{rules}
-use Rattle.beldi_host.proofs.Right.{legal_at}
+use Rattle.beldi_host.proofs.{Names.rules, Right.legal_at}
 use Rattle.beldi_host.proofs.host.Host.book.Goals as goal
 
 pub returns-clause-legal : goal.returns-clause-legal

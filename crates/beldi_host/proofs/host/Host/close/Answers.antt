@@ -1,5 +1,4 @@
-use Rattle.std.proofs.Common.{rules}
-use Rattle.beldi_host.proofs.Right.{stands_at}
+use Rattle.beldi_host.proofs.{Names.rules, Right.stands_at}
 use Rattle.beldi_host.proofs.host.Host.close.Goals as goal
 
 pub returns-clause-stands : goal.returns-clause-stands

@@ -1,5 +1,4 @@
-use Rattle.std.proofs.Common.{rules}
-use Rattle.beldi_host.proofs.Right.{event_keeps, event_stays, never_gone, ends_late}
+use Rattle.beldi_host.proofs.{Names.rules, Right.event_keeps, Right.event_stays, Right.never_gone, Right.ends_late}
 use Rattle.beldi_host.proofs.host.Host.event.Goals as goal
 
 pub returns-clause-right : goal.returns-clause-right

@@ -1,7 +1,4 @@
-use Rattle.std.proofs.Common.{Ok, Err, refl}
-use Rattle.beldi_walk.specs.declared.query.Query.TheVariants.{After}
-use Rattle.beldi_walk.proofs.Queries.{went}
-use Rattle.beldi_core.proofs.Plans.{query_asked}
+use Rattle.beldi_host.proofs.Names.{After, Err, Ok, query_asked, refl, went}
 use Rattle.beldi_host.proofs.host.Host.look_after.Goals as goal
 
 pub returns-in-Ok-clause-asked : goal.returns-in-Ok-clause-asked

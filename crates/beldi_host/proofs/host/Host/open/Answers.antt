@@ -1,6 +1,4 @@
-use Rattle.std.proofs.Common.{rules}
-use Rattle.beldi_host.proofs.Newest.{newest_at}
-use Rattle.beldi_host.proofs.Right.{opened}
+use Rattle.beldi_host.proofs.{Names.rules, Newest.newest_at, Right.opened}
 use Rattle.beldi_host.proofs.host.Host.open.Goals as goal
 
 pub returns-in-Ok-clause-right : goal.returns-in-Ok-clause-right

@@ -1,5 +1,4 @@
-use Rattle.beldi_host.specs.Host.{core_of}
-use Rattle.beldi_host.proofs.Right.{said}
+use Rattle.beldi_host.proofs.{Names.core_of, Right.said}
 use Rattle.beldi_host.proofs.host.Host.reply.Goals as goal
 
 pub returns-clause-plain : goal.returns-clause-plain

@@ -1,8 +1,4 @@
-use Rattle.std.proofs.Common.{subst, Err}
-use Rattle.beldi_tree.specs.declared.deployment.Deployment.{Deployment}
-use Rattle.beldi_step.specs.Host.{Stepped}
-use Rattle.beldi_core.specs.Parts.{core_in}
-use Rattle.beldi_core.proofs.Plans.{no_memory}
+use Rattle.beldi_host.proofs.Names.{Deployment, Err, Stepped, core_in, no_memory, subst}
 use Rattle.beldi_host.proofs.host.Host.step.Goals as goal
 
 pub returns-in-Err-clause-step : goal.returns-in-Err-clause-step

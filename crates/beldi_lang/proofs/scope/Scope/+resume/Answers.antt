@@ -1,17 +1,5 @@
-use Rattle.std.proofs.Common.{◌≡◌, ◌+◌, List, [], ◌∷◌, Option, Some, arith, sym, subst, ap, ◌∙◌}
-use Rattle.std.specs.Prelude.{IfOk, option_map}
-use Rattle.beldi_tree.specs.declared.deployment.Form.{Form}
-use Rattle.beldi_tree.specs.Command.{Command, commands_of, block_size}
-use Rattle.beldi_tree.specs.Statement.{command_at, statements_view}
-use Rattle.beldi_tree.specs.Falls.{statement_falls}
-use Rattle.beldi_lang.specs.Runs.{Went, within, head, inner, Afresh, From, run, run_block, transact}
-use Rattle.beldi_lang.specs.Told.{told, left_at}
-use Rattle.beldi_lang.specs.declared.state.State.{State}
-use Rattle.beldi_lang.specs.declared.state.Part.{Part}
-use Rattle.beldi_lang.specs.declared.state.Frame.{Frame}
-use Rattle.beldi_lang.specs.declared.state.Frame.TheVariants.{In}
-use Rattle.beldi_lang.specs.declared.state.Went.{Went as Told}
-use Rattle.beldi_lang.proofs.Blocks.{from_there, leaves_there, next_there, past_end}
+use Rattle.beldi_lang.{specs.Runs.transact, proofs.Blocks.from_there, proofs.Blocks.leaves_there, proofs.Blocks.next_there, proofs.Blocks.past_end}
+use Rattle.beldi_lang.proofs.Names.{Afresh, Command, Form, Frame, From, IfOk, In, List, Option, Part, Some, State, Told, Went, [], ap, arith, block_size, command_at, commands_of, head, inner, left_at, option_map, run, run_block, statement_falls, statements_view, subst, sym, told, within, ◌+◌, ◌∙◌, ◌∷◌, ◌≡◌}
 use Rattle.beldi_lang.proofs.scope.Scope.+resume.Goals as goal
 
 pub resume-returns-in-Transaction : goal.resume-returns-in-Transaction

@@ -1,6 +1,4 @@
-use Rattle.std.proofs.Common.{◌+◌, ◌*◌}
-use Rattle.beldi_tree.specs.Command.{command_size, block_size}
-use Rattle.beldi_tree.specs.Statement.{command_of}
+use Rattle.beldi_lang.proofs.Names.{block_size, command_of, command_size, ◌*◌, ◌+◌}
 use Rattle.beldi_lang.proofs.scope.Scope.+resume.Given as goal
 
 -- twice the size of what is gone on with, and a step more for the call on the way to a block

@@ -1,6 +1,5 @@
 use Rattle.std.proofs.Common.{subst, sym}
-use Rattle.beldi_row.specs.Log.{NotedAt}
-use Rattle.beldi_row.proofs.Found.{note_found}
+use Rattle.beldi_row.{specs.Log.NotedAt, proofs.Found.note_found}
 use Rattle.beldi_row.proofs.notes.Log.find.Goals as goal
 
 pub returns-clause-note : goal.returns-clause-note

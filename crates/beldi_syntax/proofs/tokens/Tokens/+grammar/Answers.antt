@@ -1,10 +1,7 @@
-use Rattle.std.proofs.Common.{◌≡◌, ℕ, List, Err, ◌≤◌, ◌-◌, ap, sym, subst, ◌∙◌, rules, arith, codes}
-use Rattle.beldi_tree.specs.declared.deployment.Expr.{Expr}
-use Rattle.beldi_tree.specs.Term.{Term, not, negate}
-use Rattle.beldi_tree.specs.Expr.{term_of}
-use Rattle.beldi_syntax.specs.declared.operators.Level.TheVariants.{Relation}
-use Rattle.beldi_syntax.specs.Phrase.{ReadsAs, next_is, after_first}
-use Rattle.beldi_syntax.specs.Expressions.{expr_at, chain, side, sum, post, member, more, next_item}
+use Rattle.std.proofs.Common.{rules}
+use Rattle.beldi_tree.specs.Term.{not}
+use Rattle.beldi_syntax.specs.Expressions.{expr_at, sum}
+use Rattle.beldi_syntax.proofs.Names.{Err, Expr, List, ReadsAs, Relation, Term, after_first, ap, arith, chain, codes, member, more, negate, next_is, next_item, post, side, subst, sym, term_of, ℕ, ◌-◌, ◌∙◌, ◌≡◌, ◌≤◌}
 use Rattle.beldi_syntax.proofs.Repeated.{chain_goes_on, goes, pushes, errs, suffix_goes_on, expr_one, expr_none, signs}
 use Rattle.beldi_syntax.proofs.tokens.Tokens.+grammar.Goals as goal
 

@@ -1,9 +1,5 @@
-use Rattle.std.proofs.Common.{◌≡◌, ◌+◌, ◌*◌, ◌-◌, ℕ}
-use Rattle.beldi_tree.specs.Expr.{term_of}
-use Rattle.beldi_syntax.specs.declared.operators.Level.{Level}
-use Rattle.beldi_syntax.specs.declared.operators.Level.TheVariants.{Disjunction, Conjunction, Relation, Sum, Product}
-use Rattle.beldi_syntax.specs.Phrase.{repeated}
-use Rattle.beldi_syntax.specs.Expressions.{expr_at, chain, side, join, post, next_suffix, more, next_item, member}
+use Rattle.beldi_syntax.specs.Expressions.{expr_at}
+use Rattle.beldi_syntax.proofs.Names.{Conjunction, Disjunction, Level, Product, Relation, Sum, chain, join, member, more, next_item, next_suffix, post, repeated, side, term_of, ℕ, ◌*◌, ◌+◌, ◌-◌, ◌≡◌}
 use Rattle.beldi_syntax.proofs.tokens.Tokens.+grammar.Given as goal
 
 -- how far a level is from the tightest

@@ -1,11 +1,6 @@
-use Rattle.std.proofs.Common.{◌≡◌, ◌≤◌, ◌-◌, sym, subst, ◌∙◌, rules, arith, codes}
-use Rattle.beldi_tree.specs.declared.deployment.Stmt.{Stmt}
-use Rattle.beldi_tree.specs.Command.{Command}
-use Rattle.beldi_tree.specs.Statement.{command_of}
-use Rattle.beldi_syntax.specs.Phrase.{Reads, next_is}
-use Rattle.beldi_syntax.specs.Expressions.{expr_at}
-use Rattle.beldi_syntax.specs.Statements.{stmt, stmts, next_stmt, block_at}
-use Rattle.beldi_syntax.proofs.Repeated.{ungoes, pushes, errs, block_one, block_none}
+use Rattle.std.proofs.Common.{rules}
+use Rattle.beldi_syntax.{specs.Expressions.expr_at, specs.Statements.stmt, specs.Statements.block_at, proofs.Repeated.ungoes, proofs.Repeated.pushes, proofs.Repeated.errs, proofs.Repeated.block_one, proofs.Repeated.block_none}
+use Rattle.beldi_syntax.proofs.Names.{Command, Reads, Stmt, arith, codes, command_of, next_is, next_stmt, stmts, subst, sym, ◌-◌, ◌∙◌, ◌≡◌, ◌≤◌}
 use Rattle.beldi_syntax.proofs.tokens.Tokens.+statements.Goals as goal
 
 pub block-returns-in-Some : goal.block-returns-in-Some

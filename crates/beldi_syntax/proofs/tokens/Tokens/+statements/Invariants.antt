@@ -1,7 +1,5 @@
-use Rattle.std.proofs.Common.{◌≡◌, ◌+◌, ◌*◌, ◌-◌}
-use Rattle.beldi_syntax.specs.Phrase.{repeated}
-use Rattle.beldi_syntax.specs.Expressions.{expr_at}
-use Rattle.beldi_syntax.specs.Statements.{next_stmt, stmts, block_at}
+use Rattle.beldi_syntax.specs.{Expressions.expr_at, Statements.block_at}
+use Rattle.beldi_syntax.proofs.Names.{next_stmt, repeated, stmts, ◌*◌, ◌+◌, ◌-◌, ◌≡◌}
 use Rattle.beldi_syntax.proofs.tokens.Tokens.+statements.Given as goal
 
 abbrev pub decreases-block : goal.decreases-block

@@ -1,6 +1,5 @@
-use Rattle.std.proofs.Common.{◌-◌, ap, sym, ◌∙◌, rules, codes}
-use Rattle.beldi_syntax.specs.Phrase.{next_is, line_of, after_first}
-use Rattle.beldi_syntax.specs.Deployments.{next_function, function_of}
+use Rattle.std.proofs.Common.{rules}
+use Rattle.beldi_syntax.proofs.Names.{after_first, ap, codes, function_of, line_of, next_function, next_is, sym, ◌-◌, ◌∙◌}
 use Rattle.beldi_syntax.proofs.Repeated.{ends, goes, stays, pushes}
 use Rattle.beldi_syntax.proofs.tokens.Tokens.functions.Goals as goal
 

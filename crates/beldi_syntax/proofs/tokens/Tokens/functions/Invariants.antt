@@ -1,6 +1,4 @@
-use Rattle.std.proofs.Common.{◌≡◌, ◌-◌}
-use Rattle.beldi_syntax.specs.Phrase.{repeated}
-use Rattle.beldi_syntax.specs.Deployments.{next_function, functions}
+use Rattle.beldi_syntax.proofs.Names.{functions, next_function, repeated, ◌-◌, ◌≡◌}
 use Rattle.beldi_syntax.proofs.tokens.Tokens.functions.Given as goal
 
 -- what is left goes on to the whole

@@ -1,5 +1,5 @@
-use Rattle.std.proofs.Common.{◌≡◌, suc, ap, sym, ◌∙◌, rules, arith}
-use Rattle.beldi_syntax.specs.Phrase.{count_of, after_first}
+use Rattle.std.proofs.Common.{rules}
+use Rattle.beldi_syntax.proofs.Names.{after_first, ap, arith, count_of, suc, sym, ◌∙◌, ◌≡◌}
 use Rattle.beldi_syntax.proofs.Repeated.{one_counted, after_drop}
 use Rattle.beldi_syntax.proofs.tokens.Tokens.pass_all.Goals as goal
 

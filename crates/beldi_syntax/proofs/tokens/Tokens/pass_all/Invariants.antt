@@ -1,5 +1,4 @@
-use Rattle.std.proofs.Common.{◌≡◌, ◌+◌, drop}
-use Rattle.beldi_syntax.specs.Phrase.{count_of}
+use Rattle.beldi_syntax.proofs.Names.{count_of, drop, ◌+◌, ◌≡◌}
 use Rattle.beldi_syntax.proofs.tokens.Tokens.pass_all.Given as goal
 
 abbrev pub invariant-loop-turn : goal.invariant-loop-turn

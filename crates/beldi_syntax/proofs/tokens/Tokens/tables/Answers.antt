@@ -1,6 +1,5 @@
-use Rattle.std.proofs.Common.{◌-◌, ap, sym, ◌∙◌, rules, codes}
-use Rattle.beldi_syntax.specs.Phrase.{next_is, line_of, after_first}
-use Rattle.beldi_syntax.specs.Deployments.{next_table, table_of}
+use Rattle.std.proofs.Common.{rules}
+use Rattle.beldi_syntax.proofs.Names.{after_first, ap, codes, line_of, next_is, next_table, sym, table_of, ◌-◌, ◌∙◌}
 use Rattle.beldi_syntax.proofs.Repeated.{ends, goes, stays, pushes}
 use Rattle.beldi_syntax.proofs.tokens.Tokens.tables.Goals as goal
 

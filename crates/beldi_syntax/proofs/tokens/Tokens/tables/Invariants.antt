@@ -1,6 +1,4 @@
-use Rattle.std.proofs.Common.{◌≡◌, ◌-◌}
-use Rattle.beldi_syntax.specs.Phrase.{repeated}
-use Rattle.beldi_syntax.specs.Deployments.{next_table, tables}
+use Rattle.beldi_syntax.proofs.Names.{next_table, repeated, tables, ◌-◌, ◌≡◌}
 use Rattle.beldi_syntax.proofs.tokens.Tokens.tables.Given as goal
 
 -- what is left goes on to the whole

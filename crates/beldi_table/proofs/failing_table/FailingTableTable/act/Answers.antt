@@ -1,6 +1,5 @@
 use Rattle.std.proofs.Common.{arith, Some, ◌∙◌, refl, ap, sym}
-use Rattle.beldi_table.specs.MapTable.{rows_of}
-use Rattle.beldi_table.specs.FailingTable.{counted}
+use Rattle.beldi_table.specs.{MapTable.rows_of, FailingTable.counted}
 use Rattle.beldi_table.proofs.failing_table.FailingTableTable.act.Goals as goal
 
 pub returns-then-fails : goal.returns-then-fails

@@ -1,7 +1,6 @@
-use Rattle.std.proofs.Common.{arith, sym, ◌∙◌, refl}
 use Rattle.std.specs.FinMap as map
-use Rattle.beldi_row.specs.KeyOrder.{key_total, key_exact}
-use Rattle.beldi_row.proofs.Rows.{one_set, len_rows}
+use Rattle.std.proofs.Common.{arith, sym, ◌∙◌, refl}
+use Rattle.beldi_row.{specs.KeyOrder.key_total, specs.KeyOrder.key_exact, proofs.Rows.one_set, proofs.Rows.len_rows}
 use Rattle.beldi_table.proofs.Changes.{none_added, one_added, would_add}
 use Rattle.beldi_table.proofs.map_table.MapTable.add.Goals as goal
 

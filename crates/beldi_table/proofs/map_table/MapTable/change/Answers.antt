@@ -1,10 +1,8 @@
-use Rattle.std.proofs.Common.{rules, refl, sym, ◌∙◌, ap}
-use Rattle.std.specs.FinMap as map
 use Rattle.std.specs.Option.{option_copied_mut}
-use Rattle.beldi_row.specs.KeyOrder.{key_total, key_exact}
-use Rattle.beldi_row.proofs.Rows.{get_rows, one_set}
-use Rattle.beldi_table.specs.MapTable.{rows_of}
-use Rattle.beldi_table.proofs.Changes.{there, unchanged, looks}
+use Rattle.std.specs.FinMap as map
+use Rattle.std.proofs.Common.{rules, refl, sym, ◌∙◌, ap}
+use Rattle.beldi_row.{specs.KeyOrder.key_total, specs.KeyOrder.key_exact, proofs.Rows.get_rows, proofs.Rows.one_set}
+use Rattle.beldi_table.{specs.MapTable.rows_of, proofs.Changes.there, proofs.Changes.unchanged, proofs.Changes.looks}
 use Rattle.beldi_table.proofs.map_table.MapTable.change.Goals as goal
 
 pub returns-in-Ok-clause-tries : goal.returns-in-Ok-clause-tries

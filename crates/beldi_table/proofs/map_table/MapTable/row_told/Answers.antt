@@ -1,7 +1,5 @@
 use Rattle.std.proofs.Common.{sym, ◌∙◌, ap}
-use Rattle.beldi_row.specs.Act.{said_by}
-use Rattle.beldi_row.specs.KeyOrder.{key_total, key_exact}
-use Rattle.beldi_row.proofs.Rows.{get_rows}
+use Rattle.beldi_row.{specs.Act.said_by, specs.KeyOrder.key_total, specs.KeyOrder.key_exact, proofs.Rows.get_rows}
 use Rattle.beldi_table.proofs.map_table.MapTable.row_told.Goals as goal
 
 pub returns-in-Row : goal.returns-in-Row

@@ -1,6 +1,4 @@
-use Rattle.std.proofs.Common.{ap, ◌∙◌}
-use Rattle.beldi_tree.specs.Expr.{term_of, applied, chained}
-use Rattle.beldi_tree.proofs.Evaluated.{chained_more}
+use Rattle.beldi_tree.proofs.{Names.ap, Names.applied, Names.chained, Names.term_of, Names.◌∙◌, Evaluated.chained_more}
 use Rattle.beldi_tree.proofs.parts.Chain.push.Goals as goal
 
 pub returns-clause-ok : goal.returns-clause-ok

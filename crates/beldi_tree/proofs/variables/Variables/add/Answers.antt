@@ -1,8 +1,5 @@
-use Rattle.std.proofs.Common.{◌∙◌, ap}
-use Rattle.std.specs.FinMap as map
-use Rattle.std.specs.FinMap.{nat_cmp-IsAntisymmetric, slice_cmp-IsAntisymmetric}
-use Rattle.std.specs.Cmp.Lexicographic.{nat_list_cmp_total}
-use Rattle.beldi_value.proofs.Maps.{set_made}
+use Rattle.beldi_tree.proofs.Names.{ap, nat_cmp-IsAntisymmetric, nat_list_cmp_total, set_made, slice_cmp-IsAntisymmetric, ◌∙◌}
+use Rattle.beldi_tree.proofs.Names.map
 use Rattle.beldi_tree.proofs.variables.Variables.add.Goals as goal
 
 pub returns-clause-ok : goal.returns-clause-ok

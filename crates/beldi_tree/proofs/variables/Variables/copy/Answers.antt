@@ -1,16 +1,6 @@
-use Rattle.std.proofs.Common.{◌≡◌, List, ℕ, ◌∷◌, Option, None, Some, refl, ap, ap₂, sym, subst, ◌∙◌, rules}
-use Rattle.std.specs.FinMap as map
-use Rattle.std.specs.FinMap.{nat_cmp-IsAntisymmetric, slice_cmp-IsAntisymmetric}
-use Rattle.std.specs.Option.{option_or}
-use Rattle.std.specs.Map.{lookup, keys_of}
-use Rattle.std.specs.BTreeMap.{is_at}
-use Rattle.std.specs.Ordering.{nat_cmp}
-use Rattle.std.specs.Cmp.Lexicographic.{slice_cmp, nat_list_cmp_total}
-use Rattle.std.specs.List.Sorted.{IsStrictlySortedBy}
-use Rattle.beldi_value.specs.declared.value.Value.{Value}
-use Rattle.beldi_value.proofs.Maps.{get_made}
-use Rattle.beldi_tree.specs.Bindings.{Bindings}
+use Rattle.beldi_tree.proofs.Names.{Bindings, IsStrictlySortedBy, List, None, Option, Some, Value, ap, ap₂, get_made, is_at, keys_of, lookup, nat_cmp, nat_cmp-IsAntisymmetric, nat_list_cmp_total, option_or, refl, rules, slice_cmp, slice_cmp-IsAntisymmetric, subst, sym, ℕ, ◌∙◌, ◌∷◌, ◌≡◌}
 use Rattle.beldi_tree.proofs.Copies.{IsCopied, all_copied, one_copied}
+use Rattle.beldi_tree.proofs.Names.map
 use Rattle.beldi_tree.proofs.variables.Variables.copy.Goals as goal
 
 -- what is left of a map where it has nothing, or a map with nothing

@@ -1,6 +1,4 @@
-use Rattle.std.specs.Ordering.{nat_cmp}
-use Rattle.std.specs.Cmp.Lexicographic.{slice_cmp}
-use Rattle.beldi_tree.proofs.Copies.{IsCopied}
+use Rattle.beldi_tree.proofs.{Names.nat_cmp, Names.slice_cmp, Copies.IsCopied}
 use Rattle.beldi_tree.proofs.variables.Variables.copy.Given as goal
 
 -- the names that are left, with those that are copied, are all names

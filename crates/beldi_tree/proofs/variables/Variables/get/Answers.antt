@@ -1,7 +1,5 @@
-use Rattle.std.proofs.Common.{◌∙◌, sym, ap}
-use Rattle.std.specs.FinMap as map
-use Rattle.std.specs.Cmp.Lexicographic.{nat_list_cmp_total}
-use Rattle.beldi_value.proofs.Maps.{get_made}
+use Rattle.beldi_tree.proofs.Names.{ap, get_made, nat_list_cmp_total, sym, ◌∙◌}
+use Rattle.beldi_tree.proofs.Names.map
 use Rattle.beldi_tree.proofs.variables.Variables.get.Goals as goal
 
 pub returns : goal.returns

@@ -1,5 +1,4 @@
-use Rattle.std.proofs.Common.{sym}
-use Rattle.beldi_txn.proofs.Levels.{back_none}
+use Rattle.beldi_txn.proofs.{Names.sym, Levels.back_none}
 use Rattle.beldi_txn.proofs.end.Visit.back.Goals as goal
 
 pub returns-in-None : goal.returns-in-None

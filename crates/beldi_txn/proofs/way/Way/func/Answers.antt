@@ -1,5 +1,4 @@
-use Rattle.std.proofs.Common.{ap, sym, ◌∙◌}
-use Rattle.beldi_txn.proofs.Levels.{func_of, func_is}
+use Rattle.beldi_txn.proofs.{Names.ap, Names.sym, Names.◌∙◌, Levels.func_of, Levels.func_is}
 use Rattle.beldi_txn.proofs.way.Way.func.Goals as goal
 
 pub returns-in-Some : goal.returns-in-Some

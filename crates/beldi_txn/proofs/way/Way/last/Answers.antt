@@ -1,6 +1,4 @@
-use Rattle.std.proofs.Common.{length, ◌-◌, ap, ◌∙◌}
-use Rattle.std.specs.Prelude.{slice_get}
-use Rattle.beldi_txn.proofs.Levels.{last_is}
+use Rattle.beldi_txn.proofs.{Names.ap, Names.length, Names.slice_get, Names.◌-◌, Names.◌∙◌, Levels.last_is}
 use Rattle.beldi_txn.proofs.way.Way.last.Goals as goal
 
 pub returns : goal.returns

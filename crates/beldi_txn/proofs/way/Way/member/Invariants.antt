@@ -1,5 +1,4 @@
-use Rattle.std.proofs.Common.{◌≡◌, drop}
-use Rattle.beldi_txn.specs.Way.{member_at}
+use Rattle.beldi_txn.proofs.Names.{drop, member_at, ◌≡◌}
 use Rattle.beldi_txn.proofs.way.Way.member.Given as goal
 
 -- the calls that are left lead from who was reached to where all of them lead

@@ -1,6 +1,4 @@
-use Rattle.std.proofs.Common.{rules, arith, ap, ◌∙◌}
-use Rattle.beldi_lock.specs.Last.{split_last}
-use Rattle.beldi_txn.specs.Way.{front_of, last_of}
+use Rattle.beldi_txn.proofs.Names.{ap, arith, front_of, last_of, rules, split_last, ◌∙◌}
 use Rattle.beldi_txn.proofs.Levels.{popped}
 use Rattle.beldi_txn.proofs.way.Way.pop.Goals as goal
 

@@ -1,5 +1,4 @@
-use Rattle.std.proofs.Common.{ap, sym, subst, ◌∙◌, option_copied}
-use Rattle.beldi_value.specs.IdAt.{rest_parts, id_from, RefusesId}
+use Rattle.beldi_value.proofs.Names.{RefusesId, ap, id_from, option_copied, rest_parts, subst, sym, ◌∙◌}
 use Rattle.beldi_value.proofs.Slashes.{cut_is, id_read, no_ticket, no_hops}
 use Rattle.beldi_value.proofs.id.IntentId.read.Goals as goal
 

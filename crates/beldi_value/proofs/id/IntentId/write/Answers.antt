@@ -1,5 +1,4 @@
-use Rattle.std.proofs.Common.{arith, subst}
-use Rattle.beldi_value.proofs.IdTexts.{AreSteps, reads}
+use Rattle.beldi_value.proofs.{Names.arith, Names.subst, IdTexts.AreSteps, IdTexts.reads}
 use Rattle.beldi_value.proofs.id.IntentId.write.Goals as goal
 
 pub returns-clause-again : goal.returns-clause-again

@@ -1,4 +1,4 @@
-use Rattle.std.proofs.Common.{◌≡◌, take, vec_len, vec_capacity}
+use Rattle.beldi_value.proofs.Names.{take, vec_capacity, vec_len, ◌≡◌}
 use Rattle.beldi_value.proofs.spare.Spare.hold.Given as goal
 
 abbrev pub invariant-loop-step : goal.invariant-loop-step

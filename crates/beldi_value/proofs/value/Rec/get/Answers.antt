@@ -1,7 +1,4 @@
-use Rattle.std.proofs.Common.{arith}
-use Rattle.std.proofs.lemmas.Grind.{common_steps}
-use Rattle.beldi_value.specs.Parts.{field_at}
-use Rattle.beldi_value.proofs.Fields.{found_back}
+use Rattle.beldi_value.proofs.{Names.arith, Names.common_steps, Names.field_at, Fields.found_back}
 use Rattle.beldi_value.proofs.value.Rec.get.Goals as goal
 
 pub returns-then-is_eq : goal.returns-then-is_eq

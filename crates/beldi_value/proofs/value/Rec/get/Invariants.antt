@@ -1,6 +1,4 @@
-use Rattle.std.proofs.Common.{◌≡◌, drop}
-use Rattle.beldi_value.specs.Value.{fields_view}
-use Rattle.beldi_value.specs.Parts.{field_at}
+use Rattle.beldi_value.proofs.Names.{drop, field_at, fields_view, ◌≡◌}
 use Rattle.beldi_value.proofs.value.Rec.get.Given as goal
 
 -- it is up to what is left

@@ -1,7 +1,4 @@
-use Rattle.std.proofs.Common.{sym, ◌∙◌, ap, subst}
-use Rattle.beldi_value.specs.Datum.{IsRecord}
-use Rattle.beldi_value.specs.Value.{datum_of, fields_view}
-use Rattle.beldi_value.specs.Parts.{set_field}
+use Rattle.beldi_value.proofs.Names.{IsRecord, ap, datum_of, fields_view, set_field, subst, sym, ◌∙◌}
 use Rattle.beldi_value.proofs.Fields.{set_record, one_changed, one_more}
 use Rattle.beldi_value.proofs.value.Rec.set.Goals as goal
 

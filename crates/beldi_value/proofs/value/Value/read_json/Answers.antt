@@ -1,6 +1,4 @@
-use Rattle.std.proofs.Common.{rules}
-use Rattle.beldi_value.specs.Reading.{read_of, ReadsValue}
-use Rattle.beldi_value.proofs.Within.{answer_within}
+use Rattle.beldi_value.proofs.{Names.ReadsValue, Names.read_of, Names.rules, Within.answer_within}
 use Rattle.beldi_value.proofs.value.Value.read_json.Goals as goal
 
 pub returns-in-Ok-converted-clause-within : goal.returns-in-Ok-converted-clause-within

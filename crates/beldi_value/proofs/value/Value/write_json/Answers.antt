@@ -1,6 +1,4 @@
-use Rattle.beldi_value.proofs.Results.{always}
-use Rattle.beldi_value.specs.Value.{datum_of}
-use Rattle.beldi_value.proofs.ReadAgain.{read_again}
+use Rattle.beldi_value.proofs.{Names.datum_of, Results.always, ReadAgain.read_again}
 use Rattle.beldi_value.proofs.value.Value.write_json.Goals as goal
 
 pub returns-clause-again : goal.returns-clause-again

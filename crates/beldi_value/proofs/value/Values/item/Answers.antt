@@ -1,7 +1,4 @@
-use Rattle.std.proofs.Common.{ap, ◌∙◌}
-use Rattle.std.specs.Prelude.{option_map, slice_get}
-use Rattle.beldi_value.specs.Injective.{value_of}
-use Rattle.beldi_value.proofs.Fields.{item_back}
+use Rattle.beldi_value.proofs.{Names.ap, Names.option_map, Names.slice_get, Names.value_of, Names.◌∙◌, Fields.item_back}
 use Rattle.beldi_value.proofs.value.Values.item.Goals as goal
 
 pub returns : goal.returns
