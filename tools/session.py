@@ -218,6 +218,7 @@ class Session:
         self.refused = self.peek() if self.peek().startswith("refused ") else ""
         self.is_whole = bool(self.refused) or (book is not None and self.lines[self.at:] == [""])
         self.book = told if book is None else book
+        self.unsure = set()
         self.join_entries()
         self.is_whole = self.is_whole and sum(len(it.entries) for it in self.events) == len(self.book)
         self.owner, self.function, self.takes_part = {}, {}, set()
@@ -242,10 +243,12 @@ class Session:
 
     def read_events(self):
         for line, text in self.source.lines:
+            if self.peek().startswith("refused "):
+                return
             words = text.split(" ")
             at = {"turn": 2, "ic": 1}.get(words[0], len(words))
             for _ in range(int(words[at]) if at < len(words) else 1):
-                if self.peek().startswith("refused ") or not self.peek():
+                if not self.peek():
                     return
                 self.events.append(self.event(line, text))
 
@@ -271,21 +274,23 @@ class Session:
 
     def join_entries(self):
         """Gives each entry of the book to the event that made it: those that are told, in order, and the others to events between
-        them that do not tell. `ways` has from where the rest can be joined."""
-        book, makers = self.book, [it for it in self.events if it.told or it.is_silent]
-        ways = {}
-        for i in range(len(makers), -1, -1):
-            for k in range(len(book), -1, -1):
-                ways[i, k] = any(ways[it] for it in self.joins(makers, i, k)) if i < len(makers) else k == len(book)
-        i, k = 0, 0
-        while i < len(makers):
-            choices = [it for it in self.joins(makers, i, k) if ways[it]]
-            if not choices:
-                return
-            after = choices[-1]
-            if after[1] > k:
-                makers[i].entries.append(k)
-            i, k = after
+        them that do not tell. Where several may have made an entry, the first of them has it, and `unsure` has the entry."""
+        makers = [it for it in self.events if it.told or it.is_silent]
+        size, came, leads = (len(makers), len(self.book)), {(0, 0)}, set()
+        for i in range(size[0], -1, -1):
+            for k in range(size[1], -1, -1):
+                if (i, k) == size or (i < size[0] and any(it in leads for it in self.joins(makers, i, k))):
+                    leads.add((i, k))
+        for i in range(size[0]):
+            for k in range(size[1] + 1):
+                if (i, k) not in came or (i, k) not in leads:
+                    continue
+                for after in leads.intersection(self.joins(makers, i, k)):
+                    came.add(after)
+                    if after[1] > k and self.maker(k):
+                        self.unsure.add(k)
+                    elif after[1] > k:
+                        makers[i].entries.append(k)
 
     def joins(self, makers, i, k):
         """Where the book may stand after maker i, which comes to it at entry k."""
@@ -312,8 +317,20 @@ class Session:
             else:
                 self.owner[event.starts] = self.callee(at)
             self.name_function(self.owner[event.starts])
+        for event in self.events:
+            if event.run is not None and event.run not in self.owner and event.answer not in ("no-run", "run-over"):
+                self.owner[event.run] = self.named(event.run) or f"?{event.run}"
         for instance in self.instances():
             self.name_function(instance)
+
+    def named(self, run):
+        """The instance of a run, where an entry that it made names it."""
+        for event in self.events:
+            if event.run == run:
+                found = re.match(r"acted (?:read|step) (\S+)", event.answer) or re.match(r"acted try \S+ (\S+):", event.answer)
+                if found:
+                    return found[1]
+        return None
 
     def calls(self, instance):
         """What calls the instance may have made one after another, as far as its function and its entries say."""
@@ -322,6 +339,10 @@ class Session:
         path = self.path(self.function[instance], instance)
         if path.is_cut:
             return set()
+        return self.ways(path, instance)
+
+    def ways(self, path, instance):
+        """The calls on each way along the path that makes all entries of the instance, and ends where that has ended."""
         reached = path.ended if self.has_ended(instance) else path.reached | path.ended
         return {calls for _, made, calls in reached if made == len(path.entries)}
 
@@ -347,7 +368,7 @@ class Session:
         fits = set()
         for _, name, _, _ in calls:
             path = self.path(name, instance)
-            if path.is_cut or any(made == len(path.entries) for _, made, _ in (path.ended if self.has_ended(instance) else path.reached)):
+            if path.is_cut or self.ways(path, instance):
                 fits.add(name)
         if len(fits) == 1:
             self.function[instance] = fits.pop()
@@ -360,11 +381,8 @@ class Session:
         several, the id ends in `?` and the number of the run."""
         start = self.events[at]
         caller = self.owner.get(start.run, "?")
-        for event in self.events[at + 1:]:
-            if event.run == start.starts:
-                named = re.match(r"acted (?:read|step) (\S+)", event.answer) or re.match(r"acted try \S+ (\S+):", event.answer)
-                if named:
-                    return named[1]
+        if named := self.named(start.starts):
+            return named
         for event in self.events[at + 1:]:
             if event.run == start.run:
                 named = re.match(r"waits (\S+)", event.answer)
