@@ -182,7 +182,8 @@ class Event:
     def __init__(self, line, text, answer):
         self.line, self.text, self.answer = line, text, answer
         self.word = text.split(" ")[0]
-        self.run = int(text.split(" ")[1]) if self.word in ("turn", "crash", "lost") else None
+        run = re.match(r"(?:turn|crash|lost) (\d+)", text)
+        self.run = int(run[1]) if run else None
         self.replies, self.waits, self.items = [], [], None
         started = re.match(r"(?:bound \d+ |launched |acted.* )?run (\d+)", answer)
         self.starts = int(started[1]) if started else None
@@ -247,7 +248,7 @@ class Session:
                 return
             words = text.split(" ")
             at = {"turn": 2, "ic": 1}.get(words[0], len(words))
-            for _ in range(int(words[at]) if at < len(words) else 1):
+            for _ in range(int(words[at]) if at < len(words) and words[at].isdigit() else 1):
                 if not self.peek():
                     return
                 self.events.append(self.event(line, text))
