@@ -1,5 +1,5 @@
 -- The least number past another, of the entries of a map.
-use Rattle.beldi_core.proofs.Names.{Bor, Equal-is, IsLeastPast, IsSome, IsStrictlySortedBy, List, MatchOption, MatchOrdering, None, Option, Run, RunMap, Some, T, [], ap, arith, below_all, cond, entries_rows, entries_sorted, false, filter, find, ge_from_not_lt, get-entries, is_eq, is_lt, is_sorted, keys_of, nat_cmp, nat_cmp-IsAntisymmetric, nat_cmp_total, option_map, ranks, refl, subst, sym, tied_itself, true, ℕ, ◌&&◌, ◌<◌, ◌∙◌, ◌∷◌, ◌≡◌, ◌≤◌}
+use Rattle.beldi_core.proofs.Names.{Bool, Bor, Equal-is, IsLeastPast, IsSome, IsStrictlySortedBy, List, MatchOption, MatchOrdering, None, Option, Run, RunMap, Some, T, [], ap, arith, below_all, cond, entries_rows, entries_sorted, false, filter, find, first_past, ge_from_not_lt, get-entries, if◌then◌else◌, is_eq, is_lt, is_sorted, keys_of, le-ltb, lt-ltb, nat_cmp, nat_cmp-IsAntisymmetric, nat_cmp_total, nat_lt, option_map, ranks, refl, subst, sym, tied_itself, true, ℕ, ◌&&◌, ◌<◌, ◌∙◌, ◌∷◌, ◌≡◌, ◌≤◌}
 use Rattle.beldi_core.proofs.Truths.{first, second, test_true, less}
 use Rattle.beldi_core.proofs.Names.map
 
@@ -54,8 +54,29 @@ first_is : (i : ℕ) (es list new : List (ℕ × Run)) (r : Option (Bor ℕ × B
 first_is i es list new None e h = ap head_of (sym e ∙ h.0)
 first_is i es list new (Some x) e h = ap head_of (sym e ∙ h)
 
+-- .. in the words of a number's tests
+tests_alike : (i j : ℕ) → is_lt (nat_cmp i j) ≡ nat_lt i j
+tests_alike i j = (elim (is_lt (nat_cmp i j)) as (λ b. is_lt (nat_cmp i j) ≡ b → b ≡ nat_lt i j) [
+  | true ↦ λ t. sym (lt-ltb i j (below i j t))
+  | false ↦ λ t. sym (le-ltb i j (ge_from_not_lt i j t))
+]) refl
+
+head_by : (i : ℕ) (e : ℕ × Run) (es : List (ℕ × Run)) (b : Bool) → head_of (past_all i es) ≡ first_past i es → head_of (cond (b && true) (e ∷ past_all i es) (past_all i es)) ≡ (if b then Some e.0 else first_past i es)
+head_by i e es true h = refl
+head_by i e es false h = h
+
+heads : (i : ℕ) (es : List (ℕ × Run)) → head_of (past_all i es) ≡ first_past i es
+heads i [] = refl
+heads i (e ∷ es) = head_by i e es (is_lt (nat_cmp i e.0)) (heads i es) ∙ ap (λ b. if b then Some e.0 else first_past i es) (tests_alike i e.0)
+
 pub next_is : (i : ℕ) (es list new : List (ℕ × Run)) (r : Option (Bor ℕ × Bor Run)) → IsStrictlySortedBy nat_cmp (keys_of es) → list ≡ past_all i es
     → MatchOption r ((list ≡ []) × (new ≡ [])) (λ x. list ≡ (x.0.now, x.1.now) ∷ new) → (m : RunMap) (o : Option ℕ) → map.from_entries es ≡ m → option_map (λ e. e.0.now) r ≡ o → IsLeastPast i m o
 next_is i es list new r sorted e h m o is next =
     let all : map.entries m ≡ es = ap map.entries (sym is) ∙ entries_rows nat_cmp_total nat_cmp-IsAntisymmetric es sorted in
     of_map i m o (subst (LeastIn i (map.entries m)) (ap (λ xs. head_of (past_all i xs)) all ∙ first_is i es list new r e h ∙ next) (least i (map.entries m) (entries_sorted m)))
+
+pub next_first : (i : ℕ) (es list new : List (ℕ × Run)) (r : Option (Bor ℕ × Bor Run)) → IsStrictlySortedBy nat_cmp (keys_of es) → list ≡ past_all i es
+    → MatchOption r ((list ≡ []) × (new ≡ [])) (λ x. list ≡ (x.0.now, x.1.now) ∷ new) → (m : RunMap) (o : Option ℕ) → map.from_entries es ≡ m → option_map (λ e. e.0.now) r ≡ o → o ≡ first_past i (map.entries m)
+next_first i es list new r sorted e h m o is next =
+    let all : map.entries m ≡ es = ap map.entries (sym is) ∙ entries_rows nat_cmp_total nat_cmp-IsAntisymmetric es sorted in
+    sym next ∙ sym (first_is i es list new r e h) ∙ heads i es ∙ ap (first_past i) (sym all)

@@ -1,7 +1,7 @@
 -- Names that the lemmas of this crate import, gathered.
 pub use Rattle.std.specs.FinMap.{entries_sorted, get-empty, get-entries, get-insert, get-remove, nat_cmp-IsAntisymmetric, same_map}
 pub use Rattle.std.specs.Prelude.{IsSome, filter, nat_lt, ◌==◌}
-pub use Rattle.std.{proofs.lemmas.Bool.Decides.eqb_tells, proofs.lemmas.Bool.Decides.nat_tests, proofs.lemmas.Cmp.eq_by_cmp_equiv, proofs.lemmas.Cmp.tied_itself, proofs.lemmas.Map.Keys.ge_from_not_lt, specs.BTreeMap.is_at, specs.Cmp.Equal-is, specs.Cmp.nat_cmp_total, specs.Cmp.ranks, specs.FinMap.Entries.below_all, specs.FinMap.Entries.find, specs.FinMap.Entries.is_sorted, specs.List.list_any, specs.List.Sorted.IsStrictlySortedBy, specs.Map.keys_of, specs.Map.lookup, specs.Option.MatchOption, specs.Option.option_copied, specs.Option.option_copied_mut, specs.Option.option_map, specs.Ordering.MatchOrdering, specs.Ordering.eq_by_cmp, specs.Ordering.is_eq, specs.Ordering.is_lt, specs.Ordering.nat_cmp, specs.declared.alloc.AllocError.AllocError, specs.declared.cmp.Ordering.Ordering, specs.declared.cmp.Ordering.TheVariants.Equal, specs.declared.cmp.Ordering.TheVariants.Greater, specs.declared.cmp.Ordering.TheVariants.Less}
+pub use Rattle.std.{proofs.lemmas.Bool.le-ltb, proofs.lemmas.Bool.lt-ltb, proofs.lemmas.Bool.Decides.eqb_tells, proofs.lemmas.Bool.Decides.nat_tests, proofs.lemmas.Cmp.eq_by_cmp_equiv, proofs.lemmas.Cmp.tied_itself, proofs.lemmas.Map.Keys.ge_from_not_lt, specs.BTreeMap.is_at, specs.Cmp.Equal-is, specs.Cmp.nat_cmp_total, specs.Cmp.ranks, specs.FinMap.Entries.below_all, specs.FinMap.Entries.find, specs.FinMap.Entries.is_sorted, specs.List.list_any, specs.List.Sorted.IsStrictlySortedBy, specs.Map.keys_of, specs.Map.lookup, specs.Option.MatchOption, specs.Option.option_copied, specs.Option.option_copied_mut, specs.Option.option_map, specs.Ordering.MatchOrdering, specs.Ordering.eq_by_cmp, specs.Ordering.is_eq, specs.Ordering.is_lt, specs.Ordering.nat_cmp, specs.declared.alloc.AllocError.AllocError, specs.declared.cmp.Ordering.Ordering, specs.declared.cmp.Ordering.TheVariants.Equal, specs.declared.cmp.Ordering.TheVariants.Greater, specs.declared.cmp.Ordering.TheVariants.Less}
 pub use borrow.Author.Tests.{ltb-false, ltb-true}
 pub use denote.Bor.{Bor}
 pub use Rattle.std.specs.FinMap as map
@@ -16,5 +16,5 @@ pub use Rattle.beldi_step.specs.Run.{Turned, Turns, followed, going, run_asks, r
 pub use Rattle.beldi_step.{proofs.PutRun.remove_put, specs.declared.event.Event.Event, specs.declared.event.Event.TheVariants.Lost, specs.declared.event.Event.TheVariants.Turn, specs.declared.event.Seen.Seen, specs.declared.run.Mark.Mark, specs.declared.run.Run.Run, specs.declared.run.TurnSays.TurnSays}
 pub use Rattle.beldi_core.specs.Counts.{AllCounted, CountMap, LoweredAt, LoweredTo, RaisedAt, count_at, counted, is_of, kept_as, less, more, more_if, number_of}
 pub use Rattle.beldi_core.specs.Parts.{Asked, Copied, NoMemory, PlannedOf, TellsTurn, as_seen, base, core_in, entered, event_of, mark_told, turn_event}
-pub use Rattle.beldi_core.specs.Runs.{AllGiven, AllKept, IsLeastPast, Numbered, RunMap, RunTold, ends_run, map_of, settled, settled_counts, uncounted, withdrawn}
+pub use Rattle.beldi_core.specs.Runs.{AllGiven, AllKept, IsLeastPast, Numbered, RunMap, RunTold, ends_run, first_past, map_of, settled, settled_counts, uncounted, withdrawn}
 pub use Rattle.beldi_core.specs.declared.{events.Pending.Pending, events.Planned.Planned, runs.Copies.Copies}

@@ -6,7 +6,7 @@
 //! - `HostCore::plan` answers an event at once or asks one thing, and `told` and `refused` follow what was told or refused, as the
 //!   definition of an event says (`PlannedOf`, `Asked`); crashes, lost answers, restarts, faults, want of room and out of memory are
 //!   cases of it.
-//! - `Runs::next_after` is the least live run past a number (`IsLeastPast`).
+//! - `Runs::next_after` is the least live run past a number (`IsLeastPast`), the first one in their order (`first_past`).
 //!
 //! Files:
 //! - Code (`src/`): `host_core` the host without its table; `events` what an event asks, and what follows; `runs` the live

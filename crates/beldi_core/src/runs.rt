@@ -2,7 +2,7 @@
 ghost use Rattle.std.specs.Prelude.{◌≡◌, ℕ, ◌+◌, ◌-◌, ◌^◌, ◌<◌, ◌≤◌, IsSome, IfOk, IfErr, OnOk, OnErr, option_copied};
 ghost use Rattle.std.specs.FinMap as map;
 ghost use Rattle.beldi_walk.specs.Query.{told_of};
-ghost use Rattle.beldi_core.specs.Runs.{map_of, IsLeastPast, started, withdrawn, ends_run, settled, uncounted, settled_counts, AllKept, asked_of, RunTold};
+ghost use Rattle.beldi_core.specs.Runs.{map_of, IsLeastPast, first_past, started, withdrawn, ends_run, settled, uncounted, settled_counts, AllKept, asked_of, RunTold};
 ghost use Rattle.beldi_core.specs.Counts.{count_at, more, kept_as};
 ghost use Rattle.beldi_step.specs.Host.{has_run};
 ghost use Rattle.beldi_step.specs.Run.{run_asks};
@@ -206,7 +206,8 @@ impl Runs {
 
     /// The least number of a live run past this one.
     pub fn next_after(&self, number: u64) -> Option<u64>
-        ensures { IsLeastPast number self.now.runs result }
+        ensures least { IsLeastPast number self.now.runs result }
+        ensures first { result ≡ first_past number (map.entries self.now.runs) }
     {
         let past = (Bound::Excluded(&number), Bound::Unbounded);
         match self.live.range(past).next() {

@@ -4,3 +4,4 @@ mod Newest
 pub mod Right
 mod Skips
 mod Steps
+pub mod Taken

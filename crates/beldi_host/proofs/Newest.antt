@@ -1,5 +1,6 @@
 -- The greatest ticket of the keys of a map.
-use Rattle.beldi_host.proofs.Names.{Bool, IsNewest, IsSome, List, NewestAt, None, Option, Row, RowKey, Rows, Some, Tells, [], ap, arith, cond, false, find, get-entries, greatest, inl, inr, is_eq, key_cmp, key_same, key_ticket, key_total, ltb-false, ltb-true, max, nat_lt, newest_of, refl, subst, sym, tied_itself, true, ℕ, ◌<◌, ◌∙◌, ◌∷◌, ◌≡◌, ◌≤◌, ◌⊎◌}
+use borrow.Author.Tests.{ltb-true}
+use Rattle.beldi_host.proofs.Names.{Bool, IsNewest, IsSome, List, NewestAt, None, Option, Row, RowKey, Rows, Some, Tells, [], ap, arith, cond, false, find, get-entries, greatest, inl, inr, is_eq, key_cmp, key_same, key_ticket, key_total, ltb-false, max, nat_lt, newest_of, refl, subst, sym, tied_itself, true, ℕ, ◌<◌, ◌∙◌, ◌∷◌, ◌≡◌, ◌≤◌, ◌⊎◌}
 use Rattle.beldi_host.proofs.Names.map
 
 not_some : false ≡ true → ⊥

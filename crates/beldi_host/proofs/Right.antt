@@ -1,6 +1,6 @@
 -- Why the calls of a host keep it and its rows right, and what they tell of the run of the book.
 use Rattle.beldi_row.specs.declared.row.Row.TheVariants.{Intent}
-use Rattle.beldi_host.proofs.Names.{AllocError, AnswersStay, Body, BodyMatches, Bool, Core, Deployment, EndsLate, Err, Event, EventOn, HasNoReply, HasNoRows, IfOk, IfSome, IntentMatches, IsLegal, IsSome, List, None, Ok, OnOk, OneAnswerPerStep, OpenErr, Option, Outcome, PlainState, Reads, ReplySeen, Result, Right, Row, Rows, RowsStandFor, SaidOf, Seen, Some, Stands, Stepped, TableState, Tells, Unknown, [], after_event, answers_stay, ap, arith, begins, expires, false, first_core, greatest, has_ended, if◌then◌else◌, is_gone, is_some, is_unknown, keeps_right, key_cmp, len-empty, len-entries, listing_of, listing_plain, nat_le, nat_lt, nat_tests, newest_of, nil_from_length, one_answer, outcome_known, outcome_of, outcome_seen, over_rows, refl, reply_of, reply_seen, right_legal, right_stands, root_key, root_of, row_seen, run_of, same_run, seen_by, subst, sym, tables_text, tells_map, true, ℕ, ◌&&◌, ◌++◌, ◌∙◌, ◌≡◌}
+use Rattle.beldi_host.proofs.Names.{AllocError, AnswersStay, Body, BodyMatches, Bool, Core, Deployment, EndsLate, Err, Event, EventOn, HasNoReply, HasNoRows, IfOk, IfSome, IntentMatches, IsLegal, IsSome, List, None, Ok, OnOk, OneAnswerPerStep, OpenErr, Option, Outcome, PlainState, Reads, ReplySeen, Result, Right, Row, RowKey, Rows, RowsStandFor, SaidOf, Seen, Some, Stands, Stepped, TableState, Tells, Unknown, [], after_event, answers_stay, ap, arith, begins, expires, false, first_core, greatest, has_ended, if◌then◌else◌, is_gone, is_some, is_unknown, keeps_right, key_cmp, len-empty, len-entries, listing_of, listing_plain, nat_le, nat_lt, nat_tests, newest_of, nil_from_length, one_answer, outcome_known, outcome_of, outcome_seen, over_rows, refl, reply_of, reply_seen, right_legal, right_stands, root_key, root_of, row_seen, run_of, same_run, seen_by, subst, sym, tables_text, tells_map, true, with_runs, ℕ, ◌&&◌, ◌++◌, ◌∙◌, ◌≡◌}
 use Rattle.beldi_host.proofs.Names.map
 
 -- ---- what is told
@@ -24,6 +24,13 @@ module _ (d : Deployment) (c : Core) (told : Option Rows) where
 
   pub one_answer_at : IfSome told (Right d c) → IfSome told (λ m. (p : PlainState) → run_of d c.book ≡ Some p → OneAnswerPerStep d c m p)
   one_answer_at h = if_told {P = Right d c} {Q = λ m. (p : PlainState) → run_of d c.book ≡ Some p → OneAnswerPerStep d c m p} told (λ m r p is. one_answer d c m p r is) h
+
+-- ---- where the intent collector stands is nothing that has to be right
+pub at_cursor : (d : Deployment) (c : Core) (k : RowKey) (m : Rows) → Right d c m → Right d (record c { cursor = k }) m
+at_cursor d c k m h = with_runs h (record c { cursor = k }) refl refl h.runs
+
+pub moved_cursor : (d : Deployment) (c : Core) (k : RowKey) (told : Option Rows) → IfSome told (Right d c) → IfSome told (Right d (record c { cursor = k }))
+moved_cursor d c k told h = if_told {P = Right d c} {Q = Right d (record c { cursor = k })} told (at_cursor d c k) h
 
 -- ---- the host after an event
 module _ (d : Deployment) (e : Event) (c b : Core) (old new : TableState) (x : Result Seen AllocError) (s : Stepped d e c b old new x) where

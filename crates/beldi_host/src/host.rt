@@ -28,7 +28,7 @@ impl<T: Table> Host<T> {
     ghost use Rattle.beldi_host.specs.declared.survey.ReplySeen.TheVariants.{Unknown};
     ghost use Rattle.beldi_core.specs.Runs.{IsLeastPast};
     ghost use Rattle.beldi_walk.specs.declared.query.Query.TheVariants as queries;
-    ghost use Rattle.beldi_host.specs.Host.{core_of};
+    ghost use Rattle.beldi_host.specs.Host.{core_of, next_run, reset};
     ghost use Rattle.beldi_core.specs.Parts.{core_in, Ready, Asked};
     ghost use Rattle.beldi_laws.specs.Laws.{is_gone};
     ghost use Rattle.beldi_host.specs.Right.{EndsLate, IsRight, HasLegalBook, AnswersAreKept, HasRows, ListsRun, TellsRun, HasNoRows, RowsStandFor};
@@ -107,9 +107,20 @@ impl<T: Table> Host<T> {
 
     /// The least live run past this number.
     pub fn next_run(&self, after: u64) -> Option<u64>
-        ensures { IsLeastPast after self.entry.now.core.runs.runs result }
+        ensures least { IsLeastPast after self.entry.now.core.runs.runs result }
+        ensures first { result ≡ next_run (core_of self.entry.now) after }
     {
         self.core.runs.next_after(after)
+    }
+
+    /// Sets the intent collector before all rows.
+    pub fn ic_reset(&mut self)
+        ensures core { core_of self.new ≡ reset (core_of self.old) }
+        ensures table { self.new.table ≡ self.old.table }
+        ensures code { self.new.code ≡ self.old.code }
+        ensures right { IsRight self.old → IsRight self.new }
+    {
+        self.core.cursor = RowKey::least(self.core.alloc);
     }
 
     /// Appends the listing of tables. After an `Err` the text is as before.
