@@ -23,12 +23,12 @@ module _ (d : Deployment) (lines : List Numbered) (m n : Rows) (f opened g : ℕ
   abbrev at_end : State
   at_end = record { core = core; rows = n; faults = g }
 
-  session : {X : Type 0} (r : Result X Stop) → OnOk r (q ≡ []) → WentBy d d.room (actions_in d lines) (opened_at m opened) at_end [] w q r → SessionBy r d lines m n f g w
+  session : {X : Type 0} (r : Result X Stop) → OnOk r (q ≡ []) → WentBy d d.room (actions_in d lines) [] (opened_at m opened) at_end [] w q r → SessionBy r d lines m n f g w
   session (Ok x) none h =
-      let k = subst (λ z. WentBy d d.room (actions_in d lines) (opened_at m opened) at_end [] w z (fine x)) none h in
+      let k = subst (λ z. WentBy d d.room (actions_in d lines) [] (opened_at m opened) at_end [] w z (fine x)) none h in
       record {
         session = said d (actions_in d lines) [] m opened at_end at_end w [] begins k SinkFault (inl (unchanged at_end));
-        all = sym (last_booked d d.room k.responses (opened_at m opened) at_end k.steps);
+        all = sym (last_booked d d.room k.responses (actions_in d lines) [] (opened_at m opened) at_end k.steps);
         hosted = hosted_by d (actions_in d lines) [] m opened at_end at_end w [] begins k SinkFault (inl (unchanged at_end)) (λ s t. t ≡ s) f sooner refl;
       }
   session (Err why) none h = record {
@@ -44,17 +44,17 @@ pub hosted : {X : Type 0} (d : Deployment) (t : TableState) (a b : Sight) (lines
 hosted d t a b lines r o none end x = (
   x.written,
   x.sink,
-  told_then {P = λ m n. (n ≡ m) × (a.core.newest ≡ newest_of m)} {Q = λ m n. WentBy a.code a.table.room (actions_in a.code lines) (state_at a m) (state_at b n) a.waiting x.written b.waiting r} {R = λ m n. SessionBy r d lines m n t.faults b.table.faults x.written} t.rows a.table.rows b.table.rows
+  told_then {P = λ m n. (n ≡ m) × (a.core.newest ≡ newest_of m)} {Q = λ m n. WentBy a.code a.table.room (actions_in a.code lines) [] (state_at a m) (state_at b n) a.waiting x.written b.waiting r} {R = λ m n. SessionBy r d lines m n t.faults b.table.faults x.written} t.rows a.table.rows b.table.rows
       (λ m n j v w. session d lines m j t.faults a.table.faults b.table.faults o.later b.core x.written b.waiting r end (begun m n j v w)) (told_tells t.rows a.table.rows (λ m n. (n ≡ m) × (a.core.newest ≡ newest_of m)) o.rows) x.went,
 )
   where
-    begun : (m n j : Rows) → (n ≡ m) × (a.core.newest ≡ newest_of m) → WentBy a.code a.table.room (actions_in a.code lines) (state_at a n) (state_at b j) a.waiting x.written b.waiting r → WentBy d d.room (actions_in d lines) (opened_at m a.table.faults) (state_at b j) [] x.written b.waiting r
+    begun : (m n j : Rows) → (n ≡ m) × (a.core.newest ≡ newest_of m) → WentBy a.code a.table.room (actions_in a.code lines) [] (state_at a n) (state_at b j) a.waiting x.written b.waiting r → WentBy d d.room (actions_in d lines) [] (opened_at m a.table.faults) (state_at b j) [] x.written b.waiting r
     begun m n j v w =
-        subst (λ (p : List ℕ). WentBy d d.room (actions_in d lines) (opened_at m a.table.faults) (state_at b j) p x.written b.waiting r) none
-        (subst (λ (c : Core). WentBy d d.room (actions_in d lines) (record { core = c; rows = m; faults = a.table.faults }) (state_at b j) a.waiting x.written b.waiting r) (o.core ∙ ap (λ z. first_core z 0) v.1)
-        (subst (λ (k : Rows). WentBy d d.room (actions_in d lines) (record { core = a.core; rows = k; faults = a.table.faults }) (state_at b j) a.waiting x.written b.waiting r) v.0
-        (subst (λ (z : ℕ). WentBy d z (actions_in d lines) (state_at a n) (state_at b j) a.waiting x.written b.waiting r) o.room_set
-        (subst (λ (z : Deployment). WentBy z a.table.room (actions_in z lines) (state_at a n) (state_at b j) a.waiting x.written b.waiting r) o.code_kept w))))
+        subst (λ (p : List ℕ). WentBy d d.room (actions_in d lines) [] (opened_at m a.table.faults) (state_at b j) p x.written b.waiting r) none
+        (subst (λ (c : Core). WentBy d d.room (actions_in d lines) [] (record { core = c; rows = m; faults = a.table.faults }) (state_at b j) a.waiting x.written b.waiting r) (o.core ∙ ap (λ z. first_core z 0) v.1)
+        (subst (λ (k : Rows). WentBy d d.room (actions_in d lines) [] (record { core = a.core; rows = k; faults = a.table.faults }) (state_at b j) a.waiting x.written b.waiting r) v.0
+        (subst (λ (z : ℕ). WentBy d z (actions_in d lines) [] (state_at a n) (state_at b j) a.waiting x.written b.waiting r) o.room_set
+        (subst (λ (z : Deployment). WentBy z a.table.room (actions_in z lines) [] (state_at a n) (state_at b j) a.waiting x.written b.waiting r) o.code_kept w))))
 
 -- ---- the parts of the program
 -- the source was read whole

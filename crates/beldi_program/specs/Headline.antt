@@ -16,14 +16,14 @@ usage = codes "usage: beldi run | check\n"
 pub record Whole (d : Deployment) (lines : List Numbered) (m n : Rows) (f g : ℕ) (written : List ℕ) : Type 0 where
   pub session : Session d (actions_in d lines) [] m n written []
   pub all : session.book ≡ last_book [] session.responses
-  pub hosted : HostedWhole d session.responses session.book m n f g
+  pub hosted : HostedWhole d (actions_in d lines) session.responses session.book m n f g
 
 -- the first actions were done, but for `more`, and a front of the text was written; then it stopped
 pub record Cut (why : Stop) (d : Deployment) (lines : List Numbered) (m n : Rows) (f g : ℕ) (written : List ℕ) : Type 0 where
   pub more : List Action
   pub rest : List ℕ
   pub session : Session d (actions_in d lines) more m n written rest
-  pub hosted : HostedUntil why d more session.responses session.book m n f g
+  pub hosted : HostedUntil why d (actions_in d lines) more session.responses session.book m n f g
 
 -- ---- by how the program ended. A sink is seen by what it got and its faults ..
 module _ {K : Type 0} (held : K → Option (List ℕ)) (faults : K → ℕ) where

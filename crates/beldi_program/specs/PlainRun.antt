@@ -9,19 +9,19 @@ use Rattle.beldi_row.specs.Table.{Rows}
 use Rattle.beldi_step.specs.Told.{bound_of, entries_told, is_dropped, is_lost, told_outcome}
 use Rattle.beldi_known.specs.Stands.{Stands}
 use Rattle.beldi_host.specs.{Said.SaidOf, declared.survey.ReplySeen.TheVariants.Reply}
-use Rattle.beldi_session.specs.Response.{Report, ReplyIs, TablesAre, BookIs, Response, Answered, Reported, action_of, responses_text}
+use Rattle.beldi_session.specs.Response.{Report, ReplyIs, TablesAre, BookIs, Response, Answered, WentBack, Reported, IsTo, AtFirst, responses_text}
 use Rattle.beldi_session.specs.Script.{Action}
 
 -- ---- the moment after an action
 -- the entries that a response tells
 abbrev pub entries_in : Response → List Entry
-entries_in (Answered e x) = entries_told e x
-entries_in (Reported r) = []
+entries_in (Answered share e x) = entries_told e x
+entries_in y = []
 
 -- the answer of an act was lost
 abbrev pub loses : Response → Bool
-loses (Answered e x) = is_lost e && is_dropped x
-loses (Reported r) = false
+loses (Answered share e x) = is_lost e && is_dropped x
+loses y = false
 
 abbrev pub IsReportSo : Deployment → List Entry → Report → Type 0
 IsReportSo d book (ReplyIs t (Some x)) = SaidOf d book t x
@@ -31,7 +31,8 @@ IsReportSo d book r = Unit {0}
 
 -- what a response says is so in the run of the book
 abbrev pub IsSo : Deployment → List Entry → Response → Type 0
-IsSo d book (Answered e x) = (t : ℕ) (o : Outcome) → told_outcome x ≡ Some (t, o) → HasReply d book t o
+IsSo d book (Answered share e x) = (t : ℕ) (o : Outcome) → told_outcome x ≡ Some (t, o) → HasReply d book t o
+IsSo d book WentBack = Unit {0}
 IsSo d book (Reported r) = IsReportSo d book r
 
 -- the book got at most one entry, the one that the response tells, unless the answer was lost; it is legal; and what is said
@@ -63,15 +64,15 @@ responses_in ys = map (λ y. y.0) ys
 -- ---- the book at the end
 -- the requests that were bound
 abbrev pub bound_by : Response → List (ℕ × (ℕ × Value))
-bound_by (Answered e x) = bound_of e x
-bound_by (Reported r) = []
+bound_by (Answered share e x) = bound_of e x
+bound_by y = []
 
 abbrev pub bound_in : List Response → List (ℕ × (ℕ × Value))
 bound_in ys = flat_map bound_by ys
 
 -- the outcome of a root that a response tells, with the root's ticket
 abbrev pub outcome_in : Response → Option (ℕ × Outcome)
-outcome_in (Answered e x) = told_outcome x
+outcome_in (Answered share e x) = told_outcome x
 outcome_in (Reported (ReplyIs t (Some (Reply o)))) = Some (t, o)
 outcome_in y = None
 
@@ -101,11 +102,17 @@ pub record IsPlainRun (d : Deployment) (rows : Rows) (ys : List Booked) (book : 
   pub tables : RowsStandFor d rows book
 
 -- ---- a session from the rows m to the rows n, with the text that was written
--- the actions, but for `more`, got a response each, in order, after which the book was such; the text is theirs, and a front of it
--- was written; and there is the book at the end. Over no rows this is a run without crashes.
+-- each is a response to the first of the actions that are left before it, and `more` are left after them all
+abbrev pub AreTo : List Response → List Action → List Action → Type 0
+AreTo [] actions more = actions ≡ more
+AreTo (y ∷ ys) actions more = (left : List Action) × AtFirst (λ a front. IsTo a y front) actions left × AreTo ys left more
+
+-- the actions, but for `more`, got responses in order, one each, and a settling one for each of its events and one as it ended; after
+-- each the book was such. The text is theirs, and a front of it was written; and there is the book at the end. Over no rows this is a
+-- run without crashes.
 pub record Session (d : Deployment) (actions more : List Action) (m n : Rows) (written rest : List ℕ) : Type 0 where
   pub responses : List Booked
-  pub actions_are : map action_of (responses_in responses) ++ more ≡ actions
+  pub actions_are : AreTo (responses_in responses) actions more
   pub text : written ++ rest ≡ responses_text d (responses_in responses)
   pub book : List Entry
   pub plain : m ≡ finite.empty → IsPlainRun d n responses book

@@ -24,7 +24,8 @@
 //!   committed transaction in one piece, and each aborted one reads one state and leaves no item changed (`legal`),
 //!   it starts exactly the requests that were answered `bound`, in order (`bound`), each outcome that was told is the
 //!   root's in its run (`replies`), and the rows stand for that run (`tables`).
-//! - Each response is that of one step of the host, and the book is that step's (`Hosted`); over a table without rows the rows are
+//! - A line `settle` has a response for each of its events, and all this is so after each. Each response is that of one step of the
+//!   host, and the book is that step's (`Hosted`); over a table without rows the rows are
 //!   listed as the run is (`listing`).
 //! - 3, 4 and 8 come only where the count of the source, the sink or the table rose (`source_fault`, `sink_fault`,
 //!   `open_fault`); 7 only where the source has more than 16,777,216 bytes, of which 16,777,217 were taken, and where,

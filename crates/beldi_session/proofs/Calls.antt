@@ -1,17 +1,16 @@
 -- Calls of the program one after another.
-use Rattle.std.specs.Prelude.{IfOk}
-use Rattle.beldi_session.proofs.Names.{Action, Bool, Core, Deployment, Does, Err, Flushes, IsErrOf, IsStep, List, Ok, OnErr, Option, OutOfMemory, Result, Rose, Rows, Sight, SinkFault, State, Stop, TableState, Told, WentBy, [], add-one, ap, append-nil, append_assoc, arith, by_done, inl, refl, state_at, subst, suc, sym, times, told_map, told_same, told_then, true, zero, ℕ, ◌++◌, ◌+◌, ◌-◌, ◌<◌, ◌∙◌, ◌∷◌, ◌≡◌, ◌≤◌}
+use Rattle.beldi_session.proofs.Names.{Action, Bool, Core, Deployment, Does, DoesTo, Err, Flushes, IfOk, IsErrOf, IsStep, List, Ok, OnErr, Option, OutOfMemory, Result, Rose, Rows, Sight, SinkFault, State, Stop, TableState, Told, WentBy, [], add-one, ap, append-nil, append_assoc, arith, by_done, inl, refl, state_at, subst, suc, sym, times, told_map, told_same, told_then, true, zero, ℕ, ◌++◌, ◌+◌, ◌-◌, ◌<◌, ◌∙◌, ◌∷◌, ◌≡◌, ◌≤◌}
 use Rattle.beldi_session.proofs.Went.{fine, broken, unchanged, by_stop, went_nothing, by_then, by_before, by_flush}
 
 -- what is said of the rows before and after a call
-abbrev Over : {X : Type 0} → List Action → Sight → Sight → List ℕ → Result X Stop → Rows → Rows → Type 0
-Over fs a b w r m n = WentBy a.code a.table.room fs (state_at a m) (state_at b n) a.waiting w b.waiting r
+abbrev Over : {X : Type 0} → List Action → List Action → Sight → Sight → List ℕ → Result X Stop → Rows → Rows → Type 0
+Over fs left a b w r m n = WentBy a.code a.table.room fs left (state_at a m) (state_at b n) a.waiting w b.waiting r
 
-pub does_nothing : {X : Type 0} (a : Sight) (x : X) → Does [] a a (Ok x)
-does_nothing a x = record {
+pub does_nothing : {X : Type 0} {fs : List Action} (a : Sight) (x : X) → DoesTo fs fs a a (Ok x)
+does_nothing {X} {fs} a x = record {
   written = [];
   sink = told_same (λ h k. k ≡ h ++ []) a.held (λ h. sym (append-nil h));
-  went = told_same (Over [] a a [] (fine x)) a.table.rows (λ m. went_nothing (IsStep a.code a.table.room) a.code (state_at a m) a.waiting);
+  went = told_same (Over fs fs a a [] (fine x)) a.table.rows (λ m. went_nothing (IsStep a.code a.table.room) a.code fs (state_at a m) a.waiting);
   code = refl;
   room = refl;
   later = omega arith;
@@ -25,14 +24,15 @@ does_no_action fs none a = subst (λ z. Does z a a (fine {X = Unit {0}} tt)) (sy
 rose_later : (a b c : ℕ) → a ≤ b → Rose b c → Rose a c
 rose_later a b c h r = omega arith
 
-both : {X Y : Type 0} (fs bs : List Action) (a b c : Sight) (x : X) (r : Result Y Stop) → Does fs a b (Ok x) → Does bs b c r → Does (fs ++ bs) a c r
-both fs bs a b c x r p q = record {
+-- one call, and another that goes on with what it left
+pub does_on : {X Y : Type 0} {fs gs hs : List Action} {a b c : Sight} {x : X} {r : Result Y Stop} → DoesTo fs gs a b (Ok x) → DoesTo gs hs b c r → DoesTo fs hs a c r
+does_on {X} {Y} {fs} {gs} {hs} {a} {b} {c} {x} {r} p q = record {
   written = p.written ++ q.written;
   sink = told_then {P = λ h k. k ≡ h ++ p.written} {Q = λ h k. k ≡ h ++ q.written} {R = λ h k. k ≡ h ++ (p.written ++ q.written)} a.held b.held c.held
       (λ h k j v w. w ∙ ap (λ z. z ++ q.written) v ∙ append_assoc h p.written q.written) p.sink q.sink;
-  went = told_then {P = Over fs a b p.written (fine x)} {Q = Over bs b c q.written r} {R = Over (fs ++ bs) a c (p.written ++ q.written) r} a.table.rows b.table.rows c.table.rows
-      (λ m n o v w. by_then a.code a.table.room fs bs (state_at a m) (state_at b n) (state_at c o) a.waiting p.written b.waiting q.written c.waiting x r v
-      (subst (λ (z : Deployment). WentBy z a.table.room bs (state_at b n) (state_at c o) b.waiting q.written c.waiting r) p.code (subst (λ (z : ℕ). WentBy b.code z bs (state_at b n) (state_at c o) b.waiting q.written c.waiting r) p.room w))) p.went q.went;
+  went = told_then {P = Over fs gs a b p.written (fine x)} {Q = Over gs hs b c q.written r} {R = Over fs hs a c (p.written ++ q.written) r} a.table.rows b.table.rows c.table.rows
+      (λ m n o v w. by_then a.code a.table.room fs gs hs (state_at a m) (state_at b n) (state_at c o) a.waiting p.written b.waiting q.written c.waiting x r v
+      (subst (λ (z : Deployment). WentBy z a.table.room gs hs (state_at b n) (state_at c o) b.waiting q.written c.waiting r) p.code (subst (λ (z : ℕ). WentBy b.code z gs hs (state_at b n) (state_at c o) b.waiting q.written c.waiting r) p.room w))) p.went q.went;
   code = q.code ∙ p.code;
   room = q.room ∙ p.room;
   later = omega (arith, p.later, q.later);
@@ -40,8 +40,21 @@ both fs bs a b c x r p q = record {
   fault = λ e. rose_later a.faults b.faults c.faults p.sink_later (q.fault e);
 }
 
+-- with more to do after it
+does_more : {X : Type 0} {fs left : List Action} {a b : Sight} {r : Result X Stop} (bs : List Action) → DoesTo fs left a b r → DoesTo (fs ++ bs) (left ++ bs) a b r
+does_more {X} {fs} {left} {a} {b} {r} bs p = record {
+  written = p.written;
+  sink = p.sink;
+  went = told_map {P = Over fs left a b p.written r} {Q = Over (fs ++ bs) (left ++ bs) a b p.written r} a.table.rows b.table.rows (λ m n v. by_before a.code a.table.room fs left bs (state_at a m) (state_at b n) a.waiting p.written b.waiting r v) p.went;
+  code = p.code;
+  room = p.room;
+  later = p.later;
+  sink_later = p.sink_later;
+  fault = p.fault;
+}
+
 pub does_then : {X Y : Type 0} {fs bs gs : List Action} {a b c : Sight} {x : X} {r : Result Y Stop} → fs ++ bs ≡ gs → Does fs a b (Ok x) → Does bs b c r → Does gs a c r
-does_then {X} {Y} {fs} {bs} {gs} {a} {b} {c} {x} {r} is p q = subst (λ z. Does z a c r) is (both fs bs a b c x r p q)
+does_then {X} {Y} {fs} {bs} {gs} {a} {b} {c} {x} {r} is p q = subst (λ z. Does z a c r) is (does_on {gs = bs} {x = x} (does_more bs p) q)
 
 abbrev kept_stop : (X Y : Type 0) → Stop → Result Y Stop → Result X Stop
 kept_stop X Y e (Ok y) = Err e
@@ -55,25 +68,19 @@ pub lines_then : {Y : Type 0} {gs : List Action} {a b e : Sight} {r : Result Y S
 lines_then {Y} {gs} {a} {b} {e} {r} fs f is p q = does_then {fs = fs} is p (subst (λ (z : Deployment). Does (f z) b e r) p.code q)
 
 -- a call that stopped did not do what follows either
+pub does_stop : {X Y : Type 0} {fs left hs : List Action} {a b : Sight} {e : Stop} → DoesTo fs left a b (broken X e) → DoesTo fs hs a b (broken Y e)
+does_stop {X} {Y} {fs} {left} {hs} {a} {b} {e} p = record { written = p.written; sink = p.sink; went = p.went; code = p.code; room = p.room; later = p.later; sink_later = p.sink_later; fault = λ v. p.fault (same_stop X Y e v) }
+
 pub does_before : {X Y : Type 0} {fs gs : List Action} {a b : Sight} {e : Stop} (bs : List Action) → fs ++ bs ≡ gs → Does fs a b (broken X e) → Does gs a b (broken Y e)
-does_before {X} {Y} {fs} {gs} {a} {b} {e} bs is p = subst (λ z. Does z a b (broken Y e)) is (record {
-  written = p.written;
-  sink = p.sink;
-  went = told_map {P = Over fs a b p.written (broken X e)} {Q = Over (fs ++ bs) a b p.written (broken Y e)} a.table.rows b.table.rows (λ m n v. by_before a.code a.table.room fs bs (state_at a m) (state_at b n) a.waiting p.written b.waiting e v) p.went;
-  code = p.code;
-  room = p.room;
-  later = p.later;
-  sink_later = p.sink_later;
-  fault = λ v. p.fault (same_stop X Y e v);
-})
+does_before {X} {Y} {fs} {gs} {a} {b} {e} bs is p = subst (λ z. Does z a b (broken Y e)) is (does_stop {X = X} {left = bs} (does_more bs p))
 
 -- an answer that is the same
-pub does_so : {X Y : Type 0} {fs : List Action} {a b : Sight} {x : X} (y : Y) → Does fs a b (Ok x) → Does fs a b (Ok y)
-does_so {fs = fs} {a = a} y p = does_then {fs = fs} (append-nil fs) p (does_nothing _ y)
+pub does_so : {X Y : Type 0} {fs left : List Action} {a b : Sight} {x : X} (y : Y) → DoesTo fs left a b (Ok x) → DoesTo fs left a b (Ok y)
+does_so {left = left} {b = b} {x = x} y p = does_on {gs = left} {x = x} p (does_nothing b y)
 
 pub does_done : {fs : List Action} {a b : Sight} (whole : Bool) (r : Result (Unit {0}) Stop) → Does fs a b r → Does fs a b (by_done whole r)
 does_done whole (Ok u) p = does_so whole p
-does_done {fs} whole (Err e) p = does_before {fs = fs} [] (append-nil fs) p
+does_done {fs} whole (Err e) p = does_stop {X = Unit {0}} p
 
 pub done_whole : (b whole : Bool) (r : Result (Unit {0}) Stop) → b ≡ whole → IfOk (by_done whole r) (λ w. b ≡ w)
 done_whole b whole (Ok u) h = h
@@ -88,7 +95,7 @@ pub does_none : {X : Type 0} (fs : List Action) (a : Sight) → Does fs a a (bro
 does_none {X} fs a = record {
   written = [];
   sink = told_same (λ h k. k ≡ h ++ []) a.held (λ h. sym (append-nil h));
-  went = told_same (Over fs a a [] (broken X OutOfMemory)) a.table.rows (λ m. by_stop a.code a.table.room fs (state_at a m) (state_at a m) a.waiting a.waiting OutOfMemory (inl (unchanged (state_at a m))));
+  went = told_same (Over fs [] a a [] (broken X OutOfMemory)) a.table.rows (λ m. by_stop a.code a.table.room X fs [] (state_at a m) (state_at a m) a.waiting a.waiting OutOfMemory (inl (unchanged (state_at a m))));
   code = refl;
   room = refl;
   later = omega arith;
@@ -102,7 +109,7 @@ pub flushed : (d : Deployment) (c : Core) (t : TableState) (p q : List ℕ) (ha 
 flushed d c t p q ha hb f g r h later rose = record {
   written = h.0;
   sink = h.1;
-  went = told_same (λ m n. WentBy d t.room [] (at m) (at n) p h.0 q r) t.rows (λ m. by_flush d t.room (at m) (at m) p h.0 q r refl h.2);
+  went = told_same (λ m n. WentBy d t.room [] [] (at m) (at n) p h.0 q r) t.rows (λ m. by_flush d t.room (at m) (at m) p h.0 q r refl h.2);
   code = refl;
   room = refl;
   later = omega arith;
@@ -125,8 +132,8 @@ pub record Calm (a b : Sight) : Type 0 where
   pub room : b.table.room ≡ a.table.room
   pub later : a.table.faults ≤ b.table.faults
 
-pub made : {X : Type 0} (fs : List Action) (a b : Sight) (r : Result X Stop) → Calm a b → (IsErrOf r SinkFault → ⊥) → Told a.table.rows b.table.rows (Over fs a b [] r) → Does fs a b r
-made fs a b r c none t = record {
+pub made : {X : Type 0} (fs left : List Action) (a b : Sight) (r : Result X Stop) → Calm a b → (IsErrOf r SinkFault → ⊥) → Told a.table.rows b.table.rows (Over fs left a b [] r) → DoesTo fs left a b r
+made fs left a b r c none t = record {
   written = [];
   sink = subst (λ z. Told a.held z (λ h k. k ≡ h ++ [])) (sym c.held) (told_same (λ h k. k ≡ h ++ []) a.held (λ h. sym (append-nil h)));
   went = t;

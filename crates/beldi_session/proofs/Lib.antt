@@ -3,4 +3,5 @@ mod Lines
 mod Names
 mod Refusals
 pub mod Responses
+mod Settling
 pub mod Went

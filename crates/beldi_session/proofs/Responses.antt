@@ -1,6 +1,5 @@
 -- The responses of the host, and their text.
-use Rattle.std.specs.Prelude.{IfOk}
-use Rattle.beldi_session.proofs.Names.{Action, AllocError, Answered, Carry, Does, Err, Event, EventOn, IsCount, IsErrOf, IsReport, List, None, Ok, OnOk, OpenErr, Option, OutOfMemory, Reads, Report, Reported, Result, Rows, Seen, Sight, SinkFault, Some, Stepped, Stop, Tells, Told, WentBy, [], answer_text, ap, append_assoc, by_text, inl, inr, over_any_table, over_rows, refl, report_of, report_text, row_count, state_at, tables_head, tells_map, told_map, unread_line, ℕ, ◌++◌, ◌∙◌, ◌∷◌, ◌≡◌}
+use Rattle.beldi_session.proofs.Names.{Action, AllocError, Answered, Does, DoesTo, Err, Event, EventBroke, EventOn, IfOk, IsCount, IsErrOf, IsReport, Leaves, List, None, Ok, OnOk, OpenErr, Option, OutOfMemory, Reads, Report, Reported, Result, Rows, Seen, Share, Sight, SinkFault, Some, Stepped, Stop, Tells, Told, WentBy, [], action_event, ap, append_assoc, by_text, inl, inr, over_any_table, over_rows, refl, report_text, response_text, row_count, state_at, subst, sym, tables_head, tells_map, told_map, unread_line, ℕ, ◌++◌, ◌∙◌, ◌∷◌, ◌≡◌}
 use Rattle.beldi_session.proofs.{Went.broken, Went.by_one, Went.by_stop, Calls.Calm, Calls.made}
 
 -- what a table tells is told
@@ -15,53 +14,58 @@ OverRows a b P = Tells a.table.rows b.table.rows P
 abbrev EventFrom : Sight → Sight → Event → Result Seen AllocError → Rows → Rows → Type 0
 EventFrom a b e x m n = EventOn a.code a.table.room a.table.faults b.table.faults e a.core m b.core n x
 
-text_by : (wrote : Result (Unit {0}) AllocError) (P : Type 0) → OnOk wrote P → OnOk (by_text wrote) P
-text_by (Ok u) P h = h
+abbrev no_actions : List Action
+no_actions = []
+
+-- nothing is left to do
+pub text_by : (wrote : Result (Unit {0}) AllocError) (P : Type 0) → OnOk wrote P → OnOk (by_text wrote) ((no_actions ≡ []) × P)
+text_by (Ok u) P h = (refl, h)
 text_by (Err w) P h = tt
 
-no_fault : (wrote : Result (Unit {0}) AllocError) → IsErrOf (by_text wrote) SinkFault → ⊥
+pub no_fault : (wrote : Result (Unit {0}) AllocError) → IsErrOf (by_text wrote) SinkFault → ⊥
 no_fault (Ok u) h = cc
 no_fault (Err w) h = cc
 
-module _ (a b : Sight) (calm : Calm a b) (r : Result (Unit {0}) Stop) where
-  over : (act : Action) (P : Rows → Rows → Type 0) → ((m n : Rows) → P m n → WentBy a.code a.table.room (act ∷ []) (state_at a m) (state_at b n) a.waiting [] b.waiting r) → (IsErrOf r SinkFault → ⊥) → OverRows a b P → Does (act ∷ []) a b r
-  over act P f none t = made (act ∷ []) a b r calm none (told_map {P = P} {Q = λ m n. WentBy a.code a.table.room (act ∷ []) (state_at a m) (state_at b n) a.waiting [] b.waiting r} a.table.rows b.table.rows f (told_tells a.table.rows b.table.rows P t))
+module _ {X : Type 0} (a b : Sight) (calm : Calm a b) (r : Result X Stop) where
+  over : (act : Action) (left : List Action) (P : Rows → Rows → Type 0) → ((m n : Rows) → P m n → WentBy a.code a.table.room (act ∷ []) left (state_at a m) (state_at b n) a.waiting [] b.waiting r) → (IsErrOf r SinkFault → ⊥) → OverRows a b P → DoesTo (act ∷ []) left a b r
+  over act left P f none t = made (act ∷ []) left a b r calm none (told_map {P = P} {Q = λ m n. WentBy a.code a.table.room (act ∷ []) left (state_at a m) (state_at b n) a.waiting [] b.waiting r} a.table.rows b.table.rows f (told_tells a.table.rows b.table.rows P t))
 
 -- a report
 module _ (a b : Sight) (calm : Calm a b) where
   -- a report was made of the rows, which are as they were
-  pub reported : b.core ≡ a.core → (y : Rows → Report) (act : Action) (wrote : Result (Unit {0}) AllocError) → ((m : Rows) → report_of (y m) ≡ act)
-      → OverRows a b (λ m n. (n ≡ m) × (OnOk wrote (b.waiting ≡ a.waiting ++ report_text (y m)) × IsReport a.code (state_at a m) (state_at b n) (y m))) → Does (act ∷ []) a b (by_text wrote)
+  pub reported : b.core ≡ a.core → (y : Rows → Report) (act : Action) (wrote : Result (Unit {0}) AllocError) → ((m : Rows) → Leaves act a.core b.core (Reported (y m)) [])
+      → OverRows a b (λ m n. (n ≡ m) × (OnOk wrote (b.waiting ≡ a.waiting ++ report_text a.code (y m)) × IsReport a.code (state_at a m) (state_at b n) (y m))) → Does (act ∷ []) a b (by_text wrote)
   reported core y act wrote is t =
-      over a b calm (by_text wrote) act (λ m n. (n ≡ m) × (OnOk wrote (b.waiting ≡ a.waiting ++ report_text (y m)) × IsReport a.code (state_at a m) (state_at b n) (y m)))
-      (λ m n o. by_one a.code a.table.room act (Reported (y m)) (state_at a m) (state_at b n) a.waiting b.waiting (by_text wrote) (is m) (record { core = core; rows = o.0; later = calm.later }, o.1.1) (text_by wrote _ o.1.0)) (no_fault wrote) t
+      over a b calm (by_text wrote) act [] (λ m n. (n ≡ m) × (OnOk wrote (b.waiting ≡ a.waiting ++ report_text a.code (y m)) × IsReport a.code (state_at a m) (state_at b n) (y m)))
+      (λ m n o. by_one a.code a.table.room act [] [] (Reported (y m)) (state_at a m) (state_at b n) a.waiting b.waiting (by_text wrote) (is m) (record { core = core; rows = o.0; later = calm.later }, o.1.1) (text_by wrote _ o.1.0)) (no_fault wrote) t
 
   -- nothing was reported
   pub unreported : b.core ≡ a.core → (act : Action) → OverRows a b (λ m n. n ≡ m) → Does (act ∷ []) a b (broken (Unit {0}) OutOfMemory)
   unreported core act t =
-      over a b calm (broken (Unit {0}) OutOfMemory) act (λ m n. n ≡ m)
-      (λ m n o. by_stop a.code a.table.room (act ∷ []) (state_at a m) (state_at b n) a.waiting b.waiting OutOfMemory (inl (record { core = core; rows = o; later = calm.later }))) (λ e. cc) t
+      over a b calm (broken (Unit {0}) OutOfMemory) act [] (λ m n. n ≡ m)
+      (λ m n o. by_stop a.code a.table.room (Unit {0}) (act ∷ []) [] (state_at a m) (state_at b n) a.waiting b.waiting OutOfMemory (inl (record { core = core; rows = o; later = calm.later }))) (λ e. cc) t
 
 -- an event is one step of the host
-module _ (a b : Sight) (held : b.held ≡ a.held) (faults : b.faults ≡ a.faults) (code : b.code ≡ a.code) (e : Event) where
+module _ (a b : Sight) (held : b.held ≡ a.held) (faults : b.faults ≡ a.faults) (code : b.code ≡ a.code) (e : Event) (act : Action) (left : List Action) where
   abbrev EventStep : Result Seen AllocError → Type 0
   EventStep r = Stepped a.code e a.core b.core a.table b.table r
 
   calm : (r : Result Seen AllocError) → EventStep r → Calm a b
   calm r h = let t = over_any_table a.code e a.core b.core a.table b.table r h in record { held = held; faults = faults; code = code; room = t.room; later = t.later }
 
-  -- it was answered, and the text of the answer appended
-  pub event_answered : (x : Seen) (wrote : Result (Unit {0}) AllocError) → EventStep (Ok x) → OnOk wrote (b.waiting ≡ a.waiting ++ answer_text a.code x) → Does (Carry e ∷ []) a b (by_text wrote)
-  event_answered x wrote h text =
-      over a b (calm (Ok x) h) (by_text wrote) (Carry e) (EventFrom a b e (Ok x))
-      (λ m n o. by_one a.code a.table.room (Carry e) (Answered e x) (state_at a m) (state_at b n) a.waiting b.waiting (by_text wrote) refl (o, (calm (Ok x) h).later) (text_by wrote _ text)) (no_fault wrote)
+  -- it was answered, and what is told of the answer appended
+  pub event_answered : {X : Type 0} (share : Share) (x : Seen) (front : List Action) (r : Result X Stop) → Leaves act a.core b.core (Answered share e x) front → EventStep (Ok x)
+      → OnOk r ((left ≡ front) × (b.waiting ≡ a.waiting ++ response_text a.code (Answered share e x))) → (IsErrOf r SinkFault → ⊥) → DoesTo (act ∷ []) left a b r
+  event_answered share x front r is h text none =
+      over a b (calm (Ok x) h) r act left (EventFrom a b e (Ok x))
+      (λ m n o. by_one a.code a.table.room act front left (Answered share e x) (state_at a m) (state_at b n) a.waiting b.waiting r is (o, (calm (Ok x) h).later) text) none
       (over_rows a.code e a.core b.core a.table b.table (Ok x) h)
 
   -- it broke off
-  pub event_broke : (w : AllocError) → EventStep (Err w) → Does (Carry e ∷ []) a b (broken (Unit {0}) OutOfMemory)
-  event_broke w h =
-      over a b (calm (Err w) h) (broken (Unit {0}) OutOfMemory) (Carry e) (EventFrom a b e (Err w))
-      (λ m n o. by_stop a.code a.table.room (Carry e ∷ []) (state_at a m) (state_at b n) a.waiting b.waiting OutOfMemory (inr (o, (calm (Err w) h).later))) (λ e. cc)
+  pub event_broke : (X : Type 0) (w : AllocError) → action_event a.core act ≡ Some e → EventStep (Err w) → DoesTo (act ∷ []) left a b (broken X OutOfMemory)
+  event_broke X w is h =
+      over a b (calm (Err w) h) (broken X OutOfMemory) act left (EventFrom a b e (Err w))
+      (λ m n o. by_stop a.code a.table.room X (act ∷ []) left (state_at a m) (state_at b n) a.waiting b.waiting OutOfMemory (inr (subst (EventBroke a.code a.table.room (state_at a m) (state_at b n)) (sym is) (o, (calm (Err w) h).later)))) (λ e. cc)
       (over_rows a.code e a.core b.core a.table b.table (Err w) h)
 
 -- what the table told of its rows as they were read

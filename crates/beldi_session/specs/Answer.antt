@@ -79,3 +79,8 @@ answer_text d Seen.Round = codes "round\n"
 answer_text d (Seen.Now n) = numbered (codes "now ") n
 answer_text d Seen.ClockEnd = codes "clock-end\n"
 answer_text d Seen.Spent = codes "spent\n"
+
+-- of the answer to a turn inside a settling the reply alone is told
+abbrev pub reply_told : Seen → List ℕ
+reply_told (Seen.Acted e started over r) = reply_part r
+reply_told x = []

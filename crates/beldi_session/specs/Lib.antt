@@ -4,4 +4,5 @@ pub mod Refusal
 pub mod Response
 pub mod Script
 pub mod Session
+pub mod Settle
 pub mod Source

@@ -1,36 +1,61 @@
 -- What the program says of each action of a script, and its text.
-use Rattle.std.specs.Prelude.{ℕ, List, ◌++◌, flat_map, Option, Some, None, codes}
+use Rattle.std.specs.Prelude.{◌≡◌, ℕ, Bool, true, false, List, [], ◌∷◌, ◌++◌, flat_map, Option, Some, None, codes}
 use Rattle.beldi_tree.specs.declared.deployment.Deployment.{Deployment}
 use Rattle.beldi_step.specs.declared.event.{Event.Event, Seen.Seen}
 use Rattle.beldi_host.specs.declared.survey.ReplySeen.{ReplySeen}
-use Rattle.beldi_session.specs.Script.{Action, Carry, TellReply, CountRows, ListTables, ListBook, Refuse}
-use Rattle.beldi_session.specs.{declared.refusal.Refusal.Refusal, Answer.answer_text, Answer.numbered, Answer.outcome_line, Answer.ticket_line, Refusal.refusal_text}
+use Rattle.beldi_session.specs.Script.{Action, Carry, Settle, TellReply, CountRows, ListTables, ListBook, Refuse}
+use Rattle.beldi_session.specs.{declared.refusal.Refusal.Refusal, declared.settle.Settled.Settled, declared.settle.Standing.Standing, declared.settle.Standing.TheVariants.Goes, declared.settle.Standing.TheVariants.Over, Answer.answer_text, Answer.numbered, Answer.outcome_line, Answer.reply_told, Answer.ticket_line, Refusal.refusal_text, Settle.settled_text}
 
 -- what is said without an event: what a ticket's run gave; how many rows there are; the lines of a listing of the tables, or of
--- the book; why a line is refused. None where the table failed as a ticket's row, or all rows, were to be read.
+-- the book; how a settling ended; why a line is refused. None where the table failed as a ticket's row, or all rows, were to be read.
 pub data Report : Type 0 where
   ReplyIs : ℕ → Option ReplySeen → Report
   RowsAre : ℕ → Report
   TablesAre : Option (List ℕ) → Report
   BookIs : List ℕ → Report
+  SettledIs : Settled → Report
   LineRefused : Refusal → Report
 
--- how an event was answered, or a report
+-- how much is told of an answer: all of it, or, inside a settling, the reply alone that a turn of a run gives
+pub data Share : Type 0 where
+  Whole : Share
+  ReplyAlone : Share
+
+-- how an event was answered; a settling set the intent collector before all rows; or a report
 pub data Response : Type 0 where
-  Answered : Event → Seen → Response
+  Answered : Share → Event → Seen → Response
+  WentBack : Response
   Reported : Report → Response
 
-abbrev pub report_of : Report → Action
-report_of (ReplyIs t x) = TellReply t
-report_of (RowsAre n) = CountRows
-report_of (TablesAre lines) = ListTables
-report_of (BookIs lines) = ListBook
-report_of (LineRefused x) = Refuse x
+-- ---- the actions that a response leaves to do, in place of the one that it is to
+-- the events of a settling
+abbrev pub is_turn : Event → Bool
+is_turn (Event.Turn i) = true
+is_turn Event.Ic = true
+is_turn e = false
 
--- the action that a response is to
-abbrev pub action_of : Response → Action
-action_of (Answered e x) = Carry e
-action_of (Reported r) = report_of r
+-- a settling that goes on leaves itself, as it stands then
+abbrev pub IsToSettling : ℕ → Response → List Action → Type 0
+IsToSettling budget (Answered ReplyAlone e x) left = (is_turn e ≡ true) × (s : Standing) × (left ≡ Settle budget s ∷ [])
+IsToSettling budget WentBack left = (s : Standing) × (left ≡ Settle budget s ∷ [])
+IsToSettling budget y left = ⊥
+
+-- this is a response to the action, and leaves these
+abbrev pub IsTo : Action → Response → List Action → Type 0
+IsTo (Carry e) (Answered Whole f x) left = (f ≡ e) × (left ≡ [])
+IsTo (Settle budget (Goes s)) y left = IsToSettling budget y left
+IsTo (Settle budget (Over r)) (Reported (SettledIs q)) left = (q ≡ r) × (left ≡ [])
+IsTo (TellReply t) (Reported (ReplyIs u x)) left = (u ≡ t) × (left ≡ [])
+IsTo CountRows (Reported (RowsAre n)) left = left ≡ []
+IsTo ListTables (Reported (TablesAre lines)) left = left ≡ []
+IsTo ListBook (Reported (BookIs lines)) left = left ≡ []
+IsTo (Refuse x) (Reported (LineRefused y)) left = (y ≡ x) × (left ≡ [])
+IsTo a y left = ⊥
+
+-- what the first of some actions leaves so, and the others after it
+abbrev pub AtFirst : (Action → List Action → Type 0) → List Action → List Action → Type 0
+AtFirst LeavesSo [] left = ⊥
+AtFirst LeavesSo (a ∷ more) left = (front : List Action) × LeavesSo a front × (left ≡ front ++ more)
 
 -- ---- the text
 -- the line of what a ticket's run gave
@@ -50,18 +75,22 @@ book_head = codes "== book\n"
 abbrev pub unread_line : List ℕ
 unread_line = codes "dropped\n"
 
-abbrev pub report_text : Report → List ℕ
-report_text (ReplyIs t None) = unread_line
-report_text (ReplyIs t (Some x)) = reply_line t x
-report_text (RowsAre n) = numbered (codes "rows ") n
-report_text (TablesAre None) = tables_head ++ unread_line
-report_text (TablesAre (Some lines)) = tables_head ++ lines
-report_text (BookIs lines) = book_head ++ lines
-report_text (LineRefused x) = refusal_text x
+abbrev pub report_text : Deployment → Report → List ℕ
+report_text d (ReplyIs t None) = unread_line
+report_text d (ReplyIs t (Some x)) = reply_line t x
+report_text d (RowsAre n) = numbered (codes "rows ") n
+report_text d (TablesAre None) = tables_head ++ unread_line
+report_text d (TablesAre (Some lines)) = tables_head ++ lines
+report_text d (BookIs lines) = book_head ++ lines
+report_text d (SettledIs r) = settled_text d r
+report_text d (LineRefused x) = refusal_text x
 
 abbrev pub response_text : Deployment → Response → List ℕ
-response_text d (Answered e x) = answer_text d x
-response_text d (Reported r) = report_text r
+response_text d (Answered Whole e x) = answer_text d x
+response_text d (Answered ReplyAlone Event.Ic x) = []
+response_text d (Answered ReplyAlone e x) = reply_told x
+response_text d WentBack = []
+response_text d (Reported r) = report_text d r
 
 -- the text of all responses, one after another
 abbrev pub responses_text : Deployment → List Response → List ℕ

@@ -3,11 +3,13 @@ use Rattle.std.specs.Prelude.{ℕ, zero, suc, Bool, true, false, ◌&&◌, List,
 use Rattle.beldi_tree.specs.declared.deployment.Deployment.{Deployment}
 use Rattle.beldi_step.specs.declared.event.Event.{Event}
 use Rattle.beldi_script.specs.declared.line.Line.{Line}
-use Rattle.beldi_session.specs.{declared.refusal.Refusal.Refusal, declared.session.Taker.Taker, Source.Numbered, Source.said_at}
+use Rattle.beldi_session.specs.{declared.refusal.Refusal.Refusal, declared.session.Taker.Taker, declared.settle.Standing.Standing, Settle.first_at, Settle.go_on, Source.Numbered, Source.said_at}
 
--- carry out an event; tell what a ticket's run gave, how many rows there are, the tables, or the book; refuse a line
+-- carry out an event; go on with a settling, within a budget, from where it stands; tell what a ticket's run gave, how many rows there
+-- are, the tables, or the book; refuse a line
 pub data Action : Type 0 where
   Carry : Event → Action
+  Settle : ℕ → Standing → Action
   TellReply : ℕ → Action
   CountRows : Action
   ListTables : Action
@@ -32,6 +34,7 @@ actions_of (Line.Lost r) = Carry (Event.Lost r) ∷ []
 actions_of (Line.Crash r) = Carry (Event.Crash r) ∷ []
 actions_of (Line.Restart id f) = Carry (Event.Restart id f) ∷ []
 actions_of (Line.Ic n) = times n (Carry Event.Ic)
+actions_of (Line.Settle n) = Settle n (go_on n first_at) ∷ []
 actions_of (Line.Tick n) = Carry (Event.Tick n) ∷ []
 actions_of (Line.Reply t) = TellReply t ∷ []
 actions_of Line.Rows = CountRows ∷ []

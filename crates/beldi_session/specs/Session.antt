@@ -1,14 +1,14 @@
 -- A session: the actions of a script one after another, the responses, and the text that was written.
-use Rattle.std.specs.Prelude.{◌≡◌, ◌⊎◌, ◌≤◌, ℕ, Bool, false, map, List, [], ◌∷◌, ◌++◌, Option, Some, None, Result, Ok, Err, IsErrOf}
+use Rattle.std.specs.Prelude.{◌≡◌, ◌⊎◌, ◌≤◌, ℕ, Bool, false, List, [], ◌∷◌, ◌++◌, Option, Some, None, Result, Ok, Err, IsErrOf}
 use Rattle.std.specs.declared.alloc.AllocError.{AllocError}
 use Rattle.beldi_tree.specs.declared.deployment.Deployment.{Deployment}
 use Rattle.beldi_book.specs.Text.{book_text}
 use Rattle.beldi_row.specs.{declared.table.Table.Ghosts, Table.Rows, Table.TableState, Table.Rose, Table.row_count}
-use Rattle.beldi_step.specs.{Host.Core, Host.EventOn, Tables.tables_text}
-use Rattle.beldi_host.specs.{declared.host.Host.Host, Host.core_of, Survey.reply_seen, Survey.is_unknown}
+use Rattle.beldi_step.specs.{declared.event.Event.Event, Host.Core, Host.EventOn, Tables.tables_text}
+use Rattle.beldi_host.specs.{declared.host.Host.Host, Host.core_of, Host.reset, Survey.reply_seen, Survey.is_unknown}
 use Rattle.beldi_outside.specs.Outside.{Told, IsPrefixOf}
-use Rattle.beldi_session.specs.Response.{Report, ReplyIs, RowsAre, TablesAre, BookIs, LineRefused, Response, Answered, Reported, action_of, responses_text}
-use Rattle.beldi_session.specs.{declared.session.Stop.Stop, declared.session.Stop.TheVariants.OutOfMemory, declared.session.Stop.TheVariants.SinkFault, Script.Action, Script.Carry}
+use Rattle.beldi_session.specs.Response.{Report, ReplyIs, RowsAre, TablesAre, BookIs, SettledIs, LineRefused, ReplyAlone, Response, Answered, WentBack, Reported, IsTo, AtFirst, responses_text}
+use Rattle.beldi_session.specs.{declared.session.Stop.Stop, declared.session.Stop.TheVariants.OutOfMemory, declared.session.Stop.TheVariants.SinkFault, declared.settle.Next.Next, declared.settle.Next.TheVariants.Turn, declared.settle.Next.TheVariants.Collect, declared.settle.Next.TheVariants.Reset, declared.settle.Standing.Standing, declared.settle.Standing.TheVariants.Goes, Script.Action, Script.Carry, Script.Settle, Settle.begun, Settle.ic_heard, Settle.next_of, Settle.turn_heard}
 
 -- ---- one step
 -- the host without its table, the rows, and the table's count of failures
@@ -31,39 +31,79 @@ IsReport d s t (RowsAre n) = n ≡ row_count s.rows
 IsReport d s t (TablesAre None) = Rose s.faults t.faults
 IsReport d s t (TablesAre (Some lines)) = lines ≡ tables_text d s.rows
 IsReport d s t (BookIs lines) = lines ≡ book_text d s.core.book
+IsReport d s t (SettledIs r) = Unit {0}
 IsReport d s t (LineRefused x) = Unit {0}
 
 -- this is the response of an action that leads from s to t: an event is one step of the host, and a report changes nothing
 abbrev pub IsStep : Deployment → ℕ → State → State → Response → Type 0
-IsStep d room s t (Answered e x) = EventOn d room s.faults t.faults e s.core s.rows t.core t.rows (Ok x) × (s.faults ≤ t.faults)
+IsStep d room s t (Answered share e x) = EventOn d room s.faults t.faults e s.core s.rows t.core t.rows (Ok x) × (s.faults ≤ t.faults)
+IsStep d room s t WentBack = t ≡ record s { core = reset s.core }
 IsStep d room s t (Reported r) = Unchanged s t × IsReport d s t r
 
 -- ---- one step after another
-abbrev pub Steps : (State → State → Response → Type 0) → List Response → State → State → Type 0
-Steps Step [] s t = t ≡ s
-Steps Step (y ∷ ys) s t = (u : State) × Step s u y × Steps Step ys u t
+-- what a settling leaves, by what it does next: its core after that is c
+abbrev pub SettlingLeaves : ℕ → Core → Next → Response → List Action → Type 0
+SettlingLeaves budget c (Turn s i) (Answered ReplyAlone e x) left = (e ≡ Event.Turn i) × (left ≡ Settle budget (turn_heard budget s i x) ∷ [])
+SettlingLeaves budget c (Collect s) (Answered ReplyAlone e x) left = (e ≡ Event.Ic) × (left ≡ Settle budget (ic_heard budget c s x) ∷ [])
+SettlingLeaves budget c (Reset s) WentBack left = left ≡ Settle budget (Goes (begun s)) ∷ []
+SettlingLeaves budget c n y left = ⊥
+
+-- this is a response to the action, from the core c to the core z, and leaves these
+abbrev pub Leaves : Action → Core → Core → Response → List Action → Type 0
+Leaves (Settle budget (Goes s)) c z y left = SettlingLeaves budget z (next_of c s) y left
+Leaves a c z y left = IsTo a y left
+
+-- a response to the first of some actions, and what is then left to do
+abbrev pub Follows : List Action → Core → Core → Response → List Action → Type 0
+Follows actions c z y left = AtFirst (λ a front. Leaves a c z y front) actions left
+
+-- the responses lead from s to t, and leave these of the actions to do
+abbrev pub Steps : (State → State → Response → Type 0) → List Response → List Action → List Action → State → State → Type 0
+Steps Step [] actions more s t = (t ≡ s) × (actions ≡ more)
+Steps Step (y ∷ ys) actions more s t = (u : State) × (left : List Action) × Step s u y × Follows actions s.core u.core y left × Steps Step ys left more u t
 
 -- the first of these actions were done, but for `more`: the text of their responses came after the text that waited, a front
 -- of it was written, and the rest waits
 pub record Went (Step : State → State → Response → Type 0) (d : Deployment) (actions more : List Action) (s t : State) (waited written rest : List ℕ) : Type 0 where
   pub responses : List Response
-  pub actions_are : map action_of responses ++ more ≡ actions
-  pub steps : Steps Step responses s t
+  pub steps : Steps Step responses actions more s t
   pub text : written ++ rest ≡ waited ++ responses_text d responses
 
--- the next action broke off: an event, out of memory
-abbrev pub BrokeOff : Stop → Deployment → ℕ → List Action → State → State → Type 0
-BrokeOff OutOfMemory d room (Carry e ∷ more) s t = EventOn d room s.faults t.faults e s.core s.rows t.core t.rows (Err (record {})) × (s.faults ≤ t.faults)
-BrokeOff why d room more s t = ⊥
+-- the event of a settling that comes next
+abbrev pub settling_event : Next → Option Event
+settling_event (Turn s i) = Some (Event.Turn i)
+settling_event (Collect s) = Some Event.Ic
+settling_event (Reset s) = None
 
--- nothing more happened, or the next action broke off
+-- .. of an action
+abbrev pub action_event : Core → Action → Option Event
+action_event c (Carry e) = Some e
+action_event c (Settle budget (Goes s)) = settling_event (next_of c s)
+action_event c a = None
+
+-- .. of some actions
+abbrev pub first_event : Core → List Action → Option Event
+first_event c [] = None
+first_event c (a ∷ more) = action_event c a
+
+-- the event was out of memory
+abbrev pub EventBroke : Deployment → ℕ → State → State → Option Event → Type 0
+EventBroke d room s t None = ⊥
+EventBroke d room s t (Some e) = EventOn d room s.faults t.faults e s.core s.rows t.core t.rows (Err (record {})) × (s.faults ≤ t.faults)
+
+-- the next event broke off, out of memory
+abbrev pub BrokeOff : Stop → Deployment → ℕ → List Action → State → State → Type 0
+BrokeOff OutOfMemory d room more s t = EventBroke d room s t (first_event s.core more)
+BrokeOff SinkFault d room more s t = ⊥
+
+-- nothing more happened, or the next event broke off
 abbrev pub Stopped : Stop → Deployment → ℕ → List Action → State → State → Type 0
 Stopped why d room more s t = Unchanged s t ⊎ BrokeOff why d room more s t
 
--- by what a call answers: all of the actions were done, and what is not written waits; or it stopped
-abbrev pub WentBy : {X : Type 0} → Deployment → ℕ → List Action → State → State → List ℕ → List ℕ → List ℕ → Result X Stop → Type 0
-WentBy d room actions s t waited written waits (Ok x) = Went (IsStep d room) d actions [] s t waited written waits
-WentBy d room actions s t waited written waits (Err why) = (more : List Action) × (u : State) × (rest : List ℕ) × Went (IsStep d room) d actions more s u waited written rest × Stopped why d room more u t
+-- by what a call answers: the actions were done, but for `left`, and what is not written waits; or it stopped
+abbrev pub WentBy : {X : Type 0} → Deployment → ℕ → List Action → List Action → State → State → List ℕ → List ℕ → List ℕ → Result X Stop → Type 0
+WentBy d room actions left s t waited written waits (Ok x) = Went (IsStep d room) d actions left s t waited written waits
+WentBy d room actions left s t waited written waits (Err why) = (more : List Action) × (u : State) × (rest : List ℕ) × Went (IsStep d room) d actions more s u waited written rest × Stopped why d room more u t
 
 -- ---- calls of the program
 -- a sink got this text, where it tells what it got
@@ -103,14 +143,23 @@ sight {T} {G} h waiting held faults = record { code = h.code; core = core_of h; 
 abbrev pub state_at : Sight → Rows → State
 state_at a m = record { core = a.core; rows = m; faults = a.table.faults }
 
--- a call that does these actions: the text that it wrote, also where the sink does not tell it, and what happened, where the
--- rows are told. The deployment and the room stay, no count falls, and the sink is at fault only where its count rose.
-pub record Does {X : Type 0} (actions : List Action) (a b : Sight) (result : Result X Stop) : Type 0 where
+-- a call that does these actions, but for `left`: the text that it wrote, also where the sink does not tell it, and what happened, where
+-- the rows are told. The deployment and the room stay, no count falls, and the sink is at fault only where its count rose.
+pub record DoesTo {X : Type 0} (actions left : List Action) (a b : Sight) (result : Result X Stop) : Type 0 where
   pub written : List ℕ
   pub sink : Writes a.held b.held written
-  pub went : Told a.table.rows b.table.rows (λ m n. WentBy a.code a.table.room actions (state_at a m) (state_at b n) a.waiting written b.waiting result)
+  pub went : Told a.table.rows b.table.rows (λ m n. WentBy a.code a.table.room actions left (state_at a m) (state_at b n) a.waiting written b.waiting result)
   pub code : b.code ≡ a.code
   pub room : b.table.room ≡ a.table.room
   pub later : a.table.faults ≤ b.table.faults
   pub sink_later : a.faults ≤ b.faults
   pub fault : IsErrOf result SinkFault → Rose a.faults b.faults
+
+-- .. all of them
+abbrev pub Does : {X : Type 0} → List Action → Sight → Sight → Result X Stop → Type 0
+Does actions a b result = DoesTo actions [] a b result
+
+-- what is left of a settling that goes on, or is over
+abbrev pub left_by : ℕ → Result Standing Stop → List Action
+left_by budget (Ok next) = Settle budget next ∷ []
+left_by budget (Err why) = []

@@ -4,7 +4,7 @@ ghost use Rattle.std.specs.Fmt.{decimal};
 ghost use Rattle.beldi_value.specs.Json.{text_of};
 ghost use Rattle.beldi_value.specs.Value.{datum_of};
 ghost use Rattle.beldi_tree.specs.Names.{func_text};
-ghost use Rattle.beldi_session.specs.Answer.{answer_text, numbered, bound_line, held_line, waits_line, launched_line, outcome_line, ticket_line, entry_part, run_part, reply_part, over_part};
+ghost use Rattle.beldi_session.specs.Answer.{answer_text, numbered, bound_line, held_line, waits_line, launched_line, outcome_line, ticket_line, entry_part, run_part, reply_part, reply_told, over_part};
 ghost use Rattle.beldi_session.specs.Response.{reply_line};
 
 use beldi_book::Entry;
@@ -280,6 +280,16 @@ fn write_reply(
     match reply {
         None => Ok(()),
         Some((ticket, outcome)) => put_outcome(alloc, "reply ", *ticket, outcome.get(), out),
+    }
+}
+
+/// Appends the line of the reply that an answer gives, if any. Out of memory, a part of it may be there.
+pub fn write_reply_told(alloc: Global, seen: &Seen, out: &mut Str) -> Result<(), AllocError>
+    ensures { OnOk result (out.new ≡ out.old ++ reply_told seen.now) }
+{
+    match seen {
+        Seen::Acted { reply, .. } => write_reply(alloc, reply, out),
+        _ => Ok(()),
     }
 }
 

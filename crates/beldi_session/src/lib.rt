@@ -3,23 +3,25 @@
 //! `beldi_script`), the checks of a deployment (`beldi_check`), the table that a host is over (`beldi_row`) and what is outside
 //! (`beldi_outside`).
 //! Its definitions: `specs/Source` (what a source says: its refusal, or a deployment and numbered lines), `specs/Refusal`
-//! (the text of a refusal), `specs/Check` (what is said of a source that is tested), `specs/Script` (what a script has the
-//! program do), `specs/Answer` and `specs/Response` (what is said of it, and the text) and `specs/Session` (steps one after
-//! another, and what was written).
+//! (the text of a refusal), `specs/Check` (what is said of a source that is tested), `specs/Settle` (what settling does next, as a
+//! machine over the events of a host), `specs/Script` (what a script has the program do), `specs/Answer` and `specs/Response` (what
+//! is said of it, and the text) and `specs/Session` (steps one after another, and what was written).
 //!
 //! Proved:
 //! - `read_source` gives the deployment and where its script begins, or the first refusal (`ReadsAs`), and `check_source` what is said of
 //!   a source that is tested (`check_by`).
 //! - `run_script` carries out what the lines say, line by line, up to the first that is refused or to where it stops (`Does`): the text
 //!   that was written and waits is that of the steps that were done, and the host and its table are those that the last step left.
+//! - A line `settle` is carried out as just the events of that machine (`Leaves`), each a step of the host as those of other lines; it
+//!   comes to its end, since each event that it goes on after was taken.
 //! - `write_refusal` writes the line of a refusal, with its number in the source and its cause (`refusal_text`).
 //!
 //! Files:
 //! - Code (`src/`): `source` what a source says, and one that is not refused; `refusal` why it is refused; `session` a
-//!   script's lines, from a line to the host's calls; `check` a source that is tested; `answer` the text of an answer;
-//!   `output` text on its way.
+//!   script's lines, from a line to the host's calls; `settle` one line that is many events; `check` a source that is tested;
+//!   `answer` the text of an answer; `output` text on its way.
 //! - Lemmas (`proofs/`): `Went` actions that were done, `Calls` calls one after another; `Responses` what the host answers;
-//!   `Lines`, `Refusals`.
+//!   `Settling` an event of a settling; `Lines`, `Refusals`.
 #![tactic(auto)]
 
 mod answer;
@@ -27,9 +29,11 @@ mod check;
 mod output;
 mod refusal;
 mod session;
+mod settle;
 mod source;
 
 pub use check::check_source;
 pub use refusal::{Cause, Refusal, SourceErr, write_refusal};
 pub use session::{Stop, Taker, run_script};
+pub use settle::{At, Next, Settled, Standing, Waits};
 pub use source::{Accepted, read_source, script_at};

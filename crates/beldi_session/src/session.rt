@@ -10,6 +10,7 @@ ghost use Rattle.beldi_session.specs.Source.{numbered, said_at};
 use crate::answer::{write_answer, write_numbered, write_reply_seen};
 use crate::output::{flush, flush_if_long};
 use crate::refusal::{SourceErr, write_refusal};
+use crate::settle::settle;
 use crate::source::read_said;
 use beldi_book::Book;
 use beldi_check::Checked;
@@ -50,7 +51,7 @@ fn turn_of(taker: Taker) -> Event
 }
 
 // The text of a response was appended, or memory ran out.
-fn appended(wrote: Result<(), AllocError>) -> Result<(), Stop>
+pub(crate) fn appended(wrote: Result<(), AllocError>) -> Result<(), Stop>
     ensures { result ≡ by_text wrote }
 {
     match wrote {
@@ -156,7 +157,7 @@ fn list_book<T: Table>(alloc: Global, host: &mut Host<T>, out: &mut Str) -> Resu
 }
 
 fn write_book(alloc: Global, book: &Book, code: &Checked, out: &mut Str) -> Result<(), AllocError>
-    ensures { OnOk result (out.new ≡ out.old ++ report_text (BookIs (book_text code.now book.now.entries))) }
+    ensures { OnOk result (out.new ≡ out.old ++ report_text code.now (BookIs (book_text code.now book.now.entries))) }
 {
     out.push_text("== book\n")?;
     book.write(alloc, code.code(), out)
@@ -184,7 +185,7 @@ fn say<T: Table>(alloc: Global, host: &mut Host<T>, out: &mut Str, line: Line) -
         Line::Blank => Ok(()),
         Line::Gc { .. } => Ok(()),
         Line::Sweep { .. } => Ok(()),
-        Line::Settle { .. } => Ok(()),
+        Line::Settle { budget } => settle(alloc, host, out, budget),
         Line::Halt => Ok(()),
     }
 }

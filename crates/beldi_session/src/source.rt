@@ -65,7 +65,7 @@ fn is_built(line: &Line) -> bool
     ensures { result ≡ is_built line.now }
 {
     match line {
-        Line::Gc { .. } | Line::Sweep { .. } | Line::Settle { .. } | Line::Halt => false,
+        Line::Gc { .. } | Line::Sweep { .. } | Line::Halt => false,
         _ => true,
     }
 }

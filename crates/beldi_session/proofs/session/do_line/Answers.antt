@@ -1,4 +1,5 @@
-use Rattle.beldi_session.proofs.Names.{Does, IfOk, IsReport, LineRefused, Numbered, OnOk, Refuse, [], actions_of, and_then, ap, arith, by_done, core_of, false, is_ok, refl, report_text, said_at, sight, state_at, subst, sym, true, ◌++◌, ◌∙◌, ◌∷◌, ◌≡◌}
+use Rattle.std.proofs.Common.{IfOk}
+use Rattle.beldi_session.proofs.Names.{Does, IsReport, LineRefused, Numbered, OnOk, Refuse, [], actions_of, and_then, ap, arith, by_done, core_of, false, is_ok, refl, report_text, said_at, sight, state_at, subst, sym, true, ◌++◌, ◌∙◌, ◌∷◌, ◌≡◌}
 use Rattle.beldi_session.proofs.{Calls.does_then, Calls.does_before, Calls.does_done, Calls.does_none, Calls.done_whole, Calls.flushed, Responses.reported, Responses.tells_same}
 use Rattle.beldi_session.proofs.session.do_line.Goals as goal
 
@@ -38,8 +39,8 @@ returns-in-Err-Refused-clause-does g c =
     (subst (λ o. Does (and_then o []) a b (by_done false c.appended.result)) (sym is)
     (does_done false c.appended.result
     (subst (λ r. Does (Refuse x ∷ []) a b r) (sym c.appended.ensures)
-    (reported a b (record { held = refl; faults = refl; code = refl; room = refl; later = omega arith }) refl (λ m. y) (Refuse x) wrote (λ m. refl)
-    (tells_same a.table.rows (λ m. OnOk wrote (b.waiting ≡ a.waiting ++ report_text y) × IsReport a.code (state_at a m) (state_at b m) y) (λ m. (c.write_refusal.ensures, tt)))))))
+    (reported a b (record { held = refl; faults = refl; code = refl; room = refl; later = omega arith }) refl (λ m. y) (Refuse x) wrote (λ m. (refl, refl))
+    (tells_same a.table.rows (λ m. OnOk wrote (b.waiting ≡ a.waiting ++ report_text a.code y) × IsReport a.code (state_at a m) (state_at b m) y) (λ m. (c.write_refusal.ensures, tt)))))))
 
 pub returns-in-Err-OutOfMemory-clause-does : goal.returns-in-Err-OutOfMemory-clause-does
 returns-in-Err-OutOfMemory-clause-does g c =

@@ -10,9 +10,9 @@ returns g c = λ held faults.
     let y = BookIs (book_text a.code a.core.book) in
     subst (λ r. Does (ListBook ∷ []) a b r) (sym c.appended.ensures)
     (reported a b (record { held = refl; faults = refl; code = refl; room = refl; later = omega arith }) refl (λ m. y) ListBook wrote (λ m. refl)
-    (tells_same a.table.rows (λ m. OnOk wrote (b.waiting ≡ a.waiting ++ report_text y) × IsReport a.code (state_at a m) (state_at b m) y)
+    (tells_same a.table.rows (λ m. OnOk wrote (b.waiting ≡ a.waiting ++ report_text a.code y) × IsReport a.code (state_at a m) (state_at b m) y)
     (λ m. (
-      subst (λ d. OnOk wrote (b.waiting ≡ a.waiting ++ report_text (BookIs (book_text d a.core.book)))) c.code.ensures
-          (subst (λ (k : Book). OnOk wrote (b.waiting ≡ a.waiting ++ report_text (BookIs (book_text c.code.result.now k.entries)))) c.book.ensures.book c.write_book.ensures),
+      subst (λ d. OnOk wrote (b.waiting ≡ a.waiting ++ report_text d (BookIs (book_text d a.core.book)))) c.code.ensures
+          (subst (λ (k : Book). OnOk wrote (b.waiting ≡ a.waiting ++ report_text c.code.result.now (BookIs (book_text c.code.result.now k.entries)))) c.book.ensures.book c.write_book.ensures),
       refl,
     ))))

@@ -11,7 +11,7 @@ returns-in-Ok-tables g c = λ held faults.
     let b = sight c.tables.new.self c.tables.new.out held faults in
     let y = λ (m : Rows). TablesAre (Some (tables_text old.code m)) in
     reported a b (record { held = refl; faults = refl; code = e.code; room = e.reads.room; later = e.reads.later }) e.core y ListTables (Ok tt) (λ m. refl)
-    (read_as a b (λ m u. c.tables.new.out ≡ out ++ tables_text old.code m) tt (λ m n. (b.waiting ≡ a.waiting ++ report_text (y m)) × IsReport a.code (state_at a m) (state_at b n) (y m))
+    (read_as a b (λ m u. c.tables.new.out ≡ out ++ tables_text old.code m) tt (λ m n. (b.waiting ≡ a.waiting ++ report_text a.code (y m)) × IsReport a.code (state_at a m) (state_at b n) (y m))
     (λ m n same is. (under_head a.waiting out b.waiting (tables_text old.code m) c.in-Ok.ensures.ok is, refl)) e.reads)
 
 pub returns-in-Err-Failed : goal.returns-in-Err-Failed
@@ -26,7 +26,7 @@ returns-in-Err-Failed g c = λ held faults.
     let y = TablesAre None in
     subst (λ r. Does (ListTables ∷ []) a b r) (sym c.appended.ensures)
     (reported a b (record { held = refl; faults = refl; code = e.code; room = e.reads.room; later = e.reads.later }) e.core (λ m. y) ListTables wrote (λ m. refl)
-    (read_failed a b (λ m u. c.tables.new.out ≡ out ++ tables_text old.code m) f.field-0 (λ m n. OnOk wrote (b.waiting ≡ a.waiting ++ report_text y) × IsReport a.code (state_at a m) (state_at b n) y)
+    (read_failed a b (λ m u. c.tables.new.out ≡ out ++ tables_text old.code m) f.field-0 (λ m n. OnOk wrote (b.waiting ≡ a.waiting ++ report_text a.code y) × IsReport a.code (state_at a m) (state_at b n) y)
     (λ m n. (unread_under a.waiting out c.tables.new.out b.waiting wrote c.in-Ok.ensures.ok e.err c.push_text-in-Err-Failed.ensures.ok, e.reads.failed (ap Err f.field-0-is))) e.reads))
 
 pub returns-in-Err-OutOfMemory : goal.returns-in-Err-OutOfMemory

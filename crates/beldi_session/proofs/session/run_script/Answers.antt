@@ -1,4 +1,5 @@
-use Rattle.beldi_session.proofs.Names.{Does, IfOk, actions_in, append-nil, core_of, is_whole, lines_of, numbered, sight, subst, sym, ◌≡◌}
+use Rattle.std.proofs.Common.{IfOk}
+use Rattle.beldi_session.proofs.Names.{Does, actions_in, append-nil, core_of, is_whole, lines_of, numbered, sight, subst, sym, ◌≡◌}
 use Rattle.beldi_session.proofs.Calls.{does_then, does_done, done_whole, flushed}
 use Rattle.beldi_session.proofs.session.run_script.Goals as goal
 

@@ -13,8 +13,8 @@ returns-in-Ok g c = λ held faults.
     let P = λ (m : Rows) (x : ReplySeen). x ≡ reply_seen a.core.newest ticket m in
     let y = ReplyIs ticket (Some seen) in
     subst (λ r. Does (TellReply ticket ∷ []) a b r) (sym c.appended-told.ensures)
-    (reported a b (record { held = refl; faults = refl; code = e.code; room = e.reads.room; later = e.reads.later }) e.core (λ m. y) (TellReply ticket) wrote (λ m. refl)
-    (read_as a b P seen (λ m n. OnOk wrote (b.waiting ≡ a.waiting ++ report_text y) × IsReport a.code (state_at a m) (state_at b n) y) (λ m n same is. (c.write_reply_seen.ensures.ok, is)) e.reads))
+    (reported a b (record { held = refl; faults = refl; code = e.code; room = e.reads.room; later = e.reads.later }) e.core (λ m. y) (TellReply ticket) wrote (λ m. (refl, refl))
+    (read_as a b P seen (λ m n. OnOk wrote (b.waiting ≡ a.waiting ++ report_text a.code y) × IsReport a.code (state_at a m) (state_at b n) y) (λ m n same is. (c.write_reply_seen.ensures.ok, is)) e.reads))
 
 pub returns-in-Err-Failed : goal.returns-in-Err-Failed
 returns-in-Err-Failed g c = λ held faults.
@@ -27,8 +27,8 @@ returns-in-Err-Failed g c = λ held faults.
     let P = λ (m : Rows) (x : ReplySeen). x ≡ reply_seen a.core.newest ticket m in
     let y = ReplyIs ticket None in
     subst (λ r. Does (TellReply ticket ∷ []) a b r) (sym c.appended.ensures)
-    (reported a b (record { held = refl; faults = refl; code = e.code; room = e.reads.room; later = e.reads.later }) e.core (λ m. y) (TellReply ticket) wrote (λ m. refl)
-    (read_failed a b P f.field-0 (λ m n. OnOk wrote (b.waiting ≡ a.waiting ++ report_text y) × IsReport a.code (state_at a m) (state_at b n) y) (λ m n. (c.push_text.ensures.ok, (e.reads.failed (ap Err f.field-0-is), e.issued))) e.reads))
+    (reported a b (record { held = refl; faults = refl; code = e.code; room = e.reads.room; later = e.reads.later }) e.core (λ m. y) (TellReply ticket) wrote (λ m. (refl, refl))
+    (read_failed a b P f.field-0 (λ m n. OnOk wrote (b.waiting ≡ a.waiting ++ report_text a.code y) × IsReport a.code (state_at a m) (state_at b n) y) (λ m n. (c.push_text.ensures.ok, (e.reads.failed (ap Err f.field-0-is), e.issued))) e.reads))
 
 pub returns-in-Err-OutOfMemory : goal.returns-in-Err-OutOfMemory
 returns-in-Err-OutOfMemory g c = λ held faults.
