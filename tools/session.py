@@ -1,5 +1,7 @@
 """What a source, and the text that `beldi run` wrote of it, say of the session: its events, runs, instances and entries."""
+import os
 import re
+import sys
 
 TOKEN = re.compile(r'\s+|#[^\n]*|"(?:[^"\\\n]|\\.)*"|\w+|==|!=|<=|>=|\+\+|.')
 OPERATORS = {"or", "and", "+", "-", "++", "*", "/", "%", "==", "!=", "<", "<=", ">", ">="}
@@ -8,6 +10,16 @@ ENTRY = re.compile(r"(start|read|step|tx|try) \d")
 ITEM = re.compile(r'\w+ \w+ "')
 # A body with more ways through it than this is not followed: then its callees are known only where a line names them.
 MOST_PATHS = 5000
+
+
+def until_closed(main, *words):
+    """Runs a tool; that who reads its output has closed it ends it without a word."""
+    try:
+        main(*words)
+        sys.stdout.flush()
+    except BrokenPipeError:
+        os.dup2(os.open(os.devnull, os.O_WRONLY), sys.stdout.fileno())
+        sys.exit(1)
 
 
 class Source:
