@@ -1,10 +1,14 @@
 mod Answers
 mod Comes
 mod Cuts
+mod Forms
 mod Moves
 mod Names
+mod One
 mod Paths
+mod Questions
 mod Replies
 mod Responses
 mod Scans
+mod Seeks
 mod Whole

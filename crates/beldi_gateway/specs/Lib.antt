@@ -1,5 +1,6 @@
 pub mod Exchange
 pub mod Framing
+pub mod Laws
 pub mod Response
 pub mod Route
 pub mod Scan
