@@ -1,3 +1,4 @@
+pub mod Formed
 pub mod Lines
 pub mod Names
 pub mod Parted

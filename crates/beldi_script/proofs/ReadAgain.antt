@@ -11,10 +11,10 @@ use Rattle.beldi_script.specs.Words.{is_word, name_at, small_at, collector_at, c
 use Rattle.beldi_script.{specs.declared.line.Line.Line, proofs.Parted.Parts, proofs.Parted.parts, proofs.Parted.no_space, proofs.Parted.number_unspaced, proofs.Parted.id_unspaced}
 
 -- ---- numbers
-small_read : (n : ℕ) → n < 2 ^ 32 → small_at (decimal n) ≡ Some n
+pub small_read : (n : ℕ) → n < 2 ^ 32 → small_at (decimal n) ≡ Some n
 small_read n h = numeral_of (2 ^ 32 - 1) n (omega arith) (omega arith)
 
-collector_read : (k : ℕ) → k ≤ 7 → collector_at (decimal k) ≡ Some k
+pub collector_read : (k : ℕ) → k ≤ 7 → collector_at (decimal k) ≡ Some k
 collector_read k h = numeral_of 7 k (omega arith) h
 
 count_read : (most n : ℕ) → most < 2 ^ 64 → 0 < n → n ≤ most → count_at most (decimal n) ≡ Some n
@@ -22,13 +22,13 @@ count_read most n fits some small =
     let other : (n == 0) ≡ false = grind (arith, nat_tests) in
     ap (λ o. option_and_then (λ m. if m == 0 then None else Some m) o) (numeral_of most n (omega arith) small) ∙ ap (λ t. if t then None else Some n) other
 
-times_read : (n : ℕ) → IsTimes n → count_at 1000 (decimal n) ≡ Some n
+pub times_read : (n : ℕ) → IsTimes n → count_at 1000 (decimal n) ≡ Some n
 times_read n h = count_read 1000 n (omega arith) h.0 h.1
 
-budget_read : (n : ℕ) → IsBudget n → budget_at (decimal n) ≡ Some n
+pub budget_read : (n : ℕ) → IsBudget n → budget_at (decimal n) ≡ Some n
 budget_read n h = count_read 4000000000 n (omega arith) h.0 h.1
 
-number_parts : (n : ℕ) (rest : List ℕ) → n < 2 ^ 64 → Parts 32 (decimal n) rest
+pub number_parts : (n : ℕ) (rest : List ℕ) → n < 2 ^ 64 → Parts 32 (decimal n) rest
 number_parts n rest h = parts 32 (decimal n) rest (number_unspaced n h)
 
 -- a number, and how often
@@ -42,7 +42,7 @@ gc_read k times h t =
     let p = number_parts k (decimal times) (omega arith) in
     rw p.front (rw p.back (rw (collector_read k h) (rw (times_read times t) refl)))
 
-sweep_read : (k budget : ℕ) → k ≤ 7 → IsBudget budget → sweep_at (decimal k ++ 32 ∷ decimal budget) ≡ Some (Sweep k budget)
+pub sweep_read : (k budget : ℕ) → k ≤ 7 → IsBudget budget → sweep_at (decimal k ++ 32 ∷ decimal budget) ≡ Some (Sweep k budget)
 sweep_read k budget h b =
     let p = number_parts k (decimal budget) (omega arith) in
     rw p.back (rw p.front (rw (collector_read k h) (rw (budget_read budget b) refl)))
@@ -80,7 +80,7 @@ record Named (code : Deployment) (n : ℕ) (name : List ℕ) : Type 0 where
   unspaced : after 32 name ≡ None
   found : func_named code.funcs name ≡ Ok n
 
-word_unspaced : (w : List ℕ) → IsTrue (is_word w) → after 32 w ≡ None
+pub word_unspaced : (w : List ℕ) → IsTrue (is_word w) → after 32 w ≡ None
 word_unspaced [] h = refl
 word_unspaced (b ∷ bs) h = let p = and_parts _ _ h in no_space (b ∷ bs) p.0
 

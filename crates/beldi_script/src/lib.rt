@@ -2,11 +2,12 @@
 //! It stands on `beldi_value` (numbers, ids and values) and `beldi_check` (a deployment that was checked, whose functions a line
 //! can name).
 //! Its definitions: `specs/Cut` (a text cut into lines), `specs/Words` (the words of a line, and the lines of numbers),
-//! `specs/Line` (what a line says, or why it is refused) and `specs/Text` (the text of a line, and that it is read again).
+//! `specs/Line` (what a line says, or why it is refused), `specs/Forms` (the forms in which lines are written) and `specs/Text` (the
+//! text of a line, and that it is read again).
 //!
 //! Proved:
 //! - `read_line` reads just the lines that have one of the forms, and tells the first cause in its order why a line
-//!   has none (`Reads (line_at ..)`).
+//!   has none (`Reads (line_at ..)`). A text is read as a line just where it has one of the line's forms (`lines_have_forms`).
 //! - `write_line` writes a line (`ok`, `err`), and where the names of the functions are words and differ, a line that
 //!   was written, within the limits of its form, is read as it was (`line_is_read_again`).
 //! - `cut_line` takes the first line off a text that is not empty (`lines`, `shorter`); lines without newlines in
@@ -16,7 +17,8 @@
 //! Files:
 //! - Code (`src/`): `cut` lines; `words` the words of a line; `reading`, `writing` what a line says, and its text; `line`;
 //!   `laws`.
-//! - Lemmas (`proofs/`): `Lines`, `Parted`, `Names`; `ReadAgain` a line that was written.
+//! - Lemmas (`proofs/`): `Lines`, `Parted`, `Names`; `ReadAgain` a line that was written; `Formed` the
+//!   forms, both ways.
 #![tactic(auto)]
 
 mod cut;
@@ -27,7 +29,7 @@ mod words;
 mod writing;
 
 pub use cut::cut_line;
-pub use laws::{line_is_read_again, lines_are_cut};
+pub use laws::{line_is_read_again, lines_are_cut, lines_have_forms};
 pub use line::{Line, ScriptErr};
 pub use reading::read_line;
 pub use writing::write_line;
