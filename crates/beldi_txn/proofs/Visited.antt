@@ -9,7 +9,7 @@ is_owned true s h = ap is_none h
 is_owned false s h = ap is_none h
 
 -- what is at the one key, and at the others
-by_key : (q k : RowKey) (P : Type 0) → (q ≡ k → P) → (is_eq (key_cmp q k) ≡ false → P) → P
+pub by_key : (q k : RowKey) (P : Type 0) → (q ≡ k → P) → (is_eq (key_cmp q k) ≡ false → P) → P
 by_key q k P same apart = (elim (is_eq (key_cmp q k)) as (λ b. is_eq (key_cmp q k) ≡ b → P) [
   | true ↦ λ e. same (key_same q k e)
   | false ↦ λ e. apart e
@@ -33,10 +33,10 @@ was_called (Some r) f h = refl
 
 -- calls at rows with the same of them
 module _ (m n : Rows) (same : (p : Member) (s : ℕ) → map.get n (call_key p.1 p.0 s) ≡ map.get m (call_key p.1 p.0 s)) where
-  call_kept : (p : Member) (c : Called) → IsCall m p c → IsCall n p c
+  pub call_kept : (p : Member) (c : Called) → IsCall m p c → IsCall n p c
   call_kept p c k = (k.0, ap (option_map func_called) (same p c.step) ∙ k.1)
 
-  way_kept : (p : Member) (cs : List Called) → IsWay m p cs → IsWay n p cs
+  pub way_kept : (p : Member) (cs : List Called) → IsWay m p cs → IsWay n p cs
   way_kept p [] w = tt
   way_kept p (c ∷ cs) w = (call_kept p c w.0, way_kept (callee_of p c) cs w.1)
 
@@ -171,7 +171,7 @@ stamp_leaves now (Some (Row.Intent i)) = by i.finish refl
     by (Some t) is = inl (refl, ap is_some is)
 stamp_leaves now r = inl (refl, refl)
 
-closed_by : (r s : Option Row) → Stamps r s → row_closed s ≡ true
+pub closed_by : (r s : Option Row) → Stamps r s → row_closed s ≡ true
 closed_by r s (inl h) = ap row_closed h.0 ∙ h.1
 closed_by r s (inr h) = ap row_closed h.now
 

@@ -11,7 +11,7 @@ use Rattle.beldi_lock.specs.{Lock.lockset_key, Lockset.AreHops, Lockset.AreFit}
 use Rattle.beldi_readlog.specs.ReadLog.{log_key}
 use Rattle.beldi_intent.specs.Intent.{intent_key}
 use Rattle.beldi_txn.specs.End.{begin_place, visited_by, free_place, first_end, walk_asks, walk_next, walk_says}
-use Rattle.beldi_txn.specs.{declared.way.Called.Called, Invokes.call_key, Invokes.func_called, Way.Member, Way.callee_of, Way.is_owner, declared.end.EndAt.EndAt, declared.end.EndAt.TheVariants.Decide, declared.end.EndAt.TheVariants.Callees, declared.end.EndAt.TheVariants.Next, declared.end.EndAt.TheVariants.Shadow, declared.end.EndAt.TheVariants.Free, declared.end.EndAt.TheVariants.Stamp, declared.end.EndSays.EndSays, declared.end_walk.EndWalk.EndWalk, TxTurn.key_asked, TxTurn.shadow_value}
+use Rattle.beldi_txn.specs.{declared.way.Called.Called, Invokes.call_key, Invokes.func_called, Way.Member, Way.callee_of, Way.is_owner, declared.end.EndAt.EndAt, declared.end.EndAt.TheVariants.Decide, declared.end.EndAt.TheVariants.Callees, declared.end.EndAt.TheVariants.Next, declared.end.EndAt.TheVariants.Shadow, declared.end.EndAt.TheVariants.Free, declared.end.EndAt.TheVariants.Stamp, declared.end.EndSays.EndSays, declared.end.Visit.Visit, declared.end_walk.EndWalk.EndWalk, TxTurn.key_asked, TxTurn.shadow_value}
 
 -- ---- the rows: the decision, and by its table and key an item of a function, the transaction's shadow of it, and that a member asked
 -- for its lock
@@ -246,3 +246,7 @@ VisitsStand = (w : EndWalk) (m n : Rows) → Visited w m → Leaves w m n → Vi
 -- closed has given back all
 abbrev pub VisitsBegin : Type 0
 VisitsBegin = (tx : TxId) (end : ℕ) (commit : Bool) (m : Rows) → let w = first_end tx end commit in AreReleased w m → AreMarked w m → AreSound w m → Visited w m
+
+-- a turn of another walk of the same end, wherever that walk stands, is among what an end bears
+abbrev pub OtherWalksLeave : Type 0
+OtherWalksLeave = (w x : EndWalk) (v : Visit) (m n : Rows) (s : EndSays) → EndTurn (record w { visit = v }) x m n s → Leaves w m n

@@ -1,7 +1,7 @@
 // The laws of the walks, and of their queries.
 ghost use Rattle.beldi_txn.specs.Invokes.{CallsFollow};
 ghost use Rattle.beldi_txn.specs.TxTurn.{OperationsAreSo, OperationsBegin};
-ghost use Rattle.beldi_txn.specs.Visited.{EndsAreVisits, VisitsBegin, VisitsStand};
+ghost use Rattle.beldi_txn.specs.Visited.{EndsAreVisits, OtherWalksLeave, VisitsBegin, VisitsStand};
 
 /// A turn of an operation of a transaction leaves every row but the one that it asks for. The item changes only by the lock, and the
 /// transaction's copy of it only by this operation, or by its first row; what is answered is so of the rows. Past its lock the
@@ -38,4 +38,9 @@ pub fn a_visit_stands()
 /// An end begins where the law of its turns (`an_end_is_a_visit`) lets it stand.
 pub fn a_visit_begins()
     ensures { VisitsBegin }
+{}
+
+/// A turn of another walk of the same end is among what an end bears (`a_visit_stands`): so two walks may end one transaction side by side.
+pub fn another_walk_leaves_the_end()
+    ensures { OtherWalksLeave }
 {}
