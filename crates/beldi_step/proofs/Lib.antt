@@ -1,4 +1,6 @@
+pub mod Given
 mod Inside
 pub mod Late
 pub mod PutRun
+pub mod Runs
 pub mod Steps

@@ -1,3 +1,4 @@
+pub mod Deadlines
 pub mod Host
 pub mod Inside
 pub mod Laws

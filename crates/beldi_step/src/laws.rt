@@ -1,5 +1,6 @@
-// What one step of the host says over rows that are told, over any table, and past a deadline; and what runs say that were called in a
+// What one step of the host says over rows that are told, over any table, and of deadlines; and what runs say that were called in a
 // transaction.
+ghost use Rattle.beldi_step.specs.Deadlines.{CalledRunsHaveTheirCallersDeadline, KeepsSoon, NoRunIsPastALife, RunsKeepTheirDeadline};
 ghost use Rattle.beldi_step.specs.Inside.{StaysInherited, BeginsInside, MakesNoEntry};
 ghost use Rattle.beldi_step.specs.Laws.{StepsOverRows, StepsOverAnyTable, ExpiresPastDeadline};
 
@@ -17,6 +18,27 @@ pub fn a_step_over_any_table()
 /// No run acts past its deadline: an event of a run that is past it makes no call of the table, and the run is over.
 pub fn a_run_expires_past_its_deadline()
     ensures { ExpiresPastDeadline }
+{}
+
+/// A run that a turn starts, for a call or for one that nobody waits for, has the deadline of the run whose turn it is. One that is
+/// started otherwise, by a request, a restart or the intent collector, may act for a life from then on.
+pub fn a_called_run_has_its_callers_deadline()
+    ensures { CalledRunsHaveTheirCallersDeadline }
+{}
+
+/// A run that was live before an event has the deadline that it had.
+pub fn a_run_keeps_its_deadline()
+    ensures { RunsKeepTheirDeadline }
+{}
+
+/// No deadline comes to be more than a life ahead, whatever the table holds.
+pub fn an_event_keeps_deadlines_soon()
+    ensures { KeepsSoon }
+{}
+
+/// Of a host that began without runs, no live run is past a life from now, whatever came.
+pub fn no_live_run_is_past_a_life_from_now()
+    ensures { NoRunIsPastALife }
 {}
 
 /// What was called in a transaction is in it after each answer, but for that to a begin or an end, which no body wants that is called

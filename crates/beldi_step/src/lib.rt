@@ -1,7 +1,7 @@
 //! The step of the host as definitions: events, their answers, the runs of instances, and what one event does. Nothing here touches a
 //! table. Its definitions: `specs/Run` (what a run asks in its next turn, and where it goes after what it was told),
 //! `specs/Host` (the host without its table, what an event asks, what follows, and what one event does), `specs/Laws` (the same over rows
-//! that are told, and over any table), `specs/Inside` (a run that was called in a transaction), `specs/Told` (what an event and its
+//! that are told, and over any table), `specs/Deadlines` (which deadlines runs are given), `specs/Inside` (a run that was called in a transaction), `specs/Told` (what an event and its
 //! answer tell), `specs/Noted` (the answer that a note stands for) and `specs/Tables` (the listing of the rows). `beldi_stage` and `beldi_turn` carry out what a run does, and `beldi_core` what an event does.
 //!
 //! Proved:
@@ -13,10 +13,15 @@
 //!   or a return (`a_run_begins_inside`), and makes no entry (`a_run_inside_makes_no_entry`): the words of these laws are in
 //!   `specs/Inside`.
 //! - No run acts past its deadline: an event of it is answered at once, and ends it (`a_run_expires_past_its_deadline`).
+//! - A run that a call started has the deadline of its caller, and any other one a life from its start on
+//!   (`a_called_run_has_its_callers_deadline`). It keeps that deadline (`a_run_keeps_its_deadline`), and none is more than a life
+//!   ahead, whatever came and whatever the table holds (`an_event_keeps_deadlines_soon`, `no_live_run_is_past_a_life_from_now`): the
+//!   words of these laws are in `specs/Deadlines`.
 //!
 //! Files:
 //! - Code (`src/`): `event` events and answers; `run` the runs of instances, as data; `laws`.
-//! - Lemmas (`proofs/`): `Steps` both; `Late` no run acts past its deadline; `Inside`; `PutRun` a map of runs.
+//! - Lemmas (`proofs/`): `Steps` both; `Late` no run acts past its deadline; `Runs` the live runs after an event,
+//!   `Given` which deadlines they have; `Inside`; `PutRun` a map of runs.
 #![tactic(auto)]
 
 mod event;
@@ -25,7 +30,9 @@ mod run;
 
 pub use event::{Event, Seen};
 pub use laws::{
-    a_run_begins_inside, a_run_expires_past_its_deadline, a_run_inside_makes_no_entry,
-    a_run_stays_in_its_transaction, a_step_over_any_table, a_step_over_rows,
+    a_called_run_has_its_callers_deadline, a_run_begins_inside, a_run_expires_past_its_deadline,
+    a_run_inside_makes_no_entry, a_run_keeps_its_deadline, a_run_stays_in_its_transaction,
+    a_step_over_any_table, a_step_over_rows, an_event_keeps_deadlines_soon,
+    no_live_run_is_past_a_life_from_now,
 };
 pub use run::{Begun, Mark, OpenTx, Run, RunAt, RunTx, Says, Stage, TurnSays, Wait};
