@@ -1,5 +1,5 @@
 -- The acts at the front that answer an operation inside, or die, or decide.
-use Rattle.beldi_known.proofs.Names.{Answer, AnswersOne, Bool, CallMatches, Content, Deployment, Effect, Instance, Intent, IntentId, IntentMatches, Item, ItemMatches, Kind, Known, List, LockedOut, LocksetMatches, LogMatches, None, Note, Option, Owner, Place, Row, RowMatches, ShadowMatches, Some, TxId, Txs, TxsMatch, Value, [], ahead_by, and_right, ap, arith, asks_lock, commit_in, effect_after, effect_of, ended_at, ended_by, ends_kept, eq-eqb, eqb-true, false, false_from_ne_true, fits, has_ended, has_no_hops, held_if, holds, id_cmp, if◌then◌else◌, is_aborted, is_decided, is_eq, is_item, is_mark, is_none, is_open, is_some, item_cmp, item_total, key_cmp, key_self, last_step, length, lock_note, lockset_ahead, log_key, not, note_at, note_by, note_or, note_pushed, op_of, owed_lockset, owed_note, owed_read, owed_shadow, owed_value, place_eq, place_of, place_same, refl, row_added, row_at, shadow_by, subst, sym, tied_itself, touched, true, tx_after, tx_end, tx_now, txs_after, txs_by, with_note, ℕ, ◌&&◌, ◌++◌, ◌==◌, ◌||◌, ◌∙◌, ◌∷◌, ◌≡◌}
+use Rattle.beldi_known.proofs.Names.{Answer, AnswersOne, Bool, CallMatches, Content, Deployment, Effect, Instance, IntentId, IntentMatches, Item, ItemMatches, Kind, Known, List, LockedOut, LocksetMatches, LogMatches, None, Note, Option, Owner, Place, Row, RowMatches, ShadowMatches, Some, TxId, Txs, TxsMatch, Value, [], ahead_by, and_right, ap, arith, asks_lock, commit_in, effect_after, effect_of, ended_at, ended_by, ends_kept, eq-eqb, eqb-true, false, false_from_ne_true, fits, has_ended, has_no_hops, held_if, holds, id_cmp, if◌then◌else◌, is_aborted, is_decided, is_eq, is_item, is_mark, is_none, is_open, is_some, item_cmp, item_total, key_cmp, key_self, last_step, length, lock_note, lockset_ahead, log_key, not, note_at, note_by, note_or, note_pushed, op_of, owed_lockset, owed_note, owed_read, owed_shadow, owed_value, place_eq, place_of, place_same, refl, row_added, row_at, shadow_by, subst, sym, tied_itself, touched, true, tx_after, tx_end, tx_now, txs_after, txs_by, with_note, ℕ, ◌&&◌, ◌++◌, ◌==◌, ◌||◌, ◌∙◌, ◌∷◌, ◌≡◌}
 use Rattle.beldi_known.proofs.FrameAt.{known_set, no_place, read_one, shadow_one, lockset_one, holds_one, note_one, got_same, or_no, calls_same, item_alike, txs_alike, lockset_by, decided_alike, mark_alike, ahead_alike}
 use Rattle.beldi_known.proofs.{Answers.true_false, Instances.EndMore, Instances.intent_stays, Instances.intent_same, Frame.step_next, Frame.or_false, Cases.if_is, Cases.if_same, Cases.by_option}
 use Rattle.beldi_known.proofs.Names.map

@@ -2,7 +2,7 @@
 -- waits for the next.
 use Rattle.std.specs.Prelude.{is_some}
 use Rattle.beldi_plain.specs.{Moves.moved, Moves.Leads, Piece.is_owner}
-use Rattle.beldi_known.proofs.Names.{Answer, Answers, Beside, Bool, Calls, Deployment, Effect, FinMap, Going, InLine, Instance, IntentId, IsBelow, IsIn, Known, Line, List, Move, MoveIs, None, OpenTx, OpensAreOpen, PlainState, Returns, Sane, SaneWith, Some, TxId, Txs, Value, [], all_in, answer_at_once, answer_of, answered, answered_plainly, answers, ap, append-nil, append_assoc, arith, begins, begun_pushed, callee_of, calls, calls_at, child_of, child_same, cond, effect_of, ended, equal, false, get-insert, id_cmp, id_total, in_line, inl, inr, is_begin, is_edge, is_eq, last_hop, length, length-append, line_alike, line_moved, line_opened, long, longer, move_is, mover, new_member, next, none_below, not_longer, opened, or_own, outside_of, plainly_edge, refl, returned, returns, same_some, sane_with, subst, sym, tied_itself, top, true, tx_begun, tx_by, tx_now, txs_after, txs_by, txs_pushed, ℕ, ◌++◌, ◌<◌, ◌∙◌, ◌∷◌, ◌≡◌, ◌⊎◌}
+use Rattle.beldi_known.proofs.Names.{Answer, Answers, Beside, Bool, Calls, Deployment, Effect, FinMap, Going, InLine, Instance, IntentId, IsBelow, IsIn, Known, Line, List, Move, MoveIs, None, OpenTx, OpensAreOpen, PlainOwner, PlainState, Returns, Sane, SaneWith, Some, TxId, Txs, Value, [], all_in, answer_at_once, answer_of, answered, answered_plainly, answers, ap, append-nil, append_assoc, arith, begins, begun_pushed, callee_of, calls, calls_at, child_of, child_same, cond, effect_of, ended, equal, false, get-insert, id_cmp, id_total, in_line, inl, inr, is_begin, is_edge, is_eq, last_hop, length, length-append, line_alike, line_moved, line_opened, long, longer, move_is, mover, new_member, next, none_below, not_longer, opened, or_own, outside_of, plainly_edge, refl, returned, returns, same_some, sane_with, subst, sym, tied_itself, top, true, tx_begun, tx_by, tx_now, txs_after, txs_by, txs_pushed, ℕ, ◌++◌, ◌<◌, ◌∙◌, ◌∷◌, ◌≡◌, ◌⊎◌}
 use Rattle.beldi_known.proofs.{NoTx.begins_parts, Callers.called_below, OwnTx.own_intent, Participants.IsOpenOwner, Participants.open_owner, Cases.by_option, Cases.by_cases}
 use Rattle.beldi_known.proofs.Names.map
 use Rattle.beldi_known.proofs.Names.plain
@@ -263,16 +263,9 @@ module _ (d : Deployment) (p : PlainState) (known : Known) (sane : plain.Sane d 
   ]
 
 -- ---- the transaction of who can step inside is open
--- its owner, where the plain state has it: at its Begin
-pub record PlainOwner (d : Deployment) (p : PlainState) (s : TxId) : Type 0 where
-  pub owner : Instance
-  pub made : map.get p.made s.intent ≡ Some owner
-  pub begun : begins d owner ≡ true
-  pub is : s ≡ tx_begun s.intent owner
-
 module _ (d : Deployment) (p : PlainState) (known : Known) (plain_sane : plain.Sane d p) (sane : Sane d known) (beside : Beside d p known) (s : TxId) where
-  by_owner : IsOpenOwner d known s → PlainOwner d p s
-  by_owner o = by_option (map.get p.made s.intent) (λ gone. let k = beside.kept s.intent o.owner gone o.made in let clash = sym k.within ∙ o.outside in cc)
+  pub plain_owner_of : IsOpenOwner d known s → PlainOwner d p s
+  plain_owner_of o = by_option (map.get p.made s.intent) (λ gone. let k = beside.kept s.intent o.owner gone o.made in let clash = sym k.within ∙ o.outside in cc)
       (λ q made. by_begins q (begins d q) made refl)
     where
       by_begins : (q : Instance) (b : Bool) → map.get p.made s.intent ≡ Some q → begins d q ≡ b → PlainOwner d p s
@@ -284,7 +277,7 @@ module _ (d : Deployment) (p : PlainState) (known : Known) (plain_sane : plain.S
           record { owner = q; made = made; begun = b; is = λ k. record { intent = s.intent; begin = same_some (sym o.begun ∙ now.begun) k; func = (o.func_is ∙ now.func) k } }
 
   pub plain_owner : (i : IntentId) (z : Instance) → map.get known i ≡ Some z → z.outcome ≡ None → tx_now d i z ≡ Some s → PlainOwner d p s
-  plain_owner i z is none now = by_owner (open_owner d known sane i z s is none (no_begin (effect_of d z) (sane.closed i z is none)) now)
+  plain_owner i z is none now = plain_owner_of (open_owner d known sane i z s is none (no_begin (effect_of d z) (sane.closed i z is none)) now)
     where
       no_begin : (e : Effect) → answer_at_once i (length z.answers) e ≡ None → is_begin e ≡ false
       no_begin Effect.Begin h = cc

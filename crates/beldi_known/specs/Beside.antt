@@ -19,6 +19,13 @@ is_begin e = false
 abbrev pub begins : Deployment → Instance → Bool
 begins d q = is_none q.outcome && is_begin (effect_of d q)
 
+-- the plain state has the owner of a transaction at its Begin
+pub record PlainOwner (d : Deployment) (p : PlainState) (t : TxId) : Type 0 where
+  pub owner : Instance
+  pub made : map.get p.made t.intent ≡ Some owner
+  pub begun : begins d owner ≡ true
+  pub is : t ≡ tx_begun t.intent owner
+
 -- the transaction is open: its begin was answered, and these moves lead to what is known of all that are in it
 pub record OpenTx (d : Deployment) (p : PlainState) (known : Known) (id : IntentId) (q : Instance) : Type 0 where
   pub moves : List Move

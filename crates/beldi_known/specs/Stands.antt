@@ -1,20 +1,20 @@
 -- That rows stand for a plain state.
-use Rattle.std.specs.Prelude.{◌≡◌, ℕ, Bool, true, false, slice_get, Option, Some, None, option_and_then}
+use Rattle.std.specs.Prelude.{◌≡◌, ◌⊎◌, ℕ, Bool, true, false, slice_get, is_some, Option, Some, None, option_and_then}
 use Rattle.std.specs.Option.{option_map}
 use Rattle.std.specs.FinMap as map
-use Rattle.beldi_value.specs.{Id.root_of, declared.id.IntentId.IntentId, declared.outcome.Outcome.Outcome, declared.place.Place.Place, declared.place.TxId.TxId, declared.value.Value.Value}
+use Rattle.beldi_value.specs.{Id.root_of, declared.id.IntentId.IntentId, declared.outcome.Outcome.Outcome, declared.place.Owner.TheVariants.Intent, declared.place.Owner.TheVariants.Tx, declared.place.Place.Place, declared.place.TxId.TxId, declared.value.Value.Value}
 use Rattle.beldi_tree.specs.declared.deployment.Deployment.{Deployment}
 use Rattle.beldi_lang.specs.declared.effect.Effect.TheVariants.{Read, Write, CondWrite, Call, Async, Begin, End, Abort}
 use Rattle.beldi_lang.specs.{declared.effect.Answer.Answer, declared.effect.Answer.TheVariants.Done, declared.effect.Effect.Effect, Callee.answer_of}
-use Rattle.beldi_plain.specs.{Item.Item, Operation.OnItem, Operation.op_of, Operation.item_in, Plain.Instance, Plain.PlainState, Plain.value_at, Plain.effect_before}
+use Rattle.beldi_plain.specs.{Holds.holds, Item.Item, Operation.OnItem, Operation.op_of, Operation.item_in, Plain.Instance, Plain.PlainState, Plain.value_at, Plain.effect_before}
 use Rattle.beldi_order.specs.Txs.{tx_at}
 use Rattle.beldi_row.specs.{Key.RowKey, declared.notes.Note.Note, declared.notes.Note.TheVariants.Got, declared.notes.Note.TheVariants.Died, declared.row.Body.Body, declared.row.IntentRow.IntentRow, Log.note_at, Table.Rows, declared.key.Kind.Kind, declared.row.Row.Row}
 use Rattle.beldi_daal.specs.Content.{SoundAt}
 use Rattle.beldi_readlog.specs.ReadLog.{log_key, given}
 use Rattle.beldi_invokelog.specs.InvokeLog.{invoke_key, call_at, result_in}
-use Rattle.beldi_intent.specs.Intent.{root_key, is_ended}
+use Rattle.beldi_intent.specs.Intent.{intent_key, root_key, is_ended}
 use Rattle.beldi_step.specs.{Noted.noted_answer, Tables.decision_key, Tables.is_committed}
-use Rattle.beldi_known.specs.{Contents.content_of, Contents.shadow_key, Contents.shadow_of, Contents.IsSoundChain, Listed.listed}
+use Rattle.beldi_known.specs.{Beside.PlainOwner, Contents.content_of, Contents.is_owner, Contents.shadow_key, Contents.shadow_of, Contents.IsSoundChain, Listed.listed}
 
 -- ---- the answer that the rows hold
 -- the answer that an item's rows hold at a place, for an operation of a function on it
@@ -90,6 +90,16 @@ abbrev pub has_place : Rows → Option TxId → Bool
 has_place m None = true
 has_place m (Some t) = is_committed (map.get m (decision_key t))
 
+-- a transaction is open: the plain state has its owner at its Begin, and no decision is there
+pub record IsUndecided (d : Deployment) (m : Rows) (p : PlainState) (t : TxId) : Type 0 where
+  pub owner : PlainOwner d p t
+  pub undecided : map.get m (decision_key t) ≡ None
+
+-- it is decided, and its owner has not ended
+pub record IsGivingBack (m : Rows) (t : TxId) : Type 0 where
+  pub decided : is_some (map.get m (decision_key t)) ≡ true
+  pub owner : HasNotEnded m (intent_key t.intent t.func)
+
 pub record Stands (d : Deployment) (m : Rows) (p : PlainState) : Type 0 where
   -- each item is listed with its plain value
   pub items : (x : Item) → listed m x ≡ value_at p x
@@ -102,6 +112,10 @@ pub record Stands (d : Deployment) (m : Rows) (p : PlainState) : Type 0 where
       → (q : Instance) → map.get p.made id ≡ Some q → (n : ℕ) (a : Answer) → slice_get q.answers n ≡ Some a → held_answer m id q.func n (tx_at d id q n) (effect_before d q n) ≡ Some a
   -- each root without outcome has its row, which has not ended
   pub open_roots : (t : ℕ) (q : Instance) → map.get p.made (root_of t) ≡ Some q → q.outcome ≡ None → HasNotEnded m (root_key t)
+  -- an intent owns an item exactly where its instance holds the lock
+  pub locks : (x : Item) (j : IntentId) → is_owner (content_of m x).owner (Intent j) ≡ holds d x (map.get p.made j)
+  -- a transaction owns one only while it is open, or, once it is decided, until its owner ends
+  pub owned : (x : Item) (t : TxId) → (content_of m x).owner ≡ Some (Tx t) → IsUndecided d m p t ⊎ IsGivingBack m t
   -- each chain is sound, of items and of shadows
   pub sound : (x : Item) → IsSoundChain m x
   pub shadows : (t : TxId) (x : Item) → SoundAt (map.get m (shadow_key t x))

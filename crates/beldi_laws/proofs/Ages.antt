@@ -47,7 +47,7 @@ free_of t o = by_other (other_owner (Tx t) o)
     by_other u h g = grind arith
 
 -- ---- a Begin that has not ended is open still
-open_on : (d : Deployment) (q : Instance) (given rest : List Answer) (b : ℕ) → given ++ rest ≡ q.answers → end_of d q b ≡ None → (txs_after d q given).begun ≡ Some b → (txs_after d q q.answers).begun ≡ Some b
+pub open_on : (d : Deployment) (q : Instance) (given rest : List Answer) (b : ℕ) → given ++ rest ≡ q.answers → end_of d q b ≡ None → (txs_after d q given).begun ≡ Some b → (txs_after d q q.answers).begun ≡ Some b
 open_on d q given [] b all open_still begun = subst (λ ts. (txs_after d q ts).begun ≡ Some b) (sym (append-nil given) ∙ all) begun
 open_on d q given (a ∷ rest) b all open_still begun =
     open_on d q (given ++ a ∷ []) rest b (append_assoc given (a ∷ []) rest ∙ all) open_still (ap (λ (s : Txs). s.begun) (txs_pushed d q given a) ∙ by_effect (effect_after d q given) refl)

@@ -2,11 +2,11 @@
 -- decision is there.
 use Rattle.beldi_book.specs.declared.entry.Entry.TheVariants.{Tx}
 use Rattle.beldi_plain.specs.Piece.{opened}
-use Rattle.beldi_laws.proofs.Names.{Answer, Begun, Bool, ByTx, Core, Deployment, FellAt, Frame, Goes, Grows, Inside, Instance, Intent, IntentId, IsAbort, IsCommit, IsFree, IsFreePlace, IsOpen, IsTrue, Item, Known, Knows, List, Mark, Matches, None, OpenTx, Option, Own, OwnedAreUnmarked, Owner, OwnersCallNobody, ParticipantsHaveRows, Place, PlainState, PutRead, Right, Row, RowKey, Rows, Run, Sane, SaneInstance, Some, TookPart, TouchedIn, Touches, Try, TxId, Visit, Visited, [], aborts_are_tries, act, after, ahead_set, answered, ap, arith, at_calls, behind_decided, commits_are_pieces, cond, content_of, decide_by_says, decided, decided_by, decided_says, decision_key, effect_after, effect_of, end_by_asks, end_mark, end_of, end_walk, ended_by, ends_alone, entries_touch, entry_of, eq-eqb, false, few_answers, first_visit, fits, here, if◌then◌else◌, inl, inr, is_at, is_owner, is_some, key_self, known_none_after, known_set, last_answer, length, listed, log_key, moved, moved_one, no_decision, no_note, no_root, none_out, note_at, open_of, opens_are_open, or_null, own_tx, pieces_are_moves, pieces_touch_their_items, place_of, refl, root_key, row_got, same_some, sane_decided, seen_of, set_others, set_row, subst, sym, touched, true, turn_next, turned_by, tx_after, tx_begun, tx_end, txs_after, txs_by, unlocked_elsewhere, value_at, wants_answer, with_decision, with_instance, ℕ, ◌++◌, ◌<◌, ◌==◌, ◌∙◌, ◌∷◌, ◌≡◌, ◌⊎◌, Effect, EndGoes, Kind, Stage, Value}
-use Rattle.beldi_laws.proofs.Settling.{IsSettled, holders_set, latest_stays, marks_stay, one_answered, one_at_once, one_known, seated_set, seated_stays, settled_grown, short_set}
+use Rattle.beldi_laws.proofs.Names.{Answer, Begun, Bool, ByTx, Core, Deployment, FellAt, Frame, Goes, Grows, Inside, Instance, Intent, IntentId, IsAbort, IsCommit, IsFree, IsFreePlace, IsOpen, IsTrue, Item, Known, Knows, List, Mark, Matches, None, OpenTx, Option, Own, OwnedAreUnmarked, Owner, OwnersCallNobody, OwnersHaveNotEnded, ParticipantsHaveRows, Place, PlainState, PutRead, Right, Row, RowKey, Rows, Run, Sane, SaneInstance, Some, TookPart, TouchedIn, Touches, Try, TxId, Visit, Visited, [], aborts_are_tries, act, after, ahead_set, answered, ap, arith, at_calls, behind_decided, commits_are_pieces, cond, content_of, decide_by_says, decided, decided_by, decided_says, decision_key, effect_after, effect_of, end_by_asks, end_mark, end_of, end_walk, ended_by, ends_alone, entries_touch, entry_of, eq-eqb, false, few_answers, first_visit, fits, here, if◌then◌else◌, inl, inr, intent_key, is_at, is_owner, is_some, key_self, known_none_after, known_set, last_answer, length, listed, log_key, moved, moved_one, no_decision, no_note, no_root, none_out, note_at, open_of, opens_are_open, or_null, outcome_of, own_tx, pieces_are_moves, pieces_touch_their_items, place_of, refl, root_key, row_got, same_some, sane_decided, seen_of, set_others, set_row, subst, sym, touched, true, turn_next, turned_by, tx_after, tx_begun, tx_end, txs_after, txs_by, unlocked_elsewhere, value_at, wants_answer, with_decision, with_instance, ℕ, ◌++◌, ◌<◌, ◌==◌, ◌∙◌, ◌∷◌, ◌≡◌, ◌⊎◌, Effect, EndGoes, Kind, Stage, Value}
+use Rattle.beldi_laws.proofs.Settling.{IsSettled, holders_set, latest_stays, marks_stay, one_answered, one_at_once, one_known, seated_set, seated_stays, settled_grown, short_set, unended_stays}
 use Rattle.beldi_laws.proofs.Moves.{AfterAct, AfterQuery, AfterTurn, Entered, SameRoots, change_entered, still}
 use Rattle.beldi_laws.proofs.Turns.{at_steps, by_answer, enters_on, wanted_here, all_here, effect_next, not_over, sane_instance, stands_on, step_here}
-use Rattle.beldi_laws.proofs.{Fallen.cause_in, Fallen.cause_is, Closing.closed_rows, Frames.ValuesStay, Frames.frame_log, Frames.no_finish, Frames.nobody_set, Visits.at_part, Visits.visits_found, Grown.grown_moved, Grown.grows_moved, Keeping.as_it_was, OpenOf.open_begun, OpenOf.own_begin, Others.kept_by, Others.end_here, Shown.Settled, Shown.Shows, Shown.holds_here, Shown.settled, Shown.sound}
+use Rattle.beldi_laws.proofs.{Ages.owns_so, Owning.own_row, Fallen.cause_in, Fallen.cause_is, Closing.closed_rows, Frames.ValuesStay, Frames.frame_log, Frames.no_finish, Frames.nobody_set, Visits.at_part, Visits.visits_found, Grown.grown_moved, Grown.grows_moved, Keeping.as_it_was, OpenOf.open_begun, OpenOf.own_begin, Others.kept_by, Others.end_here, Shown.Settled, Shown.Shows, Shown.holds_here, Shown.settled, Shown.sound}
 use Rattle.beldi_laws.proofs.Names.map
 
 -- ---- small facts
@@ -101,6 +101,9 @@ module _ (d : Deployment) (c : Core) (m : Rows) (i : ℕ) (r : Run) (g : Begun) 
     unlocked : h.locked r.id ≡ false
     unlocked = unlocked_elsewhere d h.known h.locked h.locked_at_ends r.id k.instance k.made (ap touched now)
 
+    no_outcome : k.instance.outcome ≡ None
+    no_outcome = not_over h k left (subst (λ e. IsTrue (wants_answer e)) (sym is) refl)
+
     -- the rows after it, and what is known then
     abbrev n : Rows
     n = set_row m key row
@@ -159,6 +162,22 @@ module _ (d : Deployment) (c : Core) (m : Rows) (i : ℕ) (r : Run) (g : Begun) 
         still_none : map.get h.known i ≡ None → map.get next i ≡ None
         still_none none = known_set h.known r.id over (λ j u. map.get h.known j ≡ None → u ≡ None) (λ gone. let clash = sym k.made ∙ gone in cc) (λ j other gone. gone) i none
 
+    -- .. and its owner has its row, and no outcome
+    unended_now : OwnersHaveNotEnded d m next
+    unended_now t z x e owned = elim (end_cases t z e) [
+      | inl mine ↦ (own_there mine.0, still_open (ap (λ j. outcome_of (map.get h.known j)) mine.0 ∙ ap outcome_of k.made ∙ no_outcome))
+      | inr was ↦ let u = h.unended t z x was owned in (u.0, still_open u.1)
+    ]
+      where
+        own_there : t.intent ≡ r.id → is_some (map.get m (intent_key t.intent t.func)) ≡ true
+        own_there mine =
+            let w = owns_so d m h.known h.locked h.rows h.sane t x owned in
+            let func : t.func ≡ r.func = w.func_is ∙ ap (λ (y : Instance). y.func) (same_some (sym w.made ∙ ap (map.get h.known) mine ∙ k.made)) ∙ k.func in
+            (λ i. is_some (map.get m (intent_key (mine i) (func i)))) ∙ own_row d m h.known h.locked h.rows r.id k.instance k.made r.func finds.row
+
+        still_open : outcome_of (map.get h.known t.intent) ≡ None → outcome_of (map.get next t.intent) ≡ None
+        still_open = known_set h.known r.id over (λ j u. outcome_of (map.get h.known j) ≡ None → outcome_of u ≡ None) (λ none. (moved_one d r.id k.instance Answer.Done).outcome ∙ no_outcome) (λ j other none. none) t.intent
+
     rows_now : Matches d n next h.locked
     rows_now = subst (λ z. Matches d (set_row m z row) next h.locked) own_key
         (decided d h.known h.locked r.id k.instance over Answer.Done k.made (moved_one d r.id k.instance Answer.Done) unlocked commit now o.begin begun_now
@@ -169,7 +188,7 @@ module _ (d : Deployment) (c : Core) (m : Rows) (i : ℕ) (r : Run) (g : Begun) 
 
     -- ---- its transaction is open
     opened_tx : IsOpen d m h.plain h.known h.locked own
-    opened_tx = opens_are_open d m h.plain h.known h.locked r.id k.instance own (sound h) k.made (not_over h k left (subst (λ e. IsTrue (wants_answer e)) (sym is) refl)) (subst (λ ts. tx_after d r.id k.instance ts ≡ Some own) all inside_here)
+    opened_tx = opens_are_open d m h.plain h.known h.locked r.id k.instance own (sound h) k.made no_outcome (subst (λ ts. tx_after d r.id k.instance ts ≡ Some own) all inside_here)
 
     begun_so : (q : Instance) → map.get h.plain.made r.id ≡ Some q → tx_begun r.id q ≡ own
     begun_so q made = ap (tx_begun r.id) (same_some (sym made ∙ opened_tx.made)) ∙ sym opened_tx.is
@@ -266,6 +285,7 @@ module _ (d : Deployment) (c : Core) (m : Rows) (i : ℕ) (r : Run) (g : Begun) 
         settled_now = record {
           marks = marks_stay d m n h.plain state h.known next frame marks_now;
           latest = latest_stays d m n h.plain state h.known next frame latest_now;
+          unended = unended_stays d m n h.plain state h.known next frame unended_now;
           holders = holders_set d m state h.known r.id over over_so settled_before;
           seated = seated_now;
           released = closed_rows d c m h n state next h.locked rows_now sane_now grows frame seated_now (no_finish m n key (set_others m key row) d next refl);

@@ -1,6 +1,5 @@
 -- Every event keeps the host and its rows right.
 use borrow.Author.Tests.{lt-ltb}
-use Rattle.beldi_lang.specs.declared.effect.Effect.TheVariants.{Lock}
 use Rattle.beldi_collect.specs.declared.cursor.Found.{Found}
 use Rattle.beldi_step.specs.Host.{at_once}
 use Rattle.beldi_laws.proofs.Names.{AllocError, Async, AtStage, Begins, Begun, Bind, Body, BodyMatches, Bool, Call, Caller, CameOn, CondWrite, Core, Crash, Deployment, Effect, End, Err, Event, EventBy, EventOn, Fits, Followed, Full, Ic, InItem, Inside, Instance, IntentId, IntentMatches, IntentRow, IsBelow, IsRootRow, IsTrue, Issue, KeepsRight, Known, Knows, KnowsAt, Looks, Lost, None, Ok, OnItem, Option, OutOfMemory, Outcome, Own, PlainState, Plan, Query, Read, Registers, RepliesAreOutcomes, Request, Restart, Result, Return, Right, RightIsLegal, Row, RowKey, Rows, Run, RunAt, RunTx, Seen, Some, Stage, Start, TableErr, Tell, Tick, Ticket, Told, Turn, TxAt, TxId, Value, Write, WriteAt, [], act, after_act, ahead_nothing, ahead_set, and-false, ap, arith, asks, asks_at, at_once_same, back_of, back_says, back_to_asks, bind_asks, bind_to, binding_of, bound_next, collect_asks, collect_next, collect_says, cond, content_in, count_changes, counted, crash_plan, ended_by, ended_run, false, first_core, func_called, get-empty, got, grows_new, grows_self, has_ended, has_finish, has_run, head_key, heard, id_cmp, id_same, id_total, if◌then◌else◌, is_added, is_begin, is_crowded, is_eq, is_gone, is_some, is_waited, item_cmp, key_cmp, last_moment, launched, le-leb, least_key, leb-false, len-empty, lends, length, length-append, listed_under, lt-leb, most_events, most_runs, nat_cmp, nat_le, nat_lt, nat_tests, new_instance, new_run, no_memory, none_out, none_show, nothing, nothing_matches, op_of, option_map, or_null, or_parts, other, outcome_of, outcome_tell, passed, plan, plan_of, refl, refused, refused_by, refused_stand, reply_of, request_next, root_apart, root_bound, root_key, root_of, row_put, rows_after, rows_stand, run_asks, run_next, run_plan, run_told, run_tx, same_some, same_value, sane_nothing, set_row, stage_asks, stage_says, start, subst, sym, ticket_next, tied_itself, told_at, told_by, told_outcome, touched, touched_by, true, true_false, turn_next, turned_by, tx_after, tx_of, unchanged, unheard_next, unlocked_absent, with_instance, with_once, with_run, ℕ, ◌&&◌, ◌++◌, ◌+◌, ◌-◌, ◌==◌, ◌^◌, ◌||◌, ◌∙◌, ◌∷◌, ◌≡◌, ◌≤◌}
@@ -330,6 +329,7 @@ begins d now = right_by {q = nothing} {next = map.empty} {locked = λ id. false}
       settled = record {
         marks = λ t z x a w is. let clash = sym (ap (ended_by d t.begin) (none_known t.intent)) ∙ is in cc;
         latest = λ t z x i is owned below. none_known i;
+        unended = λ t z x is. let clash = sym (ap (ended_by d t.begin) (none_known t.intent)) ∙ is in cc;
         holders = λ id q n c u is. let clash = sym (none_known id) ∙ is in cc;
         seated = λ id q t is. let clash = sym (none_known id) ∙ is in cc;
         released = λ t z is. let clash = sym (ap (ended_by d t.begin) (none_known t.intent)) ∙ is in cc;

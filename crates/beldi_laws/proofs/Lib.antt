@@ -4,45 +4,48 @@ mod Asyncs
 mod Beginnings
 mod Callings
 mod CallsHere
-mod Cases
+pub mod Cases
 mod Closing
 mod Committed
+mod Deaths
 mod Deciding
-mod Ended
+pub mod Ended
 mod Endings
 pub mod Events
 mod Fallen
-mod Frames
+mod FirstOutcomes
+pub mod Frames
 mod GivingBack
 mod Grown
-mod InTx
+pub mod InTx
 mod Keeping
 mod KeptSane
 pub mod Listing
 pub mod Lives
 mod Locking
-mod Members
+pub mod Members
 pub mod Moves
-mod Names
+pub mod Names
 pub mod OneAnswer
 pub mod OneEvent
-mod OpenOf
+pub mod OpenOf
 mod Operations
-mod Others
+pub mod Others
 pub mod Outside
 mod Owed
-mod Passing
+mod Owning
+pub mod Passing
 mod Readings
 mod Registered
 mod Released
-mod Returns
+pub mod Returns
 mod Settling
 mod Short
 mod Shown
 pub mod Standing
 pub mod Starts
-mod Turns
+pub mod Turns
 mod Visiting
 mod Visits
-mod Widths
-mod Working
+pub mod Widths
+pub mod Working

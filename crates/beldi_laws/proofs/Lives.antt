@@ -1,7 +1,7 @@
 -- Live runs, and what they know when the book has grown.
 use borrow.Author.Tests.{ltb-true}
 use Rattle.std.proofs.Common.{◌-◌}
-use Rattle.beldi_laws.proofs.Names.{Answer, Begins, Begun, Body, Bool, Caller, Deployment, Entry, Equal-is, FinMap, Grown, GrownAt, Grows, Inside, Instance, IntentId, IsAt, IsBodyOf, IsKeptLate, IsLast, IsTrue, Item, Keeps, Known, Knows, KnowsAt, List, Looks, Machine, None, Option, PlainState, Read, Registers, Rows, Run, RunAt, RunTx, RunsMatch, Some, StandsAt, Value, WasThere, [], answered, ap, append-nil, append_assoc, arith, changed, changes_more, changes_of, cond, count_changes, elsewhere, false, get-insert, get-remove, here, is_eq, is_some, len-insert, len-remove, length, length-append, ltb-false, most_runs, moved, nat_cmp, nat_cmp-IsAntisymmetric, nat_cmp_total, nat_lt, open_of, put_got, put_run, refl, subst, sym, true, with_answer, ℕ, ◌++◌, ◌+◌, ◌<◌, ◌∙◌, ◌∷◌, ◌≡◌, ◌≤◌}
+use Rattle.beldi_laws.proofs.Names.{Answer, Begins, Begun, Body, Bool, Caller, Deployment, Entry, Equal-is, FinMap, Grown, GrownAt, Grows, Inside, Instance, IntentId, IsAt, IsBodyOf, IsKeptLate, IsLast, IsTrue, Item, Keeps, Known, Knows, KnowsAt, List, Looks, Machine, None, Option, PlainState, Registers, Rows, Run, RunAt, RunTx, RunsMatch, Some, StandsAt, Value, WasThere, [], answered, ap, append-nil, append_assoc, arith, changed, changes_more, changes_of, cond, count_changes, elsewhere, false, get-insert, get-remove, here, is_eq, is_some, len-insert, len-remove, length, length-append, ltb-false, most_runs, moved, nat_cmp, nat_cmp-IsAntisymmetric, nat_cmp_total, nat_lt, open_of, put_got, put_run, refl, subst, sym, true, with_answer, ℕ, ◌++◌, ◌+◌, ◌<◌, ◌∙◌, ◌∷◌, ◌≡◌, ◌≤◌}
 use Rattle.beldi_laws.proofs.{Grown.moved_longer, Outside.grown_there, Cases.by_option, Cases.false_by}
 use Rattle.beldi_laws.proofs.Names.map
 use Rattle.beldi_laws.proofs.Names.standing

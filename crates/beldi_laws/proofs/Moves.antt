@@ -93,6 +93,7 @@ right_by {q} {next} {locked} bounded legal guarded s tickets runs = record {
   marks = s.settled.marks;
   holders = s.settled.holders;
   latest = s.settled.latest;
+  unended = s.settled.unended;
   seated = s.settled.seated;
   released = s.settled.released;
   short = s.settled.short;

@@ -44,8 +44,8 @@ pub use Rattle.beldi_step.specs.declared.event.Event.TheVariants.{Crash, Ic, Los
 pub use Rattle.beldi_step.{specs.Told.bound_of, specs.Told.entries_told, specs.Told.is_dropped, specs.Told.is_lost, specs.Told.told_outcome, proofs.PutRun.put_got, proofs.PutRun.remove_put, specs.Noted.noted_answer, specs.Tables.line_at, specs.Tables.row_line, specs.Tables.shown_under, specs.Tables.tables_text, specs.Tables.value_line, specs.declared.event.Event.Event, specs.declared.event.Seen.Seen, specs.declared.run.Begun.Begun, specs.declared.run.Mark.Mark, specs.declared.run.OpenTx.OpenTx, specs.declared.run.Run.Run, specs.declared.run.RunAt.TheVariants.Begins, specs.declared.run.RunAt.TheVariants.Looks, specs.declared.run.RunAt.TheVariants.Registers, specs.declared.run.RunTx.RunTx, specs.declared.run.RunTx.TheVariants.Inherited, specs.declared.run.RunTx.TheVariants.Own, specs.declared.run.Says.Says, specs.declared.run.Says.TheVariants.Answers, specs.declared.run.Says.TheVariants.Ends, specs.declared.run.Says.TheVariants.On, specs.declared.run.Says.TheVariants.Opens, specs.declared.run.Says.TheVariants.Waits, specs.declared.run.Stage.Stage, specs.declared.run.TurnSays.TurnSays, specs.declared.run.Wait.Wait}
 pub use Rattle.beldi_step.specs.Run as step
 pub use Rattle.beldi_step.specs.declared.run.RunAt as standing
-pub use Rattle.beldi_known.specs.Stands.{HasNotEnded, IsMade, Stands, answer_aside, decides, has_place, held_answer, held_inside, held_note, held_outside, key_in, note_of_lock}
-pub use Rattle.beldi_known.{proofs.Ahead.ahead_front, proofs.Ahead.ahead_set, proofs.Ahead.none_out, proofs.Ahead.unlocked_absent, proofs.Ahead.unlocked_elsewhere, proofs.Ahead.unlocked_outside, proofs.Answers.get_next, proofs.Answers.take_front, proofs.Answers.true_false, proofs.AtOnce.origin_stays, proofs.Begins.aborts_inside, proofs.Begins.going_now, proofs.Begun.called_begun, proofs.Begun.got_begun, proofs.Begun.listed_open, proofs.Begun.undecided, proofs.Calls.call_opened, proofs.Calls.given_back, proofs.Calls.made_owes, proofs.Deaths.death_is_older, proofs.Decided.aborts_are_tries, proofs.Decided.commits_are_pieces, proofs.Decided.decision_row, proofs.Decided.release_lists, proofs.Decides.decided, proofs.Flows.stands, proofs.Frame.at_once_same, proofs.Frame.begins, proofs.Frame.moved_one, proofs.FrameAt.known_set, proofs.FrameAt.or_none, proofs.Goes.goes_then, proofs.Goes.once_goes, proofs.Goes.run_on_prefix, proofs.Instances.IsRowOf, proofs.Instances.no_own_callee, proofs.Instances.row_of, proofs.Intents.callee_put, proofs.Intents.intent_ended, proofs.Intents.root_bound, proofs.Lines.front_is, proofs.Lines.in_tx, proofs.Lines.opens_are_open, proofs.Lines.owner_is, proofs.Lines.plain_owner, proofs.Locks.is_its, proofs.Locks.tx_same, proofs.Locks.tx_self, proofs.NoTx.IsOutside, proofs.NoTx.begins_parts, proofs.NoTx.outside_parts, proofs.NoTx.outside_so, proofs.Nothing.ahead_nothing, proofs.Nothing.nothing_matches, proofs.Nothing.sane_nothing, proofs.Operations.does_so, proofs.Outside.call_answered, proofs.Outside.free_after, proofs.Outside.no_tx, proofs.Outside.operation_done, proofs.Outside.read_added, proofs.OwnTx.own, proofs.OwnTx.own as own_is, proofs.OwnTx.own_by, proofs.Owners.IsFreeFor, proofs.Owners.her_own, proofs.Owners.nobody_else, proofs.Owners.unbarred, proofs.Owners.unowned, proofs.Participants.IsOpenOwner, proofs.Participants.decided_over, proofs.Participants.ends_alone, proofs.Participants.now_open, proofs.Participants.open_owner, proofs.Phases.abort_ends, proofs.Phases.at, proofs.Phases.begin_is, proofs.Phases.end_is, proofs.Phases.inside_holds_none, proofs.Phases.inside_is, proofs.ReadLists.asked_for, proofs.ReadLists.asked_own, proofs.ReadLists.begun_lists, proofs.ReadLists.gathered, proofs.ReadLists.member_tx, proofs.ReadLists.no_begin, proofs.Sets.is_log as is_row_log, proofs.Sets.row_put, proofs.Shadows.none_show, proofs.Told.test_parts, proofs.Told.write_parts, proofs.Unaborted.returned_cause, specs.Acts.noted, specs.InsideLaws.IsOpen, specs.InsideLaws.decided as with_decision, specs.Known.at_once as with_once, specs.Known.lock_note as lock_owed, specs.Behind.IsBehind, specs.Rows.HasNoRow}
+pub use Rattle.beldi_known.specs.Stands.{HasNotEnded, IsGivingBack, IsMade, IsUndecided, Stands, answer_aside, decides, has_place, held_answer, held_inside, held_note, held_outside, key_in, note_of_lock}
+pub use Rattle.beldi_known.{proofs.Ahead.ahead_front, proofs.Ahead.ahead_set, proofs.Ahead.none_out, proofs.Ahead.unlocked_absent, proofs.Ahead.unlocked_elsewhere, proofs.Ahead.unlocked_outside, proofs.Answers.get_next, proofs.Answers.take_front, proofs.Answers.true_false, proofs.AtOnce.origin_stays, proofs.Begins.aborts_inside, proofs.Begins.going_now, proofs.Begun.called_begun, proofs.Begun.got_begun, proofs.Begun.listed_open, proofs.Begun.undecided, proofs.Calls.call_opened, proofs.Calls.given_back, proofs.Calls.made_owes, proofs.Deaths.death_is_older, proofs.Decided.aborts_are_tries, proofs.Decided.commits_are_pieces, proofs.Decided.decision_row, proofs.Decided.release_lists, proofs.Decides.decided, proofs.Flows.stands, proofs.Frame.at_once_same, proofs.Frame.begins, proofs.Frame.moved_one, proofs.FrameAt.known_set, proofs.FrameAt.or_none, proofs.Goes.goes_then, proofs.Goes.once_goes, proofs.Goes.run_on_prefix, proofs.Instances.IsRowOf, proofs.Instances.no_own_callee, proofs.Instances.row_of, proofs.Intents.callee_put, proofs.Intents.intent_ended, proofs.Intents.root_bound, proofs.Lines.front_is, proofs.Lines.in_tx, proofs.Lines.opens_are_open, proofs.Lines.owner_is, proofs.Lines.plain_owner, proofs.Lines.plain_owner_of, proofs.Locks.is_its, proofs.Locks.tx_same, proofs.Locks.tx_self, proofs.NoTx.IsOutside, proofs.NoTx.begins_parts, proofs.NoTx.outside_parts, proofs.NoTx.outside_so, proofs.Nothing.ahead_nothing, proofs.Nothing.nothing_matches, proofs.Nothing.sane_nothing, proofs.Operations.does_so, proofs.Outside.call_answered, proofs.Outside.free_after, proofs.Outside.no_tx, proofs.Outside.operation_done, proofs.Outside.read_added, proofs.OwnTx.own, proofs.OwnTx.own as own_is, proofs.OwnTx.own_by, proofs.Owners.IsFreeFor, proofs.Owners.her_own, proofs.Owners.nobody_else, proofs.Owners.unbarred, proofs.Owners.unowned, proofs.Participants.IsOpenOwner, proofs.Participants.decided_over, proofs.Participants.ends_alone, proofs.Participants.now_open, proofs.Participants.open_owner, proofs.Phases.abort_ends, proofs.Phases.at, proofs.Phases.begin_is, proofs.Phases.end_is, proofs.Phases.inside_holds_none, proofs.Phases.inside_is, proofs.ReadLists.asked_for, proofs.ReadLists.asked_own, proofs.ReadLists.begun_lists, proofs.ReadLists.gathered, proofs.ReadLists.member_tx, proofs.ReadLists.no_begin, proofs.Sets.is_log as is_row_log, proofs.Sets.row_put, proofs.Shadows.none_show, proofs.Told.test_parts, proofs.Told.write_parts, proofs.Unaborted.returned_cause, specs.Acts.noted, specs.InsideLaws.IsOpen, specs.InsideLaws.decided as with_decision, specs.Known.at_once as with_once, specs.Known.lock_note as lock_owed, specs.Behind.IsBehind, specs.Rows.HasNoRow}
 pub use Rattle.beldi_known.proofs.Names.{Answer, Async, Beside, Body, BodyMatches, Bool, Call, CallMatches, CalledBy, CalleeBodyMatches, CalleeMatches, Caller, Cause, CellOp, Content, Deployment, Done, DoneRows, Effect, Equal, Err, FellAt, FinMap, FinishMatches, Goes, Greater, Grown, GrownAt, HoldersInsideAreMade, Instance, Intent, IntentId, IntentMatches, IntentRow, InvokeRow, IsAbort, IsAnswer, IsBelow, IsBodyOf, IsCalled, IsCalleeRow, IsCommit, IsDeath, IsFront, IsRootRow, IsSound, Item, ItemMatches, Items, Kind, Known, Less, Line, List, Lock, LockedAtEnds, LockedIf, LockedOut, LocksetMatches, LogMatches, Matches, None, Note, Null, Ok, OnItem, Operation, Option, Ordering, Outcome, OutcomeMatches, Owner, Place, PlainState, Prefix, Rel, Result, RootMatches, Row, RowKey, RowMatches, Rows, Sane, SaneInstance, ShadowMatches, Some, TouchedIn, Tx, TxId, Txs, TxsMatch, Value, Waited, [], age_of, ahead_by, ahead_note, along, along_append, along_pushed, and_once, and_parts, answer_after, answer_at_once, answer_given, answer_of, answered, answered_if, answered_note, ap, append-nil, append_assoc, arith, asks_lock, at_once, at_step, barred, begins_at, body_of, call_in, call_of, called_by, callee_of, calls_at, cell_of, child_of, child_same, commit_in, cond, content_in, content_of, decision_by, decision_key, did, died, done_to, effect_after, effect_before, effect_of, elsewhere, end_of, ended, ended_at, ended_by, ended_stays, eq-eqb, eq_by_cmp_equiv, eqb-true, false, fits, fits_at, func_at, get-empty, get-insert, get_after, get_set, got, got_before, got_by, has_callees, has_ended, has_no_hops, head_key, held, held_or, here, holds, id_cmp, id_exact, id_same, id_total, if◌then◌else◌, in_line, inl, inr, invoke_key, is_aborted, is_at, is_begin, is_committed, is_decided, is_eq, is_item, is_mark, is_none, is_older, is_on, is_open, is_owner, is_some, is_tx, is_waited, item_cmp, item_in, item_same, item_total, key_cmp, key_same, key_self, last_answer, last_hop, last_step, length, length-append, length-take-le, line_opened, listed, listed_under, lock_answer, lock_in, lock_on, lock_or, lockset_ahead, lockset_key, lockset_of, log_key, made_set, moved, nat_cmp, nat_lt, new_instance, next, next_step, none_by, not, note_after, note_at, note_by, note_of, note_or, note_pushed, noted_or, once, once_if, op_of, operation_answers, option_map, or_null, or_old, or_own, or_parts, other_owner, owed_call, owed_lockset, owed_note, owed_read, owed_shadow, owed_value, owner_eq, owns, passes, pieces_are_moves, place_eq, place_of, place_same, plain_set, put_lockset, read_at, refl, result_in, result_of, root_key, root_of, row_added, row_at, row_got, run_on, run_once, same_some, set_if, set_row, sets, shadow_by, shadow_key, shadow_of, slice_get, slice_get_within, subst, suc, sym, take, take-append-le, take-append_seam, test_on, tested, tied_itself, top, touched, true, tx_after, tx_at, tx_begun, tx_by, tx_end, tx_eq, tx_in, tx_now, txs_after, txs_by, txs_pushed, value_at, value_for, value_in, value_or, wants, with_instance, with_note, within_by, write_on, write_op, writes_on, zero, ℕ, ◌&&◌, ◌++◌, ◌+◌, ◌<◌, ◌==◌, ◌||◌, ◌∙◌, ◌∷◌, ◌≡◌, ◌≤◌, ◌⊎◌}
 pub use Rattle.beldi_known.proofs.Acting.{calls_go, deaths_go, first_rows_go, reads_go, returns_go, rows_go, tests_go, writes_go}
 pub use Rattle.beldi_known.proofs.Acts.{by_item, content_apart, content_here, is_data, is_shadow, kinds_apart, lock_did, shadow_same, turned}
@@ -57,7 +57,7 @@ pub use Rattle.beldi_known.proofs.Lists.{did_lists, died_lists, elsewhere as log
 pub use Rattle.beldi_known.proofs.Outsides.{Apart, MaySet, callee_apart, goes_one, goes_set, got_ended, got_new, got_next, known_none_after, outside_no_end, root_apart, set_after_callee, set_agrees, set_new, set_next, set_over, value_of}
 pub use Rattle.beldi_known.proofs.Rows.{head_order, is_intent_key, keys_at, keys_set, no_root, no_root as no_root_key, set_here, set_others}
 pub use Rattle.beldi_known.proofs.Sanes.{death_answer, last, not_waited, sane_answered, sane_bound, sane_called, sane_decided, sane_died, sane_ended, sane_read, sane_returned, sane_sent, sane_tested, sane_wrote, stands as stands_at_call, tx_here}
-pub use Rattle.beldi_laws.specs.Inside.{Found, Frame, InItem, InOperation, IsFreePlace, IsOf, IsWriting, OfBegin, OwnedAreUnmarked, OwnersCallNobody, ParticipantsAreReleased, ParticipantsHaveRows, Released, StillOwns, TookPart, end_walk, has_asked, has_finish}
+pub use Rattle.beldi_laws.specs.Inside.{Found, Frame, InItem, InOperation, IsFreePlace, IsOf, IsWriting, OfBegin, OwnedAreUnmarked, OwnersCallNobody, OwnersHaveNotEnded, ParticipantsAreReleased, ParticipantsHaveRows, Released, StillOwns, TookPart, end_walk, has_asked, has_finish}
 pub use Rattle.beldi_laws.specs.Laws.{BookGrew, ChangesOneRow, DropsHaveCause, HeldAnswersStay, InstancesGoOn, KeepsRight, KeepsRoom, OneRowChanged, OutcomesStay, RepliesAreOutcomes, RightHasOneAnswer, RightIsLegal, StartsAreBound, WritesWhatIsTold, bound_by, is_gone}
 pub use Rattle.beldi_laws.specs.Right.{AtStage, Inside, Keeps, Knows, KnowsAt, KnowsBody, Right, RunAt, RunsMatch, StandsAt, WasThere, is_opened, is_past, is_sent, open_of}
 pub use Rattle.beldi_laws.specs.OneAnswer.{AnswersOf, AnswersStay, OneAnswerPerStep, WasGiven}

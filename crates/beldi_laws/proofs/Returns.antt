@@ -1,6 +1,6 @@
 -- A run at its return: who called its instance, and how that ends.
-use Rattle.beldi_laws.proofs.Names.{Answer, Begun, Caller, Cause, Core, Deployment, Goes, Grows, Inside, Instance, IntentId, IsAnswer, IsCalled, Known, Knows, List, LockedAtEnds, Machine, None, Option, Outcome, Place, PlainState, Return, Right, Rows, Run, RunTx, Sane, Says, Some, StandsAt, Step, TxId, [], ahead_set, answer_of, ap, arith, caller_in, child_of, effect_of, enabled_step, ended, false, goes_one, got_ended, grown_end, grows_at, has_no_hops, inl, inr, is_begin, is_some, is_waited, item_touched, key_in, kind_of, none_by, none_out, place_of, refl, root_of, root_or_called, run_tx, same_some, set_over, step_by, subst, sym, touched, touched_by, true, turned_by, tx_after, tx_at, unlocked_elsewhere, waits_at, with_instance, within, ℕ, ◌∙◌, ◌∷◌, ◌≡◌}
-use Rattle.beldi_laws.proofs.{Frames.NobodyJoins, Frames.nobody_set, Settling.settled_ended, Settling.settled_grown, Keeping.SameShadows, Moves.AfterTurn, Moves.change_entered, Moves.Entered, Passing.returns_in, Passing.tx_is, Shown.Settled, Shown.settled, Shown.legal_sane, Turns.answer_here, Turns.effect_here, Turns.effect_next, Turns.sane_instance, Turns.plain_there, Turns.outside_there, Cases.false_by}
+use Rattle.beldi_laws.proofs.Names.{Answer, Begun, Caller, Cause, Core, Deployment, Goes, Grows, Inside, Instance, IntentId, IsAnswer, IsCalled, Known, Knows, List, LockedAtEnds, Machine, None, Option, Outcome, Place, PlainState, Return, Right, Rows, Run, RunTx, Sane, Says, Some, StandsAt, Step, TxId, [], ahead_set, answer_of, ap, arith, caller_in, child_of, effect_of, enabled_step, ended, ended_by, false, goes_one, got_ended, grown_end, grows_at, has_no_hops, inl, inr, is_begin, is_some, is_waited, item_touched, key_in, kind_of, none_by, none_out, place_of, refl, root_of, root_or_called, run_tx, same_some, set_over, step_by, subst, sym, touched, touched_by, true, turned_by, tx_after, tx_at, unlocked_elsewhere, waits_at, with_instance, within, ℕ, ◌<◌, ◌∙◌, ◌∷◌, ◌≡◌}
+use Rattle.beldi_laws.proofs.{Ended.ended_at, Frames.NobodyJoins, Frames.nobody_set, Settling.UnendedOwner, Settling.settled_ended, Settling.settled_grown, Keeping.SameShadows, Moves.AfterTurn, Moves.change_entered, Moves.Entered, Passing.returns_in, Passing.tx_is, Shown.Settled, Shown.settled, Shown.legal_sane, Turns.answer_here, Turns.effect_here, Turns.effect_next, Turns.sane_instance, Turns.step_here, Turns.plain_there, Turns.outside_there, Cases.false_by}
 use Rattle.beldi_laws.proofs.Names.map
 
 -- the caller of an instance, if it has one, made it at this step
@@ -78,6 +78,12 @@ module _ (d : Deployment) (c : Core) (m : Rows) (i : ℕ) (r : Run) (g : Begun) 
   seated : (t : TxId) → k.instance.within ≡ Some t → is_some (map.get m (key_in k.instance.func r.id)) ≡ true
   seated t within = ap (λ f. is_some (map.get m (key_in f r.id))) k.func ∙ finds.row (false_by (has_no_hops r.id.hops) (λ e. let clash = sym within ∙ (root_outside d h.known r.id k.instance h.sane k.made e).1 in cc))
 
+  -- past the ends of its transactions it owns nothing
+  owns_nothing : UnendedOwner d m h.known r.id (Some o)
+  owns_nothing t z x e own same =
+      let end = ended_at d k.instance t.begin z (sym (ap (ended_by d t.begin) (ap (map.get h.known) same ∙ k.made)) ∙ e) in
+      absurd (finds.released t z same e (subst (λ n. z.0 < n) (sym (step_here k at_end)) end.before) x own)
+
   -- one that nobody waits for was called in none
   pub idle_outside : is_waited g.caller ≡ false → k.instance.within ≡ None
   idle_outside idle = none_by k.instance.within (λ t e. let clash = sym idle ∙ ap is_waited (k.caller ∙ (caller_in d h.known h.sane t r.id k.instance k.made e).from) in cc)
@@ -95,7 +101,7 @@ module _ (d : Deployment) (c : Core) (m : Rows) (i : ℕ) (r : Run) (g : Begun) 
     grows_over = grows_at h.known r.id k.instance (done k o) k.made (grown_end k.instance o open_still)
 
     pub settled_over : (p : PlainState) → Grows h.plain.made p.made → Settled d m p (over k o)
-    settled_over p grows = settled_ended d m p h.known r.id k.instance o k.made seated (settled_grown d m h.plain p h.known grows (settled h))
+    settled_over p grows = settled_ended d m p h.known r.id k.instance o k.made seated owns_nothing (settled_grown d m h.plain p h.known grows (settled h))
 
   -- outside it is the plain step
   module _ (own : k.instance.within ≡ None) where

@@ -1,5 +1,5 @@
 -- What rows keep of transactions is kept: where the plain state grows, where rows move by a frame, and where an instance is set.
-use Rattle.beldi_laws.proofs.Names.{AllShort, Answer, Bool, ByTx, Cause, Deployment, Effect, Frame, Grows, HoldersInsideAreMade, Instance, IntentId, IsBelow, IsFreePlace, Item, Known, List, None, Option, Outcome, OwnedAreUnmarked, OwnersCallNobody, ParticipantsAreReleased, ParticipantsHaveRows, Place, PlainState, Rows, Some, TookPart, TxId, Txs, [], answer_at_once, answered, answered_if, ap, arith, at_once, content_of, effect_of, end_of, ended, ended_by, inl, inr, is_some, key_in, known_set, length, moved, once, once_if, outside_parts, place_of, pushed_cases, refl, same_some, slice_get, subst, sym, touched, true, tx_after, tx_at, tx_end, tx_now, txs_after, txs_pushed, ℕ, ◌∙◌, ◌≡◌, ◌≤◌}
+use Rattle.beldi_laws.proofs.Names.{AllShort, Answer, Bool, ByTx, Cause, Deployment, Effect, Frame, Grows, HoldersInsideAreMade, Instance, IntentId, IsBelow, IsFreePlace, Item, Known, List, None, Option, Outcome, OwnedAreUnmarked, OwnersCallNobody, OwnersHaveNotEnded, ParticipantsAreReleased, ParticipantsHaveRows, Place, PlainState, Rows, Some, TookPart, TxId, Txs, [], answer_at_once, answered, answered_if, ap, arith, at_once, content_of, effect_of, end_of, ended, ended_by, inl, inr, intent_key, is_some, key_in, known_set, length, moved, once, once_if, outcome_of, outside_parts, place_of, pushed_cases, refl, same_some, slice_get, subst, sym, touched, true, tx_after, tx_at, tx_end, tx_now, txs_after, txs_pushed, ℕ, ◌∙◌, ◌≡◌, ◌≤◌}
 use Rattle.beldi_laws.proofs.{KeptSane.outside_effect, Lives.made_stays, Outside.is_of_tx, Shown.Settled}
 use Rattle.beldi_laws.proofs.Names.map
 
@@ -8,6 +8,7 @@ pub settled_grown : (d : Deployment) (m : Rows) (p q : PlainState) (known : Know
 settled_grown d m p q known grows h = record {
   marks = h.marks;
   latest = h.latest;
+  unended = h.unended;
   holders = λ id k n c i is inside dead holder. made_stays (map.get p.made i) (map.get q.made i) (grows i) (h.holders id k n c i is inside dead holder);
   seated = h.seated;
   released = h.released;
@@ -22,12 +23,15 @@ module _ (d : Deployment) (m n : Rows) (p q : PlainState) (known next : Known) (
   pub latest_stays : OwnersCallNobody d m next → OwnersCallNobody d n next
   latest_stays latest t z x i e own = let s = frame.owners t z x e own in latest t z x i e s.owner
 
+  pub unended_stays : OwnersHaveNotEnded d m next → OwnersHaveNotEnded d n next
+  unended_stays unended t z x e own = let s = frame.owners t z x e own in let u = unended t z x e s.owner in (frame.rows (intent_key t.intent t.func) u.0, u.1)
+
   pub seated_stays : ParticipantsHaveRows m next → ParticipantsHaveRows n next
   seated_stays seated id k t is within over = frame.rows (key_in k.func id) (seated id k t is within over)
 
   -- .. by which who took part and has its finish has given back all
   pub settled_rows : ParticipantsAreReleased d n next → Settled d m q next → Settled d n q next
-  settled_rows released h = record { marks = marks_stay h.marks; latest = latest_stays h.latest; holders = h.holders; seated = seated_stays h.seated; released = released; short = h.short }
+  settled_rows released h = record { marks = marks_stay h.marks; latest = latest_stays h.latest; unended = unended_stays h.unended; holders = h.holders; seated = seated_stays h.seated; released = released; short = h.short }
 
 -- what it wants of an instance: who let a step die was made, who took part and has its outcome has its row, and its id is short
 pub record IsSettled (d : Deployment) (m : Rows) (p : PlainState) (id : IntentId) (s : Instance) : Type 0 where
@@ -35,12 +39,17 @@ pub record IsSettled (d : Deployment) (m : Rows) (p : PlainState) (id : IntentId
   pub seated : (t : TxId) → s.within ≡ Some t → is_some s.outcome ≡ true → is_some (map.get m (key_in s.func id)) ≡ true
   pub short : length id.hops ≤ 63
 
--- .. beside what is known: none of its transactions ended that had not, it joins none that has ended, and is called by no owner past
--- its end that owns an item still
+-- there is no outcome, where a transaction of the intent has ended and owns an item still
+abbrev pub UnendedOwner : Deployment → Rows → Known → IntentId → Option Outcome → Type 0
+UnendedOwner d m known id o = (t : TxId) (z : ℕ × Bool) (x : Item) → tx_end d known t ≡ Some z → (content_of m x).owner ≡ Some (ByTx t) → t.intent ≡ id → o ≡ None
+
+-- .. beside what is known: none of its transactions ended that had not, it joins none that has ended, is called by no owner past
+-- its end that owns an item still, and has not ended where it owns one so
 pub record GoesAlong (d : Deployment) (m : Rows) (known : Known) (id : IntentId) (s : Instance) : Type 0 where
   pub ends : (b : ℕ) (z : ℕ × Bool) → end_of d s b ≡ Some z → ended_by d b (map.get known id) ≡ Some z
   pub joined : (t : TxId) (z : ℕ × Bool) → tx_end d known t ≡ Some z → s.within ≡ Some t → TookPart known t id
   pub late : (t : TxId) (z : ℕ × Bool) (x : Item) → tx_end d known t ≡ Some z → (content_of m x).owner ≡ Some (ByTx t) → IsBelow (record { intent = t.intent; begin = z.0; func = t.func }) id → ⊥
+  pub unended : UnendedOwner d m known id s.outcome
 
 module _ (d : Deployment) (m : Rows) (p : PlainState) (known : Known) (id : IntentId) (s : Instance) where
   -- an instance is set, of whose transactions the rows keep what they have to
@@ -64,6 +73,8 @@ module _ (d : Deployment) (m : Rows) (p : PlainState) (known : Known) (id : Inte
       marks = λ t z x a w e own free noted. h.marks t z x a w (ended t z e) own (place t z a (ended t z e) free) noted;
       latest = λ t z x i e own below. known_set known id s (λ j o. IsBelow (record { intent = t.intent; begin = z.0; func = t.func }) j → o ≡ None)
           (λ b. absurd (along.late t z x (ended t z e) own b)) (λ j other b. h.latest t z x j (ended t z e) own b) i below;
+      unended = λ t z x e own. let u = h.unended t z x (ended t z e) own in
+          (u.0, known_set known id s (λ j o. t.intent ≡ j → outcome_of o ≡ None) (along.unended t z x (ended t z e) own) (λ j other same. subst (λ i. outcome_of (map.get known i) ≡ None) same u.1) t.intent refl);
       holders = holders_set;
       seated = seated_set;
       released = λ t z e. h.released t z (ended t z e);
@@ -89,12 +100,16 @@ module _ (d : Deployment) (m : Rows) (p : PlainState) (known : Known) (id : Inte
   pub one_known : IsSettled d m p id k
   one_known = record { holders = λ n c i inside dead holder. h.holders id k n c i is inside dead holder; seated = λ t within over. h.seated id k t is within over; short = h.short id (ap is_some is) }
 
-  -- .. goes along, and so does one that is as it was but for its answers, of which none ended a transaction
-  pub goes_known : (s : Instance) → s.within ≡ k.within → ((b : ℕ) (z : ℕ × Bool) → end_of d s b ≡ Some z → end_of d k b ≡ Some z) → GoesAlong d m known id s
-  goes_known s within ends = record {
+  pub known_unended : UnendedOwner d m known id k.outcome
+  known_unended t z x e own same = ap outcome_of (sym (ap (map.get known) same ∙ is)) ∙ (h.unended t z x e own).1
+
+  -- .. goes along, and so does one that is as it was but for its answers, of which none ended a transaction, and for its outcome
+  pub goes_known : (s : Instance) → s.within ≡ k.within → ((b : ℕ) (z : ℕ × Bool) → end_of d s b ≡ Some z → end_of d k b ≡ Some z) → UnendedOwner d m known id s.outcome → GoesAlong d m known id s
+  goes_known s within ends unended = record {
     ends = λ b z e. ap (ended_by d b) is ∙ ends b z e;
     joined = λ t z e g. record { instance = k; made = is; within = sym within ∙ g };
     late = λ t z x e own below. let clash = sym is ∙ h.latest t z x id e own below in cc;
+    unended = unended;
   }
 
 -- a new one
@@ -172,18 +187,19 @@ settled_new d m p known id s none open_still short new still late h =
       ends = λ b z e. let clash = sym (k.ends b ∙ ap (λ ts. (txs_after d s ts).ends b) none) ∙ e in cc;
       joined = λ t z e within. let clash = sym (still t (sym k.within ∙ within)) ∙ e in cc;
       late = late;
+      unended = λ t z x e own same. k.outcome ∙ open_still;
     })
 
--- .. ends
-pub settled_ended : (d : Deployment) (m : Rows) (p : PlainState) (known : Known) (id : IntentId) (k : Instance) (o : Outcome) → map.get known id ≡ Some k → ((t : TxId) → k.within ≡ Some t → is_some (map.get m (key_in k.func id)) ≡ true) → Settled d m p known → Settled d m p (map.insert known id (ended k o))
-settled_ended d m p known id k o is there h = settled_set d m p known id (ended k o) (one_ended d m p id k o there (one_known d m p known id k is h)) h (goes_known d m p known id k is h (ended k o) refl (λ b z e. e))
+-- .. ends, and owns nothing past its ends
+pub settled_ended : (d : Deployment) (m : Rows) (p : PlainState) (known : Known) (id : IntentId) (k : Instance) (o : Outcome) → map.get known id ≡ Some k → ((t : TxId) → k.within ≡ Some t → is_some (map.get m (key_in k.func id)) ≡ true) → UnendedOwner d m known id (Some o) → Settled d m p known → Settled d m p (map.insert known id (ended k o))
+settled_ended d m p known id k o is there free h = settled_set d m p known id (ended k o) (one_ended d m p id k o there (one_known d m p known id k is h)) h (goes_known d m p known id k is h (ended k o) refl (λ b z e. e) free)
 
 -- .. or is answered
 module _ (d : Deployment) (m : Rows) (p : PlainState) (known : Known) (id : IntentId) (k : Instance) (is : map.get known id ≡ Some k) (a : Answer) where
   pub settled_moved : IsFit d p (tx_now d id k) (effect_of d k) a → Settled d m p known → Settled d m p (map.insert known id (moved d id k a))
   settled_moved fit h =
       let s = one_at_once d m p id (answered k a) (one_answered d m p id k a fit.holder (one_known d m p known id k is h)) in
-      settled_set d m p known id (moved d id k a) s.settled h (goes_known d m p known id k is h (moved d id k a) s.within (λ b z e. sym (s.ends b ∙ same_ends d k a fit.no_end b) ∙ e))
+      settled_set d m p known id (moved d id k a) s.settled h (goes_known d m p known id k is h (moved d id k a) s.within (λ b z e. sym (s.ends b ∙ same_ends d k a fit.no_end b) ∙ e) (λ t z x e own same. s.outcome ∙ known_unended d m p known id k is h t z x e own same))
 
   -- outside transactions
   pub settled_outside : tx_now d id k ≡ None → Settled d m p known → Settled d m p (map.insert known id (moved d id k a))

@@ -1,5 +1,5 @@
 -- What rows show of a plain state: what is known beside it, and that they match that. An event keeps it as the two move together.
-use Rattle.beldi_laws.proofs.Names.{AllShort, Bool, Core, Deployment, Goes, HoldersInsideAreMade, IntentId, IsSound, Item, Known, LockedAtEnds, Matches, Option, OwnedAreUnmarked, OwnersCallNobody, ParticipantsAreReleased, ParticipantsHaveRows, PlainState, Right, Row, RowKey, Rows, Sane, Some, TxId, content_of, holds, is_row_log, legal_is_sane, listed, log_lists, own_value, set_row, sym, true, value_at, ◌∙◌, ◌≡◌, Owner}
+use Rattle.beldi_laws.proofs.Names.{AllShort, Bool, Core, Deployment, Goes, HoldersInsideAreMade, IntentId, IsSound, Item, Known, LockedAtEnds, Matches, Option, OwnedAreUnmarked, OwnersCallNobody, OwnersHaveNotEnded, ParticipantsAreReleased, ParticipantsHaveRows, PlainState, Right, Row, RowKey, Rows, Sane, Some, TxId, content_of, holds, is_row_log, legal_is_sane, listed, log_lists, own_value, set_row, sym, true, value_at, ◌∙◌, ◌≡◌, Owner}
 use Rattle.beldi_laws.proofs.Outside.{holds_known}
 use Rattle.beldi_laws.proofs.Names.map
 use Rattle.beldi_laws.proofs.Names.plain
@@ -8,6 +8,7 @@ use Rattle.beldi_laws.proofs.Names.plain
 pub record Settled (d : Deployment) (m : Rows) (p : PlainState) (known : Known) : Type 0 where
   pub marks : OwnedAreUnmarked d m known
   pub latest : OwnersCallNobody d m known
+  pub unended : OwnersHaveNotEnded d m known
   pub holders : HoldersInsideAreMade d p known
   pub seated : ParticipantsHaveRows m known
   pub released : ParticipantsAreReleased d m known
@@ -27,7 +28,7 @@ module _ {d : Deployment} {c : Core} {m : Rows} (h : Right d c m) where
   legal_sane = legal_is_sane d c.book h.plain h.legal
 
   pub settled : Settled d m h.plain h.known
-  settled = record { marks = h.marks; latest = h.latest; holders = h.holders; seated = h.seated; released = h.released; short = h.short }
+  settled = record { marks = h.marks; latest = h.latest; unended = h.unended; holders = h.holders; seated = h.seated; released = h.released; short = h.short }
 
   pub shown : Shows d m h.plain h.known h.locked
   shown = record { goes = record { beside = h.beside; shadows = h.shadows }; locked_at_ends = h.locked_at_ends; sane = h.sane; rows = h.rows; values = h.values; settled = settled }

@@ -5,12 +5,13 @@ use Rattle.std.specs.FinMap as map
 use Rattle.beldi_value.specs.declared.{id.IntentId.IntentId, place.Owner.TheVariants.Tx as ByTx, place.Place.Place, place.TxId.TxId, value.Value.Value}
 use Rattle.beldi_tree.specs.declared.deployment.Deployment.{Deployment}
 use Rattle.beldi_lang.specs.declared.effect.Effect.{Effect, TheVariants.Read, TheVariants.CondWrite}
-use Rattle.beldi_plain.specs.{Item.Item, Plain.Instance, Plain.PlainState, Plain.value_at, Plain.effect_of}
+use Rattle.beldi_plain.specs.{Item.Item, Plain.Instance, Plain.PlainState, Plain.value_at, Plain.effect_of, Plain.outcome_of}
 use Rattle.beldi_order.specs.{Inside.IsBelow, Txs.tx_now}
 use Rattle.beldi_row.specs.{Key.RowKey, declared.notes.Note.Note, declared.row.Row.Row, Log.note_at, Table.Rows}
 use Rattle.beldi_daal.specs.Content.{Content}
 use Rattle.beldi_lock.specs.declared.lock.LockAt.TheVariants.{Lockset}
 use Rattle.beldi_invokelog.specs.InvokeLog.{invoke_key}
+use Rattle.beldi_intent.specs.Intent.{intent_key}
 use Rattle.beldi_txn.specs.{declared.tx.TxAt.TxAt, declared.end.Visit.Visit, declared.end_walk.EndWalk.EndWalk, Tx.op_of, End.end_place, End.first_end, Invokes.func_called, TxTurn.HasLock, Visited.AreReleased}
 use Rattle.beldi_step.specs.{declared.run.OpenTx.OpenTx, declared.run.RunTx.RunTx, Run.begin_of, Run.own_tx, Run.place_of, Run.tx_of, Tables.value_in}
 use Rattle.beldi_known.specs.{Stands.key_in, Contents.content_of, Contents.lockset_key, Contents.shadow_key, Known.Known, Known.last_step, Known.tx_end}
@@ -77,6 +78,10 @@ OwnedAreUnmarked d m known = (t : TxId) (z : ℕ × Bool) (x : Item) (a : Place)
 -- while it owns one, its owner calls nobody: who is below it at a later step than its end is not known
 abbrev pub OwnersCallNobody : Deployment → Rows → Known → Type 0
 OwnersCallNobody d m known = (t : TxId) (z : ℕ × Bool) (x : Item) (i : IntentId) → tx_end d known t ≡ Some z → (content_of m x).owner ≡ Some (ByTx t) → IsBelow (record { intent = t.intent; begin = z.0; func = t.func }) i → map.get known i ≡ None
+
+-- .. and its owner has its row, and has not ended
+abbrev pub OwnersHaveNotEnded : Deployment → Rows → Known → Type 0
+OwnersHaveNotEnded d m known = (t : TxId) (z : ℕ × Bool) (x : Item) → tx_end d known t ≡ Some z → (content_of m x).owner ≡ Some (ByTx t) → (is_some (map.get m (intent_key t.intent t.func)) ≡ true) × (outcome_of (map.get known t.intent) ≡ None)
 
 -- who took part and has its outcome has its row
 abbrev pub ParticipantsHaveRows : Rows → Known → Type 0

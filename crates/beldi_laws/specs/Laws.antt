@@ -1,14 +1,13 @@
 -- What holds of every event.
-use Rattle.std.specs.Prelude.{◌≡◌, ◌⊎◌, ◌&&◌, ◌≤◌, ℕ, Bool, true, false, option_to_list, List, [], ◌∷◌, ◌++◌, Option, Some, None, Result, Ok, Err, IfOk}
+use Rattle.std.specs.Prelude.{◌≡◌, ◌⊎◌, ◌&&◌, ◌≤◌, ℕ, Bool, true, false, option_to_list, List, [], ◌++◌, Option, Some, Result, Ok, Err, IfOk}
 use Rattle.std.specs.declared.alloc.AllocError.{AllocError}
 use Rattle.std.specs.FinMap as map
 use Rattle.beldi_value.specs.declared.{value.Value.Value, outcome.Outcome.Outcome}
 use Rattle.beldi_tree.specs.declared.deployment.Deployment.{Deployment}
-use Rattle.beldi_book.specs.declared.entry.Entry.{Entry, TheVariants.Start, TheVariants.Read, TheVariants.Step, TheVariants.Tx, TheVariants.Try}
-use Rattle.beldi_plain.specs.{Item.Item, Plain.PlainState, Plain.reply_of, Legal.IsLegal, Legal.run_of, Listing.listing_of, Replies.starts_of, Replies.HasReply}
+use Rattle.beldi_book.specs.declared.entry.Entry.{Entry}
+use Rattle.beldi_plain.specs.{Item.Item, Plain.PlainState, Legal.IsLegal, Legal.run_of, Listing.listing_of, Replies.starts_of, Replies.HasNoReply, Replies.HasReply}
 use Rattle.beldi_order.specs.Grown.{Grows}
 use Rattle.beldi_row.specs.{Key.RowKey, declared.act.Act.Act, Table.Rows, Table.TableState, Table.Rose, Table.after_act}
-use Rattle.beldi_step.specs.declared.event.Event.TheVariants.{Ticket, Request, Turn, Lost, Crash, Restart, Tick, Ic}
 use Rattle.beldi_step.specs.{declared.event.Event.Event, declared.event.Seen.Seen, Host.Core, Host.Stepped, Host.EventOn, Host.first_core, Told.is_lost, Told.is_dropped, Told.told_outcome, Told.bound_of, Told.entries_told, Tables.tables_text}
 use Rattle.beldi_known.specs.{Stands.Stands, Contents.is_row_of, Contents.content_of}
 use Rattle.beldi_laws.specs.{Right.Right, OneAnswer.OneAnswerPerStep, OneAnswer.AnswersStay}
@@ -33,6 +32,11 @@ RightStands = (d : Deployment) (c : Core) (m : Rows) (p : PlainState) → Right 
 abbrev pub RepliesAreOutcomes : Type 0
 RepliesAreOutcomes = (d : Deployment) (room old new : ℕ) (e : Event) (c b : Core) (m n : Rows) (x : Seen) → Right d c m → EventOn d room old new e c m b n (Ok x)
     → (t : ℕ) (o : Outcome) → told_outcome x ≡ Some (t, o) → HasReply d b.book t o
+
+-- an outcome that a root gets by an event is told by it, unless the answer was lost; out of memory nothing is told
+abbrev pub FirstOutcomesAreTold : Type 0
+FirstOutcomesAreTold = (d : Deployment) (room old new : ℕ) (e : Event) (c b : Core) (m n : Rows) (x : Seen) → Right d c m → EventOn d room old new e c m b n (Ok x) → (is_lost e && is_dropped x) ≡ false
+    → (t : ℕ) (o : Outcome) → HasNoReply d c.book t → HasReply d b.book t o → told_outcome x ≡ Some (t, o)
 
 -- a ticket is answered that its row is absent
 abbrev pub is_gone : Seen → Bool

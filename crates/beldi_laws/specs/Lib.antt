@@ -1,3 +1,4 @@
+pub mod Deaths
 pub mod Inside
 pub mod Laws
 pub mod OneAnswer

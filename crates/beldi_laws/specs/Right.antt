@@ -15,7 +15,7 @@ use Rattle.beldi_call.specs.declared.{async_call.AsyncAt.AsyncAt, call.CallAt.Ca
 use Rattle.beldi_step.specs.{declared.run.Run.Run, declared.run.RunAt.TheVariants.Looks, declared.run.RunAt.TheVariants.Registers, declared.run.RunAt.TheVariants.Begins, declared.run.RunTx.RunTx, declared.run.RunTx.TheVariants.Own, Run.is_waited, Run.open_after, Run.end_mark, Run.within, declared.run.Begun.Begun, declared.run.Stage.Stage, Host.Core, Host.most_runs}
 use Rattle.beldi_step.specs.declared.run.RunAt as standing
 use Rattle.beldi_known.specs.{Rows.IsBodyOf, Known.Known, Matches.Matches, Matches.LockedAtEnds, Sane.Sane, Stands.key_in, Beside.Beside, InsideLaws.HoldersInsideAreMade, Listed.listed, Shadows.Shadows}
-use Rattle.beldi_laws.specs.Inside.{InItem, Released, end_walk, OwnedAreUnmarked, OwnersCallNobody, ParticipantsAreReleased, ParticipantsHaveRows}
+use Rattle.beldi_laws.specs.Inside.{InItem, Released, end_walk, OwnedAreUnmarked, OwnersCallNobody, OwnersHaveNotEnded, ParticipantsAreReleased, ParticipantsHaveRows}
 
 -- ---- where a run stands
 -- what a run is in after these answers: the transaction that it was called in, or its own one, with what was aborted in it
@@ -144,10 +144,11 @@ pub record Right (d : Deployment) (c : Core) (m : Rows) : Type 0 where
   pub values : (x : Item) → listed m x ≡ value_at plain x
   -- a root has its row exactly where its ticket was issued
   pub tickets : (t : ℕ) → is_some (map.get m (root_key t)) ≡ (nat_lt 0 t && nat_le t c.newest)
-  -- shadows show what the open transactions see, and what a decided one owned is given back once, before its owner calls anybody
+  -- shadows show what the open transactions see, and what a decided one owned is given back once, before its owner calls anybody or ends
   pub shadows : Shadows d m plain known locked
   pub marks : OwnedAreUnmarked d m known
   pub latest : OwnersCallNobody d m known
+  pub unended : OwnersHaveNotEnded d m known
   -- each death has a holder that was made
   pub holders : HoldersInsideAreMade d plain known
   -- who took part in a transaction has its row once it has its outcome, and has given back all once it has its finish

@@ -1,5 +1,6 @@
 // The laws of the step.
-ghost use Rattle.beldi_laws.specs.Laws.{BeginsRight, KeepsRight, RightIsLegal, RightStands, RepliesAreOutcomes, TicketsHaveRows, StartsAreBound, InstancesGoOn, OutcomesStay, ListingIsPlain, RightHasOneAnswer, HeldAnswersStay, ChangesOneRow, KeepsRoom, WritesWhatIsTold, DropsHaveCause};
+ghost use Rattle.beldi_laws.specs.Deaths.{DeathsHaveHolders};
+ghost use Rattle.beldi_laws.specs.Laws.{BeginsRight, KeepsRight, RightIsLegal, RightStands, RepliesAreOutcomes, FirstOutcomesAreTold, TicketsHaveRows, StartsAreBound, InstancesGoOn, OutcomesStay, ListingIsPlain, RightHasOneAnswer, HeldAnswersStay, ChangesOneRow, KeepsRoom, WritesWhatIsTold, DropsHaveCause};
 
 /// A host that nothing has happened to is right, over a table without rows.
 pub fn begins_right()
@@ -24,6 +25,12 @@ pub fn right_stands()
 /// The outcome of a root that an event tells is the one that the root has in the run of the book.
 pub fn replies_are_outcomes()
     ensures { RepliesAreOutcomes }
+{}
+
+/// An outcome that a root has in the run of the book after an event, and had not before, is told by that event, unless its answer was
+/// lost.
+pub fn a_first_outcome_is_told()
+    ensures { FirstOutcomesAreTold }
 {}
 
 /// Where the host and its rows are right, no event answers that the row of a ticket is absent.
@@ -82,4 +89,10 @@ pub fn an_event_writes_what_it_tells()
 /// An event is answered as dropped only where its answer was lost, or where the table's count of failures rose.
 pub fn a_dropped_answer_has_a_cause()
     ensures { DropsHaveCause }
+{}
+
+/// A death is noted and told only by the lock of a transaction, of an item that another owns: it has that owner's age, and who asked is
+/// not older.
+pub fn a_death_has_a_holder()
+    ensures { DeathsHaveHolders }
 {}

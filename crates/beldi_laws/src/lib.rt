@@ -1,16 +1,17 @@
 //! What every event of the host keeps: the book is legal, and the rows stand for its plain run. It has no code.
 //! It stands on the step of the host, on the plain machine, and on what rows hold and owe (`beldi_known`). Its
 //! definitions: `specs/Right` (the invariant, with what a run knows at each stage), `specs/Inside` (what an operation inside a transaction has
-//! found, and what an event keeps for the runs of others), `specs/OneAnswer` (what was answered to the steps of an instance), `specs/Laws` (the laws).
+//! found, and what an event keeps for the runs of others), `specs/OneAnswer` (what was answered to the steps of an instance), `specs/Deaths` (what a death says), `specs/Laws` (the laws).
 //!
 //! Proved:
 //! - A host that nothing has happened to is right, over no rows (`begins_right`).
 //! - Every event keeps it right, also out of memory (`an_event_keeps_right`).
 //! - Where it is right, the book is legal (`right_is_legal`), the rows stand for the book's run (`right_stands`), those of who
 //!   was called in a transaction exactly where that has committed, and the listing of the rows is that of the run
-//!   (`listing_is_plain`).
+//!   (`listing_is_plain`). The rows stand for it in their owners too: an intent owns an item exactly where its instance holds the
+//!   lock in the run, and a transaction one only while it is open, or, once it is decided, until its owner ends.
 //! - Also where it is right, an outcome that an event tells is the root's in that run (`replies_are_outcomes`), and
-//!   stays (`outcomes_stay`); no ticket is answered as one without a row (`tickets_have_rows`); and each step of an
+//!   stays (`outcomes_stay`); one that a root gets by an event is told by it, unless the answer was lost (`a_first_outcome_is_told`); no ticket is answered as one without a row (`tickets_have_rows`); and each step of an
 //!   instance that is known beside the run of the book has one answer, which the rows hold, and each of its runs was
 //!   given the first of them (`each_step_has_one_answer`). What was made goes on (`instances_go_on`), so runs that never live together are
 //!   given the same.
@@ -20,6 +21,8 @@
 //!   (`an_event_changes_one_row`), and the book gets at most one entry, the one that its answer tells where the answer
 //!   was not lost (`an_event_writes_what_it_tells`).
 //! - The rows never exceed the room, where they did not before (`an_event_keeps_the_room`).
+//! - Whatever act there is on whatever row: a death is noted and told only by the lock of a transaction, of an item that another owns, whose age
+//!   it has, and who asked is not older (`a_death_has_a_holder`).
 //! - Over any table, an event is answered as dropped only where its answer was lost, or where the table's count of
 //!   failures rose (`a_dropped_answer_has_a_cause`).
 //!
@@ -37,16 +40,17 @@
 //!   operation inside, `Locking` its turns up to the lock, by the `Ages` of owners, `Working` those past it; `Deciding` the
 //!   decision, by what has `Fallen`; `Visiting` the visits after it, of the `Members` that its calls lead to, by the `Widths`
 //!   of ids, which are `Short`, `Visits` that they begin and stay so, `Closing` that who has its finish has given back all,
-//!   `Askers` that one of them asked the lock of what is owned still; `Events` what an event keeps; `Standing`, `Starts`,
-//!   `Listing` what follows; `OneAnswer` one answer, and that no act takes it away; `OneEvent` what one event changes, and
-//!   what of it is told.
+//!   `Askers` that one of them asked the lock of what is owned still; `Events` what an event keeps; `Owning` who owns an item;
+//!   `Standing`, `Starts`, `Listing` what follows; `OneAnswer` one answer, and that no act takes it away; `OneEvent` what one event changes, and
+//!   what of it is told; `FirstOutcomes` that a first outcome is; `Deaths` who a death is of.
 #![tactic(auto)]
 
 mod laws;
 
 pub use laws::{
-    a_dropped_answer_has_a_cause, an_event_changes_one_row, an_event_keeps_right,
-    an_event_keeps_the_room, an_event_writes_what_it_tells, begins_right, each_step_has_one_answer,
-    held_answers_stay, instances_go_on, listing_is_plain, outcomes_stay, replies_are_outcomes,
-    right_is_legal, right_stands, starts_are_bound, tickets_have_rows,
+    a_death_has_a_holder, a_dropped_answer_has_a_cause, a_first_outcome_is_told,
+    an_event_changes_one_row, an_event_keeps_right, an_event_keeps_the_room,
+    an_event_writes_what_it_tells, begins_right, each_step_has_one_answer, held_answers_stay,
+    instances_go_on, listing_is_plain, outcomes_stay, replies_are_outcomes, right_is_legal,
+    right_stands, starts_are_bound, tickets_have_rows,
 };
