@@ -1,0 +1,32 @@
+-- Deadlines are near from the first moment on, and an event keeps them so.
+use Rattle.std.specs.FinMap as map
+use Rattle.std.specs.declared.alloc.AllocError.{AllocError}
+use Rattle.std.proofs.Common.{ℕ, ◌+◌, ◌≤◌, Result, refl, sym, subst, arith}
+use Rattle.beldi_value.specs.declared.id.IntentId.{IntentId}
+use Rattle.beldi_tree.specs.declared.deployment.Deployment.{Deployment}
+use Rattle.beldi_row.specs.Table.{Rows}
+use Rattle.beldi_step.specs.Host.{Core, EventBy, Plan, asks, at_once, counted, plan}
+use Rattle.beldi_step.specs.declared.{event.Event.Event, event.Seen.Seen}
+use Rattle.beldi_known.specs.Stands.{key_in}
+use Rattle.beldi_upkeep.specs.Deadlines.{BeginsNear, IsNear, KeepsNear, finish_in}
+use Rattle.beldi_step.proofs.{Given.IsSoon, Given.begins_soon, Given.last_ahead, Given.last_later, Given.no_run, Given.soon_turn, Runs.adds_by, Runs.after_event}
+use Rattle.beldi_upkeep.proofs.{Finishes.came, Workers.ToldSo, Workers.WorksNear, Workers.turn_near}
+
+pub begins_near : BeginsNear
+begins_near d newest now = record { soon = begins_soon d newest now; near = λ n r i home live. absurd (no_run n r live) }
+
+-- a deadline that was near a finish is so after an event
+rows_near : (d : Deployment) (room old new : ℕ) (e : Event) (c b : Core) (m n : Rows) (x : Result Seen AllocError) (p : Plan) → EventBy d room old new e c p m b n x
+    → (deadline : ℕ) → deadline ≤ c.now + d.life → (home : ℕ) (i : IntentId) → IsNear d.life deadline (finish_in (map.get m (key_in home i))) → IsNear d.life deadline (finish_in (map.get n (key_in home i)))
+rows_near d room old new e c b m n x (at_once k y) s deadline soon home i near = subst (λ l. IsNear d.life deadline (finish_in (map.get l (key_in home i)))) (sym s.1) near
+rows_near d room old new e c b m n x (asks q) s deadline soon home i near = came c.now d.life deadline soon q room s.0 m n s.2 home i near
+
+pub keeps_near : KeepsNear
+keeps_near d room old new e c b m n x h seats near s =
+    let soon = after_event (IsSoon d c) (ToldSo c m) d e c b near.soon (adds_by (IsSoon d c) (ToldSo c m) d e (counted c) (λ id f. omega arith) (λ i r live t told. soon_turn d c (ToldSo c m) near.soon i r live t)) x room old new m n (λ q. refl) s in
+    let worked = after_event (WorksNear d m) (ToldSo c m) d e c b (λ k r live i works home. near.near k r i home live works)
+    (adds_by (WorksNear d m) (ToldSo c m) d e (counted c) (λ id f i works. absurd works) (λ i r live t told. turn_near d c m h seats near i r live t told)) x room old new m n (λ q. refl) s in
+    record {
+      soon = λ k r live. let le = soon.runs k r live in let later = last_later c.now b.now d.life soon.later in omega (arith, le, later);
+      near = λ k r i home live works. rows_near d room old new e (counted c) b m n x (plan d e c) s r.deadline (let le = soon.runs k r live in let ahead = last_ahead c.now d.life in omega (arith, le, ahead)) home i (worked.runs k r live i works home);
+    }

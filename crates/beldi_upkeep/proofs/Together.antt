@@ -1,0 +1,21 @@
+-- All of it together.
+use Rattle.beldi_laws.proofs.Events.{begins, keeps_right}
+use Rattle.beldi_upkeep.specs.Upkeep.{BeginsUpkept, KeepsUpkeep}
+use Rattle.beldi_upkeep.proofs.{FreeShadows.no_shadow, FreeShadows.shadows_stay_free, Nearness.begins_near, Nearness.keeps_near, Past.keeps_past, Past.past_begins, Upkept.keeps_seats, Upkept.seats_begin}
+
+pub begins_upkept : BeginsUpkept
+begins_upkept d now = record { right = begins d now; seats = (seats_begin now).0; owe = (seats_begin now).1; past = (past_begins now).0; passes = (past_begins now).1; near = begins_near d 0 now; free = no_shadow }
+
+pub keeps_upkeep : KeepsUpkeep
+keeps_upkeep d room old new e c b m n r h s =
+    let k = keeps_seats d room old new e c b m n r h.right h.seats h.owe s in
+    let p = keeps_past d room old new e c b m n r h.right h.past h.passes s in
+    record {
+      right = keeps_right d room old new e c b m n r h.right s;
+      seats = k.0;
+      owe = k.1;
+      past = p.0;
+      passes = p.1;
+      near = keeps_near d room old new e c b m n r h.right h.seats h.near s;
+      free = shadows_stay_free d room old new e c b m n r h.free s;
+    }

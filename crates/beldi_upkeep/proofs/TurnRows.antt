@@ -1,0 +1,156 @@
+-- What the turn of a run that has begun leaves of the rows.
+use Rattle.beldi_known.proofs.{Acts.is_data, Callers.all_called, Participants.open_owner}
+use Rattle.beldi_laws.proofs.Names.{Async, AsyncAt, Begun, Body, Bool, ByTx, CallAt, Caller, CellOp, Core, Deployment, Effect, Fits, Inherited, Inside, Instance, IntentId, IntentMatches, InvokeRow, Item, Kind, Knows, List, Look, MakeCell, None, Null, Option, Outcome, Own, Place, PutLockset, PutRead, Register, Return, Right, RootMatches, Row, RowAct, RowKey, Rows, Run, RunTx, Some, Stage, TxAt, TxId, Value, WriteAt, after_act, ap, behind_locks, call_of, child_of, content_of, effect_before, length, false, func_called, has_ended, has_finish, has_no_hops, head_key, if◌then◌else◌, inl, inr, intent_key, invoke_key, is_some, key_in, log_key, op_act, note_at, place_of, refl, rows_after, same_some, shadow_key, subst, sym, touched, true, tx_after, tx_of, ℕ, ◌∙◌, ◌≡◌, AtItem, Lockset, async_asks, back_to_asks, call_asks, callee_body, register_asks, tell_asks, write_asks}
+use Rattle.beldi_laws.proofs.Names.map
+use Rattle.beldi_laws.proofs.Names.txn
+use Rattle.beldi_laws.proofs.InTx as in_tx
+use Rattle.beldi_laws.proofs.{Frames.is_intent, Frames.is_invoke, Members.call_there, OpenOf.called_in, Returns.has_caller, Turns.at_steps, Turns.by_answer, Turns.effect_here, Turns.sane_instance}
+use Rattle.beldi_upkeep.specs.Callees.{HasPut, Seats, belongs_to, owner_key, seat_of}
+use Rattle.beldi_upkeep.proofs.{CellActs.lock_noted, CellActs.lock_owner, CellActs.make_owner, CellActs.told_note, FromRight.below_key, FromRight.call_absent, FromRight.call_is, FromRight.called_here, FromRight.child_key, FromRight.open_unfinished, Leaving.IsPassedBy, Leaving.Leaves, Leaving.leaves_item, Leaving.leaves_looked, Leaving.leaves_op, Leaving.leaves_quiet, RowSets.marks, RowSets.opens, RowSets.registers, RowSets.returns}
+use Rattle.beldi_invokelog.specs.InvokeLog.{open_asks}
+use Rattle.beldi_step.specs.Run.{put_asks}
+use Rattle.beldi_value.specs.declared.place.Owner.{Owner}
+use Rattle.std.specs.Option.{option_map}
+
+-- ---- a live run that has begun
+module _ (d : Deployment) (c : Core) (m : Rows) (h : Right d c m) (seats : Seats m) (r : Run) (g : Begun) (k : Knows d h.known r g) (finds : Inside m h.plain c.book k g.stage) where
+  abbrev Leave : Rows → Type 0
+  Leave n = Leaves c m n
+
+  abbrev place : Place
+  place = place_of r.id g.machine.steps
+
+  -- its own row is there
+  pub own_row : is_some (map.get m (intent_key r.id r.func)) ≡ true
+  own_row = by_root (has_no_hops r.id.hops) refl
+    where
+      root_there : (o : Option Row) → RootMatches true o (Some k.instance) → is_some o ≡ true
+      root_there None f = let clash = f in cc
+      root_there (Some w) f = refl
+
+      by_root : (b : Bool) → has_no_hops r.id.hops ≡ b → is_some (map.get m (intent_key r.id r.func)) ≡ true
+      by_root true e = ap (λ q. is_some (map.get m q)) (λ i. record { home = if e i then 0 else r.func; kind = Kind.Intent r.id })
+          ∙ root_there (map.get m (key_in 0 r.id)) (subst (λ o. RootMatches true (map.get m (key_in 0 r.id)) o) k.made (subst (λ b. IntentMatches (has_ended d h.known) b 0 (map.get m (key_in 0 r.id)) (map.get h.known r.id)) e (h.rows.keys (key_in 0 r.id))))
+      by_root false e = ap (λ q. is_some (map.get m q)) (below_key r.id r.func e) ∙ finds.row e
+
+  -- the row of the owner of the transaction that it is in: by the call that leads to it
+  pub tx_row : (o : RunTx) → g.tx ≡ Some o → is_some (map.get m (owner_key (tx_of r.id r.func o))) ≡ true
+  tx_row (Own o) is = own_row
+  tx_row (Inherited t) is = all_called d h.known h.sane t (λ i z. is_some (map.get m (owner_key t)) ≡ true)
+      (λ i z inner q outside own.
+      let there = call_there d m h.known h.locked h.rows (q.caller, q.waiter.func) (record { step = q.step; func = z.func }) (record { caller = q.waiter; made = q.made; func = refl; callee = z; there = ap (map.get h.known) (sym q.is) ∙ q.there; its = refl }) in
+      (λ i. is_some (map.get m (intent_key (own.intent i) (own.func_is i)))) ∙ seats.has_seat (invoke_key q.waiter.func (place_of q.caller q.step)) q.caller refl (row_there (map.get m (invoke_key q.waiter.func (place_of q.caller q.step))) there))
+      (λ i z inner q up there. there) r.id k.instance k.made (called_in d k.instance t k.answers (sym k.run_open ∙ is))
+    where
+      row_there : {f : ℕ} (o : Option Row) → option_map func_called o ≡ Some f → is_some o ≡ true
+      row_there None e = cc
+      row_there (Some w) e = refl
+
+  -- ---- a row that belongs to it, in its function's home
+  pub own_put : (kind : Kind) (a : RowAct) → is_intent kind ≡ false → is_invoke kind ≡ false → is_data kind ≡ false → belongs_to kind ≡ Some r.id → seat_of (record { home = r.func; kind = kind }) r.id ≡ intent_key r.id r.func → Leave (after_act a c.now (record { home = r.func; kind = kind }) m)
+  own_put kind a off call item of seat = leaves_quiet c m seats c.now (record { home = r.func; kind = kind }) a off call item
+      (λ i is. subst (λ z. is_some (map.get m (seat_of (record { home = r.func; kind = kind }) z)) ≡ true) (same_some (sym of ∙ is)) (ap (λ q. is_some (map.get m q)) seat ∙ own_row))
+
+  -- a row of a shadow of the transaction that it is in
+  shadow_put : (o : RunTx) → g.tx ≡ Some o → (x : Item) (a : RowAct) → Leave (after_act a c.now (shadow_key (tx_of r.id r.func o) x) m)
+  shadow_put o is x a = leaves_quiet c m seats c.now (shadow_key (tx_of r.id r.func o) x) a refl refl refl
+      (λ i e. subst (λ z. is_some (map.get m (intent_key z (tx_of r.id r.func o).func)) ≡ true) (same_some e) (tx_row o is))
+
+  -- a Look
+  pub look : (q : RowKey) → Leave (after_act Look c.now q m)
+  look q = leaves_looked c m seats c.now q
+
+  -- ---- an operation outside
+  pub write_leaves : (w : WriteAt) (o : Option _) → Leave (rows_after (put_asks r.id r.func g.machine.steps w o) c.now m)
+  write_leaves w None = look (intent_key r.id r.func)
+  write_leaves w (Some o) = leaves_op c m seats c.now (record { func = r.func; table = o.table; key = o.key }) place (Owner.Intent r.id) o.op w refl
+
+  -- ---- inside a transaction
+  module _ (o : RunTx) (tx : g.tx ≡ Some o) (here : tx_after d r.id k.instance k.answers ≡ Some (tx_of r.id r.func o)) (e : Effect) (is : g.machine.effect ≡ e) (x : ℕ × List ℕ) (touch : touched e ≡ Some x) where
+    abbrev own : TxId
+    own = tx_of r.id r.func o
+
+    abbrev item : Item
+    item = record { func = r.func; table = x.0; key = x.1 }
+
+    abbrev its_item : Item
+    its_item = record { func = k.instance.func; table = x.0; key = x.1 }
+
+    -- a lock makes the transaction of who stands at the front the owner; behind, its place has its note
+    lock_leaves : (w : WriteAt) → Leave (rows_after (write_asks (head_key item) place (ByTx own) CellOp.Lock w) c.now m)
+    lock_leaves WriteAt.Make = leaves_item c m seats c.now item (MakeCell Null None) (λ t owned. inl (make_owner t c.now (map.get m (head_key item)) owned))
+    lock_leaves WriteAt.Try = leaves_item c m seats c.now item (op_act place (ByTx own) CellOp.Lock) (λ t owned. by_answer k
+        (λ left. elim (lock_owner t own place c.now (map.get m (head_key item)) owned) [
+          | inl was ↦ inl was
+          | inr same ↦ inr (subst (λ z. has_finish (map.get m (owner_key z)) ≡ false) (sym same) (open_unfinished d c m h own
+              (open_owner d h.known h.sane r.id k.instance own k.made (in_tx.open_still d c m r g h k o here e is x touch left) (in_tx.apart d c m r g h k o here e is x touch left) (in_tx.tx_is d c m r g h k o here e is x touch left))))
+        ])
+        (λ a rest left.
+        let locks = behind_locks d m h.known h.locked h.rows r.id k.instance k.made (sane_instance h k) k.answers a rest (in_tx.known_answers d c m r g h k o here e is x touch a rest left) (in_tx.short d c m r g h k o here e is x touch) own here x (ap touched (in_tx.effect_so d c m r g h k o here e is x touch) ∙ touch) in
+        let told = told_note (place_of r.id (length k.answers)) own (content_of m its_item) (content_of m its_item) _ locks.0 in
+        inl (lock_noted t own place c.now (map.get m (head_key item)) _ ((λ i. note_at (content_of m (sym (in_tx.same_item d c m r g h k o here e is x touch) i)).notes (place_of r.id ((at_steps k) i))) ∙ told) owned)))
+
+    aside_leaves : (w : WriteAt) (y : Option CellOp) → Leave (rows_after (txn.aside_asks r.func place own (shadow_key own item) w y) c.now m)
+    aside_leaves w None = look (log_key r.func place)
+    aside_leaves WriteAt.Try (Some op) = shadow_put o tx item (op_act place (ByTx own) op)
+    aside_leaves WriteAt.Make (Some op) = shadow_put o tx item (MakeCell Null None)
+
+    pub tx_leaves : (a : TxAt) → Fits e a → Leave (rows_after (txn.item_asks r.func place own e x.0 x.1 a) c.now m)
+    tx_leaves TxAt.Log fits = look (log_key r.func place)
+    tx_leaves (TxAt.Lock (Lockset b)) fits = own_put (Kind.Lockset r.id b x.0 x.1) PutLockset refl refl refl refl refl
+    tx_leaves (TxAt.Lock (AtItem w)) fits = lock_leaves w
+    tx_leaves TxAt.Shadow fits = look (shadow_key own item)
+    tx_leaves TxAt.Item fits = look (head_key item)
+    tx_leaves (TxAt.Keep v) fits = own_put (Kind.ReadLog place) (PutRead v) refl refl refl refl refl
+    tx_leaves (TxAt.Head v) fits = shadow_put o tx item (MakeCell v None)
+    tx_leaves (TxAt.Write w) fits = aside_leaves w (txn.op_of e)
+
+  -- ---- calls
+  abbrev call_key : RowKey
+  call_key = invoke_key r.func place
+
+  -- a call is opened: nobody has its callee's row before
+  open_leaves : (f : ℕ) → Leave (rows_after (open_asks r.func place f) c.now m)
+  open_leaves f = opens c m seats c.now r.func r.id g.machine.steps f own_row (λ none home s b body. call_absent d c m h r.func r.id g.machine.steps home s b k.instance k.made k.func none body)
+
+  -- who is called gets its row
+  register_leaves : (id : IntentId) (b : Body) → intent_key id b.func ≡ key_in b.func id → (map.get m (key_in b.func id) ≡ None → (t : TxId) → b.tx ≡ Some t → (has_finish (map.get m (owner_key t)) ≡ true → ⊥) × (IsPassedBy c t → ⊥)) → Leave (rows_after (register_asks id b) c.now m)
+  register_leaves id b seat is_open = subst (λ q. Leave (after_act (Register b) c.now q m)) (sym seat) (registers c m seats c.now id b seat is_open)
+
+  pub call_leaves : (w : CallAt) (f : ℕ) → Leave (rows_after (call_asks r.func place f w) c.now m)
+  call_leaves CallAt.Open f = open_leaves f
+  call_leaves CallAt.Look f = look call_key
+
+  -- a call that nobody waits for
+  module _ (f : ℕ) (v : Value) (is : g.machine.effect ≡ Async f v) where
+    sent_func : (x : InvokeRow) → map.get m call_key ≡ Some (Row.Invoke x) → x.func ≡ f
+    sent_func x at =
+        let i = call_is d c m h r.func r.id g.machine.steps x at in
+        let w = called_here d c m h r.id g.machine.steps i.callee i.there in
+        let call = subst (λ (q : Instance). effect_before d q g.machine.steps ≡ call_of w.1.1.waits i.callee.func i.callee.args) (same_some (sym w.1.0 ∙ k.made)) w.1.1.call in
+        sym i.its ∙ by_waits w.1.1.waits i.callee.func f i.callee.args v (sym call ∙ effect_here k ∙ is)
+      where
+        by_waits : (t : Bool) (f g : ℕ) (a b : Value) → call_of t f a ≡ Async g b → f ≡ g
+        by_waits true f g a b e = cc
+        by_waits false f g a b e = cc
+
+    pub async_leaves : (w : AsyncAt) → HasPut (Stage.Async w) (Async f v) (child_of r.id g.machine.steps) m → Leave (rows_after (async_asks r.func place (callee_body r.id r.func g.machine.steps f v None false) w) c.now m)
+    async_leaves AsyncAt.Open put = open_leaves f
+    async_leaves AsyncAt.Register put = register_leaves (child_of r.id g.machine.steps) (callee_body r.id r.func g.machine.steps f v None false) (child_key r.id g.machine.steps f) (λ none t is. cc)
+    async_leaves AsyncAt.Note put = marks c m seats c.now r.func r.id g.machine.steps (λ x at. ap (λ z. is_some (map.get m (key_in z (child_of r.id g.machine.steps)))) (sent_func x at) ∙ put)
+
+  -- ---- a return
+  pub back_leaves : (b : Option Caller) (u : Outcome) → Leave (rows_after (back_to_asks r.id r.func b (Return u)) c.now m)
+  back_leaves None u = look (intent_key r.id r.func)
+  back_leaves (Some b) u = returns c m seats c.now b.func b.place.intent b.place.step u
+
+  -- its call says its function, and has its own row
+  pub tell_leaves : (b : Option Caller) → g.caller ≡ b → Leave (rows_after (tell_asks r.id r.func b) c.now m)
+  tell_leaves None from = look (intent_key r.id r.func)
+  tell_leaves (Some b) from = marks c m seats c.now b.func b.place.intent b.place.step (λ x at.
+      let i = call_is d c m h b.func b.place.intent b.place.step x at in
+      let w = has_caller d h.known r.id k.instance b h.sane k.made (sym k.caller ∙ from) in
+      let same : i.callee ≡ k.instance = same_some (sym i.there ∙ ap (map.get h.known) (sym w.is_callee) ∙ k.made) in
+      let func : r.func ≡ x.func = sym k.func ∙ ap (λ (q : Instance). q.func) (sym same) ∙ i.its in
+      let key : intent_key r.id r.func ≡ key_in x.func (child_of b.place.intent b.place.step) = ap (λ z. intent_key z r.func) w.is_callee ∙ child_key b.place.intent b.place.step r.func ∙ ap (λ z. key_in z (child_of b.place.intent b.place.step)) func in
+      ap (λ q. is_some (map.get m q)) (sym key) ∙ own_row)

@@ -1,0 +1,7 @@
+pub mod Callees
+pub mod Checked
+pub mod Deadlines
+pub mod Freed
+pub mod Passed
+pub mod Upkeep
+pub mod Written
