@@ -1,6 +1,6 @@
 -- Why the calls of a host keep it and its rows right, and what they tell of the run of the book.
 use Rattle.beldi_row.specs.declared.row.Row.TheVariants.{Intent}
-use Rattle.beldi_host.proofs.Names.{AllocError, AnswersStay, Body, BodyMatches, Bool, Core, Deployment, EndsLate, Err, Event, EventOn, HasNoReply, HasNoRows, IfOk, IfSome, IntentMatches, IsLegal, IsSome, List, None, Ok, OnOk, OneAnswerPerStep, OpenErr, Option, Outcome, PlainState, Reads, ReplySeen, Result, Right, Row, RowKey, Rows, RowsStandFor, SaidOf, Seen, Some, Stands, Stepped, TableState, Tells, Unknown, [], after_event, answers_stay, ap, arith, begins, expires, false, first_core, greatest, has_ended, if◌then◌else◌, is_gone, is_some, is_unknown, keeps_right, key_cmp, len-empty, len-entries, listing_of, listing_plain, nat_le, nat_lt, nat_tests, newest_of, nil_from_length, one_answer, outcome_known, outcome_of, outcome_seen, over_rows, refl, reply_of, reply_seen, right_legal, right_stands, root_key, root_of, row_seen, run_of, same_run, seen_by, subst, sym, tables_text, tells_map, true, with_runs, ℕ, ◌&&◌, ◌++◌, ◌∙◌, ◌≡◌}
+use Rattle.beldi_host.proofs.Names.{AllocError, AnswersStay, Body, BodyMatches, Bool, Core, Deployment, EndsLate, Err, Event, EventOn, HasNoReply, HasNoRows, IfOk, IfSome, IntentMatches, IsLegal, IsSome, List, None, Ok, OnOk, OneAnswerPerStep, OpenErr, Option, Outcome, PlainState, Reads, ReplySeen, Result, Right, Row, RowKey, Rows, RowsStandFor, SaidOf, Seen, Some, Stands, Stepped, TableState, Tells, Unknown, Upkeep, [], after_event, answers_stay, ap, arith, begins_upkept, expires, false, first_core, greatest, has_ended, if◌then◌else◌, is_gone, is_some, is_unknown, keeps_upkeep, key_cmp, len-empty, len-entries, listing_of, listing_plain, nat_le, nat_lt, nat_tests, newest_of, nil_from_length, one_answer, outcome_known, outcome_of, outcome_seen, over_rows, refl, reply_of, reply_seen, right_legal, right_stands, root_key, root_of, row_seen, run_of, same_run, seen_by, subst, sym, tables_text, tells_map, true, with_runs, ℕ, ◌&&◌, ◌++◌, ◌∙◌, ◌≡◌}
 use Rattle.beldi_host.proofs.Names.map
 
 -- ---- what is told
@@ -16,21 +16,24 @@ tells_so Z none some (Some m) (Some n) h = some m n h
 
 -- ---- what a right host has
 module _ (d : Deployment) (c : Core) (told : Option Rows) where
-  pub legal_at : IfSome told (Right d c) → IfSome told (λ m. IsLegal d c.book)
-  legal_at h = if_told {P = Right d c} {Q = λ m. IsLegal d c.book} told (right_legal d c) h
+  pub legal_at : IfSome told (Upkeep d c) → IfSome told (λ m. IsLegal d c.book)
+  legal_at h = if_told {P = Upkeep d c} {Q = λ m. IsLegal d c.book} told (λ m u. right_legal d c m u.right) h
 
-  pub stands_at : IfSome told (Right d c) → RowsStandFor d c.book told
-  stands_at h = if_told {P = Right d c} {Q = λ m. (p : PlainState) → run_of d c.book ≡ Some p → Stands d m p} told (λ m r p is. right_stands d c m p r is) h
+  pub stands_at : IfSome told (Upkeep d c) → RowsStandFor d c.book told
+  stands_at h = if_told {P = Upkeep d c} {Q = λ m. (p : PlainState) → run_of d c.book ≡ Some p → Stands d m p} told (λ m u p is. right_stands d c m p u.right is) h
 
-  pub one_answer_at : IfSome told (Right d c) → IfSome told (λ m. (p : PlainState) → run_of d c.book ≡ Some p → OneAnswerPerStep d c m p)
-  one_answer_at h = if_told {P = Right d c} {Q = λ m. (p : PlainState) → run_of d c.book ≡ Some p → OneAnswerPerStep d c m p} told (λ m r p is. one_answer d c m p r is) h
+  pub one_answer_at : IfSome told (Upkeep d c) → IfSome told (λ m. (p : PlainState) → run_of d c.book ≡ Some p → OneAnswerPerStep d c m p)
+  one_answer_at h = if_told {P = Upkeep d c} {Q = λ m. (p : PlainState) → run_of d c.book ≡ Some p → OneAnswerPerStep d c m p} told (λ m u p is. one_answer d c m p u.right is) h
 
 -- ---- where the intent collector stands is nothing that has to be right
 pub at_cursor : (d : Deployment) (c : Core) (k : RowKey) (m : Rows) → Right d c m → Right d (record c { cursor = k }) m
 at_cursor d c k m h = with_runs h (record c { cursor = k }) refl refl h.runs
 
-pub moved_cursor : (d : Deployment) (c : Core) (k : RowKey) (told : Option Rows) → IfSome told (Right d c) → IfSome told (Right d (record c { cursor = k }))
-moved_cursor d c k told h = if_told {P = Right d c} {Q = Right d (record c { cursor = k })} told (at_cursor d c k) h
+kept_at_cursor : (d : Deployment) (c : Core) (k : RowKey) (m : Rows) → Upkeep d c m → Upkeep d (record c { cursor = k }) m
+kept_at_cursor d c k m u = record { right = at_cursor d c k m u.right; seats = u.seats; owe = record { each = u.owe.each }; past = u.past; passes = record { each = u.passes.each }; near = record { soon = u.near.soon; near = u.near.near }; free = u.free }
+
+pub moved_cursor : (d : Deployment) (c : Core) (k : RowKey) (told : Option Rows) → IfSome told (Upkeep d c) → IfSome told (Upkeep d (record c { cursor = k }))
+moved_cursor d c k told h = if_told {P = Upkeep d c} {Q = Upkeep d (record c { cursor = k })} told (kept_at_cursor d c k) h
 
 -- ---- the host after an event
 module _ (d : Deployment) (e : Event) (c b : Core) (old new : TableState) (x : Result Seen AllocError) (s : Stepped d e c b old new x) where
@@ -40,14 +43,14 @@ module _ (d : Deployment) (e : Event) (c b : Core) (old new : TableState) (x : R
   pub event_stays : Tells old.rows new.rows AnswersStay
   event_stays = tells_map {P = On} {Q = AnswersStay} old.rows new.rows (λ m n h. answers_stay d old.room old.faults new.faults e c b m n x h) (over_rows d e c b old new x s)
 
-  pub event_keeps : (k : Deployment) → k ≡ d → IfSome old.rows (Right d c) → IfSome new.rows (Right k b)
-  event_keeps k code = subst (λ (z : Deployment). IfSome old.rows (Right d c) → IfSome new.rows (Right z b)) (sym code)
-      (tells_so {R = On} (λ o u. IfSome o (Right d c) → IfSome u (Right d b)) (λ h. tt) (λ m n h r. keeps_right d old.room old.faults new.faults e c b m n x r h) old.rows new.rows (over_rows d e c b old new x s))
+  pub event_keeps : (k : Deployment) → k ≡ d → IfSome old.rows (Upkeep d c) → IfSome new.rows (Upkeep k b)
+  event_keeps k code = subst (λ (z : Deployment). IfSome old.rows (Upkeep d c) → IfSome new.rows (Upkeep z b)) (sym code)
+      (tells_so {R = On} (λ o u. IfSome o (Upkeep d c) → IfSome u (Upkeep d b)) (λ h. tt) (λ m n h u. keeps_upkeep d old.room old.faults new.faults e c b m n x u h) old.rows new.rows (over_rows d e c b old new x s))
 
   -- no ticket is answered gone
-  pub never_gone : IsSome old.rows → IfSome old.rows (Right d c) → IfOk x (λ y. is_gone y ≡ false)
-  never_gone = tells_so {R = On} (λ o u. IsSome o → IfSome o (Right d c) → IfOk x (λ y. is_gone y ≡ false)) (λ some. let clash : false ≡ true = some in cc)
-      (λ m n h some r. answered x (after_event d old.room old.faults new.faults e c b m n x r h).there) old.rows new.rows (over_rows d e c b old new x s)
+  pub never_gone : IsSome old.rows → IfSome old.rows (Upkeep d c) → IfOk x (λ y. is_gone y ≡ false)
+  never_gone = tells_so {R = On} (λ o u. IsSome o → IfSome o (Upkeep d c) → IfOk x (λ y. is_gone y ≡ false)) (λ some. let clash : false ≡ true = some in cc)
+      (λ m n h some u. answered x (after_event d old.room old.faults new.faults e c b m n x u.right h).there) old.rows new.rows (over_rows d e c b old new x s)
     where
       answered : (y : Result Seen AllocError) → is_gone (seen_by y) ≡ false → IfOk y (λ z. is_gone z ≡ false)
       answered (Ok z) h = h
@@ -60,20 +63,23 @@ module _ (d : Deployment) (e : Event) (c b : Core) (old new : TableState) (x : R
 no_entries : map.entries (map.empty {X = Row} {R = key_cmp}) ≡ []
 no_entries = nil_from_length (map.entries (map.empty {X = Row} {R = key_cmp})) (sym (len-entries (map.empty {X = Row} {R = key_cmp})) ∙ len-empty key_cmp Row)
 
-pub begins_right : (d : Deployment) (now : ℕ) (m : Rows) → m ≡ map.empty → Right d (first_core (newest_of m) now) m
-begins_right d now m none = subst (λ (y : Rows). Right d (first_core (newest_of y) now) y) (sym none) (subst (λ (k : ℕ). Right d (first_core k now) map.empty) (sym (ap greatest no_entries)) (begins d now))
+begins_kept : (d : Deployment) (now : ℕ) (m : Rows) → m ≡ map.empty → Upkeep d (first_core (newest_of m) now) m
+begins_kept d now m none = subst (λ (y : Rows). Upkeep d (first_core (newest_of y) now) y) (sym none) (subst (λ (k : ℕ). Upkeep d (first_core k now) map.empty) (sym (ap greatest no_entries)) (begins_upkept d now))
 
-pub opened : (d : Deployment) (c : Core) (now : ℕ) (before after : Option Rows) → c ≡ first_core c.newest now → Tells before after (λ m n. (n ≡ m) × (c.newest ≡ newest_of m)) → HasNoRows before → IfSome after (Right d c)
-opened d c now before after core = tells_so {R = λ m n. (n ≡ m) × (c.newest ≡ newest_of m)} (λ o u. HasNoRows o → IfSome u (Right d c)) (λ h. tt)
-    (λ m n t none. subst (Right d c) (sym t.0) (subst (λ (z : Core). Right d z m) (sym (core ∙ ap (λ k. first_core k now) t.1)) (begins_right d now m none))) before after
+pub begins_right : (d : Deployment) (now : ℕ) (m : Rows) → m ≡ map.empty → Right d (first_core (newest_of m) now) m
+begins_right d now m none = (begins_kept d now m none).right
+
+pub opened : (d : Deployment) (c : Core) (now : ℕ) (before after : Option Rows) → c ≡ first_core c.newest now → Tells before after (λ m n. (n ≡ m) × (c.newest ≡ newest_of m)) → HasNoRows before → IfSome after (Upkeep d c)
+opened d c now before after core = tells_so {R = λ m n. (n ≡ m) × (c.newest ≡ newest_of m)} (λ o u. HasNoRows o → IfSome u (Upkeep d c)) (λ h. tt)
+    (λ m n t none. subst (Upkeep d c) (sym t.0) (subst (λ (z : Core). Upkeep d z m) (sym (core ∙ ap (λ k. first_core k now) t.1)) (begins_kept d now m none))) before after
 
 -- ---- the listing
 pub listed : (d : Deployment) (c : Core) (text longer : List ℕ) (old new : TableState) (x : Result (Unit {0}) OpenErr) → Reads (λ m u. longer ≡ text ++ tables_text d m) old new x
-    → IfSome old.rows (Right d c) → OnOk x (IfSome old.rows (λ m. (p : PlainState) → run_of d c.book ≡ Some p → longer ≡ text ++ listing_of d p))
+    → IfSome old.rows (Upkeep d c) → OnOk x (IfSome old.rows (λ m. (p : PlainState) → run_of d c.book ≡ Some p → longer ≡ text ++ listing_of d p))
 listed d c text longer old new (Err w) s h = tt
 listed d c text longer old new (Ok u) s h = tells_so {R = λ m n. (n ≡ m) × (longer ≡ text ++ tables_text d m)}
-    (λ o u. IfSome o (Right d c) → IfSome o (λ m. (p : PlainState) → run_of d c.book ≡ Some p → longer ≡ text ++ listing_of d p)) (λ h. tt)
-    (λ m n t h p is. t.1 ∙ ap (λ z. text ++ z) (listing_plain d c m p h is)) old.rows new.rows s.rows h
+    (λ o u. IfSome o (Upkeep d c) → IfSome o (λ m. (p : PlainState) → run_of d c.book ≡ Some p → longer ≡ text ++ listing_of d p)) (λ h. tt)
+    (λ m n t u p is. t.1 ∙ ap (λ z. text ++ z) (listing_plain d c m p u.right is)) old.rows new.rows s.rows h
 
 -- ---- a reply
 issued_if : (t n : ℕ) → is_unknown n t ≡ false → (nat_lt 0 t && nat_le t n) ≡ true
@@ -116,7 +122,7 @@ module _ (d : Deployment) (c : Core) (m : Rows) (h : Right d c m) (t : ℕ) wher
   said_of = by_ticket (is_unknown c.newest t) refl
 
 pub said : (d : Deployment) (c : Core) (t : ℕ) (old new : TableState) (x : Result ReplySeen OpenErr)
-    → Reads (λ m y. y ≡ reply_seen c.newest t m) old new x → IfSome old.rows (Right d c) → IfOk x (λ y. IfSome old.rows (λ m. SaidOf d c.book t y))
+    → Reads (λ m y. y ≡ reply_seen c.newest t m) old new x → IfSome old.rows (Upkeep d c) → IfOk x (λ y. IfSome old.rows (λ m. SaidOf d c.book t y))
 said d c t old new (Err w) s h = tt
-said d c t old new (Ok y) s h = tells_so {R = λ m n. (n ≡ m) × (y ≡ reply_seen c.newest t m)} (λ o u. IfSome o (Right d c) → IfSome o (λ m. SaidOf d c.book t y)) (λ h. tt)
-    (λ m n z h. subst (λ (r : ReplySeen). SaidOf d c.book t r) (sym z.1) (said_of d c m h t)) old.rows new.rows s.rows h
+said d c t old new (Ok y) s h = tells_so {R = λ m n. (n ≡ m) × (y ≡ reply_seen c.newest t m)} (λ o u. IfSome o (Upkeep d c) → IfSome o (λ m. SaidOf d c.book t y)) (λ h. tt)
+    (λ m n z u. subst (λ (r : ReplySeen). SaidOf d c.book t r) (sym z.1) (said_of d c m u.right t)) old.rows new.rows s.rows h

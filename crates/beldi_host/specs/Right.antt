@@ -8,7 +8,8 @@ use Rattle.beldi_plain.specs.{Plain.PlainState, Plain.reply_of, Legal.IsLegal, L
 use Rattle.beldi_row.specs.{declared.table.Table.Ghosts, Table.Rows, Table.TableState, Table.Tells}
 use Rattle.beldi_step.specs.{declared.event.Event.Event, declared.event.Seen.Seen, declared.event.Seen.TheVariants.Expired, declared.run.Run.Run, Host.Core, Host.most_events, Host.ended_run, Host.counted, Laws.run_of_event}
 use Rattle.beldi_known.specs.Stands.{Stands}
-use Rattle.beldi_laws.specs.{Right.Right, OneAnswer.OneAnswerPerStep, OneAnswer.AnswersStay}
+use Rattle.beldi_laws.specs.OneAnswer.{OneAnswerPerStep, AnswersStay}
+use Rattle.beldi_upkeep.specs.Upkeep.{Upkeep}
 use Rattle.beldi_host.specs.{declared.host.Host.Host, declared.survey.ReplySeen.ReplySeen, declared.survey.ReplySeen.TheVariants.Unknown, declared.survey.ReplySeen.TheVariants.Gone, declared.survey.ReplySeen.TheVariants.Waiting, declared.survey.ReplySeen.TheVariants.Reply, Host.core_of, Said.SaidOf}
 
 -- an event of a live run that is past its deadline leaves the table, and ends the run
@@ -29,9 +30,9 @@ module _ {T : Type 0} {G : Ghosts T} where
   abbrev pub rows_of : Host T G → Option Rows
   rows_of h = (G.state h.table).rows
 
-  -- the host and its rows are right
+  -- the host and its rows are right, and keep what is kept beside
   abbrev pub IsRight : Host T G → Type 0
-  IsRight h = IfSome (rows_of h) (Right h.code (core_of h))
+  IsRight h = IfSome (rows_of h) (Upkeep h.code (core_of h))
 
   -- its rows are told
   abbrev pub HasRows : Host T G → Type 0
