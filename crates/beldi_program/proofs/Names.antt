@@ -20,5 +20,5 @@ pub use Rattle.beldi_session.specs.Script.{Action, Carry, CountRows, ListBook, L
 pub use Rattle.beldi_session.specs.Session.{BrokeOff, Does, EventBroke, Follows, IsReport, IsStep, Leaves, SettlingLeaves, Sight, State, Steps, Stopped, Unchanged, Went, WentBy, Writes, first_event, sight, state_at}
 pub use Rattle.beldi_session.{proofs.Responses.told_tells, proofs.Went.fine, proofs.Went.unchanged, specs.Check.check_at, specs.Check.check_by, specs.Check.counted, specs.Check.counted_on, specs.Check.tested, specs.Check.with_line, specs.Refusal.refusal_text, specs.Settle.next_of, specs.Source.Numbered, specs.Source.numbered, specs.Source.said_at, specs.Source.script_of, specs.Source.source_at, specs.declared.refusal.Refusal.Refusal, specs.declared.session.Stop.Stop, specs.declared.session.Stop.TheVariants.OutOfMemory, specs.declared.session.Stop.TheVariants.SinkFault, specs.declared.settle.Next.Next, specs.declared.settle.Next.TheVariants.Collect, specs.declared.settle.Next.TheVariants.Reset, specs.declared.settle.Next.TheVariants.Turn, specs.declared.settle.Standing.TheVariants.Goes, specs.declared.settle.Standing.TheVariants.Over, specs.declared.source.Accepted.Accepted}
 pub use Rattle.beldi_program.specs.Headline.{AsRead, ByStatus, CheckEnds, CommandEnds, Cut, DoneBy, Ends, HasEnded, LongOn, NothingDone, ReadEnds, SessionEnds, SourceAsRead, SourceEnds, TextEnds, Untouched, Whole, end_of, is_whole_source, status_of, usage}
-pub use Rattle.beldi_program.specs.PlainRun.{AreTo, Booked, GoesOn, IsPlainRun, IsReportSo, IsSo, Moment, Moments, Session, TellOutcomes, bound_by, bound_in, last_book, outcome_in, responses_in}
+pub use Rattle.beldi_program.specs.PlainRun.{AreTo, Booked, GoesOn, IsPlainRun, IsReportSo, IsSo, Moment, Moments, RowsStandFor, Session, TellOutcomes, bound_by, bound_in, last_book, outcome_in, responses_in}
 pub use Rattle.beldi_program.specs.{Hosted.Hosted, Hosted.StepsTo, Hosted.opened_at, declared.program.Ended.Ended}

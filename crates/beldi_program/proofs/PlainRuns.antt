@@ -1,7 +1,7 @@
 -- What every step keeps, what is said at its moment, and what is so at the end.
 use Rattle.std.specs.Prelude.{◌≤◌}
 use Rattle.beldi_session.specs.Response.{Whole}
-use Rattle.beldi_program.proofs.Names.{Action, AllocError, Answered, AreTo, AtFirst, BookGrew, BookIs, Booked, BrokeOff, Carry, Collect, Core, CountRows, Deployment, Entry, Err, Event, EventBroke, EventOn, Follows, Goes, GoesOn, Gone, HasReply, Hosted, IsPlainRun, IsReport, IsReportSo, IsSo, IsStep, IsTo, IsToSettling, Leaves, LineRefused, List, ListBook, ListTables, Moment, Moments, Next, None, Ok, Option, OutOfMemory, Outcome, Over, Refuse, Reply, ReplyAlone, ReplyIs, ReplySeen, Report, Reported, Reset, Response, Result, Right, Rows, RowsAre, SaidOf, Seen, Session, Settle, SettledIs, SettlingLeaves, SinkFault, Some, State, Steps, StepsTo, Stop, Stopped, TablesAre, TellOutcomes, TellReply, Turn, Unchanged, Unknown, Value, Waiting, Went, WentBack, [], ap, append-nil, append_assoc, at_cursor, book_grew, bound_by, bound_by_event, bound_in, first_core, first_event, inl, inr, is_turn, keeps_right, last_book, least_key, listing_plain, newest_of, next_of, opened_at, option_to_list, outcome_in, outcomes_stay, refl, replies, reset, responses_in, responses_text, right_legal, right_stands, said_of, same_Some, starts_bound, starts_of, subst, sym, unchanged, ℕ, ◌++◌, ◌∙◌, ◌∷◌, ◌≡◌}
+use Rattle.beldi_program.proofs.Names.{Action, AllocError, Answered, AreTo, AtFirst, BookGrew, BookIs, Booked, BrokeOff, Carry, Collect, Core, CountRows, Deployment, Entry, Err, Event, EventBroke, EventOn, Follows, Goes, GoesOn, Gone, HasReply, Hosted, IsPlainRun, IsReport, IsReportSo, IsSo, IsStep, IsTo, IsToSettling, Leaves, LineRefused, List, ListBook, ListTables, Moment, Moments, Next, None, Ok, Option, OutOfMemory, Outcome, Over, Refuse, Reply, ReplyAlone, ReplyIs, ReplySeen, Report, Reported, Reset, Response, Result, Right, Rows, RowsAre, RowsStandFor, SaidOf, Seen, Session, Settle, SettledIs, SettlingLeaves, SinkFault, Some, State, Steps, StepsTo, Stop, Stopped, TablesAre, TellOutcomes, TellReply, Turn, Unchanged, Unknown, Value, Waiting, Went, WentBack, [], ap, append-nil, append_assoc, at_cursor, book_grew, bound_by, bound_by_event, bound_in, first_core, first_event, inl, inr, is_turn, keeps_right, last_book, least_key, listing_plain, newest_of, next_of, opened_at, option_to_list, outcome_in, outcomes_stay, refl, replies, reset, responses_in, responses_text, right_legal, right_stands, said_of, same_Some, starts_bound, starts_of, subst, sym, unchanged, ℕ, ◌++◌, ◌∙◌, ◌∷◌, ◌≡◌}
 use Rattle.beldi_program.proofs.Names.map
 
 abbrev Bound : Type 0
@@ -13,6 +13,10 @@ record Kept (d : Deployment) (s t : State) (bound : Bound) : Type 0 where
   pub starts : starts_of t.core.book ≡ starts_of s.core.book ++ bound
   pub keeps : (n : ℕ) (o : Outcome) → HasReply d s.core.book n o → HasReply d t.core.book n o
   pub goes_on : GoesOn s.core.book t.core.book
+
+-- a response, with book and rows as they are
+abbrev booked_at : Response → State → Booked
+booked_at y t = record { response = y; book = t.core.book; rows = t.rows }
 
 still : (P : Core → Rows → Type 0) (s t : State) → Unchanged s t → P s.core s.rows → P t.core t.rows
 still P s t u h = subst (λ c. P c t.rows) (sym u.core) (subst (λ m. P s.core m) (sym u.rows) h)
@@ -85,14 +89,19 @@ module _ (d : Deployment) (room : ℕ) where
   report_so s t (SettledIs r) h o = tt
   report_so s t (LineRefused x) h o = tt
 
-  moment : (s t : State) (y : Response) → Right d s.core s.rows → IsStep d room s t y → Moment d y s.core.book t.core.book
+  stands_for : (t : State) → Right d t.core t.rows → RowsStandFor d t.rows t.core.book
+  stands_for t h p is = right_stands d t.core t.rows p h is
+
+  moment : (s t : State) (y : Response) → Right d s.core s.rows → IsStep d room s t y → Moment d s.core.book (booked_at y t)
   moment s t (Answered share e x) h o =
       let g = grew e s t (Ok x) o.0 in
+      let right = (kept_step s t (Answered share e x) h o).right in
       record {
         entry = g.entry;
         grew = g.book;
         told = g.told;
-        legal = right_legal d t.core t.rows (kept_step s t (Answered share e x) h o).right;
+        legal = right_legal d t.core t.rows right;
+        tables = stands_for t right;
         so = λ n w is. replies d room s.faults t.faults e s.core t.core s.rows t.rows x h o.0 n w is;
       }
   moment s t WentBack h o = record {
@@ -100,6 +109,7 @@ module _ (d : Deployment) (room : ℕ) where
     grew = ap (λ (z : State). z.core.book) o ∙ sym (append-nil s.core.book);
     told = λ v. refl;
     legal = right_legal d t.core t.rows (kept_back s t h o).right;
+    tables = stands_for t (kept_back s t h o).right;
     so = tt;
   }
   moment s t (Reported r) h o = record {
@@ -107,6 +117,7 @@ module _ (d : Deployment) (room : ℕ) where
     grew = ap (λ (c : Core). c.book) o.0.core ∙ sym (append-nil s.core.book);
     told = λ v. refl;
     legal = right_legal d t.core t.rows (kept_step s t (Reported r) h o).right;
+    tables = stands_for t (kept_step s t (Reported r) h o).right;
     so = subst (λ (c : Core). IsReportSo d c.book r) (sym o.0.core) (report_so s t r h o.1);
   }
 
@@ -135,10 +146,10 @@ module _ (d : Deployment) (room : ℕ) where
       (λ n o is. k n o ((kept_steps ys x.1 more x.0 t after x.4).keeps n o (tells x.0.core.book y n o (moment s x.0 y h x.2).so is)), told_all ys x.1 more x.0 t book after x.4 k)
 
 -- ---- a session
--- the responses, each with the book after its step
+-- the responses, each with book and rows after its step
 abbrev pub booked : (d : Deployment) (room : ℕ) (ys : List Response) (fs more : List Action) (s t : State) → Steps (IsStep d room) ys fs more s t → List Booked
 booked d room [] fs more s t x = []
-booked d room (y ∷ ys) fs more s t x = (y, x.0.core.book) ∷ booked d room ys x.1 more x.0 t x.4
+booked d room (y ∷ ys) fs more s t x = booked_at y x.0 ∷ booked d room ys x.1 more x.0 t x.4
 
 pub booked_back : (d : Deployment) (room : ℕ) (ys : List Response) (fs more : List Action) (s t : State) (x : Steps (IsStep d room) ys fs more s t) → responses_in (booked d room ys fs more s t x) ≡ ys
 booked_back d room [] fs more s t x = refl
@@ -154,7 +165,7 @@ moments d (y ∷ ys) fs more s t h x = (moment d d.room s x.0 y h x.2, moments d
 
 steps_to : (d : Deployment) (ys : List Response) (fs more : List Action) (s t : State) (x : Steps (IsStep d d.room) ys fs more s t) → StepsTo d (booked d d.room ys fs more s t x) fs more s t
 steps_to d [] fs more s t x = x
-steps_to d (y ∷ ys) fs more s t x = (x.0, x.1, (x.2, refl), x.3, steps_to d ys x.1 more x.0 t x.4)
+steps_to d (y ∷ ys) fs more s t x = (x.0, x.1, (x.2, refl, refl), x.3, steps_to d ys x.1 more x.0 t x.4)
 
 -- ---- what the responses are to
 is_to_settling : (budget : ℕ) (c : Core) (n : Next) (y : Response) (left : List Action) → SettlingLeaves budget c n y left → IsToSettling budget y left
@@ -218,7 +229,7 @@ module _ (d : Deployment) (actions more : List Action) (m : Rows) (opened : ℕ)
         legal = right_legal d u.core u.rows l.right;
         bound = l.starts ∙ append-nil (starts_of t.core.book) ∙ k.starts ∙ ap bound_in same;
         replies = subst (λ z. TellOutcomes d u.core.book z) same (told_all d d.room ys actions more s t u.core.book h x.steps l.keeps);
-        tables = λ p is. right_stands d u.core u.rows p l.right is;
+        tables = stands_for d d.room u l.right;
       }
 
   abbrev pub said : Session d actions more m u.rows written rest

@@ -15,10 +15,10 @@ use Rattle.beldi_program.specs.PlainRun.{Booked}
 abbrev pub opened_at : Rows → ℕ → State
 opened_at m f = record { core = first_core (newest_of m) 0; rows = m; faults = f }
 
--- one step after another, to the first of the actions that are left: the book of a response is that of the host after its step
+-- one step after another, to the first of the actions that are left: the book and the rows of a response are those of the host after its step
 abbrev pub StepsTo : Deployment → List Booked → List Action → List Action → State → State → Type 0
 StepsTo d [] actions more s t = (t ≡ s) × (actions ≡ more)
-StepsTo d (y ∷ ys) actions more s t = (u : State) × (left : List Action) × (IsStep d d.room s u y.0 × (u.core.book ≡ y.1)) × Follows actions s.core u.core y.0 left × StepsTo d ys left more u t
+StepsTo d (y ∷ ys) actions more s t = (u : State) × (left : List Action) × (IsStep d d.room s u y.response × (u.core.book ≡ y.book) × (u.rows ≡ y.rows)) × Follows actions s.core u.core y.response left × StepsTo d ys left more u t
 
 -- from the rows m to the rows n, by these responses to the actions, but for `more`, to this book, and then so to the end. The numbers f and g are the table's count
 -- of failures before and after, and `opened` is the count once the host was open. Where it began over no rows, the listing of the

@@ -35,31 +35,38 @@ IsSo d book (Answered share e x) = (t : ℕ) (o : Outcome) → told_outcome x �
 IsSo d book WentBack = Unit {0}
 IsSo d book (Reported r) = IsReportSo d book r
 
--- the book got at most one entry, the one that the response tells, unless the answer was lost; it is legal; and what is said
--- is so in its run
-pub record Moment (d : Deployment) (y : Response) (before book : List Entry) : Type 0 where
-  pub entry : Option Entry
-  pub grew : book ≡ before ++ option_to_list entry
-  pub told : loses y ≡ false → option_to_list entry ≡ entries_in y
-  pub legal : IsLegal d book
-  pub so : IsSo d book y
+-- the rows stand for the run of the book
+abbrev pub RowsStandFor : Deployment → Rows → List Entry → Type 0
+RowsStandFor d rows book = (p : PlainState) → run_of d book ≡ Some p → Stands d rows p
 
--- a response, with the book after it
-abbrev pub Booked : Type 0
-Booked = Response × List Entry
+-- a response, with the book and the rows after it
+pub record Booked : Type 0 where
+  pub response : Response
+  pub book : List Entry
+  pub rows : Rows
+
+-- the book got at most one entry, the one that the response tells, unless the answer was lost; it is legal; what is said is so
+-- in its run; and the rows stand for that run
+pub record Moment (d : Deployment) (before : List Entry) (y : Booked) : Type 0 where
+  pub entry : Option Entry
+  pub grew : y.book ≡ before ++ option_to_list entry
+  pub told : loses y.response ≡ false → option_to_list entry ≡ entries_in y.response
+  pub legal : IsLegal d y.book
+  pub so : IsSo d y.book y.response
+  pub tables : RowsStandFor d y.rows y.book
 
 -- from a book on, each of these is a moment after the one before
 abbrev pub Moments : Deployment → List Entry → List Booked → Type 0
 Moments d before [] = Unit {0}
-Moments d before (y ∷ ys) = Moment d y.0 before y.1 × Moments d y.1 ys
+Moments d before (y ∷ ys) = Moment d before y × Moments d y.book ys
 
 -- the book after the last of them
 abbrev pub last_book : List Entry → List Booked → List Entry
 last_book before [] = before
-last_book before (y ∷ ys) = last_book y.1 ys
+last_book before (y ∷ ys) = last_book y.book ys
 
 abbrev pub responses_in : List Booked → List Response
-responses_in ys = map (λ y. y.0) ys
+responses_in ys = map (λ (y : Booked). y.response) ys
 
 -- ---- the book at the end
 -- the requests that were bound
@@ -81,18 +88,14 @@ abbrev pub TellOutcomes : Deployment → List Entry → List Response → Type 0
 TellOutcomes d book [] = Unit {0}
 TellOutcomes d book (y ∷ ys) = ((t : ℕ) (o : Outcome) → outcome_in y ≡ Some (t, o) → HasReply d book t o) × TellOutcomes d book ys
 
--- the rows stand for the run of the book
-abbrev pub RowsStandFor : Deployment → Rows → List Entry → Type 0
-RowsStandFor d n book = (p : PlainState) → run_of d book ≡ Some p → Stands d n p
-
 abbrev pub GoesOn : List Entry → List Entry → Type 0
 GoesOn before after = (more : List Entry) × (before ++ more ≡ after)
 
--- after each response the book is legal, and what was said is so in its run. The book at the end goes on from the last moment's,
--- where an event broke off out of memory. It is legal, so that each step of an instance acts once and in its order, each
--- transaction that committed is one entry, whole, and each that was aborted one that leaves no item changed (`after` of
--- `beldi_plain/specs/Entries`); it starts exactly the requests that were answered bound, in order; every outcome that was told is
--- its root's; and the rows stand for its run.
+-- after each response the book is legal, what was said is so in its run, and the rows stand for it. The book at the end goes on
+-- from the last moment's, where an event broke off out of memory. It is legal, so that each step of an instance acts once and in
+-- its order, each transaction that committed is one entry, whole, and each that was aborted one that leaves no item changed
+-- (`after` of `beldi_plain/specs/Entries`); it starts exactly the requests that were answered bound, in order; every outcome that
+-- was told is its root's; and the rows stand for its run.
 pub record IsPlainRun (d : Deployment) (rows : Rows) (ys : List Booked) (book : List Entry) : Type 0 where
   pub moments : Moments d [] ys
   pub goes_on : GoesOn (last_book [] ys) book
@@ -108,8 +111,8 @@ AreTo [] actions more = actions ≡ more
 AreTo (y ∷ ys) actions more = (left : List Action) × AtFirst (λ a front. IsTo a y front) actions left × AreTo ys left more
 
 -- the actions, but for `more`, got responses in order, one each, and a settling one for each of its events and one as it ended; after
--- each the book was such. The text is theirs, and a front of it was written; and there is the book at the end. Over no rows this is a
--- run without crashes.
+-- each the book and the rows were such. The text is theirs, and a front of it was written; and there is the book at the end. Over no
+-- rows this is a run without crashes.
 pub record Session (d : Deployment) (actions more : List Action) (m n : Rows) (written rest : List ℕ) : Type 0 where
   pub responses : List Booked
   pub actions_are : AreTo (responses_in responses) actions more

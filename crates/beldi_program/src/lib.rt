@@ -19,13 +19,13 @@
 //! - A source that is tested leaves the table as it was handed in (`tested`); with 0 it has no fault, and the text tells how many
 //!   functions and lines it has, with 5 it is its first refusal alone.
 //! - Over a table without rows, that session is a run without crashes: after each response the book has the
-//!   entries that were told, is legal, and each outcome, reply, listing of the tables and of the book is that of its
-//!   run then (`Moment`); at the end (`IsPlainRun`) it is legal, so each step of an instance acts once and in its order, each
-//!   committed transaction in one piece, and each aborted one reads one state and leaves no item changed (`legal`),
-//!   it starts exactly the requests that were answered `bound`, in order (`bound`), each outcome that was told is the
-//!   root's in its run (`replies`), and the rows stand for that run (`tables`).
+//!   entries that were told, is legal, each outcome, reply, listing of the tables and of the book is that of its
+//!   run then, and the rows stand for that run (`Moment`); at the end (`IsPlainRun`) it is legal, so each step of an
+//!   instance acts once and in its order, each committed transaction in one piece, and each aborted one reads one state
+//!   and leaves no item changed (`legal`), it starts exactly the requests that were answered `bound`, in order (`bound`),
+//!   each outcome that was told is the root's in its run (`replies`), and the rows stand for that run (`tables`).
 //! - A line `settle` has a response for each of its events, and all this is so after each. Each response is that of one step of the
-//!   host, and the book is that step's (`Hosted`); over a table without rows the rows are
+//!   host, and its book and its rows are that step's (`Hosted`); over a table without rows the rows are
 //!   listed as the run is (`listing`).
 //! - 3, 4 and 8 come only where the count of the source, the sink or the table rose (`source_fault`, `sink_fault`,
 //!   `open_fault`); 7 only where the source has more than 16,777,216 bytes, of which 16,777,217 were taken, and where,
