@@ -3,7 +3,7 @@ use Rattle.clap.specs.Simple.{App, Shape, built, built_leaf, inherited, names_of
 use Rattle.clap.{specs.Walk.Text, specs.Walk.idle, specs.Walk.nothing_held, specs.Walk.subcommand_met, specs.Walk.walk_from, specs.Walk.walked, specs.Faults.entered_fault, specs.Faults.fault_of, specs.Faults.level_fault, proofs.OnLiterals.clap_on_literals}
 use Rattle.std.proofs.Common.{◌≡◌, ◌⊎◌, inl, inr, Bool, true, false, List, [], ◌∷◌, Option, Some, None, option_map, option_and_then, bytes_eq, codes, refl, sym, subst}
 use Rattle.std.proofs.lemmas.{Bool.or_parts, Slice.Eq.bytes_eq-Decides}
-use Rattle.beldi_command.{specs.declared.command.Command.Command, specs.Command.command_named, specs.Command.command_of, specs.Parser.has_divider, specs.Parser.run_or_check, proofs.Strays.Fails, proofs.Strays.strayed, proofs.Strays.without_args, proofs.Strays.by_first, proofs.Strays.by_next, proofs.Entered.entered}
+use Rattle.beldi_command.{specs.declared.command.Command.Command, specs.Command.command_named, specs.Command.named_of, specs.Parser.has_divider, specs.Parser.run_or_check, proofs.Strays.Fails, proofs.Strays.strayed, proofs.Strays.without_args, proofs.Strays.by_first, proofs.Strays.by_next, proofs.Entered.entered}
 
 -- the command that the subcommand that was met is
 abbrev pub met : List Text → Option Command
@@ -11,7 +11,7 @@ met words = option_and_then command_named (option_map (λ p. p.0) (subcommand_of
 
 -- the words are refused and ask for no command, or the one that they ask for is met
 abbrev pub IsAsked : List Text → Type 0
-IsAsked words = (Fails (fault_of run_or_check words) × (command_of words ≡ None)) ⊎ ((fault_of run_or_check words ≡ []) × (met words ≡ command_of words))
+IsAsked words = (Fails (fault_of run_or_check words) × (named_of words ≡ None)) ⊎ ((fault_of run_or_check words ≡ []) × (met words ≡ named_of words))
 
 abbrev app : App
 app = built run_or_check
@@ -23,7 +23,7 @@ leaf name = built_leaf (inherited app.top (new_shape name))
 -- the words after a command's name
 module _ (name : Text) (met_by_name : (walked [] (names_of app) (walk_from nothing_held) name).stopped ≡ Some (name, []))
     (fails_within : (words : List Text) → entered_fault app (Some (name, words)) ≡ level_fault (without_args (leaf name)) [] nothing_held words false [])
-    (alone : IsAsked (name ∷ [])) (no_more : (v : Text) (rest : List Text) → command_of (name ∷ v ∷ rest) ≡ None) where
+    (alone : IsAsked (name ∷ [])) (no_more : (v : Text) (rest : List Text) → named_of (name ∷ v ∷ rest) ≡ None) where
   after : (rest : List Text) → has_divider rest ≡ false → IsAsked (name ∷ rest)
   unfolding clap_on_literals
   after [] clear = alone
@@ -47,7 +47,7 @@ is_not a b h = elim (bytes_eq b a) as (λ t. bytes_eq b a ≡ t → t ≡ false)
   | false ↦ λ e. refl
 ] refl
 
-none_asked : (w : Text) (rest : List Text) → bytes_eq w (codes "run") ≡ false → bytes_eq w (codes "check") ≡ false → command_of (w ∷ rest) ≡ None
+none_asked : (w : Text) (rest : List Text) → bytes_eq w (codes "run") ≡ false → bytes_eq w (codes "check") ≡ false → named_of (w ∷ rest) ≡ None
 none_asked w [] not_run not_check = rw (not_run, not_check) refl
 none_asked w (v ∷ rest) not_run not_check = refl
 

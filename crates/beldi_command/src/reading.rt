@@ -1,11 +1,11 @@
 // The words, read by the parser.
 ghost use Rattle.std.specs.Prelude.{◌≡◌, IfOk, map};
-ghost use Rattle.beldi_command.specs.Command.{command_of};
+ghost use Rattle.beldi_command.specs.Command.{command_of, gen_of, named_of};
 ghost use Rattle.beldi_command.specs.Parser.{has_divider};
 
 use crate::command::Command;
 use crate::parser::{command_met, parser};
-use beldi_value::{OutOfMemory, Str};
+use beldi_value::{OutOfMemory, Str, read_numeral};
 use clap::error::ErrorKind;
 use std::alloc::Global;
 
@@ -25,10 +25,26 @@ fn texts_of(alloc: Global, words: &[Str]) -> Result<Vec<&str>, OutOfMemory>
     Ok(texts)
 }
 
-/// The command that these words, those after the program's name, ask for; none where they are outside the grammar
-/// `run | check`. Out of memory, nothing is said of them.
-pub fn read_command(alloc: Global, words: &[Str]) -> Result<Option<Command>, OutOfMemory>
-    ensures { IfOk result (λ c. c ≡ command_of words.now) }
+// Generated work, by the words for its seed and for how many requests it has.
+fn gen_of(seed: &Str, requests: &Str) -> Option<Command>
+    ensures { result ≡ gen_of seed.now requests.now }
+{
+    match (
+        read_numeral(seed.as_bytes(), 2_147_483_647),
+        read_numeral(requests.as_bytes(), 1000),
+    ) {
+        (_, Some(0)) => None,
+        (Some(seed), Some(requests)) => Some(Command::Gen {
+            seed: seed as u32,
+            requests: requests as u32,
+        }),
+        _ => None,
+    }
+}
+
+// The command of words that `clap` reads: a name alone.
+fn read_name(alloc: Global, words: &[Str]) -> Result<Option<Command>, OutOfMemory>
+    ensures { IfOk result (λ c. c ≡ named_of words.now) }
 {
     // `clap` would take `run --` for `run`.
     if has_divider(words) {
@@ -41,5 +57,16 @@ pub fn read_command(alloc: Global, words: &[Str]) -> Result<Option<Command>, Out
             ErrorKind::OutOfMemory => Err(OutOfMemory),
             _ => Ok(None),
         },
+    }
+}
+
+/// The command that these words, those after the program's name, ask for; none where they are outside the grammar
+/// `run | check | gen SEED N`. Out of memory, nothing is said of them.
+pub fn read_command(alloc: Global, words: &[Str]) -> Result<Option<Command>, OutOfMemory>
+    ensures { IfOk result (λ c. c ≡ command_of words.now) }
+{
+    match words {
+        [word, seed, requests] if word.as_str() == "gen" => Ok(gen_of(seed, requests)),
+        _ => read_name(alloc, words),
     }
 }

@@ -1,6 +1,6 @@
 -- How the program ends.
 use Rattle.std.specs.Prelude.{IfOk}
-use Rattle.beldi_program.proofs.Names.{Accepted, AsRead, Bool, ByStatus, Check, CheckEnds, Command, CommandEnds, Core, Cut, Deployment, Does, DoneBy, Ended, Ends, Err, Failed, HasEnded, IsErrOf, IsPrefixOf, IsSome, Line, List, LongOn, None, NothingDone, Numbered, Ok, OnOk, OpenErr, Opened, Option, OutOfMemory, ReadAllOn, ReadEnds, Refusal, Refused, Result, Right, Rose, Rows, Run, SessionEnds, Sight, SinkFault, Some, SourceAsRead, SourceEnds, State, Stop, Stopped, TableState, TextEnds, Told, TookFront, Untouched, Vec, WentBy, Whole, Writes, WroteOn, [], actions_in, ap, arith, begins_right, check_at, check_by, counted, counted_on, end_of, false, false≢true, fine, first_core, inl, inr, is_ok, is_whole, is_whole_source, length, max_source, newest_of, opened_at, refl, refusal_text, said_at, script_of, source_at, state_at, status_of, subst, suc, sym, tested, told_map, told_same, told_tells, told_then, true, unchanged, usage, with_line, zero, ℕ, ◌&&◌, ◌+◌, ◌∙◌, ◌∷◌, ◌≡◌, ◌≤◌, ◌⊎◌}
+use Rattle.beldi_program.proofs.Names.{Accepted, AsRead, Bool, ByStatus, Check, CheckEnds, Command, CommandEnds, Core, Cut, Deployment, Does, DoneBy, Ended, Ends, Err, Failed, Gen, GeneratedEnds, HasEnded, IsErrOf, IsPrefixOf, Line, List, LongOn, None, NothingDone, Numbered, Ok, OnOk, OpenErr, Opened, Option, OutOfMemory, ReadAllOn, ReadEnds, Refusal, Refused, Result, Right, Rose, Rows, Run, SessionEnds, Sight, SinkFault, SinkState, Some, SourceAsRead, SourceCommandEnds, SourceEnds, State, Stop, Stopped, SummedUp, TableState, TextEnds, Told, TookFront, Untouched, Vec, WentBy, Whole, Writes, WroteOn, [], actions_in, ap, arith, begins_right, check_at, check_by, counted, counted_on, end_of, false, false≢true, fine, first_core, generated, inl, inr, is_ok, is_whole, is_whole_source, kept, kept_faults, length, max_source, new_sink, newest_of, opened_at, reads_source, refl, refusal_text, said_at, script_of, source_at, state_at, status_of, subst, subst₂, suc, summary_text, sym, tested, told_map, told_same, told_tells, told_then, true, unchanged, usage, with_line, zero, ℕ, ◌&&◌, ◌+◌, ◌-◌, ◌^◌, ◌∙◌, ◌∷◌, ◌≡◌, ◌≤◌, ◌⊎◌}
 use Rattle.beldi_program.proofs.PlainRuns.{hosted_by, last_booked, said}
 use Rattle.beldi_program.proofs.Names.map
 
@@ -159,10 +159,12 @@ module _ {K T : Type 0} (held : K → Option (List ℕ)) (faults : K → ℕ) (s
   done_read : (c : Command) (bytes : List ℕ) (k k' : K) (t t' : T) (e : Ended) → DoneBy held faults state c bytes k k' t t' e → is_read_end e ≡ true
   done_read Run bytes k k' t t' e x = ends_read bytes (source_at bytes) k k' t t' e x
   done_read Check bytes k k' t t' e x = checked_read held faults (check_at bytes) k k' e x.1
+  done_read (Gen seed n) bytes k k' t t' e x = absurd x
 
   done_as : (c : Command) (bytes : List ℕ) (k k' : K) (t t' : T) (e : Ended) → DoneBy held faults state c bytes k k' t t' e → AsRead (is_whole_source bytes (source_at bytes)) e
   done_as Run bytes k k' t t' e x = as_read bytes (source_at bytes) k k' t t' e x
   done_as Check bytes k k' t t' e x = checked_as held faults (is_whole_source bytes (source_at bytes)) (check_at bytes) k k' e (is_checked bytes (source_at bytes)) x.1
+  done_as (Gen seed n) bytes k k' t t' e x = absurd x
 
   sink_rose : (bytes : List ℕ) (o : Result Accepted Refusal) (k k' : K) (t t' : T) → SourceEnds held faults state bytes o k k' t t' Ended.SinkFault → Rose (faults k) (faults k')
   sink_rose bytes (Ok p) k k' t t' x = x.0
@@ -171,23 +173,77 @@ module _ {K T : Type 0} (held : K → Option (List ℕ)) (faults : K → ℕ) (s
   pub done_rose : (c : Command) (bytes : List ℕ) (k k' : K) (t t' : T) → DoneBy held faults state c bytes k k' t t' Ended.SinkFault → Rose (faults k) (faults k')
   done_rose Run bytes k k' t t' x = sink_rose bytes (source_at bytes) k k' t t' x
   done_rose Check bytes k k' t t' x = checked_rose held faults (check_at bytes) k k' x.1
+  done_rose (Gen seed n) bytes k k' t t' x = absurd x
 
   pub not_hosted : (c : Command) (bytes : List ℕ) (k k' : K) (t t' : T) → DoneBy held faults state c bytes k k' t t' Ended.TableFault
       → Rose (state t).faults (state t').faults × (Told (state t).rows (state t').rows (λ m n. n ≡ m) × (k' ≡ k))
   not_hosted Run bytes k k' t t' x = table_rose bytes (source_at bytes) k k' t t' x
   not_hosted Check bytes k k' t t' x = absurd (checked_opens held faults (check_at bytes) k k' x.1)
+  not_hosted (Gen seed n) bytes k k' t t' x = absurd x
+
+-- ---- generated work
+module _ {K : Type 0} (held : K → Option (List ℕ)) (faults : K → ℕ) (n : ℕ) (text : List ℕ) (k k' : K) where
+  summed_read : (end e : Ended) → is_read_end end ≡ true → SummedUp held faults n text end k k' e → is_read_end e ≡ true
+  summed_read Ended.Done e r x = text_read held faults (summary_text n text) Ended.Done k k' e refl x
+  summed_read Ended.Refused e r x = text_read held faults text Ended.Refused k k' e refl x
+  summed_read Ended.SinkFault e r x = ap is_read_end x.0
+  summed_read end e r x = ap is_read_end x.0 ∙ r
+
+  summed_rose : (end : Ended) → SummedUp held faults n text end k k' Ended.SinkFault → Rose (faults k) (faults k')
+  summed_rose Ended.Done x = x.0
+  summed_rose Ended.Refused x = x.0
+  summed_rose end x = let clash = x.0 in cc
+
+  summed_opens : (end : Ended) → SummedUp held faults n text end k k' Ended.TableFault → (end ≡ Ended.TableFault) × (k' ≡ k)
+  summed_opens Ended.Done x = let clash = x.0 in cc
+  summed_opens Ended.Refused x = let clash = x.0 in cc
+  summed_opens Ended.SinkFault x = let clash = x.0 in cc
+  summed_opens end x = (sym x.0, x.1)
+
+module _ {K T : Type 0} (held : K → Option (List ℕ)) (faults : K → ℕ) (state : T → TableState) (seed n : ℕ) (k k' : K) (t t' : T) where
+  -- the session of a source that is the generated one
+  pub generated_by : (e ended : Ended) (bytes text : List ℕ) (first sink : SinkState) → bytes ≡ generated seed n → first ≡ new_sink [] (2 ^ 64 - 1) → text ≡ sink.bytes
+      → SourceEnds kept kept_faults state bytes (source_at bytes) first sink t t' ended → SummedUp held faults n text ended k k' e → GeneratedEnds held faults state seed n k k' t t' e
+  generated_by e ended bytes text first sink is made same session told = inr (record {
+    sink = sink;
+    ended = ended;
+    session = subst₂ (λ (b : List ℕ) (f : SinkState). SourceEnds kept kept_faults state b (source_at b) f sink t t' ended) is made session;
+    told = subst (λ (z : List ℕ). SummedUp held faults n z ended k k' e) same told;
+  })
+
+  generated_read : (e : Ended) → GeneratedEnds held faults state seed n k k' t t' e → is_read_end e ≡ true
+  generated_read e (inl x) = ap is_read_end x.0
+  generated_read e (inr x) = summed_read held faults n x.sink.bytes k k' x.ended e (ends_read kept kept_faults state (generated seed n) (source_at (generated seed n)) _ x.sink t t' x.ended x.session) x.told
+
+  generated_rose : GeneratedEnds held faults state seed n k k' t t' Ended.SinkFault → Rose (faults k) (faults k')
+  generated_rose (inl x) = let clash = x.0 in cc
+  generated_rose (inr x) = summed_rose held faults n x.sink.bytes k k' x.ended x.told
+
+  generated_opens : GeneratedEnds held faults state seed n k k' t t' Ended.TableFault → Rose (state t).faults (state t').faults × (Told (state t).rows (state t').rows (λ m n. n ≡ m) × (k' ≡ k))
+  generated_opens (inl x) = let clash = x.0 in cc
+  generated_opens (inr x) =
+      let o = summed_opens held faults n x.sink.bytes k k' x.ended x.told in
+      let w = table_rose kept kept_faults state (generated seed n) (source_at (generated seed n)) _ x.sink t t' (subst (λ z. SourceEnds kept kept_faults state (generated seed n) (source_at (generated seed n)) (new_sink [] (2 ^ 64 - 1)) x.sink t t' z) o.0 x.session) in
+      (w.0, (w.1.0, o.1))
 
 -- ---- what is read off the ending
 module _ {S K T : Type 0} (left : S → Option (List ℕ)) (source_faults : S → ℕ) (held : K → Option (List ℕ)) (faults : K → ℕ) (state : T → TableState) (s s' : S) (k k' : K) (t t' : T) where
-  pub command_ends : (c : Command) (e : Ended) → ReadEnds left source_faults held faults state c s s' k k' t t' e → CommandEnds left source_faults held faults state c s s' k k' t t' e
+  pub command_ends : (c : Command) (e : Ended) → ReadEnds left source_faults held faults state c s s' k k' t t' e → SourceCommandEnds left source_faults held faults state c s s' k k' t t' e
   command_ends c Ended.OutOfMemory x = inr x
   command_ends c Ended.Usage x = let clash = done_read held faults state c x.0 k k' t t' Ended.Usage x.3 in cc
   command_ends c Ended.SourceFault x = let clash = done_read held faults state c x.0 k k' t t' Ended.SourceFault x.3 in cc
   command_ends c Ended.TooLong x = let clash = done_read held faults state c x.0 k k' t t' Ended.TooLong x.3 in cc
   command_ends c e x = x
 
+  -- what is so of each command that reads the source, and of generated work
+  by_command : (e : Ended) (P : Type 0) → ((c : Command) → SourceCommandEnds left source_faults held faults state c s s' k k' t t' e → P) → ((seed n : ℕ) → GeneratedEnds held faults state seed n k k' t t' e → P)
+      → (c : Command) → CommandEnds left source_faults held faults state c s s' k k' t t' e → P
+  by_command e P f g Run x = f Run x
+  by_command e P f g Check x = f Check x
+  by_command e P f g (Gen seed n) x = g seed n x.1
+
   pub not_command : (o : Option Command) → Ends left source_faults held faults state o s s' k k' t t' Ended.Usage → o ≡ None
-  not_command (Some c) x = absurd x
+  not_command (Some c) x = absurd (by_command Ended.Usage ⊥ (λ c x. x) (λ seed n x. let clash = generated_read held faults state seed n k k' t t' Ended.Usage x in cc) c x)
   not_command None x = refl
 
   other_words : (e : Ended) → TextEnds held faults usage Ended.Usage k k' e → (status_of e ≡ 2) ⊎ (status_of e ≡ 4) ⊎ (status_of e ≡ 1)
@@ -195,29 +251,34 @@ module _ {S K T : Type 0} (left : S → Option (List ℕ)) (source_faults : S �
   other_words Ended.OutOfMemory x = inr (inr refl)
   other_words e x = inl (ap status_of x.0)
 
-  pub unread : (o : Option Command) (e : Ended) → o ≡ None → Ends left source_faults held faults state o s s' k k' t t' e → (s' ≡ s) × (t' ≡ t) × ((status_of e ≡ 2) ⊎ (status_of e ≡ 4) ⊎ (status_of e ≡ 1))
-  unread (Some c) e h x = cc
-  unread None e h x = (x.0, x.1, other_words e x.2)
+  pub usage_told : (o : Option Command) (e : Ended) → o ≡ None → Ends left source_faults held faults state o s s' k k' t t' e → (t' ≡ t) × ((status_of e ≡ 2) ⊎ (status_of e ≡ 4) ⊎ (status_of e ≡ 1))
+  usage_told (Some c) e h x = cc
+  usage_told None e h x = (x.1, other_words e x.2)
+
+  pub unread : (o : Option Command) (e : Ended) → reads_source o ≡ false → Ends left source_faults held faults state o s s' k k' t t' e → s' ≡ s
+  unread (Some Run) e h x = cc
+  unread (Some Check) e h x = cc
+  unread (Some (Gen seed n)) e h x = x.0
+  unread None e h x = x.0
 
   pub source_fault : (o : Option Command) → Ends left source_faults held faults state o s s' k k' t t' Ended.SourceFault → Rose (source_faults s) (source_faults s')
-  source_fault (Some c) x = x.0
+  source_fault (Some c) x = by_command Ended.SourceFault (Rose (source_faults s) (source_faults s')) (λ c x. x.0) (λ seed n x. let clash = generated_read held faults state seed n k k' t t' Ended.SourceFault x in cc) c x
   source_fault None x = let clash = x.2.0 in cc
 
   pub sink_fault : (o : Option Command) → Ends left source_faults held faults state o s s' k k' t t' Ended.SinkFault → Rose (faults k) (faults k')
-  sink_fault (Some c) x = done_rose held faults state c x.0 k k' t t' x.3
+  sink_fault (Some c) x = by_command Ended.SinkFault (Rose (faults k) (faults k')) (λ c x. done_rose held faults state c x.0 k k' t t' x.3) (λ seed n x. generated_rose held faults state seed n k k' t t' x) c x
   sink_fault None x = x.2.0
 
-  pub open_fault : (o : Option Command) → Ends left source_faults held faults state o s s' k k' t t' Ended.TableFault → Rose (state t).faults (state t').faults
-  open_fault (Some c) x = (not_hosted held faults state c x.0 k k' t t' x.3).0
+  pub open_fault : (o : Option Command) → Ends left source_faults held faults state o s s' k k' t t' Ended.TableFault → Rose (state t).faults (state t').faults × (Told (state t).rows (state t').rows (λ m n. n ≡ m) × (k' ≡ k))
+  open_fault (Some c) x = by_command Ended.TableFault _ (λ c x. not_hosted held faults state c x.0 k k' t t' x.3) (λ seed n x. generated_opens held faults state seed n k k' t t' x) c x
   open_fault None x = let clash = x.2.0 in cc
 
   pub untouched : (o : Option Command) (e : Ended) → Ends left source_faults held faults state o s s' k k' t t' e → Untouched e (t' ≡ t) (Told (state t).rows (state t').rows (λ m n. n ≡ m)) (k' ≡ k)
-  untouched (Some c) Ended.SourceFault x = (x.2, x.3)
-  untouched (Some c) Ended.TooLong x = (x.1, x.2)
-  untouched (Some c) Ended.TableFault x = (not_hosted held faults state c x.0 k k' t t' x.3).1
+  untouched (Some c) Ended.SourceFault x = by_command Ended.SourceFault ((t' ≡ t) × (k' ≡ k)) (λ c x. (x.2, x.3)) (λ seed n x. let clash = generated_read held faults state seed n k k' t t' Ended.SourceFault x in cc) c x
+  untouched (Some c) Ended.TooLong x = by_command Ended.TooLong ((t' ≡ t) × (k' ≡ k)) (λ c x. (x.1, x.2)) (λ seed n x. let clash = generated_read held faults state seed n k k' t t' Ended.TooLong x in cc) c x
+  untouched o Ended.TableFault x = (open_fault o x).1
   untouched None Ended.SourceFault x = let clash = x.2.0 in cc
   untouched None Ended.TooLong x = let clash = x.2.0 in cc
-  untouched None Ended.TableFault x = let clash = x.2.0 in cc
   untouched o e x = tt
 
   -- to test a source leaves the table
@@ -241,16 +302,21 @@ module _ {S K T : Type 0} (left : S → Option (List ℕ)) (source_faults : S �
   read_short : (c : Command) (e : Ended) → ReadEnds left source_faults held faults state c s s' k k' t t' e → Long e
   read_short c e x = told_map {P = λ b c. (b ≡ x.0) × (c ≡ [])} {Q = λ b c. LongOn b c e} (left s) (left s') (λ b a v. short e (done_read held faults state c x.0 k k' t t' e x.3) b a x.0 x.1 v.0) x.2
 
-  pub too_long : (o : Option Command) (e : Ended) → IsSome o → Ends left source_faults held faults state o s s' k k' t t' e → Long e
-  too_long None e h x = cc
-  too_long (Some c) Ended.Usage h x = absurd x
-  too_long (Some c) Ended.SourceFault h x = told_map {P = TookFront max_source} {Q = λ b c. LongOn b c Ended.SourceFault} (left s) (left s') (λ b c v. inr (inl refl)) x.1
-  too_long (Some c) Ended.TooLong h x = x.0
-  too_long (Some c) Ended.OutOfMemory h x = elim x [
+  source_long : (c : Command) (e : Ended) → SourceCommandEnds left source_faults held faults state c s s' k k' t t' e → Long e
+  source_long c Ended.Usage x = absurd x
+  source_long c Ended.SourceFault x = told_map {P = TookFront max_source} {Q = λ b c. LongOn b c Ended.SourceFault} (left s) (left s') (λ b c v. inr (inl refl)) x.1
+  source_long c Ended.TooLong x = x.0
+  source_long c Ended.OutOfMemory x = elim x [
     | inl y ↦ told_map {P = TookFront (max_source + 1)} {Q = λ b c. LongOn b c Ended.OutOfMemory} (left s) (left s') (λ b c v. inr (inr refl)) y.0
     | inr y ↦ read_short c Ended.OutOfMemory y
   ]
-  too_long (Some c) e h x = read_short c e x
+  source_long c e x = read_short c e x
+
+  pub too_long : (o : Option Command) (e : Ended) → reads_source o ≡ true → Ends left source_faults held faults state o s s' k k' t t' e → Long e
+  too_long None e h x = cc
+  too_long (Some Run) e h x = source_long Run e x
+  too_long (Some Check) e h x = source_long Check e x
+  too_long (Some (Gen seed n)) e h x = cc
 
   read_as : (o a : Option (List ℕ)) (bytes : List ℕ) (e : Ended) → Told o a (λ b c. (b ≡ bytes) × (c ≡ [])) → AsRead (is_whole_source bytes (source_at bytes)) e → SourceAsRead o e
   read_as None a bytes e t h = tt
@@ -264,13 +330,18 @@ module _ {S K T : Type 0} (left : S → Option (List ℕ)) (source_faults : S �
   read_refused : (c : Command) (e : Ended) → ReadEnds left source_faults held faults state c s s' k k' t t' e → SourceAsRead (left s) e
   read_refused c e x = read_as (left s) (left s') x.0 e x.2 (done_as held faults state c x.0 k k' t t' e x.3)
 
-  pub refused : (o : Option Command) (e : Ended) → IsSome o → Ends left source_faults held faults state o s s' k k' t t' e → SourceAsRead (left s) e
+  source_refused : (c : Command) (e : Ended) → SourceCommandEnds left source_faults held faults state c s s' k k' t t' e → SourceAsRead (left s) e
+  source_refused c Ended.Usage x = absurd x
+  source_refused c Ended.SourceFault x = any_read (left s) Ended.SourceFault (λ w. tt)
+  source_refused c Ended.TooLong x = any_read (left s) Ended.TooLong (λ w. tt)
+  source_refused c Ended.OutOfMemory x = any_read (left s) Ended.OutOfMemory (λ w. tt)
+  source_refused c e x = read_refused c e x
+
+  pub refused : (o : Option Command) (e : Ended) → reads_source o ≡ true → Ends left source_faults held faults state o s s' k k' t t' e → SourceAsRead (left s) e
   refused None e h x = cc
-  refused (Some c) Ended.Usage h x = absurd x
-  refused (Some c) Ended.SourceFault h x = any_read (left s) Ended.SourceFault (λ w. tt)
-  refused (Some c) Ended.TooLong h x = any_read (left s) Ended.TooLong (λ w. tt)
-  refused (Some c) Ended.OutOfMemory h x = any_read (left s) Ended.OutOfMemory (λ w. tt)
-  refused (Some c) e h x = read_refused c e x
+  refused (Some Run) e h x = source_refused Run e x
+  refused (Some Check) e h x = source_refused Check e x
+  refused (Some (Gen seed n)) e h x = cc
 
 -- ---- the status
 abbrev decode : ℕ → Ended
@@ -327,7 +398,7 @@ module _ {S K T : Type 0} {left : S → Option (List ℕ)} {source_faults : S �
   pub usage_at : (n ≡ 2 → words ≡ None) × (words ≡ None → (n ≡ 2) ⊎ (n ≡ 4) ⊎ (n ≡ 1))
   usage_at = (
     λ h. not_command left source_faults held faults state s s' k k' t t' words (by_status Ended.Usage h),
-    λ h. subst (λ (z : ℕ). (z ≡ 2) ⊎ (z ≡ 4) ⊎ (z ≡ 1)) (sym is) (unread left source_faults held faults state s s' k k' t t' words e h x.ends).2,
+    λ h. subst (λ (z : ℕ). (z ≡ 2) ⊎ (z ≡ 4) ⊎ (z ≡ 1)) (sym is) (usage_told left source_faults held faults state s s' k k' t t' words e h x.ends).1,
   )
 
   pub source_fault_at : n ≡ 3 → Rose (source_faults s) (source_faults s')
@@ -337,24 +408,24 @@ module _ {S K T : Type 0} {left : S → Option (List ℕ)} {source_faults : S �
   sink_fault_at h = sink_fault left source_faults held faults state s s' k k' t t' words (by_status Ended.SinkFault h)
 
   pub open_fault_at : n ≡ 8 → Rose (state t).faults (state t').faults
-  open_fault_at h = open_fault left source_faults held faults state s s' k k' t t' words (by_status Ended.TableFault h)
+  open_fault_at h = (open_fault left source_faults held faults state s s' k k' t t' words (by_status Ended.TableFault h)).0
 
   pub session_at : ByStatus n (Ends left source_faults held faults state words s s' k k' t t')
   session_at = (e, is, x.ends)
 
-  pub too_long_at : IsSome words → ByStatus n (λ e. Told (left s) (left s') (λ b c. LongOn b c e))
+  pub too_long_at : reads_source words ≡ true → ByStatus n (λ e. Told (left s) (left s') (λ b c. LongOn b c e))
   too_long_at h = (e, is, too_long left source_faults held faults state s s' k k' t t' words e h x.ends)
 
-  pub refused_at : IsSome words → ByStatus n (λ e. SourceAsRead (left s) e)
+  pub refused_at : reads_source words ≡ true → ByStatus n (λ e. SourceAsRead (left s) e)
   refused_at h = (e, is, refused left source_faults held faults state s s' k k' t t' words e h x.ends)
 
   pub untouched_at : ByStatus n (λ e. Untouched e (t' ≡ t) (Told (state t).rows (state t').rows (λ m n. n ≡ m)) (k' ≡ k))
   untouched_at = (e, is, untouched left source_faults held faults state s s' k k' t t' words e x.ends)
 
-  pub unread_at : words ≡ None → (s' ≡ s) × (t' ≡ t)
-  unread_at h = let u = unread left source_faults held faults state s s' k k' t t' words e h x.ends in (u.0, u.1)
+  pub unread_at : (reads_source words ≡ false → s' ≡ s) × (words ≡ None → t' ≡ t)
+  unread_at = (λ h. unread left source_faults held faults state s s' k k' t t' words e h x.ends, λ h. (usage_told left source_faults held faults state s s' k k' t t' words e h x.ends).0)
 
-  pub complete_at : IsSome words → (Rose (source_faults s) (source_faults s') → ⊥) → (Rose (faults k) (faults k') → ⊥)
+  pub complete_at : reads_source words ≡ true → (Rose (source_faults s) (source_faults s') → ⊥) → (Rose (faults k) (faults k') → ⊥)
       → Told (left s) (left s') (λ b c. length b ≤ max_source → is_whole_source b (source_at b) ≡ true → (n ≡ 0) ⊎ (n ≡ 1) ⊎ (n ≡ 8))
   complete_at h p q =
       subst (λ (z : ℕ). Told (left s) (left s') (λ b c. length b ≤ max_source → is_whole_source b (source_at b) ≡ true → (z ≡ 0) ⊎ (z ≡ 1) ⊎ (z ≡ 8))) (sym is)

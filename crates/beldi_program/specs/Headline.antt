@@ -1,14 +1,15 @@
 -- How the program ends: the cause of each way of ending, and what it leaves of the source, the sink and the table.
-use Rattle.std.specs.Prelude.{◌≡◌, ◌⊎◌, ◌≤◌, ◌<◌, ◌+◌, ℕ, length, Bool, true, false, List, [], ◌∷◌, drop, Option, Some, None, Result, Ok, Err, codes}
+use Rattle.std.specs.Prelude.{◌≡◌, ◌⊎◌, ◌≤◌, ◌<◌, ◌+◌, ◌-◌, ◌^◌, ℕ, length, Bool, true, false, List, [], drop, Option, Some, None, Result, Ok, Err, codes}
 use Rattle.beldi_tree.specs.declared.deployment.Deployment.{Deployment}
 use Rattle.beldi_row.specs.Table.{Rows, TableState}
-use Rattle.beldi_outside.specs.Outside.{IsPrefixOf, Told, Rose, TookFront, max_source}
-use Rattle.beldi_command.specs.declared.command.Command.{Command, TheVariants.Run, TheVariants.Check}
+use Rattle.beldi_outside.specs.{Memory.SinkState, Memory.new_sink, Outside.IsPrefixOf, Outside.Told, Outside.Rose, Outside.TookFront, Outside.max_source}
+use Rattle.beldi_command.specs.declared.command.Command.{Command, TheVariants.Run, TheVariants.Check, TheVariants.Gen}
+use Rattle.beldi_generator.specs.{Generated.generated, Summary.summary_text}
 use Rattle.beldi_session.specs.{declared.refusal.Refusal.Refusal, declared.source.Accepted.Accepted, declared.session.Stop.Stop, Refusal.refusal_text, Script.Action, Script.actions_in, Script.is_whole, Session.Writes, Source.Numbered, Source.script_of, Source.source_at, Check.check_at}
 use Rattle.beldi_program.specs.{declared.program.Ended.Ended, Hosted.HostedUntil, Hosted.HostedWhole, PlainRun.Session, PlainRun.last_book}
 
 abbrev pub usage : List ℕ
-usage = codes "usage: beldi run | check\n"
+usage = codes "usage: beldi run | check | gen SEED N\n"
 
 -- ---- a session over a deployment, from the rows m to the rows n, with the text that was written: what was said, and how the host
 -- moved to it. The numbers f and g are the table's count of failures before and after.
@@ -46,6 +47,30 @@ module _ {K : Type 0} (held : K → Option (List ℕ)) (faults : K → ℕ) wher
   CheckEnds (Ok text) k k' e = TextEnds text Ended.Done k k' e
   CheckEnds (Err x) k k' e = TextEnds (refusal_text x) Ended.Refused k k' e
 
+  -- generated work with so many requests: by how the session of its source ended, with that session's text. Of a whole one the
+  -- summary alone is told.
+  abbrev pub SummedUp : ℕ → List ℕ → Ended → K → K → Ended → Type 0
+  SummedUp n text Ended.Done k k' e = TextEnds (summary_text n text) Ended.Done k k' e
+  SummedUp n text Ended.Refused k k' e = TextEnds text Ended.Refused k k' e
+  SummedUp n text Ended.SinkFault k k' e = (e ≡ Ended.OutOfMemory) × (k' ≡ k)
+  SummedUp n text end k k' e = (e ≡ end) × (k' ≡ k)
+
+-- the commands that read a source
+abbrev pub reads : Command → Bool
+reads (Gen seed n) = false
+reads c = true
+
+abbrev pub reads_source : Option Command → Bool
+reads_source None = false
+reads_source (Some c) = reads c
+
+-- a sink in memory: what it got, and its faults
+abbrev pub kept : SinkState → Option (List ℕ)
+kept s = Some s.bytes
+
+abbrev pub kept_faults : SinkState → ℕ
+kept_faults s = s.plan.faults
+
 -- .. a table by its state
 module _ {K T : Type 0} (held : K → Option (List ℕ)) (faults : K → ℕ) (state : T → TableState) where
   -- nothing was done or written
@@ -74,6 +99,18 @@ module _ {K T : Type 0} (held : K → Option (List ℕ)) (faults : K → ℕ) (s
   abbrev pub DoneBy : Command → List ℕ → K → K → T → T → Ended → Type 0
   DoneBy Run bytes k k' t t' e = SourceEnds bytes (source_at bytes) k k' t t' e
   DoneBy Check bytes k k' t t' e = (t' ≡ t) × CheckEnds held faults (check_at bytes) k k' e
+  DoneBy c bytes k k' t t' e = ⊥
+
+-- generated work: a session of the generated source, with a sink in memory, is summed up; or memory ran out before it
+module _ {K T : Type 0} (held : K → Option (List ℕ)) (faults : K → ℕ) (state : T → TableState) where
+  pub record Generated (seed n : ℕ) (k k' : K) (t t' : T) (e : Ended) : Type 0 where
+    pub sink : SinkState
+    pub ended : Ended
+    pub session : SourceEnds kept kept_faults state (generated seed n) (source_at (generated seed n)) (new_sink [] (2 ^ 64 - 1)) sink t t' ended
+    pub told : SummedUp held faults n sink.bytes ended k k' e
+
+  abbrev pub GeneratedEnds : ℕ → ℕ → K → K → T → T → Ended → Type 0
+  GeneratedEnds seed n k k' t t' e = ((e ≡ Ended.OutOfMemory) × (k' ≡ k) × (t' ≡ t)) ⊎ Generated seed n k k' t t' e
 
 -- .. and a source by the bytes that it has left and its faults
 module _ {S K T : Type 0} (left : S → Option (List ℕ)) (source_faults : S → ℕ) (held : K → Option (List ℕ)) (faults : K → ℕ) (state : T → TableState) where
@@ -81,14 +118,19 @@ module _ {S K T : Type 0} (left : S → Option (List ℕ)) (source_faults : S �
   abbrev pub ReadEnds : Command → S → S → K → K → T → T → Ended → Type 0
   ReadEnds c s s' k k' t t' e = (bytes : List ℕ) × (length bytes ≤ max_source) × Told (left s) (left s') (λ b c. (b ≡ bytes) × (c ≡ [])) × DoneBy held faults state c bytes k k' t t' e
 
-  -- the words are those of a command: the source is read, unless it failed, has more bytes than it may, of which just one more was
-  -- taken, or memory ran out; then nothing is done or written
+  -- a command that reads the source: it is read, unless it failed, has more bytes than it may, of which just one more was taken, or
+  -- memory ran out; then nothing is done or written
+  abbrev pub SourceCommandEnds : Command → S → S → K → K → T → T → Ended → Type 0
+  SourceCommandEnds c s s' k k' t t' Ended.Usage = ⊥
+  SourceCommandEnds c s s' k k' t t' Ended.SourceFault = Rose (source_faults s) (source_faults s') × Told (left s) (left s') (TookFront max_source) × (t' ≡ t) × (k' ≡ k)
+  SourceCommandEnds c s s' k k' t t' Ended.TooLong = Told (left s) (left s') (λ b c. (max_source < length b) × (c ≡ drop (max_source + 1) b)) × (t' ≡ t) × (k' ≡ k)
+  SourceCommandEnds c s s' k k' t t' Ended.OutOfMemory = (Told (left s) (left s') (TookFront (max_source + 1)) × (t' ≡ t) × (k' ≡ k)) ⊎ ReadEnds c s s' k k' t t' Ended.OutOfMemory
+  SourceCommandEnds c s s' k k' t t' e = ReadEnds c s s' k k' t t' e
+
+  -- the words are those of a command: generated work reads nothing of the source
   abbrev pub CommandEnds : Command → S → S → K → K → T → T → Ended → Type 0
-  CommandEnds c s s' k k' t t' Ended.Usage = ⊥
-  CommandEnds c s s' k k' t t' Ended.SourceFault = Rose (source_faults s) (source_faults s') × Told (left s) (left s') (TookFront max_source) × (t' ≡ t) × (k' ≡ k)
-  CommandEnds c s s' k k' t t' Ended.TooLong = Told (left s) (left s') (λ b c. (max_source < length b) × (c ≡ drop (max_source + 1) b)) × (t' ≡ t) × (k' ≡ k)
-  CommandEnds c s s' k k' t t' Ended.OutOfMemory = (Told (left s) (left s') (TookFront (max_source + 1)) × (t' ≡ t) × (k' ≡ k)) ⊎ ReadEnds c s s' k k' t t' Ended.OutOfMemory
-  CommandEnds c s s' k k' t t' e = ReadEnds c s s' k k' t t' e
+  CommandEnds (Gen seed n) s s' k k' t t' e = (s' ≡ s) × GeneratedEnds held faults state seed n k k' t t' e
+  CommandEnds c s s' k k' t t' e = SourceCommandEnds c s s' k k' t t' e
 
   -- by what the words ask for: none of the commands, and the usage is told; or one of them
   abbrev pub Ends : Option Command → S → S → K → K → T → T → Ended → Type 0

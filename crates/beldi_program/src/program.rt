@@ -1,19 +1,21 @@
 // The program, over a source, a sink, a table, a link and a clock.
-ghost use Rattle.std.specs.Prelude.{◌≡◌, ◌≤◌, ◌⊎◌, true, length, IsSome, None, Some};
+ghost use Rattle.std.specs.Prelude.{◌≡◌, ◌≤◌, ◌⊎◌, true, false, length, None, Some};
 ghost use Rattle.beldi_outside.specs.Outside.{Told, Rose, max_source};
 ghost use Rattle.beldi_script.specs.Cut.{lines_of};
 ghost use Rattle.beldi_command.specs.Command.{command_of};
+ghost use Rattle.beldi_generator.specs.Summary.{summary_text};
 ghost use Rattle.beldi_command.specs.declared.command.Command.TheVariants as commands;
 ghost use Rattle.beldi_session.specs.Check.{check_at};
 ghost use Rattle.beldi_session.specs.Refusal.{refusal_text};
 ghost use Rattle.beldi_session.specs.Source.{numbered, source_at};
-ghost use Rattle.beldi_program.specs.Headline.{ByStatus, CheckEnds, CommandEnds, DoneBy, Ends, HasEnded, LongOn, SessionEnds, SourceAsRead, SourceEnds, TextEnds, Untouched, end_of, is_whole_source, status_of, usage};
+ghost use Rattle.beldi_program.specs.Headline.{ByStatus, CheckEnds, CommandEnds, DoneBy, Ends, GeneratedEnds, HasEnded, LongOn, SessionEnds, SourceAsRead, SourceCommandEnds, SourceEnds, SummedUp, TextEnds, Untouched, end_of, is_whole_source, reads, reads_source, status_of, usage};
 ghost use Rattle.beldi_program.specs.declared.program.Ended.TheVariants as ended;
 
 use beldi_check::Checked;
 use beldi_command::{Command, read_command};
+use beldi_generator::{generate, summarise};
 use beldi_host::{Host, OpenErr};
-use beldi_outside::{Clock, Link, ReadErr, Sink, Source, read_all, write_all};
+use beldi_outside::{Clock, Link, MemSink, ReadErr, Sink, Source, read_all, write_all};
 use beldi_row::Table;
 use beldi_session::{
     Accepted, Refusal, SourceErr, Stop, check_source, read_source, run_script, script_at,
@@ -64,13 +66,14 @@ pub fn top<S: Source, K: Sink, T: Table, N: Link, C: Clock>(
     ensures source_fault { result.0 ≡ 3 → Rose (S.faults source.old) (S.faults source.new) }
     ensures sink_fault { result.0 ≡ 4 → Rose (K.faults sink.old) (K.faults sink.new) }
     ensures open_fault { result.0 ≡ 8 → Rose (T.state table).faults (T.state result.1).faults }
-    ensures too_long { IsSome (command_of words.now) → ByStatus result.0 (λ e. Told (S.left source.old) (S.left source.new) (λ b c. LongOn b c e)) }
+    ensures too_long { reads_source (command_of words.now) ≡ true → ByStatus result.0 (λ e. Told (S.left source.old) (S.left source.new) (λ b c. LongOn b c e)) }
     // Only a source that is not refused is carried out whole, and only one that is refused is answered so.
-    ensures refused { IsSome (command_of words.now) → ByStatus result.0 (λ e. SourceAsRead (S.left source.old) e) }
-    // Where the words are right and neither the source nor the sink fails, a source that is not refused is carried out whole,
+    ensures refused { reads_source (command_of words.now) ≡ true → ByStatus result.0 (λ e. SourceAsRead (S.left source.old) e) }
+    // Where the words are those of a command that reads the source and neither the source nor the sink fails, a source that is not refused is carried out whole,
     // or the table failed as the host was opened, or memory ran out.
-    ensures complete { IsSome (command_of words.now) → (Rose (S.faults source.old) (S.faults source.new) → ⊥) → (Rose (K.faults sink.old) (K.faults sink.new) → ⊥) → Told (S.left source.old) (S.left source.new) (λ b c. length b ≤ max_source → is_whole_source b (source_at b) ≡ true → (result.0 ≡ 0) ⊎ (result.0 ≡ 1) ⊎ (result.0 ≡ 8)) }
-    ensures unread { command_of words.now ≡ None → (source.new ≡ source.old) × (result.1 ≡ table) }
+    ensures complete { reads_source (command_of words.now) ≡ true → (Rose (S.faults source.old) (S.faults source.new) → ⊥) → (Rose (K.faults sink.old) (K.faults sink.new) → ⊥) → Told (S.left source.old) (S.left source.new) (λ b c. length b ≤ max_source → is_whole_source b (source_at b) ≡ true → (result.0 ≡ 0) ⊎ (result.0 ≡ 1) ⊎ (result.0 ≡ 8)) }
+    // Other words and generated work leave the source, and other words the table.
+    ensures unread { (reads_source (command_of words.now) ≡ false → source.new ≡ source.old) × (command_of words.now ≡ None → result.1 ≡ table) }
     // To test a source leaves the table as it was handed in.
     ensures tested { command_of words.now ≡ Some commands.Check → result.1 ≡ table }
     ensures untouched { ByStatus result.0 (λ e. Untouched e (result.1 ≡ table) (Told (T.state table).rows (T.state result.1).rows (λ m n. n ≡ m)) (sink.new ≡ sink.old)) }
@@ -114,7 +117,7 @@ fn status(ended: Ended) -> u8
 fn refuse_words<K: Sink>(sink: &mut K) -> Ended
     ensures { TextEnds K.held K.faults usage ended.Usage sink.old sink.new result }
 {
-    match write_all(sink, b"usage: beldi run | check\n") {
+    match write_all(sink, b"usage: beldi run | check | gen SEED N\n") {
         Ok(()) => Ended::Usage,
         Err(_) => Ended::SinkFault,
     }
@@ -134,7 +137,7 @@ fn refuse_source<K: Sink>(alloc: Global, sink: &mut K, refusal: &Refusal) -> End
     }
 }
 
-// Reads the source, and does with it what the command says.
+// Does what the command says.
 fn obey<S: Source, K: Sink, T: Table>(
     alloc: Global,
     command: Command,
@@ -143,6 +146,78 @@ fn obey<S: Source, K: Sink, T: Table>(
     table: T,
 ) -> (Ended, T)
     ensures { CommandEnds S.left S.faults K.held K.faults T.state command source.old source.new sink.old sink.new table result.1 result.0 }
+{
+    match command {
+        Command::Gen { seed, requests } => host_generated(alloc, sink, table, seed, requests),
+        Command::Run | Command::Check => read_and_do(alloc, command, source, sink, table),
+    }
+}
+
+// Carries out generated work, and tells its summary.
+fn host_generated<K: Sink, T: Table>(
+    alloc: Global,
+    sink: &mut K,
+    table: T,
+    seed: u32,
+    requests: u32,
+) -> (Ended, T)
+    ensures { GeneratedEnds K.held K.faults T.state seed requests sink.old sink.new table result.1 result.0 }
+{
+    let mut source = Str::new(alloc);
+    match generate(seed, requests, &mut source) {
+        Ok(()) => {
+            let mut session = MemSink::new(alloc, Vec::new(alloc));
+            let (ended, table) = run_source(alloc, &mut session, table, source.as_bytes());
+            let told = sum_up(alloc, sink, requests, session.as_slice(), ended);
+            drop(session);
+            (told, table)
+        }
+        Err(_) => (Ended::OutOfMemory, table),
+    }
+}
+
+// Tells what came of generated work, by how the session of its source ended and the text of that.
+fn sum_up<K: Sink>(alloc: Global, sink: &mut K, requests: u32, text: &[u8], ended: Ended) -> Ended
+    ensures { SummedUp K.held K.faults requests text.now ended sink.old sink.new result }
+{
+    match ended {
+        Ended::Done => tell_summary(alloc, sink, requests, text),
+        Ended::Refused => match write_all(sink, text) {
+            Ok(()) => Ended::Refused,
+            Err(_) => Ended::SinkFault,
+        },
+        // A sink in memory fails where memory is short.
+        Ended::SinkFault => Ended::OutOfMemory,
+        other => other,
+    }
+}
+
+fn tell_summary<K: Sink>(alloc: Global, sink: &mut K, requests: u32, text: &[u8]) -> Ended
+    ensures { TextEnds K.held K.faults (summary_text requests text.now) ended.Done sink.old sink.new result }
+{
+    match summarise(alloc, requests, text) {
+        Ok(summary) => {
+            let told = write_all(sink, summary.as_slice());
+            drop(summary);
+            match told {
+                Ok(()) => Ended::Done,
+                Err(_) => Ended::SinkFault,
+            }
+        }
+        Err(_) => Ended::OutOfMemory,
+    }
+}
+
+// Reads the source, and does with it what the command says.
+fn read_and_do<S: Source, K: Sink, T: Table>(
+    alloc: Global,
+    command: Command,
+    source: &mut S,
+    sink: &mut K,
+    table: T,
+) -> (Ended, T)
+    requires { reads command ≡ true }
+    ensures { SourceCommandEnds S.left S.faults K.held K.faults T.state command source.old source.new sink.old sink.new table result.1 result.0 }
 {
     match read_all(alloc, source) {
         Ok(bytes) => do_with(alloc, command, sink, table, bytes.as_slice()),
@@ -159,12 +234,14 @@ fn do_with<K: Sink, T: Table>(
     table: T,
     bytes: &[u8],
 ) -> (Ended, T)
-    requires { length bytes.now ≤ max_source }
+    requires few { length bytes.now ≤ max_source }
+    requires reads { reads command ≡ true }
     ensures { DoneBy K.held K.faults T.state command bytes.now sink.old sink.new table result.1 result.0 }
 {
     match command {
         Command::Run => run_source(alloc, sink, table, bytes),
         Command::Check => (test_source(alloc, sink, bytes), table),
+        Command::Gen { .. } => unreachable!(),
     }
 }
 

@@ -1,7 +1,7 @@
 use Rattle.clap.specs.Simple.{app_of}
 use Rattle.std.proofs.Common.{◌∙◌, map, rules}
 use Rattle.beldi_command.proofs.Answered.{read, refused}
-use Rattle.beldi_command.proofs.reading.read_command.Goals as goal
+use Rattle.beldi_command.proofs.reading.read_name.Goals as goal
 
 pub returns-in-Ok : goal.returns-in-Ok
 returns-in-Ok c = c.command_met.ensures ∙ read (app_of c.in_ok-parser.field-0) (map (λ t. t.now) c.as_slice.result.now) c.args.words.now c.in-Ok.matches

@@ -1,5 +1,5 @@
 use Rattle.beldi_program.proofs.{Names.length, Names.max_source, Names.subst, Names.sym, Names.◌≤◌, Ends.command_ends, Ends.was_read}
-use Rattle.beldi_program.proofs.program.obey.Goals as goal
+use Rattle.beldi_program.proofs.program.read_and_do.Goals as goal
 
 pub returns-in-Ok : goal.returns-in-Ok
 returns-in-Ok g c =

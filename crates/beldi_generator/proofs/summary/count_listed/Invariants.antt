@@ -1,0 +1,13 @@
+use Rattle.std.proofs.Common.{◌≡◌, ◌+◌, ◌≤◌, length}
+use Rattle.beldi_script.specs.Cut.{lines_of}
+use Rattle.beldi_generator.specs.Summary.{listed}
+use Rattle.beldi_generator.proofs.summary.count_listed.Given as goal
+
+abbrev pub invariant-loop-rest : goal.invariant-loop-rest
+invariant-loop-rest l = record {
+  all : listed l.count (lines_of l.rest) ≡ listed 0 (lines_of l.fn.text);
+  few : l.count + length l.rest ≤ length l.fn.text;
+}
+
+abbrev pub decreases-loop-rest : goal.decreases-loop-rest
+decreases-loop-rest l = length l.rest
