@@ -1,0 +1,5 @@
+use Rattle.beldi_bank.proofs.Runs.{transfers_keep}
+use Rattle.beldi_bank.proofs.laws.transfers_keep_the_sum.Goals as goal
+
+pub returns : goal.returns
+returns c = transfers_keep
