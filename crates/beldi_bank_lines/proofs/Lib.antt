@@ -1,0 +1,3 @@
+mod Told
+pub mod Totals
+pub mod Unbroken
