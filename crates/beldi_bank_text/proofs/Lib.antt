@@ -1,0 +1,5 @@
+pub mod Actions
+mod Lines
+mod Read
+mod Transfers
+mod Words
