@@ -1,3 +1,4 @@
+pub mod Balances
 pub mod Headline
 pub mod Hosted
 pub mod PlainRun

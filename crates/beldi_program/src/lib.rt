@@ -2,8 +2,9 @@
 //! script's events came to; or it tests them, and carries out nothing.
 //! It stands on the session (`beldi_session`), the host (`beldi_host`), the reader of its words (`beldi_command`), the table that a host is
 //! over (`beldi_row`) and what is outside (`beldi_outside`); its clauses speak of definitions of the crates below them.
-//! Its own definitions: `specs/PlainRun` (that a session is a run without crashes), `specs/Hosted` (how the host moved in it) and
-//! `specs/Headline` (how the program ends: by it the cause, and what is left of source, sink and table).
+//! Its own definitions: `specs/PlainRun` (that a session is a run without crashes), `specs/Hosted` (how the host moved in it),
+//! `specs/Headline` (how the program ends: by it the cause, and what is left of source, sink and table) and `specs/Balances` (what
+//! is told of the accounts after generated work).
 //! It has no error type: `top` answers a status, and `Ended` has one variant for each.
 //!
 //! Proved:
@@ -35,12 +36,15 @@
 //!   only where it is, whatever sink and table tell (`refused`).
 //! - With words that ask for no command neither source nor table is touched (`unread`); with 3 and 7 the table is the one
 //!   handed in and the sink is not called, with 8 the rows are as before (`untouched`).
+//! - Generated work that ends with 0 over a table without rows is told balanced: as many keys as there are accounts, and a sum of a
+//!   hundred times as much, or that the table failed as it was listed (`balanced`).
 //! - Neither the link nor the clock is asked for anything (`unasked`).
 //!
 //! Files:
 //! - Code (`src/`): `program` the program, and `top` with its theorem.
 //! - Lemmas (`proofs/`): `PlainRuns` what every step keeps, what is said at its moment, and what is so at the end; `Ends` the
-//!   parts of the program, and what is read off an ending.
+//!   parts of the program, and what is read off an ending. Of generated work: `Asked` what is bound was asked for, and where the last
+//!   listings stand; `Flat`, `Skipped` no line before them reads as their heading; `Listed` what they tell; `Balances` the sum.
 #![tactic(auto)]
 
 mod program;

@@ -1,5 +1,6 @@
 // The program, over a source, a sink, a table, a link and a clock.
-ghost use Rattle.std.specs.Prelude.{◌≡◌, ◌≤◌, ◌⊎◌, true, false, length, None, Some};
+ghost use Rattle.std.specs.Prelude.{◌≡◌, ◌≤◌, ◌⊎◌, ℕ, true, false, length, None, Some};
+ghost use Rattle.std.specs.FinMap as map;
 ghost use Rattle.beldi_outside.specs.Outside.{Told, Rose, max_source};
 ghost use Rattle.beldi_script.specs.Cut.{lines_of};
 ghost use Rattle.beldi_command.specs.Command.{command_of};
@@ -8,6 +9,7 @@ ghost use Rattle.beldi_command.specs.declared.command.Command.TheVariants as com
 ghost use Rattle.beldi_session.specs.Check.{check_at};
 ghost use Rattle.beldi_session.specs.Refusal.{refusal_text};
 ghost use Rattle.beldi_session.specs.Source.{numbered, source_at};
+ghost use Rattle.beldi_program.specs.Balances.{ToldBalanced};
 ghost use Rattle.beldi_program.specs.Headline.{ByStatus, CheckEnds, CommandEnds, DoneBy, Ends, GeneratedEnds, HasEnded, LongOn, SessionEnds, SourceAsRead, SourceCommandEnds, SourceEnds, SummedUp, TextEnds, Untouched, end_of, is_whole_source, reads, reads_source, status_of, usage};
 ghost use Rattle.beldi_program.specs.declared.program.Ended.TheVariants as ended;
 
@@ -76,6 +78,8 @@ pub fn top<S: Source, K: Sink, T: Table, N: Link, C: Clock>(
     ensures unread { (reads_source (command_of words.now) ≡ false → source.new ≡ source.old) × (command_of words.now ≡ None → result.1 ≡ table) }
     // To test a source leaves the table as it was handed in.
     ensures tested { command_of words.now ≡ Some commands.Check → result.1 ≡ table }
+    // Generated work that ends well over a table without rows leaves the accounts of the bank with what they began with, together.
+    ensures balanced { (seed requests : ℕ) → command_of words.now ≡ Some (commands.Gen seed requests) → result.0 ≡ 0 → (T.state table).rows ≡ Some map.empty → ToldBalanced requests (K.held sink.old) (K.held sink.new) }
     ensures untouched { ByStatus result.0 (λ e. Untouched e (result.1 ≡ table) (Told (T.state table).rows (T.state result.1).rows (λ m n. n ≡ m)) (sink.new ≡ sink.old)) }
 {
     let (ended, table) = carry_out(alloc, words, source, sink, table);

@@ -1,3 +1,4 @@
+use Rattle.beldi_program.proofs.Balances as balances
 use Rattle.beldi_program.proofs.Ends as ends
 use Rattle.beldi_program.proofs.program.top.Goals as goal
 
@@ -33,3 +34,6 @@ returns-clause-untouched g c = ends.untouched_at c.carry_out-ended.ensures c.sta
 
 pub returns-clause-tested : goal.returns-clause-tested
 returns-clause-tested g c = ends.tested_at c.carry_out-ended.ensures c.status.result c.status.ensures
+
+pub returns-clause-balanced : goal.returns-clause-balanced
+returns-clause-balanced g c = balances.balanced_at c.args.words.now c.carry_out-ended.ensures c.status.result c.status.ensures
