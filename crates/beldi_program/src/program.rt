@@ -71,14 +71,15 @@ pub fn top<S: Source, K: Sink, T: Table, N: Link, C: Clock>(
     ensures too_long { reads_source (command_of words.now) ≡ true → ByStatus result.0 (λ e. Told (S.left source.old) (S.left source.new) (λ b c. LongOn b c e)) }
     // Only a source that is not refused is carried out whole, and only one that is refused is answered so.
     ensures refused { reads_source (command_of words.now) ≡ true → ByStatus result.0 (λ e. SourceAsRead (S.left source.old) e) }
-    // Where the words are those of a command that reads the source and neither the source nor the sink fails, a source that is not refused is carried out whole,
-    // or the table failed as the host was opened, or memory ran out.
+    // Where the words are those of a command that reads the source and neither the source nor the sink fails, a source that is
+    // not refused is carried out whole, or the table failed as the host was opened, or memory ran out.
     ensures complete { reads_source (command_of words.now) ≡ true → (Rose (S.faults source.old) (S.faults source.new) → ⊥) → (Rose (K.faults sink.old) (K.faults sink.new) → ⊥) → Told (S.left source.old) (S.left source.new) (λ b c. length b ≤ max_source → is_whole_source b (source_at b) ≡ true → (result.0 ≡ 0) ⊎ (result.0 ≡ 1) ⊎ (result.0 ≡ 8)) }
     // Other words and generated work leave the source, and other words the table.
     ensures unread { (reads_source (command_of words.now) ≡ false → source.new ≡ source.old) × (command_of words.now ≡ None → result.1 ≡ table) }
     // To test a source leaves the table as it was handed in.
     ensures tested { command_of words.now ≡ Some commands.Check → result.1 ≡ table }
-    // Generated work that ends well over a table without rows leaves the accounts of the bank with what they began with, together.
+    // What is told of generated work that ends well over a table without rows ends with a sum of a hundred times the keys, or
+    // with the word that the table failed as it was listed.
     ensures balanced { (seed requests : ℕ) → command_of words.now ≡ Some (commands.Gen seed requests) → result.0 ≡ 0 → (T.state table).rows ≡ Some map.empty → ToldBalanced requests (K.held sink.old) (K.held sink.new) }
     ensures untouched { ByStatus result.0 (λ e. Untouched e (result.1 ≡ table) (Told (T.state table).rows (T.state result.1).rows (λ m n. n ≡ m)) (sink.new ≡ sink.old)) }
 {
