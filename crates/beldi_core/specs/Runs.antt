@@ -1,5 +1,5 @@
 -- The live runs by number, what each asks, and what becomes of one that is told.
-use Rattle.std.specs.Prelude.{◌≡◌, ℕ, ◌+◌, ◌-◌, ◌<◌, nat_lt, Bool, true, false, List, [], ◌∷◌, IsSome, Option, Some, None, Result, Ok, Err, if◌then◌else◌}
+use Rattle.std.specs.Prelude.{◌≡◌, ℕ, ◌+◌, ◌-◌, ◌<◌, Bool, true, false, List, [], ◌∷◌, IsSome, Option, Some, None, Result, Ok, Err}
 use Rattle.std.specs.{FinMap.FinMap, BTreeMap.BTreeMap, Ordering.nat_cmp}
 use Rattle.std.specs.FinMap as map
 use Rattle.beldi_tree.specs.declared.deployment.Deployment.{Deployment}
@@ -33,11 +33,6 @@ pub record AllKept (given : ℕ) (m : RunMap) (n : CountMap) : Type 0 where
 abbrev pub IsLeastPast : ℕ → RunMap → Option ℕ → Type 0
 IsLeastPast i m None = (j : ℕ) → i < j → map.get m j ≡ None
 IsLeastPast i m (Some n) = (i < n) × IsSome (map.get m n) × ((j : ℕ) → i < j → j < n → map.get m j ≡ None)
-
--- the first of these runs, which are in order, past a number
-abbrev pub first_past : ℕ → List (ℕ × Run) → Option ℕ
-first_past i [] = None
-first_past i (r ∷ rs) = if nat_lt i r.0 then Some r.0 else first_past i rs
 
 -- with a run of the next number
 abbrev pub started : Numbered → Run → Numbered

@@ -2,7 +2,8 @@
 ghost use Rattle.std.specs.Prelude.{◌≡◌, ℕ, ◌+◌, ◌-◌, ◌^◌, ◌<◌, ◌≤◌, IsSome, IfOk, IfErr, OnOk, OnErr, option_copied};
 ghost use Rattle.std.specs.FinMap as map;
 ghost use Rattle.beldi_walk.specs.Query.{told_of};
-ghost use Rattle.beldi_core.specs.Runs.{map_of, IsLeastPast, first_past, started, withdrawn, ends_run, settled, uncounted, settled_counts, AllKept, asked_of, RunTold};
+ghost use Rattle.beldi_core.specs.Runs.{map_of, IsLeastPast, started, withdrawn, ends_run, settled, uncounted, settled_counts, AllKept, asked_of, RunTold};
+ghost use Rattle.beldi_step.specs.Next.{first_past};
 ghost use Rattle.beldi_core.specs.Counts.{count_at, more, kept_as};
 ghost use Rattle.beldi_step.specs.Host.{has_run};
 ghost use Rattle.beldi_step.specs.Run.{run_asks};

@@ -22,13 +22,15 @@ pub struct Host<T: Table> {
 
 impl<T: Table> Host<T> {
     ghost use Rattle.beldi_row.specs.Table.{IsCount, AtMostOne};
-    ghost use Rattle.beldi_step.specs.Host.{Stepped};
+    ghost use Rattle.beldi_check.specs.Keeps.{KeepsRules};
+    ghost use Rattle.beldi_step.specs.Host.{Stepped, last_moment};
     ghost use Rattle.beldi_step.specs.Tables.{tables_text};
     ghost use Rattle.beldi_host.specs.Survey.{Opened, Refused, NewestAt, Reads, reply_seen, is_unknown};
     ghost use Rattle.beldi_host.specs.declared.survey.ReplySeen.TheVariants.{Unknown};
     ghost use Rattle.beldi_core.specs.Runs.{IsLeastPast};
     ghost use Rattle.beldi_walk.specs.declared.query.Query.TheVariants as queries;
-    ghost use Rattle.beldi_host.specs.Host.{core_of, next_run, reset};
+    ghost use Rattle.beldi_host.specs.Host.{core_of};
+    ghost use Rattle.beldi_step.specs.Next.{next_run, reset};
     ghost use Rattle.beldi_core.specs.Parts.{core_in, Ready, Asked};
     ghost use Rattle.beldi_laws.specs.Laws.{is_gone};
     ghost use Rattle.beldi_host.specs.Right.{EndsLate, IsRight, HasLegalBook, AnswersAreKept, HasRows, ListsRun, TellsRun, HasNoRows, RowsStandFor};
@@ -81,6 +83,14 @@ impl<T: Table> Host<T> {
         ensures { result.now ≡ self.entry.now.code }
     {
         &self.code
+    }
+
+    /// What holds of every host: its deployment keeps every rule, and its moment is at most the last one.
+    pub fn keeps_rules(&self)
+        ensures rules { KeepsRules self.now.code.funcs }
+        ensures early { self.entry.now.core.now ≤ last_moment }
+    {
+        let _code = self.code.code();
     }
 
     /// The book. A right host's is legal: each of its transactions is one entry, `Tx` whole, `Try` without a trace in the items.

@@ -93,7 +93,7 @@ module _ (a : Act) (now : ℕ) (k : RowKey) (m : Rows) where
   inside_keeps s p func (CondWrite t key r u v) x held = let i : Item = record { func = func; table = t; key = key } in told_keeps p i (answer_aside m s p i) (answer_aside (after_act a now k m) s p i) x (shadow_keeps s p i x) held
   inside_keeps s p func e x held = outside_keeps p func e x held
 
-  act_keeps : AnswersStay m (after_act a now k m)
+  pub act_keeps : AnswersStay m (after_act a now k m)
   act_keeps id func step None e x held = outside_keeps (record { intent = id; step = step }) func e x held
   act_keeps id func step (Some s) e x held = inside_keeps s (record { intent = id; step = step }) func e x held
 

@@ -8,9 +8,9 @@ pub use Rattle.beldi_tree.specs.declared.deployment.Deployment.{Deployment}
 pub use Rattle.beldi_book.specs.declared.entry.Entry.{Entry}
 pub use Rattle.beldi_plain.specs.Replies.{HasReply, starts_of}
 pub use Rattle.beldi_row.specs.{Key.least_key, Table.Rows, Table.TableState}
-pub use Rattle.beldi_step.specs.{Host.Core, Host.EventOn, Host.first_core, declared.event.Event.Event, declared.event.Seen.Seen}
+pub use Rattle.beldi_step.specs.{Host.Core, Host.EventOn, Host.first_core, Next.reset, declared.event.Event.Event, declared.event.Seen.Seen}
 pub use Rattle.beldi_laws.{proofs.Events.keeps_right, proofs.Events.replies, proofs.Events.right_legal, proofs.Listing.listing_plain, proofs.OneEvent.book_grew, proofs.Standing.right_stands, proofs.Starts.outcomes_stay, proofs.Starts.starts_bound, specs.Laws.BookGrew, specs.Laws.bound_by as bound_by_event, specs.Right.Right}
-pub use Rattle.beldi_host.{proofs.Right.at_cursor, proofs.Right.begins_right, proofs.Right.said_of, specs.Host.reset, specs.Said.SaidOf, specs.Survey.Opened, specs.Survey.Refused, specs.Survey.newest_of, specs.declared.survey.OpenErr.OpenErr, specs.declared.survey.ReplySeen.ReplySeen, specs.declared.survey.ReplySeen.TheVariants.Gone, specs.declared.survey.ReplySeen.TheVariants.Reply, specs.declared.survey.ReplySeen.TheVariants.Unknown, specs.declared.survey.ReplySeen.TheVariants.Waiting}
+pub use Rattle.beldi_host.{proofs.Right.at_cursor, proofs.Right.begins_right, proofs.Right.said_of, specs.Said.SaidOf, specs.Survey.Opened, specs.Survey.Refused, specs.Survey.newest_of, specs.declared.survey.OpenErr.OpenErr, specs.declared.survey.ReplySeen.ReplySeen, specs.declared.survey.ReplySeen.TheVariants.Gone, specs.declared.survey.ReplySeen.TheVariants.Reply, specs.declared.survey.ReplySeen.TheVariants.Unknown, specs.declared.survey.ReplySeen.TheVariants.Waiting}
 pub use Rattle.beldi_script.specs.{Cut.lines_of, declared.line.Line.Line}
 pub use Rattle.beldi_outside.specs.Outside.{IsPrefixOf, ReadAllOn, Rose, Told, TookFront, WroteOn, max_source}
 pub use Rattle.beldi_outside.{proofs.Told.told_map, proofs.Told.told_same, proofs.Told.told_then, specs.Memory.SinkState, specs.Memory.new_sink, specs.declared.traits.Failed.Failed}
@@ -18,8 +18,9 @@ pub use Rattle.beldi_command.specs.declared.command.Command.{Command, TheVariant
 pub use Rattle.beldi_generator.specs.{Generated.generated, Summary.summary_text}
 pub use Rattle.beldi_session.specs.Response.{Answered, AtFirst, BookIs, IsTo, IsToSettling, LineRefused, ReplyAlone, ReplyIs, Report, Reported, Response, RowsAre, SettledIs, TablesAre, WentBack, is_turn, responses_text}
 pub use Rattle.beldi_session.specs.Script.{Action, Carry, CountRows, ListBook, ListTables, Refuse, Settle, TellReply, actions_in, is_ok, is_whole}
-pub use Rattle.beldi_session.specs.Session.{BrokeOff, Does, EventBroke, Follows, IsReport, IsStep, Leaves, SettlingLeaves, Sight, State, Steps, Stopped, Unchanged, Went, WentBy, Writes, first_event, sight, state_at}
-pub use Rattle.beldi_session.{proofs.Responses.told_tells, proofs.Went.fine, proofs.Went.unchanged, specs.Check.check_at, specs.Check.check_by, specs.Check.counted, specs.Check.counted_on, specs.Check.tested, specs.Check.with_line, specs.Refusal.refusal_text, specs.Settle.next_of, specs.Source.Numbered, specs.Source.numbered, specs.Source.said_at, specs.Source.script_of, specs.Source.source_at, specs.declared.refusal.Refusal.Refusal, specs.declared.session.Stop.Stop, specs.declared.session.Stop.TheVariants.OutOfMemory, specs.declared.session.Stop.TheVariants.SinkFault, specs.declared.settle.Next.Next, specs.declared.settle.Next.TheVariants.Collect, specs.declared.settle.Next.TheVariants.Reset, specs.declared.settle.Next.TheVariants.Turn, specs.declared.settle.Standing.TheVariants.Goes, specs.declared.settle.Standing.TheVariants.Over, specs.declared.source.Accepted.Accepted}
+pub use Rattle.beldi_session.specs.Session.{BrokeOff, Does, EventBroke, Follows, IsReport, IsStep, Leaves, SettlingLeaves, Sight, Steps, Stopped, Unchanged, Went, WentBy, Writes, first_event, sight, state_at}
+pub use Rattle.beldi_schedule.specs.{Settle.next_of, declared.machine.Next.Next, declared.machine.Next.TheVariants.Collect, declared.machine.Next.TheVariants.Reset, declared.machine.Next.TheVariants.Turn, declared.machine.Standing.TheVariants.Goes, declared.machine.Standing.TheVariants.Over, Settles.State}
+pub use Rattle.beldi_session.{proofs.Responses.told_tells, proofs.Went.fine, proofs.Went.unchanged, specs.Check.check_at, specs.Check.check_by, specs.Check.counted, specs.Check.counted_on, specs.Check.tested, specs.Check.with_line, specs.Refusal.refusal_text, specs.Source.Numbered, specs.Source.numbered, specs.Source.said_at, specs.Source.script_of, specs.Source.source_at, specs.declared.refusal.Refusal.Refusal, specs.declared.session.Stop.Stop, specs.declared.session.Stop.TheVariants.OutOfMemory, specs.declared.session.Stop.TheVariants.SinkFault, specs.declared.source.Accepted.Accepted}
 pub use Rattle.beldi_program.specs.Headline.{AsRead, ByStatus, CheckEnds, CommandEnds, Cut, DoneBy, Ends, GeneratedEnds, HasEnded, LongOn, NothingDone, ReadEnds, SessionEnds, SourceAsRead, SourceCommandEnds, SourceEnds, SummedUp, TextEnds, Untouched, Whole, end_of, is_whole_source, kept, kept_faults, reads_source, status_of, usage}
 pub use Rattle.beldi_program.specs.PlainRun.{AreTo, Booked, GoesOn, IsPlainRun, IsReportSo, IsSo, Moment, Moments, RowsStandFor, Session, TellOutcomes, bound_by, bound_in, last_book, outcome_in, responses_in}
 pub use Rattle.beldi_program.specs.{Hosted.Hosted, Hosted.StepsTo, Hosted.opened_at, declared.program.Ended.Ended}

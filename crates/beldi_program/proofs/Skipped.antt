@@ -8,7 +8,8 @@ use Rattle.beldi_book.proofs.Cuts.{parts}
 use Rattle.beldi_script.{proofs.Lines.cut_some, specs.Cut.unreturned}
 use Rattle.beldi_generator.specs.Summary.{past}
 use Rattle.beldi_session.specs.Answer.{answer_text, entry_part, numbered, outcome_line, over_part, reply_part, reply_told, run_part}
-use Rattle.beldi_session.specs.{Response.Whole, Response.book_head, Response.response_text, Response.unread_line, Settle.settled_text, Settle.wait_text, declared.settle.Settled.Settled}
+use Rattle.beldi_schedule.specs.{declared.machine.Settled.Settled}
+use Rattle.beldi_session.specs.{Response.Whole, Response.book_head, Response.response_text, Response.unread_line, Settled.settled_text, Settled.wait_text}
 use Rattle.beldi_bank_lines.proofs.Unbroken.{text_flat}
 use Rattle.beldi_program.proofs.{Asked.EndsListed, Asked.IsOfEvents, Asked.IsQuiet, Asked.quiet_responses, Flat.AreFlat, Flat.IsFlat, Flat.decimal_flat, Flat.entry_flat, Flat.id_flat, Flat.joined, Flat.outcome_flat, Flat.owner_flat}
 use Rattle.beldi_program.proofs.Names.{Action, Answered, Bool, BookIs, Deployment, Entry, Event, List, None, Option, Outcome, ReplyAlone, Reported, Response, Seen, SettledIs, Some, TablesAre, WentBack, [], ap, append-nil, append_assoc, false, lines_of, refl, responses_text, sym, true, ℕ, ◌++◌, ◌∙◌, ◌∷◌, ◌≡◌}

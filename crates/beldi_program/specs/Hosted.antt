@@ -8,7 +8,8 @@ use Rattle.beldi_plain.specs.{Plain.PlainState, Legal.run_of, Listing.listing_of
 use Rattle.beldi_row.specs.Table.{Rows}
 use Rattle.beldi_step.specs.{Host.Core, Host.first_core, Tables.tables_text}
 use Rattle.beldi_host.specs.Survey.{newest_of}
-use Rattle.beldi_session.specs.{declared.session.Stop.Stop, Script.Action, Session.State, Session.IsStep, Session.Follows, Session.Stopped}
+use Rattle.beldi_schedule.specs.Settles.{State}
+use Rattle.beldi_session.specs.{declared.session.Stop.Stop, Script.Action, Session.IsStep, Session.Follows, Session.Stopped}
 use Rattle.beldi_program.specs.PlainRun.{Booked}
 
 -- the host over rows, once it was open, with the table's count of failures then

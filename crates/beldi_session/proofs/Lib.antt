@@ -1,7 +1,8 @@
 mod Calls
+mod Led
 mod Lines
 mod Names
 mod Refusals
 pub mod Responses
-mod Settling
+mod SettleEvents
 pub mod Went

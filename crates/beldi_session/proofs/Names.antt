@@ -5,12 +5,14 @@ pub use Rattle.std.proofs.Common.{Bool, Err, List, None, Ok, Option, Result, Som
 pub use Rattle.beldi_tree.specs.declared.deployment.Deployment.{Deployment}
 pub use Rattle.beldi_book.specs.{Text.book_text, declared.book.Book.Book}
 pub use Rattle.beldi_row.{proofs.Tells.tells_map, specs.Table.IsCount, specs.Table.Rose, specs.Table.Rows, specs.Table.TableState, specs.Table.Tells, specs.Table.row_count}
-pub use Rattle.beldi_step.{proofs.Steps.over_any_table, proofs.Steps.over_rows, specs.Host.Core, specs.Host.EventOn, specs.Host.Stepped, specs.Host.most_events, specs.Tables.tables_text, specs.declared.event.Event.Event, specs.declared.event.Seen.Seen}
-pub use Rattle.beldi_host.{proofs.Taken.was_taken, specs.Host.core_of, specs.Host.reset, specs.Survey.Reads, specs.Survey.reply_seen, specs.declared.survey.OpenErr.OpenErr, specs.declared.survey.ReplySeen.ReplySeen}
+pub use Rattle.beldi_step.{proofs.Steps.over_any_table, proofs.Steps.over_rows, specs.Host.Core, specs.Host.EventOn, specs.Host.Stepped, specs.Host.most_events, specs.Next.next_run, specs.Next.reset, specs.Tables.tables_text, specs.declared.event.Event.Event, specs.declared.event.Seen.Seen}
+pub use Rattle.beldi_host.{proofs.Taken.was_taken, specs.Host.core_of, specs.Survey.Reads, specs.Survey.reply_seen, specs.declared.survey.OpenErr.OpenErr, specs.declared.survey.ReplySeen.ReplySeen}
 pub use Rattle.beldi_script.specs.{Cut.lines_of, declared.line.Line.Line}
 pub use Rattle.beldi_outside.{proofs.Told.told_map, proofs.Told.told_same, proofs.Told.told_then, specs.Outside.Told}
 pub use Rattle.beldi_session.specs.Response.{Answered, BookIs, LineRefused, ReplyAlone, ReplyIs, Report, Reported, Response, RowsAre, SettledIs, Share, TablesAre, WentBack, Whole, report_text, response_text, responses_text, tables_head, unread_line}
 pub use Rattle.beldi_session.specs.Script.{Action, Carry, CountRows, ListBook, ListTables, Refuse, Settle, TellReply, actions_in, actions_of, and_then, is_ok, is_whole, times, turn_of}
-pub use Rattle.beldi_session.specs.Session.{BrokeOff, Does, DoesTo, EventBroke, Flushes, Follows, IsReport, IsStep, Leaves, LeftBy, SettlingLeaves, Sight, State, Steps, Stopped, Unchanged, Went, WentBy, action_event, by_done, by_text, first_event, left_by, settling_event, sight, state_at}
-pub use Rattle.beldi_session.specs.Settle.{HasTurns, WasTaken, begun, counts, ends_round, events_left, first_at, go_on, ic_heard, is_spent, is_waiting, next_of, parked, round_over, turn_heard, unless_spent, wait_text}
-pub use Rattle.beldi_session.specs.{Answer.answer_text, Check.counted, Refusal.cause_text, Refusal.place_text, Source.Numbered, Source.next, Source.numbered, Source.said_at, declared.refusal.Refusal.Refusal, declared.session.Stop.Stop, declared.session.Stop.TheVariants.OutOfMemory, declared.session.Stop.TheVariants.SinkFault, declared.settle.At.At, declared.settle.Next.Next, declared.settle.Next.TheVariants.Collect, declared.settle.Next.TheVariants.Reset, declared.settle.Next.TheVariants.Turn, declared.settle.Settled.TheVariants.Spent, declared.settle.Standing.Standing, declared.settle.Standing.TheVariants.Goes, declared.settle.Standing.TheVariants.Over}
+pub use Rattle.beldi_session.specs.Session.{BrokeOff, Does, DoesTo, EventBroke, Flushes, Follows, IsReport, IsStep, Leaves, LeftBy, SettlingLeaves, Sight, Steps, Stopped, Unchanged, Went, WentBy, action_event, by_done, by_text, first_event, left_by, settling_event, sight, state_at}
+pub use Rattle.beldi_schedule.specs.Settle.{HasTurns, WasTaken, begun, counts, ends_round, events_left, first_at, go_on, ic_heard, is_spent, is_waiting, next_of, parked, round_over, turn_heard, unless_spent}
+pub use Rattle.beldi_session.specs.Settled.{wait_text}
+pub use Rattle.beldi_schedule.specs.{declared.machine.At.At, declared.machine.Next.Next, declared.machine.Next.TheVariants.Collect, declared.machine.Next.TheVariants.Reset, declared.machine.Next.TheVariants.Turn, declared.machine.Settled.TheVariants.Spent, declared.machine.Standing.Standing, declared.machine.Standing.TheVariants.Goes, declared.machine.Standing.TheVariants.Over, Settles.State}
+pub use Rattle.beldi_session.specs.{Answer.answer_text, Check.counted, Refusal.cause_text, Refusal.place_text, Source.Numbered, Source.next, Source.numbered, Source.said_at, declared.refusal.Refusal.Refusal, declared.session.Stop.Stop, declared.session.Stop.TheVariants.OutOfMemory, declared.session.Stop.TheVariants.SinkFault}

@@ -4,5 +4,6 @@ pub mod Refusal
 pub mod Response
 pub mod Script
 pub mod Session
-pub mod Settle
+pub mod Settled
+pub mod Settling
 pub mod Source

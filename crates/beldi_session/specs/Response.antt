@@ -4,7 +4,8 @@ use Rattle.beldi_tree.specs.declared.deployment.Deployment.{Deployment}
 use Rattle.beldi_step.specs.declared.event.{Event.Event, Seen.Seen}
 use Rattle.beldi_host.specs.declared.survey.ReplySeen.{ReplySeen}
 use Rattle.beldi_session.specs.Script.{Action, Carry, Settle, TellReply, CountRows, ListTables, ListBook, Refuse}
-use Rattle.beldi_session.specs.{declared.refusal.Refusal.Refusal, declared.settle.Settled.Settled, declared.settle.Standing.Standing, declared.settle.Standing.TheVariants.Goes, declared.settle.Standing.TheVariants.Over, Answer.answer_text, Answer.numbered, Answer.outcome_line, Answer.reply_told, Answer.ticket_line, Refusal.refusal_text, Settle.settled_text}
+use Rattle.beldi_schedule.specs.{declared.machine.Settled.Settled, declared.machine.Standing.Standing, declared.machine.Standing.TheVariants.Goes, declared.machine.Standing.TheVariants.Over}
+use Rattle.beldi_session.specs.{declared.refusal.Refusal.Refusal, Answer.answer_text, Answer.numbered, Answer.outcome_line, Answer.reply_told, Answer.ticket_line, Refusal.refusal_text, Settled.settled_text}
 
 -- what is said without an event: what a ticket's run gave; how many rows there are; the lines of a listing of the tables, or of
 -- the book; how a settling ended; why a line is refused. None where the table failed as a ticket's row, or all rows, were to be read.

@@ -3,7 +3,8 @@ use Rattle.std.specs.Prelude.{ℕ, zero, suc, Bool, true, false, ◌&&◌, List,
 use Rattle.beldi_tree.specs.declared.deployment.Deployment.{Deployment}
 use Rattle.beldi_step.specs.declared.event.Event.{Event}
 use Rattle.beldi_script.specs.declared.line.Line.{Line}
-use Rattle.beldi_session.specs.{declared.refusal.Refusal.Refusal, declared.session.Taker.Taker, declared.settle.Standing.Standing, Settle.first_at, Settle.go_on, Source.Numbered, Source.said_at}
+use Rattle.beldi_schedule.specs.{declared.machine.Standing.Standing, Settle.first_at, Settle.go_on}
+use Rattle.beldi_session.specs.{declared.refusal.Refusal.Refusal, declared.session.Taker.Taker, Source.Numbered, Source.said_at}
 
 -- carry out an event; go on with a settling, within a budget, from where it stands; tell what a ticket's run gave, how many rows there
 -- are, the tables, or the book; refuse a line

@@ -4,19 +4,14 @@ use Rattle.std.specs.declared.alloc.AllocError.{AllocError}
 use Rattle.beldi_tree.specs.declared.deployment.Deployment.{Deployment}
 use Rattle.beldi_book.specs.Text.{book_text}
 use Rattle.beldi_row.specs.{declared.table.Table.Ghosts, Table.Rows, Table.TableState, Table.Rose, Table.row_count}
-use Rattle.beldi_step.specs.{declared.event.Event.Event, Host.Core, Host.EventOn, Tables.tables_text}
-use Rattle.beldi_host.specs.{declared.host.Host.Host, Host.core_of, Host.reset, Survey.reply_seen, Survey.is_unknown}
+use Rattle.beldi_step.specs.{declared.event.Event.Event, Host.Core, Host.EventOn, Next.next_run, Next.reset, Tables.tables_text}
+use Rattle.beldi_host.specs.{declared.host.Host.Host, Host.core_of, Survey.reply_seen, Survey.is_unknown}
 use Rattle.beldi_outside.specs.Outside.{Told, IsPrefixOf}
 use Rattle.beldi_session.specs.Response.{Report, ReplyIs, RowsAre, TablesAre, BookIs, SettledIs, LineRefused, ReplyAlone, Response, Answered, WentBack, Reported, IsTo, AtFirst, responses_text}
-use Rattle.beldi_session.specs.{declared.session.Stop.Stop, declared.session.Stop.TheVariants.OutOfMemory, declared.session.Stop.TheVariants.SinkFault, declared.settle.Next.Next, declared.settle.Next.TheVariants.Turn, declared.settle.Next.TheVariants.Collect, declared.settle.Next.TheVariants.Reset, declared.settle.Standing.Standing, declared.settle.Standing.TheVariants.Goes, Script.Action, Script.Carry, Script.Settle, Settle.begun, Settle.ic_heard, Settle.next_of, Settle.turn_heard}
+use Rattle.beldi_schedule.specs.{declared.machine.Next.Next, declared.machine.Next.TheVariants.Turn, declared.machine.Next.TheVariants.Collect, declared.machine.Next.TheVariants.Reset, declared.machine.Standing.Standing, declared.machine.Standing.TheVariants.Goes, Settle.begun, Settle.ic_heard, Settle.next_of, Settle.turn_heard, Settles.State}
+use Rattle.beldi_session.specs.{declared.session.Stop.Stop, declared.session.Stop.TheVariants.OutOfMemory, declared.session.Stop.TheVariants.SinkFault, Script.Action, Script.Carry, Script.Settle}
 
 -- ---- one step
--- the host without its table, the rows, and the table's count of failures
-pub record State : Type 0 where
-  pub core : Core
-  pub rows : Rows
-  pub faults : ℕ
-
 -- the host and the rows are as they were
 pub record Unchanged (s t : State) : Type 0 where
   pub core : t.core ≡ s.core
@@ -44,7 +39,7 @@ IsStep d room s t (Reported r) = Unchanged s t × IsReport d s t r
 -- what a settling leaves, by what it does next: its core after that is c
 abbrev pub SettlingLeaves : ℕ → Core → Next → Response → List Action → Type 0
 SettlingLeaves budget c (Turn s i) (Answered ReplyAlone e x) left = (e ≡ Event.Turn i) × (left ≡ Settle budget (turn_heard budget s i x) ∷ [])
-SettlingLeaves budget c (Collect s) (Answered ReplyAlone e x) left = (e ≡ Event.Ic) × (left ≡ Settle budget (ic_heard budget c s x) ∷ [])
+SettlingLeaves budget c (Collect s) (Answered ReplyAlone e x) left = (e ≡ Event.Ic) × (left ≡ Settle budget (ic_heard budget (next_run c 0) s x) ∷ [])
 SettlingLeaves budget c (Reset s) WentBack left = left ≡ Settle budget (Goes (begun s)) ∷ []
 SettlingLeaves budget c n y left = ⊥
 

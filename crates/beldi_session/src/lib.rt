@@ -29,11 +29,11 @@ mod check;
 mod output;
 mod refusal;
 mod session;
-mod settle;
+mod settling;
 mod source;
 
 pub use check::check_source;
 pub use refusal::{Cause, Refusal, SourceErr, write_refusal};
 pub use session::{Stop, Taker, run_script};
-pub use settle::{At, Next, Settled, Standing, Waits};
+pub use settling::settle;
 pub use source::{Accepted, read_source, script_at};

@@ -1,7 +1,8 @@
 // A session: the lines of a script, carried out one after another.
 ghost use Rattle.std.specs.Prelude.{◌≡◌, ◌∷◌, ◌++◌, [], ℕ, List, Option, IfOk, OnOk, true};
 ghost use Rattle.beldi_script.specs.Cut.{lines_of};
-ghost use Rattle.beldi_session.specs.Script.{Carry, TellReply, CountRows, ListTables, ListBook, actions_of, actions_in, and_then, is_ok, is_whole, times, turn_of};
+ghost use Rattle.beldi_schedule.specs.Settle.{first_at, go_on};
+ghost use Rattle.beldi_session.specs.Script.{Carry, Settle, TellReply, CountRows, ListTables, ListBook, actions_of, actions_in, and_then, is_ok, is_whole, times, turn_of};
 ghost use Rattle.beldi_book.specs.Text.{book_text};
 ghost use Rattle.beldi_session.specs.Response.{BookIs, report_text};
 ghost use Rattle.beldi_session.specs.Session.{Does, by_done, by_text, sight};
@@ -10,7 +11,7 @@ ghost use Rattle.beldi_session.specs.Source.{numbered, said_at};
 use crate::answer::{write_answer, write_numbered, write_reply_seen};
 use crate::output::{flush, flush_if_long};
 use crate::refusal::{SourceErr, write_refusal};
-use crate::settle::settle;
+use crate::settling::settle;
 use crate::source::read_said;
 use beldi_book::Book;
 use beldi_check::Checked;
@@ -163,6 +164,24 @@ fn write_book(alloc: Global, book: &Book, code: &Checked, out: &mut Str) -> Resu
     book.write(alloc, code.code(), out)
 }
 
+// Settles, and appends the text of it.
+fn settle_all<T: Table>(
+    alloc: Global,
+    host: &mut Host<T>,
+    out: &mut Str,
+    budget: u64,
+) -> Result<(), Stop>
+    ensures { (held : Option (List ℕ)) (faults : ℕ) → Does (Settle budget (go_on budget first_at) ∷ []) (sight host.old out.old held faults) (sight host.new out.new held faults) result }
+{
+    match settle(alloc, host, out, budget) {
+        Ok(settled) => {
+            drop(settled);
+            Ok(())
+        }
+        Err(stop) => Err(stop),
+    }
+}
+
 // Does what a line says, and appends the text of what is said of it.
 fn say<T: Table>(alloc: Global, host: &mut Host<T>, out: &mut Str, line: Line) -> Result<(), Stop>
     ensures { (held : Option (List ℕ)) (faults : ℕ) → Does (actions_of line) (sight host.old out.old held faults) (sight host.new out.new held faults) result }
@@ -185,7 +204,7 @@ fn say<T: Table>(alloc: Global, host: &mut Host<T>, out: &mut Str, line: Line) -
         Line::Blank => Ok(()),
         Line::Gc { .. } => Ok(()),
         Line::Sweep { .. } => Ok(()),
-        Line::Settle { budget } => settle(alloc, host, out, budget),
+        Line::Settle { budget } => settle_all(alloc, host, out, budget),
         Line::Halt => Ok(()),
     }
 }

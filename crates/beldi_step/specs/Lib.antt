@@ -2,6 +2,7 @@ pub mod Deadlines
 pub mod Host
 pub mod Inside
 pub mod Laws
+pub mod Next
 pub mod Noted
 pub mod Run
 pub mod Tables

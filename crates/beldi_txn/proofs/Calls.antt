@@ -64,7 +64,7 @@ module _ (home : ℕ) (id : IntentId) where
       ∙ ap (λ b. if b then Some (record { step = n; func = func_called r }) else None) (eq-eqb home home refl)
 
   -- .. and only of such a row
-  is_call : (room : ℕ) (kind : Kind) (r : Row) (c : Called) → call_of home id (record { home = room; kind = kind }) kind r ≡ Some c → (record { home = room; kind = kind } ≡ ck c.step) × (func_called r ≡ c.func)
+  pub is_call : (room : ℕ) (kind : Kind) (r : Row) (c : Called) → call_of home id (record { home = room; kind = kind }) kind r ≡ Some c → (record { home = room; kind = kind } ≡ ck c.step) × (func_called r ≡ c.func)
   is_call room (Kind.Invoke p) r c h = (elim (id_eq p.intent id && (room == home)) as (λ z. (id_eq p.intent id && (room == home)) ≡ z
       → (if z then Some (record { step = p.step; func = func_called r }) else None) ≡ Some c → (call_key room p.intent p.step ≡ ck c.step) × (func_called r ≡ c.func)) [
         | true ↦ λ e g.
@@ -141,7 +141,7 @@ module _ (home : ℕ) (id : IntentId) where
         ap (option_map func_called) (ap (map.get m) (sym h.0) ∙ there) ∙ ap Some h.1
 
     -- .. past the step before
-    call_past : (a : ℕ) (c : Called) (e : RowKey × Row) → key_cmp (ck a) e.0 ≡ Less → call_of home id e.0 e.0.kind e.1 ≡ Some c → a < c.step
+    pub call_past : (a : ℕ) (c : Called) (e : RowKey × Row) → key_cmp (ck a) e.0 ≡ Less → call_of home id e.0 e.0.kind e.1 ≡ Some c → a < c.step
     call_past a c e less is = step_below a c.step (sym (ap (key_cmp (ck a)) (is_call e.0.home e.0.kind e.1 c is).0) ∙ less)
 
     -- what is told of the next row is the next call, where the first row past the start is that of the first call

@@ -27,7 +27,7 @@ module _ (home : ℕ) (id : IntentId) (begin : ℕ) where
       ∙ ap (λ b. if b then Some i else None) (eq-eqb home home refl)
 
   -- .. and only of such a row
-  is_item : (room : ℕ) (kind : Kind) (j : Item) → item_of home id begin (record { home = room; kind = kind }) kind ≡ Some j → record { home = room; kind = kind } ≡ ls j
+  pub is_item : (room : ℕ) (kind : Kind) (j : Item) → item_of home id begin (record { home = room; kind = kind }) kind ≡ Some j → record { home = room; kind = kind } ≡ ls j
   is_item room (Kind.Lockset i b t k) j h = (elim ((id_eq i id && (b == begin)) && (room == home)) as (λ z. ((id_eq i id && (b == begin)) && (room == home)) ≡ z
       → (if z then Some (t, k) else None) ≡ Some j → lockset_key room i b t k ≡ ls j) [
         | true ↦ λ e g.

@@ -11,14 +11,14 @@ mod FirstTurns
 mod Firsts
 mod FreeShadows
 mod Frees
-mod FromRight
+pub mod FromRight
 mod Functions
 mod Kept
 mod Leaving
 pub mod Nearness
-mod Notes
+pub mod Notes
 mod Open
-mod Overs
+pub mod Overs
 mod Past
 mod PastActs
 mod PastAsks
@@ -26,8 +26,8 @@ mod PastAnswers
 mod PastEnds
 mod PastFront
 mod PastGaps
-mod PastLaws
-mod PastOwn
+pub mod PastLaws
+pub mod PastOwn
 mod PastRows
 mod PastSays
 mod PastStages
@@ -38,10 +38,10 @@ mod RowSets
 mod SaysOwe
 mod SeatRows
 mod Shapes
-mod Sites
+pub mod Sites
 mod StageSays
-mod Started
-mod Still
+pub mod Started
+pub mod Still
 mod Stranded
 pub mod Together
 mod TurnKeeps

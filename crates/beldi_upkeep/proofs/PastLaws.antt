@@ -250,7 +250,7 @@ module _ (d : Deployment) (c : Core) (m : Rows) (h : Right d c m) (past : PastCa
         record { call = x; there = at; registered = registered; callee = have_callees d c m h seats q.func id n x at registered }
     by_call (Some r) at fits may = absurd fits
 
-    enrolled : IsEnrolled m q.func id n
+    pub enrolled : IsEnrolled m q.func id n
     enrolled = by_call (map.get m key) refl (subst (CallMatches (map.get m key)) (λ i. called_by q.func (made i) (there i)) (h.rows.keys key)) (may q.func)
 
 pub known_registered : KnownAsyncsAreRegistered

@@ -29,14 +29,14 @@ module _ (P : Tell → Type 0) where
   noted_says c None r f h = h
   noted_says c (Some w) r f h = f w refl
 
-  tail_says : (p : Place) (c : Cell) (r : Cell × Tell) → c.next ≡ None → ((w : Note) → note_at c.log p ≡ Some w → P (noted w)) → P r.1 → P (at_tail p c r).1
+  pub tail_says : (p : Place) (c : Cell) (r : Cell × Tell) → c.next ≡ None → ((w : Note) → note_at c.log p ≡ Some w → P (noted w)) → P r.1 → P (at_tail p c r).1
   tail_says p c r last f h = noted_says c (note_at c.log p) (next_or c c.next r) f (subst (λ o. P (next_or c o r).1) (sym last) h)
 
-  held_says : (c : Cell) (o : Option Owner) (r : Cell × Tell) → ((w : Owner) → o ≡ Some w → P (held w)) → P r.1 → P (held_or c o r).1
+  pub held_says : (c : Cell) (o : Option Owner) (r : Cell × Tell) → ((w : Owner) → o ≡ Some w → P (held w)) → P r.1 → P (held_or c o r).1
   held_says c None r f h = h
   held_says c (Some w) r f h = f w refl
 
-  if_says : (b : Bool) (r s : Cell × Tell) → P r.1 → P s.1 → P (if b then r else s).1
+  pub if_says : (b : Bool) (r s : Cell × Tell) → P r.1 → P s.1 → P (if b then r else s).1
   if_says true r s h k = h
   if_says false r s h k = k
 
@@ -332,7 +332,7 @@ module _ (d : Deployment) (c : Core) (m : Rows) (r : Run) (g : Begun) (h : Right
         by_at Make still = make_moves e (done_note op) c.now Value.Null row still
 
   -- the row of a call whose callee is known
-  called_there : is_some (map.get h.known (child_of r.id step)) ≡ true → (i : InvokeRow) × (map.get m (invoke_key r.func place) ≡ Some (Row.Invoke i))
+  pub called_there : is_some (map.get h.known (child_of r.id step)) ≡ true → (i : InvokeRow) × (map.get m (invoke_key r.func place) ≡ Some (Row.Invoke i))
   called_there made = by_option (map.get h.known (child_of r.id step)) (λ none. let clash = sym (ap is_some none) ∙ made in cc)
       (λ j is. call_row (map.get m (invoke_key r.func place)) _ (subst (CallMatches (map.get m (invoke_key r.func place)))
       ((λ i. called_by r.func (k.made i) (is i)) ∙ ap (λ z. if z then Some (j.func, result_of j) else None) (eq-eqb k.instance.func r.func k.func)) (h.rows.keys (invoke_key r.func place))))

@@ -1,4 +1,4 @@
-use Rattle.beldi_session.proofs.Names.{Carry, Does, Event, [], arith, refl, sight, subst, times, turn_of, ℕ, ◌++◌, ◌+◌, ◌-◌, ◌∷◌}
+use Rattle.beldi_session.proofs.Names.{Carry, Does, Event, [], arith, refl, sight, subst, times, turn_of, ◌++◌, ◌+◌, ◌-◌, ◌∷◌}
 use Rattle.beldi_session.proofs.{Calls.does_nothing, Calls.does_then, Calls.does_before, Calls.times_more, Calls.times_left, Went.fine, Went.broken}
 use Rattle.beldi_session.proofs.session.give_turns.Goals as goal
 

@@ -1,0 +1,326 @@
+-- A settling counts at most the work: event by event, what it has counted and what the ledger still holds never rises, but for failures.
+use Rattle.std.specs.FinMap as map
+use Rattle.std.specs.declared.alloc.AllocError.{AllocError}
+use Rattle.std.proofs.Math.Nat.{add-mul}
+use Rattle.std.proofs.Common.{Bool, List, None, Err, Ok, Option, Result, Some, ap, arith, false, if◌then◌else◌, leb-true, nat_le, nat_lt, not, refl, subst, sym, true, ℕ, ◌&&◌, ◌*◌, ◌+◌, ◌-◌, ◌<◌, ◌^◌, ◌||◌, ◌∙◌, ◌≡◌, ◌≤◌}
+use Rattle.beldi_value.specs.declared.id.IntentId.{IntentId}
+use Rattle.beldi_tree.specs.declared.deployment.Deployment.{Deployment}
+use Rattle.beldi_lang.specs.declared.effect.Answer.{Answer}
+use Rattle.beldi_row.specs.{Key.RowKey, Table.Rows, declared.table.TableErr.TableErr}
+use Rattle.beldi_walk.specs.{Query.Told}
+use Rattle.beldi_collect.specs.{Collect.collect_says, declared.cursor.Found.Found}
+use Rattle.beldi_step.proofs.Runs.{after_event, either}
+use Rattle.beldi_step.specs.{Host.Core, Host.EventBy, Host.EventOn, Host.Followed, Host.after_turn, Host.asks, Host.at_once, Host.collect_next, Host.counted as one_taken, Host.ended_run, Host.has_run, Host.is_crowded, Host.last_moment, Host.may_start, Host.most_events, Host.plan_of, Host.run_next, Host.run_plan, Host.started, Host.turned_core, Run.callee_of, Run.run_asks, Run.run_told, Run.says_of, Next.next_run, Next.reset, declared.event.Event.Event, declared.event.Seen.Seen, declared.run.Begun.Begun, declared.run.Run.Run, declared.run.RunAt.RunAt, declared.run.TurnSays.TurnSays, declared.run.Wait.Wait}
+use Rattle.beldi_book.specs.Order.{count_changes}
+use Rattle.beldi_laws.proofs.Moves.{with_runs}
+use Rattle.beldi_schedule.specs.{Settle.begun, Settle.by_round as goes_round, Settle.core_for, Settle.counted, Settle.counts, Settle.end_of, Settle.ends_round, Settle.event_of, Settle.first_at, Settle.go_on, Settle.heard_of, Settle.ic_heard, Settle.is_empty, Settle.is_spent, Settle.is_waiting, Settle.next_of, Settle.parked, Settle.restless, Settle.round_over, Settle.turn_heard, Settle.turn_or, Settle.turns_of, Settle.unparked, Settle.unless_spent}
+use Rattle.beldi_schedule.specs.declared.machine.{At.At, Next.Next, Settled.Settled, Settled.TheVariants.Unsettled, Standing.Standing, Standing.TheVariants.Goes, Standing.TheVariants.Over}
+use Rattle.beldi_schedule.specs.Settles.{Advances, Settles, State, goes, stands}
+use Rattle.beldi_bound.specs.{Cost.AreAsked, Ends.IsBelowEnd, Ends.Sound, Work.work_of}
+use Rattle.beldi_bound.proofs.{Entries.next_is_past, Entries.none_past, Facts.EventsGoOn, Facts.GoesOn, Facts.RunsStand, RoundsPay.ledger_moves, Bringing.settling_brings, ResultsCome.ResultsCome, ResultsCome.results_same, ResultsCome.results_then, RoundsPay.rounds_pay, Starting.ledger_begins}
+use Rattle.beldi_bound.proofs.Ledger.{Ledger, Pays, RoundsPay, TurnsPay, due, past_after, total, turn_of}
+
+-- ---- rows that go on
+pub goes_same : (m : Rows) → GoesOn m m
+goes_same m = record {
+  keys = λ k h. h;
+  intents = λ k i at. (i, at, record { issued = refl; body = λ b h. h; outcome = λ o h. h; finish = λ t h. h });
+  answers = λ i f n x e a h. h;
+}
+
+pub goes_then : (l m n : Rows) → GoesOn l m → GoesOn m n → GoesOn l n
+goes_then l m n g h = record {
+  keys = λ k there. h.keys k (g.keys k there);
+  intents = λ k i at. let x = g.intents k i at in let y = h.intents k x.0 x.1 in
+      (y.0, y.1, record { issued = y.2.issued ∙ x.2.issued; body = λ b e. y.2.body b (x.2.body b e); outcome = λ o e. y.2.outcome o (x.2.outcome o e); finish = λ t e. y.2.finish t (x.2.finish t e) });
+  answers = λ i f k x e a held. h.answers i f k x e a (g.answers i f k x e a held);
+}
+
+-- ---- what an event of a settling leaves beside: the moment, and what is sound
+module _ (d : Deployment) where
+  started_now : (c : Core) (o : Option Run) → (started c o).0.now ≡ c.now
+  started_now c None = refl
+  started_now c (Some r) = refl
+
+  may_now : (c : Core) (o : Option Run) → (may_start c o).0.now ≡ c.now
+  may_now c None = refl
+  may_now c (Some r) = either (λ (p : Core × Option ℕ). p.0.now ≡ c.now) (has_run c.runs r.id || is_crowded c) _ _ (λ t. refl) (λ t. refl)
+
+  after_now : (c : Core) (o : Option Run) (id : IntentId) (x : TurnSays) (w : Option Wait) → (after_turn c o id x w).0.now ≡ c.now
+  after_now c o id x None = either (λ (p : Core × Option ℕ). p.0.now ≡ c.now) x.starts _ _ (λ t. may_now c o) (λ t. refl)
+  after_now c o id x (Some (Wait.Held w)) = refl
+  after_now c o id x (Some (Wait.Result j)) = either (λ (p : Core × Seen). p.0.now ≡ c.now) (has_run c.runs j) _ _ (λ t. refl) (λ t. either (λ (p : Core × Seen). p.0.now ≡ c.now) (is_crowded c) _ _ (λ u. refl) (λ u. started_now c o))
+
+  run_now : (c : Core) (i : ℕ) (t : Told) (o : Option Run) → (run_next d c i t o).0.now ≡ c.now
+  run_now c i t None = refl
+  run_now c i t (Some r) = let s = run_told d (count_changes c.book) r t in after_now (turned_core c i r.id s) (callee_of r) r.id (says_of s) s.wait
+
+  found_now : (c : Core) (f : Found) → (collect_next d c f).0.now ≡ c.now
+  found_now c Found.Round = refl
+  found_now c (Found.Passed k) = refl
+  found_now c (Found.Unended k id f) = either (λ (p : Core × Seen). p.0.now ≡ c.now) (has_run c.runs id) _ _ (λ t. refl) (λ t. either (λ (p : Core × Seen). p.0.now ≡ c.now) (is_crowded c) _ _ (λ u. refl) (λ u. refl))
+
+  module _ (room old new : ℕ) (c b : Core) (m n : Rows) (x : Seen) where
+    turn_came : (z : Core) (i : ℕ) (w : Result Told TableErr) → Followed d (Event.Turn i) z w b (Ok x) → b.now ≡ z.now
+    turn_came z i (Ok t) is = ap (λ (p : Core × Seen). p.0.now) is ∙ run_now z i t (map.get z.runs i)
+    turn_came z i (Err TableErr.OutOfMemory) is = ap (λ (p : Core × Result Seen AllocError). p.0.now) is
+    turn_came z i (Err TableErr.Failed) is = ap (λ (p : Core × Result Seen AllocError). p.0.now) is
+    turn_came z i (Err (TableErr.Full live most)) is = ap (λ (p : Core × Result Seen AllocError). p.0.now) is
+
+    turn_plan : (z : Core) (i : ℕ) (o : Option Run) → EventBy d room old new (Event.Turn i) z (run_plan z i o) m b n (Ok x) → b.now ≡ z.now
+    turn_plan z i None s = ap (λ (w : Core). w.now) s.0.0
+    turn_plan z i (Some r) s = by_time (nat_lt r.deadline z.now) s
+      where
+        by_time : (t : Bool) → EventBy d room old new (Event.Turn i) z (if t then at_once (ended_run z i) Seen.Expired else asks (run_asks r)) m b n (Ok x) → b.now ≡ z.now
+        by_time true s = ap (λ (w : Core). w.now) s.0.0
+        by_time false s = turn_came z i s.0 s.1
+
+    pub turn_now : (i : ℕ) → EventOn d room old new (Event.Turn i) c m b n (Ok x) → b.now ≡ c.now
+    turn_now i s = by_taken (nat_lt c.taken most_events) s
+      where
+        by_taken : (t : Bool) → EventBy d room old new (Event.Turn i) (one_taken c) (if t then plan_of d (Event.Turn i) (one_taken c) else at_once c Seen.Spent) m b n (Ok x) → b.now ≡ c.now
+        by_taken true s = turn_plan (one_taken c) i (map.get c.runs i) s
+        by_taken false s = ap (λ (w : Core). w.now) s.0.0
+
+    round_came : (z : Core) (w : Result Told TableErr) → Followed d Event.Ic z w b (Ok x) → b.now ≡ z.now
+    round_came z (Ok t) is = ap (λ (p : Core × Seen). p.0.now) is ∙ found_now z (collect_says t)
+    round_came z (Err v) is = ap (λ (p : Core × Result Seen AllocError). p.0.now) is
+
+    pub round_now : EventOn d room old new Event.Ic c m b n (Ok x) → b.now ≡ c.now
+    round_now s = by_taken (nat_lt c.taken most_events) s
+      where
+        by_taken : (t : Bool) → EventBy d room old new Event.Ic (one_taken c) (if t then plan_of d Event.Ic (one_taken c) else at_once c Seen.Spent) m b n (Ok x) → b.now ≡ c.now
+        by_taken true s = round_came (one_taken c) s.0 s.1
+        by_taken false s = ap (λ (w : Core). w.now) s.0.0
+
+  -- the cursor may stand anywhere
+  pub reset_sound : (c : Core) (m : Rows) → Sound d c m → Sound d (reset c) m
+  reset_sound c m h = let u = h.upkeep in record {
+    upkeep = record {
+      right = with_runs u.right (reset c) refl refl u.right.runs;
+      seats = u.seats;
+      owe = record { each = u.owe.each };
+      past = u.past;
+      passes = record { each = u.passes.each };
+      near = record { soon = u.near.soon; near = u.near.near };
+      free = u.free;
+      started = u.started;
+    };
+    rules = h.rules;
+    starts = h.starts;
+  }
+
+-- ---- all events of a settling: rows go on, failures are never fewer, and the host stays sound
+abbrev pub SoundGoesOn : Type 0
+SoundGoesOn = (d : Deployment) (room budget : ℕ) (a : At) (s u : State) (z : Standing) → Sound d s.core s.rows → Advances d room budget a s u z → Sound d u.core u.rows
+
+module _ {d : Deployment} {room budget : ℕ} where
+  pub settling_goes : {y v : Standing} {s t : State} → EventsGoOn → Settles d room budget y s v t → GoesOn s.rows t.rows × (s.faults ≤ t.faults)
+  settling_goes on (stands y s) = (goes_same s.rows, omega arith)
+  settling_goes on (goes a s y u v t adv rest) = let h = settling_goes on rest in
+      (goes_then s.rows u.rows t.rows (on d room s.faults u.faults (event_of (next_of s.core a)) (core_for (next_of s.core a) s.core) u.core s.rows u.rows (Ok adv.answer) adv.event) h.0, let l = adv.later in let m = h.1 in omega (arith, l, m))
+
+  pub settling_sound : {y v : Standing} {s t : State} → SoundGoesOn → Settles d room budget y s v t → Sound d s.core s.rows → Sound d t.core t.rows
+  settling_sound on (stands y s) h = h
+  settling_sound on (goes a s y u v t adv rest) h = settling_sound on rest (on d room budget a s u y h adv)
+
+-- ---- a settling that is under way, with what it has counted and what its ledger holds
+-- while the intent collector goes round, no run that has begun is past the number
+abbrev pub Idle : At → Core → Type 0
+Idle a c = (b : Bool) → a.round ≡ Some b → (i : ℕ) (r : Run) (g : Begun) → a.past < i → map.get c.runs i ≡ Some r → r.at ≡ RunAt.Begins g → ⊥
+
+module _ (d : Deployment) (room : ℕ) (e : Rows) (asked : IntentId → List Answer) (first most : ℕ) where
+  pub record Ready (a : At) (s : State) (n : ℕ) : Type 0 where
+    pub runs : List (ℕ × ℕ)
+    pub keys : List RowKey
+    pub ledger : Ledger d room e asked first most a.past s.core s.rows runs keys
+    pub less : a.turns + total (due d room e asked first most) runs keys ≤ n
+    pub idle : Idle a s.core
+
+  abbrev pub Holds : ℕ → Standing → State → Type 0
+  Holds n (Goes a) s = Ready a s n
+  Holds n (Over x) s = turns_of x ≤ n
+
+  -- what comes next finds its ledger
+  abbrev NextHolds : State → ℕ → Next → Type 0
+  NextHolds s n (Next.Turn a i) = Ready a s n × (a.round ≡ None) × (next_run s.core a.past ≡ Some i)
+  NextHolds s n (Next.Collect a) = Ready a s n × (b : Bool) × (a.round ≡ Some b)
+  NextHolds s n (Next.Reset a) = Ready a s n × (next_run s.core a.past ≡ None)
+
+  module _ (s : State) (n : ℕ) where
+    turn_or_holds : (a : At) (z : Next) (o : Option ℕ) → next_run s.core a.past ≡ o → Ready a s n → a.round ≡ None → (o ≡ None → NextHolds s n z) → NextHolds s n (turn_or a z o)
+    turn_or_holds a z None next h round otherwise = otherwise refl
+    turn_or_holds a z (Some i) next h round otherwise = (h, round, next)
+
+    -- where no run is past the number, the ledger is one at 0
+    unparked_holds : (a : At) → Ready a s n → a.round ≡ None → next_run s.core a.past ≡ None → Ready (unparked a) s n
+    unparked_holds a h round none = record {
+      runs = h.runs;
+      keys = h.keys;
+      ledger = ledger_moves d room e asked first most a.past 0 s.core s.core s.rows h.runs h.keys refl refl refl (λ i next. let clash = sym none ∙ next in cc) h.ledger;
+      less = h.less;
+      idle = λ b is. let clash = sym round ∙ is in cc;
+    }
+
+    next_holds : (a : At) → Ready a s n → NextHolds s n (next_of s.core a)
+    next_holds a h = by_round a.round refl
+      where
+        by_round : (o : Option Bool) → a.round ≡ o → NextHolds s n (goes_round s.core a o)
+        by_round (Some b) is = (h, b, is)
+        by_round None is = turn_or_holds a (restless s.core a) (next_run s.core a.past) refl h is (λ none.
+            either (NextHolds s n) (a.moved && not (is_empty a.waiting)) _ _ (λ t. turn_or_holds (unparked a) (Next.Reset a) (next_run s.core 0) refl (unparked_holds a h is none) is (λ u. (h, none))) (λ t. (h, none)))
+
+  -- ---- what follows of an answer
+  module _ (budget : ℕ) (s u : State) (n : ℕ) where
+    abbrev failures : ℕ
+    failures = (u.faults - s.faults) * (most + 1)
+
+    counted_holds : (a : At) → Ready a u (n + failures) → Holds (n + failures) (go_on budget a) u
+    counted_holds a h = either (λ z. Holds (n + failures) z u) (nat_le budget a.turns) _ _ (λ t. let l = h.less in omega (arith, l)) (λ t. h)
+
+    -- unless the host is spent
+    unless_holds : (a : At) (x : Seen) (z : Standing) → a.turns ≤ n → ((x ≡ Seen.Spent → ⊥) → Holds (n + failures) z u) → Holds (n + failures) (unless_spent a x z) u
+    unless_holds a x z less h = either (λ y. Holds (n + failures) y u) (is_spent x) _ _ (λ t. omega (arith, less)) (λ t. h (λ is. let clash = sym (ap is_spent is) ∙ t in cc))
+
+    turn_holds : (a : At) (i : ℕ) (x : Seen) (h : Ready a s n) → a.round ≡ None
+        → ((x ≡ Seen.Spent → ⊥) → Pays d room e asked first most (past_after d room e asked first most (is_waiting x) i a.past) h.runs h.keys (turn_of d room e asked first most (is_waiting x)) (u.faults - s.faults) u.core u.rows)
+        → Holds (n + failures) (turn_heard budget a i x) u
+    turn_holds a i x h round pays = unless_holds a x _ (let l = h.less in omega (arith, l)) (λ apart. by_wait (is_waiting x) (pays apart))
+      where
+        by_wait : (w : Bool) → Pays d room e asked first most (past_after d room e asked first most w i a.past) h.runs h.keys (turn_of d room e asked first most w) (u.faults - s.faults) u.core u.rows → Holds (n + failures) (if w then Goes (parked a i x) else counted budget a) u
+        by_wait true p = record { runs = p.runs_then; keys = p.keys_then; ledger = p.ledger; less = let l = h.less in let m = p.less in omega (arith, l, m); idle = λ b is. let clash = sym round ∙ is in cc }
+        by_wait false p = counted_holds (record a { turns = a.turns + 1; moved = true }) (record { runs = p.runs_then; keys = p.keys_then; ledger = p.ledger; less = let l = h.less in let m = p.less in omega (arith, l, m); idle = λ b is. let clash = sym round ∙ is in cc })
+
+    end_turns : (a : At) (o : Option ℕ) → turns_of (end_of a o) ≡ a.turns
+    end_turns a None = refl
+    end_turns a (Some i) = refl
+
+    round_holds : (a : At) (x : Seen) (live : Option ℕ) (runs : List (ℕ × ℕ)) (keys : List RowKey) → a.turns + total (due d room e asked first most) runs keys ≤ n
+        → ((i : ℕ) (r : Run) (g : Begun) → a.past < i → map.get u.core.runs i ≡ Some r → r.at ≡ RunAt.Begins g → ⊥)
+        → ((x ≡ Seen.Spent → ⊥) → Pays d room e asked first most a.past runs keys (if counts x then 1 else 0) (u.faults - s.faults) u.core u.rows)
+        → Holds (n + failures) (ic_heard budget live a x) u
+    round_holds a x live runs keys less idle pays = unless_holds a x _ (omega (arith, less)) (λ apart. by_end (pays apart))
+      where
+        by_count : (t : Bool) → Pays d room e asked first most a.past runs keys (if t then 1 else 0) (u.faults - s.faults) u.core u.rows → Holds (n + failures) (if t then counted budget (record a { round = Some true }) else Goes a) u
+        by_count true p = counted_holds (record a { turns = a.turns + 1; moved = true; round = Some true }) (record { runs = p.runs_then; keys = p.keys_then; ledger = p.ledger; less = let m = p.less in omega (arith, less, m); idle = λ b is. idle })
+        by_count false p = record { runs = p.runs_then; keys = p.keys_then; ledger = p.ledger; less = let m = p.less in omega (arith, less, m); idle = λ b is. idle }
+
+        by_round : (o : Option Bool) → Pays d room e asked first most a.past runs keys (if counts x then 1 else 0) (u.faults - s.faults) u.core u.rows → Holds (n + failures) (round_over live a o) u
+        by_round (Some true) p = record { runs = p.runs_then; keys = p.keys_then; ledger = p.ledger; less = let m = p.less in omega (arith, less, m); idle = λ b is. idle }
+        by_round (Some false) p = let same = end_turns a live in omega (arith, less, same)
+        by_round None p = let same = end_turns a live in omega (arith, less, same)
+
+        by_end : Pays d room e asked first most a.past runs keys (if counts x then 1 else 0) (u.faults - s.faults) u.core u.rows → Holds (n + failures) (if ends_round x then round_over live a a.round else if counts x then counted budget (record a { round = Some true }) else Goes a) u
+        by_end p = either (λ z. Holds (n + failures) z u) (ends_round x) _ _ (λ t. by_round a.round p) (λ t. by_count (counts x) p)
+
+  -- ---- an event
+  -- the runs past a number that have begun are those from before
+  idle_then : (past old new : ℕ) (c b : Core) (m n : Rows) (x : Seen) → ((i : ℕ) (r : Run) (g : Begun) → past < i → map.get c.runs i ≡ Some r → r.at ≡ RunAt.Begins g → ⊥) → EventOn d room old new Event.Ic c m b n (Ok x)
+      → (i : ℕ) (r : Run) (g : Begun) → past < i → map.get b.runs i ≡ Some r → r.at ≡ RunAt.Begins g → ⊥
+  idle_then past old new c b m n x idle event i r g less live at =
+      (after_event (λ i r. (g : Begun) → past < i → r.at ≡ RunAt.Begins g → ⊥) (λ q t. Unit {0}) d Event.Ic c b (λ i r live g less at. idle i r g less live at) (λ id f g less at. cc) (Ok x) room old new m n (λ q. tt) event).runs i r live g less at
+
+  module _ (turns_pay : TurnsPay d room e asked first most) (rounds_pay : RoundsPay d room e asked first most) (z : Core) (in_the_end : Sound d z e) (asks : AreAsked d e asked) (budget : ℕ) where
+    module _ (s u : State) (n : ℕ) (before : Sound d s.core s.rows) (after : Sound d u.core u.rows) (goes : GoesOn u.rows e) (come : ResultsCome u.rows e) (below : u.faults < 2 ^ 64 - 1) (soon : s.core.now ≤ last_moment) where
+      next_pays : (w : Next) (x : Seen) → EventOn d room s.faults u.faults (event_of w) (core_for w s.core) s.rows u.core u.rows (Ok x) → NextHolds s n w → Holds (n + failures budget s u n) (heard_of budget u.core w x) u
+      next_pays (Next.Turn a i) x event h = turn_holds budget s u n a i x h.0 h.1 (λ apart. turns_pay a.past s.faults u.faults i s.core u.core s.rows u.rows x h.0.runs h.0.keys z before after in_the_end asks goes come below h.2 event apart h.0.ledger)
+      next_pays (Next.Collect a) x event h =
+          let idle = h.0.idle h.1 h.2 in
+          round_holds budget s u n a x (next_run u.core 0) h.0.runs h.0.keys h.0.less (idle_then a.past s.faults u.faults s.core u.core s.rows u.rows x idle event)
+          (λ apart. rounds_pay a.past s.faults u.faults s.core u.core s.rows u.rows x h.0.runs h.0.keys z before after in_the_end asks goes below soon (λ i r g next live at. idle i r g (next_is_past s.core a.past i next) live at) event apart h.0.ledger)
+      next_pays (Next.Reset a) x event h =
+          let c = reset s.core in
+          let idle = λ (i : ℕ) (r : Run) (g : Begun) (less : a.past < i) (live : map.get c.runs i ≡ Some r) (at : r.at ≡ RunAt.Begins g). none_past s.core a.past i r h.1 live less in
+          round_holds budget s u n (begun a) x (next_run u.core 0) h.0.runs h.0.keys h.0.less (idle_then a.past s.faults u.faults c u.core s.rows u.rows x idle event)
+          (λ apart. rounds_pay a.past s.faults u.faults c u.core s.rows u.rows x h.0.runs h.0.keys z (reset_sound d s.core s.rows before) after in_the_end asks goes below soon (λ i r g next live at. idle i r g (next_is_past c a.past i next) live at) event apart
+          (ledger_moves d room e asked first most a.past a.past s.core c s.rows h.0.runs h.0.keys refl refl refl (λ i next. next) h.0.ledger))
+
+      event_pays : (a : At) (y : Standing) → Advances d room budget a s u y → Ready a s n → Holds (n + failures budget s u n) y u
+      event_pays a y adv h = subst (λ v. Holds (n + failures budget s u n) v u) (sym adv.next) (next_pays (next_of s.core a) adv.answer adv.event (next_holds s n a h))
+
+    -- ---- all events, to these rows in the end
+    abbrev Counts : ℕ → Standing → Type 0
+    Counts n (Goes a) = Unit {0}
+    Counts n (Over x) = turns_of x ≤ n
+
+    counts_more : (n k : ℕ) (y : Standing) → n ≤ k → Counts n y → Counts k y
+    counts_more n k (Goes a) l h = tt
+    counts_more n k (Over x) l h = omega (arith, l, h)
+
+    held : (n : ℕ) (y : Standing) (s : State) → Holds n y s → Counts n y
+    held n (Goes a) s h = tt
+    held n (Over x) s h = h
+
+    shares : (o m n k : ℕ) → o ≤ m → m ≤ n → (m - o) * k + (n - m) * k ≡ (n - o) * k
+    shares o m n k l h = sym (add-mul (m - o) (n - m) k) ∙ ap (λ z. z * k) (omega (arith, l, h))
+
+    module _ (sound_on : SoundGoesOn) (goes_on : EventsGoOn) where
+      now_next : (s u : State) (w : Next) (x : Seen) → EventOn d room s.faults u.faults (event_of w) (core_for w s.core) s.rows u.core u.rows (Ok x) → u.core.now ≡ s.core.now
+      now_next s u (Next.Turn a i) x event = turn_now d room s.faults u.faults s.core u.core s.rows u.rows x i event
+      now_next s u (Next.Collect a) x event = round_now d room s.faults u.faults s.core u.core s.rows u.rows x event
+      now_next s u (Next.Reset a) x event = round_now d room s.faults u.faults (reset s.core) u.core s.rows u.rows x event
+
+      pub counts_few : {y v : Standing} {s t : State} (n : ℕ) → Settles d room budget y s v t → Sound d s.core s.rows → GoesOn t.rows e → ResultsCome t.rows e → t.faults < 2 ^ 64 - 1 → s.core.now ≤ last_moment → Holds n y s → Counts (n + (t.faults - s.faults) * (most + 1)) v
+      counts_few n (stands y s) sound goes_e come_e below soon h = counts_more n (n + (s.faults - s.faults) * (most + 1)) y (omega arith) (held n y s h)
+      counts_few n (goes a s y u v t adv rest) sound goes_e come_e below soon h =
+          let sound_then = sound_on d room budget a s u y sound adv in
+          let on = settling_goes goes_on rest in
+          let l = adv.later in
+          let m = on.1 in
+          let now = now_next s u (next_of s.core a) adv.answer adv.event in
+          let step = event_pays s u n sound sound_then (goes_then u.rows t.rows e on.0 goes_e) (results_then (settling_brings (sound_on d room budget) rest sound_then) come_e) (omega (arith, below, m)) soon a y adv h in
+          let last = counts_few (n + (u.faults - s.faults) * (most + 1)) rest sound_then goes_e come_e below (omega (arith, now, soon)) step in
+          let all = shares s.faults u.faults t.faults (most + 1) l m in
+          counts_more _ _ v (omega (arith, all)) last
+
+-- ---- a budget is used up where it is not above what was counted
+module _ (d : Deployment) (room budget : ℕ) where
+  abbrev Used : Standing → Type 0
+  Used (Goes a) = Unit {0}
+  Used (Over x) = (n : ℕ) → x ≡ Unsettled n → budget ≤ n
+
+  go_on_used : (a : At) → Used (go_on budget a)
+  go_on_used a = either Used (nat_le budget a.turns) _ _ (λ t n is. let l = leb-true budget a.turns t in let same : a.turns ≡ n = number is in omega (arith, l, same)) (λ t. tt)
+    where
+      number : {m n : ℕ} → Unsettled m ≡ Unsettled n → m ≡ n
+      number h = cc
+
+  end_used : (a : At) (o : Option ℕ) → Used (Over (end_of a o))
+  end_used a None n is = cc
+  end_used a (Some i) n is = cc
+
+  unless_used : (a : At) (x : Seen) (z : Standing) → Used z → Used (unless_spent a x z)
+  unless_used a x z h = either Used (is_spent x) _ _ (λ t n is. cc) (λ t. h)
+
+  round_used : (a : At) (live : Option ℕ) (o : Option Bool) → Used (round_over live a o)
+  round_used a live (Some true) = tt
+  round_used a live (Some false) = end_used a live
+  round_used a live None = end_used a live
+
+  ic_used : (a : At) (live : Option ℕ) (x : Seen) → Used (ic_heard budget live a x)
+  ic_used a live x = unless_used a x _ (either Used (ends_round x) _ _ (λ t. round_used a live a.round) (λ t. either Used (counts x) _ _ (λ u. go_on_used (record a { turns = a.turns + 1; moved = true; round = Some true })) (λ u. tt)))
+
+  heard_used : (c : Core) (w : Next) (x : Seen) → Used (heard_of budget c w x)
+  heard_used c (Next.Turn a i) x = unless_used a x _ (either Used (is_waiting x) _ _ (λ t. tt) (λ t. go_on_used (record a { turns = a.turns + 1; moved = true })))
+  heard_used c (Next.Collect a) x = ic_used a (next_run c 0) x
+  heard_used c (Next.Reset a) x = ic_used (begun a) (next_run c 0) x
+
+  chain_used : {y v : Standing} {s t : State} → Settles d room budget y s v t → Used y → Used v
+  chain_used (stands y s) h = h
+  chain_used (goes a s y u v t adv rest) h = chain_used rest (subst Used (sym adv.next) (heard_used u.core (next_of s.core a) adv.answer))
+
+  pub used : (s t : State) (x : Settled) → Settles d room budget (go_on budget first_at) s (Over x) t → (n : ℕ) → x ≡ Unsettled n → budget ≤ n
+  used s t x chain = chain_used chain (go_on_used first_at)
+
+-- ---- the bound
+pub turns_are_few : ((d : Deployment) (room : ℕ) (e : Rows) (asked : IntentId → List Answer) (first most : ℕ) → TurnsPay d room e asked first most) → SoundGoesOn → EventsGoOn → RunsStand
+    → (d : Deployment) (room budget : ℕ) (s t : State) (x : Settled) (asked : IntentId → List Answer) → Sound d s.core s.rows → s.core.now ≤ last_moment → AreAsked d t.rows asked → IsBelowEnd t.faults
+    → Settles d room budget (go_on budget first_at) s (Over x) t → turns_of x ≤ work_of d asked s t
+turns_are_few turns_pay sound_on goes_on stand d room budget s t x asked sound soon held_so below chain =
+    let first = s.core.last_run in
+    let start = ledger_begins d room s t asked stand sound (settling_goes goes_on chain).0 held_so in
+    let n = total (due d room t.rows asked first start.most) start.runs start.keys in
+    let ready : Ready d room t.rows asked first start.most first_at s n = record { runs = start.runs; keys = start.keys; ledger = start.ledger; less = omega arith; idle = λ b is. cc } in
+    let holds : Holds d room t.rows asked first start.most n (go_on budget first_at) s = either (λ z. Holds d room t.rows asked first start.most n z s) (nat_le budget 0) _ _ (λ t. omega arith) (λ t. ready) in
+    let few = counts_few d room t.rows asked first start.most (turns_pay d room t.rows asked first start.most) (rounds_pay d room t.rows asked first start.most) t.core (settling_sound sound_on chain sound) held_so budget sound_on goes_on n chain sound (goes_same t.rows) (results_same t.rows) below soon holds in
+    let less = start.less in omega (arith, few, less)

@@ -1,0 +1,133 @@
+-- A turn of a live run leaves less of its effect, given that a turn at the end of a transaction does.
+use Rattle.std.specs.FinMap as map
+use Rattle.std.proofs.Common.{List, ◌≡◌, ℕ, Bool, true, false, is_some, Option, None, Some, refl, ap, sym, ◌∙◌, subst}
+use Rattle.beldi_tree.specs.declared.deployment.Deployment.{Deployment}
+use Rattle.beldi_lang.specs.declared.effect.Effect.{Effect}
+use Rattle.beldi_book.specs.Order.{count_changes}
+use Rattle.beldi_plain.specs.{Item.Item, Operation.op_of}
+use Rattle.beldi_row.specs.{Log.note_at, Table.Rows, declared.notes.Note.Note}
+use Rattle.beldi_walk.specs.Query.{rows_after}
+use Rattle.beldi_daal.specs.{Cell.cell_key, Content.content_in, declared.cell.WriteAt.WriteAt}
+use Rattle.beldi_invokelog.specs.InvokeLog.{call_in}
+use Rattle.beldi_txn.specs.declared.{end.Visit.Visit, tx.TxAt.TxAt}
+use Rattle.beldi_txn.specs.TxTurn.{Fits}
+use Rattle.beldi_call.specs.declared.{async_call.AsyncAt.AsyncAt, call.CallAt.CallAt}
+use Rattle.beldi_step.specs.{Host.Core, Run.asks_at, Run.place_of, Run.run_asks, Run.stage_asks, Run.tx_of, declared.run.Begun.Begun, declared.run.Run.Run, declared.run.RunAt.RunAt, declared.run.RunTx.RunTx, declared.run.Stage.Stage}
+use Rattle.beldi_known.specs.Contents.{head_key, shadow_key}
+use Rattle.beldi_known.proofs.Cases.{by_cases}
+use Rattle.beldi_laws.specs.{OneAnswer.IsBegun, Right.AtStage, Right.Knows, Right.Right}
+use Rattle.beldi_upkeep.specs.Checked.{ShadowsAreFree, is_of_lock, is_own_note, is_shadow_note, next_says, works_on}
+use Rattle.beldi_upkeep.proofs.{Notes.knows, Notes.notes_are_own, Notes.shadow_notes_are_own, Still.called_there}
+use Rattle.beldi_bound.specs.{Ends.Sound, Left.CanWork, Left.Needs, Left.OfLock, Left.OfWrite, Left.SaysLower, Left.aside_there, Left.end_left, Left.item_there, Left.left_at, Left.stage_left}
+use Rattle.beldi_bound.proofs.{Facts.GoesOn, Facts.TurnsLower, Stages.stages_lower}
+
+-- ---- what remains beside the stages of this file: those at the end of a transaction
+abbrev pub is_end : Stage → Bool
+is_end (Stage.Decide w) = true
+is_end (Stage.End v) = true
+is_end s = false
+
+abbrev pub EndsLower : Type 0
+EndsLower = (d : Deployment) (c : Core) (m e : Rows) (i : ℕ) (r : Run) (g : Begun) → Sound d c m → GoesOn (rows_after (run_asks r) c.now m) e → map.get c.runs i ≡ Some r → r.at ≡ RunAt.Begins g → is_end g.stage ≡ true
+    → SaysLower (left_at e (rows_after (run_asks r) c.now m) r.func r.id g.tx g.machine.steps g.machine.effect) (left_at e m r.func r.id g.tx g.machine.steps g.machine.effect g.stage) (next_says c m r g)
+
+-- ---- the notes that a run may find
+of_lock : (n : Option Note) → ((w : Note) → n ≡ Some w → is_of_lock w ≡ true) → OfLock n
+of_lock None own = tt
+of_lock (Some Note.Got) own = tt
+of_lock (Some (Note.Died a)) own = tt
+of_lock (Some w) own = let clash = own w refl in cc
+
+of_write : (e : Effect) (n : Option Note) → ((w : Note) → n ≡ Some w → is_shadow_note e w ≡ true) → OfWrite e n
+of_write e None own = tt
+of_write (Effect.Write t k v) (Some Note.Wrote) own = tt
+of_write (Effect.CondWrite t k r o v) (Some (Note.Cond b)) own = tt
+of_write e (Some w) own = let clash = own w refl in cc
+
+-- ---- a live run has what its stage needs
+module _ (d : Deployment) (c : Core) (m : Rows) (r : Run) (g : Begun) (h : Right d c m) (free : ShadowsAreFree m) (b : IsBegun c r.id r g) (k : Knows d h.known r g) where
+  can_work : (o : RunTx) (e : Effect) (a : TxAt) (t : ℕ) (key : List ℕ) → g.tx ≡ Some o → g.machine.effect ≡ e → works_on e ≡ true → Fits e a
+      → let x : Item = record { func = r.func; table = t; key = key } in CanWork e a (place_of r.id g.machine.steps) (map.get m (head_key x)) (map.get m (shadow_key (tx_of r.id r.func o) x))
+  can_work o e a t key in_it is works fits =
+      let x : Item = record { func = r.func; table = t; key = key } in
+      let side = shadow_key (tx_of r.id r.func o) x in
+      let p = place_of r.id g.machine.steps in
+      record {
+        item = h.rows.keys (head_key x);
+        shadow = h.rows.keys side;
+        unowned = free side refl;
+        lock = of_lock (note_at (content_in (map.get m (head_key x))).notes p) (λ w there. own w (notes_are_own d c m r g x w h b (ap works_on is ∙ works) there));
+        write = of_write e (note_at (content_in (map.get m side)).notes p) (λ w there. ap (λ z. is_shadow_note z w) (sym is) ∙ shadow_notes_are_own d c m r g (tx_of r.id r.func o) x w h b there);
+        fits = fits;
+      }
+    where
+      own : (w : Note) → is_own_note g.tx g.machine.effect w ≡ true → is_of_lock w ≡ true
+      own w its = ap (λ z. is_own_note z g.machine.effect w) (sym in_it) ∙ its
+
+  by_write : (e : Effect) (w : WriteAt) → is_some (op_of e) ≡ true → Needs m r.id r.func g.caller None g.machine.steps e (Stage.Write w)
+  by_write (Effect.Write t x v) w is = h.rows.keys (cell_key r.func t x)
+  by_write (Effect.CondWrite t x u z v) w is = h.rows.keys (cell_key r.func t x)
+  by_write (Effect.Lock t x) w is = h.rows.keys (cell_key r.func t x)
+  by_write (Effect.Unlock t x) w is = h.rows.keys (cell_key r.func t x)
+  by_write e w is = cc
+
+  by_tx : (e : Effect) (o : RunTx) (a : TxAt) → g.machine.effect ≡ e → g.tx ≡ Some o → Fits e a → Needs m r.id r.func g.caller (Some o) g.machine.steps e (Stage.Tx a)
+  by_tx (Effect.Read t x) o a is in_it fits = can_work o (Effect.Read t x) a t x in_it is refl fits
+  by_tx (Effect.Write t x v) o a is in_it fits = can_work o (Effect.Write t x v) a t x in_it is refl fits
+  by_tx (Effect.CondWrite t x u z v) o a is in_it fits = can_work o (Effect.CondWrite t x u z v) a t x in_it is refl fits
+  by_tx e o a is in_it fits = absurd fits
+
+  by_stage : (s : Stage) (e : Effect) (o : Option RunTx) → is_end s ≡ false → g.machine.effect ≡ e → g.tx ≡ o → AtStage m h.plain c.book k s e o → Needs m r.id r.func g.caller o g.machine.steps e s
+  by_stage Stage.Ask (Effect.Read t x) None apart is in_it here = tt
+  by_stage Stage.Walk (Effect.Read t x) None apart is in_it here = h.rows.keys (cell_key r.func t x)
+  by_stage (Stage.Keep v seen) (Effect.Read t x) None apart is in_it here = tt
+  by_stage (Stage.Write w) e None apart is in_it here = by_write e w here
+  by_stage (Stage.Tx a) e (Some o) apart is in_it here = by_tx e o a is in_it here.0
+  by_stage (Stage.Async AsyncAt.Open) (Effect.Async f a) None apart is in_it here = tt
+  by_stage (Stage.Async AsyncAt.Register) (Effect.Async f a) None apart is in_it here = tt
+  by_stage (Stage.Async AsyncAt.Note) (Effect.Async f a) None apart is in_it here = (here.0, ap (λ z. is_some (call_in z)) (called_there d c m r g h free b k (here.1 refl)).1)
+  by_stage (Stage.Call w) (Effect.Call f a) None apart is in_it here = tt
+  by_stage (Stage.Call w) (Effect.Call f a) (Some o) apart is in_it here = tt
+  by_stage Stage.Back (Effect.Return x) None apart is in_it here = tt
+  by_stage Stage.Back (Effect.Return x) (Some o) apart is in_it here = tt
+  by_stage Stage.Tell (Effect.Return x) None apart is in_it here = tt
+  by_stage Stage.Close (Effect.Return x) None apart is in_it here = tt
+  by_stage Stage.Close (Effect.Return x) (Some o) apart is in_it here = tt
+  by_stage (Stage.Decide w) e o apart is in_it here = cc
+  by_stage (Stage.End v) e o apart is in_it here = cc
+  by_stage s e o apart is in_it here = absurd here
+
+pub has_needs : (d : Deployment) (c : Core) (m : Rows) (i : ℕ) (r : Run) (g : Begun) → Sound d c m → map.get c.runs i ≡ Some r → r.at ≡ RunAt.Begins g → is_end g.stage ≡ false → Needs m r.id r.func g.caller g.tx g.machine.steps g.machine.effect g.stage
+has_needs d c m i r g sound live begun apart =
+    let h = sound.upkeep.right in
+    let b : IsBegun c r.id r g = record { number = i; live = live; same_id = refl; begun = begun } in
+    let k = knows d c m h r g b in
+    by_stage d c m r g h sound.upkeep.free b k.0 g.stage g.machine.effect g.tx apart refl refl k.1.here
+
+-- ---- its turn
+-- what is left at a stage that is no end looks at no visit
+pub same_left : (there aside : Bool) (v w : Visit → ℕ) (e : Effect) (s : Stage) → is_end s ≡ false → stage_left there aside v e s ≡ stage_left there aside w e s
+same_left there aside v w e (Stage.Decide x) apart = cc
+same_left there aside v w e (Stage.End x) apart = cc
+same_left there aside v w e (Stage.Call CallAt.Open) apart = refl
+same_left there aside v w e (Stage.Call CallAt.Look) apart = refl
+same_left there aside v w e (Stage.Async AsyncAt.Open) apart = refl
+same_left there aside v w e (Stage.Async AsyncAt.Register) apart = refl
+same_left there aside v w e (Stage.Async AsyncAt.Note) apart = refl
+same_left there aside v w e s apart = refl
+
+lowers_by : (d : Deployment) (c : Core) (m e : Rows) (i : ℕ) (r : Run) (g : Begun) → Sound d c m → map.get c.runs i ≡ Some r → r.at ≡ RunAt.Begins g → is_end g.stage ≡ false
+    → SaysLower (left_at e (rows_after (run_asks r) c.now m) r.func r.id g.tx g.machine.steps g.machine.effect) (left_at e m r.func r.id g.tx g.machine.steps g.machine.effect g.stage) (next_says c m r g)
+lowers_by d c m e i r g sound live begun apart =
+    let f = g.machine.effect in
+    let step = g.machine.steps in
+    let q = stage_asks r.id r.func g.caller g.tx step f g.stage in
+    let n = rows_after q c.now m in
+    let asked : run_asks r ≡ q = ap (λ (s : RunAt). asks_at r s) begun in
+    let v = end_left e n r.func r.id g.tx step in
+    let same = same_left (item_there m r.func f) (aside_there m r.func r.id g.tx f) v (end_left e m r.func r.id g.tx step) f g.stage apart in
+    subst (λ z. SaysLower (left_at e (rows_after z c.now m) r.func r.id g.tx step f) (left_at e m r.func r.id g.tx step f g.stage) (next_says c m r g)) (sym asked)
+    (subst (λ z. SaysLower (left_at e n r.func r.id g.tx step f) z (next_says c m r g)) same (stages_lower v m c.now r.id r.func g.caller g.tx (count_changes c.book) step f g.stage (has_needs d c m i r g sound live begun apart)))
+
+pub turns_lower : EndsLower → TurnsLower
+turns_lower ends d c m e i r g sound goes live begun = by_cases (is_end g.stage) (λ is. ends d c m e i r g sound goes live begun is) (λ apart. lowers_by d c m e i r g sound live begun apart)

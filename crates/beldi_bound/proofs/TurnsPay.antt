@@ -1,0 +1,123 @@
+-- A turn of the least live run past a number keeps the ledger, and where it does not wait the total falls by one at least.
+use Rattle.std.specs.FinMap as map
+use Rattle.std.specs.declared.alloc.AllocError.{AllocError}
+use Rattle.std.proofs.Common.{◌≡◌, ℕ, ◌-◌, ◌^◌, ◌<◌, ◌≤◌, true, false, List, Some, is_some, Result, Ok, Err, refl, sym, ap, subst, ◌∙◌}
+use Rattle.beldi_value.specs.{declared.id.IntentId.IntentId}
+use Rattle.beldi_tree.specs.declared.deployment.Deployment.{Deployment}
+use Rattle.beldi_lang.specs.declared.effect.{Answer.Answer}
+use Rattle.beldi_row.specs.{Key.RowKey, Table.Rows, declared.table.TableErr.TableErr}
+use Rattle.beldi_walk.specs.Query.{CameOn, rows_after}
+use Rattle.beldi_call.specs.declared.async_call.AsyncAt.{AsyncAt}
+use Rattle.beldi_known.proofs.Cases.{by_option}
+use Rattle.beldi_step.specs.{Host.Core, Host.EventOn, Host.counted, Host.ended_run, Host.turn_next, Next.next_run, Run.run_asks, declared.event.Event.Event, declared.event.Seen.Seen, declared.run.Begun.Begun, declared.run.Run.Run, declared.run.RunAt.RunAt, declared.run.Stage.Stage}
+use Rattle.beldi_upkeep.specs.Checked.{NoTurnIsOver, StartedRootsAreOfIt, has_begun, next_turn}
+use Rattle.beldi_bound.specs.{Cost.AreAsked, Ends.Sound, Work.has_ended, Work.seat}
+use Rattle.beldi_bound.proofs.{Begun.BegunKnows, Begun.ClosesEnd, Begun.FirstsAreOpen, Begun.NoneIsSpared, Begun.StepsRise, Begun.begun_so, Ending.expired, Ending.failed, Ending.goes_same, Ending.waits, Facts.EventsGoOn, Facts.FirstStagesAreFew, Facts.GoesOn, Facts.RunsStand, Facts.TurnsLower, FirstTurns.FirstKnows, FirstTurns.first_so, Numbers.IsLeast, ResultsCome.ResultsCome, Numbers.next_least}
+use Rattle.beldi_bound.proofs.Ledger.{Ledger, TurnsPay, find}
+use Rattle.beldi_bound.proofs.Frames.{Cost, Covered, Mid}
+use Rattle.beldi_bound.proofs.Turns.{FullStays, Paying, Ways, by_event}
+
+-- an event adds no row where there is no room for one
+abbrev pub EventsStayFull : Type 0
+EventsStayFull = (d : Deployment) (room old new : ℕ) (e : Event) (c b : Core) (m n : Rows) (r : Result Seen AllocError) → EventOn d room old new e c m b n r → FullStays room m n
+
+module _ (goes_on : EventsGoOn) (stays_full : EventsStayFull) (stand : RunsStand) (few : FirstStagesAreFew) (lower : TurnsLower) (no_over : NoTurnIsOver) (of_it : StartedRootsAreOfIt) (rise : StepsRise) (firsts : FirstsAreOpen) (closes : ClosesEnd) (spared : NoneIsSpared)
+    (d : Deployment) (room : ℕ) (e : Rows) (asked : IntentId → List Answer) (first most : ℕ) (z : Core) (sound_e : Sound d z e) (areas : AreAsked d e asked) where
+  module _ (past i : ℕ) (c : Core) (m : Rows) (r : Run) (a : ℕ) (runs : List (ℕ × ℕ)) (keys : List RowKey) (sound : Sound d c m)
+      (ledger : Ledger d room e asked first most past c m runs keys) (next : next_run c past ≡ Some i) (live : map.get c.runs i ≡ Some r) (has : find i runs ≡ Some a) (mine : Covered d room e asked first most past c m keys i r a) where
+    -- what is known of the rows where the run is refused ..
+    pub record Refused : Type 0 where
+      pub ended : has_ended (map.get m (seat r)) ≡ true → 1 ≤ Cost d room e asked first most (seat r)
+      pub mid : (l k : ℕ) → CameOn (run_asks r) c.now room (Err (TableErr.Full l k)) m m → (g : Begun) (w : AsyncAt) → (w ≡ AsyncAt.Open → ⊥) → r.at ≡ RunAt.Begins g → g.stage ≡ Stage.Async w → Mid d room e asked first most past c m i r g → Mid d room e asked first most i (counted c) m i r g
+
+    -- .. and where it has its turn
+    pub record Turns (alive : r.deadline < c.now → ⊥) (f : ℕ) (rows : GoesOn m (rows_after (run_asks r) c.now m)) (full : FullStays room m (rows_after (run_asks r) c.now m)) (goes : GoesOn (rows_after (run_asks r) c.now m) e) : Type 0 where
+      pub firsts_know : has_begun r.at ≡ false → FirstKnows stand few firsts d room e asked first most past i c m r a runs keys sound ledger next live has mine alive f areas rows full goes
+      pub begun_know : (g : Begun) (at : r.at ≡ RunAt.Begins g) → BegunKnows no_over stand few lower rise firsts closes spared of_it d room e asked first most past i c m r a runs keys sound ledger next live has mine alive f areas rows full goes g at
+
+    module _ (old new : ℕ) (b : Core) (n : Rows) (x : Seen) (sb : Sound d b n) (goes : GoesOn n e) (come : ResultsCome n e) (fewer : new < 2 ^ 64 - 1) (event : EventOn d room old new (Event.Turn i) c m b n (Ok x)) (not_spent : x ≡ Seen.Spent → ⊥) (refused : Refused)
+        (turns : (alive : r.deadline < c.now → ⊥) (f : ℕ) (rows : GoesOn m (rows_after (run_asks r) c.now m)) (full : FullStays room m (rows_after (run_asks r) c.now m)) (goes : GoesOn (rows_after (run_asks r) c.now m) e) → ResultsCome (rows_after (run_asks r) c.now m) e → Turns alive f rows full goes) where
+      abbrev N : Rows
+      N = rows_after (run_asks r) c.now m
+
+      abbrev Went : Rows → Type 0
+      Went k = GoesOn m k × FullStays room m k × GoesOn k e × ResultsCome k e
+
+      -- by where the run stands
+      turned : (alive : r.deadline < c.now → ⊥) (b2 : Core) (n2 : Rows) → Sound d b2 n2 → Went n2 → (turn_next (counted c) i r (next_turn d c m r)).0 ≡ b2 → n2 ≡ N → Paying d room e asked first most past i c m r runs keys (new - old) (turn_next (counted c) i r (next_turn d c m r)) n2
+      turned alive b2 n2 sound2 went b_is n_is = subst (λ k. Paying d room e asked first most past i c m r runs keys (new - old) (turn_next (counted c) i r (next_turn d c m r)) k) (sym n_is) (by_at r.at refl)
+        where
+          here : Went N
+          here = subst Went n_is went
+
+          sb2 : Sound d (turn_next (counted c) i r (next_turn d c m r)).0 N
+          sb2 = subst (λ z. Sound d z N) (sym b_is) (subst (λ k. Sound d b2 k) n_is sound2)
+
+          its : Turns alive (new - old) here.0 here.1 here.2
+          its = turns alive (new - old) here.0 here.1 here.2 here.3
+
+          at_first : has_begun r.at ≡ false → Paying d room e asked first most past i c m r runs keys (new - old) (turn_next (counted c) i r (next_turn d c m r)) N
+          at_first yet = first_so stand few firsts d room e asked first most past i c m r a runs keys sound ledger next live has mine alive (new - old) areas here.0 here.1 here.2 (its.firsts_know yet) yet sb2
+
+          by_at : (x : RunAt) → r.at ≡ x → Paying d room e asked first most past i c m r runs keys (new - old) (turn_next (counted c) i r (next_turn d c m r)) N
+          by_at RunAt.Looks at = at_first (ap has_begun at)
+          by_at (RunAt.Registers w) at = at_first (ap has_begun at)
+          by_at (RunAt.Begins g) at = begun_so no_over stand few lower rise firsts closes spared of_it d room e asked first most past i c m r a runs keys sound ledger next live has mine alive (new - old) areas here.0 here.1 here.2 g at (its.begun_know g at) sb2
+
+      ways : Ways d room e asked first most past i c m r runs keys (new - old) live Went
+      ways = record {
+        expired = λ late. expired d room e asked first most past i c m r a runs keys sound ledger next live has mine (ended_run (counted c) i) refl refl refl (new - old) late;
+        failed = λ some. failed d room e asked first most past i c m r a runs keys sound ledger next live has mine (ended_run (counted c) i) refl refl refl refused.ended (new - old) some;
+        full = λ l k came. waits d room e asked first most past i c m r a runs keys sound ledger next live has mine (counted c) m (new - old) (λ j. refl) refl refl (goes_same m) (λ h. (λ j none. none, h)) (refused.mid l k came);
+        told = turned;
+      }
+
+      went : Went n
+      went = (goes_on d room old new (Event.Turn i) c b m n (Ok x) event, stays_full d room old new (Event.Turn i) c b m n (Ok x) event, goes, come)
+
+      pub pays_so : Paying d room e asked first most past i c m r runs keys (new - old) (b, x) n
+      pays_so = by_event d room e asked first most past i c m r runs keys (new - old) live old new fewer b n x not_spent sb Went went ways refl event
+
+  -- ---- the statement, from what is known of each turn
+  abbrev pub AllRefused : Type 0
+  AllRefused = (past i : ℕ) (c : Core) (m : Rows) (r : Run) (a : ℕ) (runs : List (ℕ × ℕ)) (keys : List RowKey) (sound : Sound d c m)
+      (ledger : Ledger d room e asked first most past c m runs keys) (next : next_run c past ≡ Some i) (live : map.get c.runs i ≡ Some r) (has : find i runs ≡ Some a) (mine : Covered d room e asked first most past c m keys i r a) → GoesOn m e
+      → Refused past i c m r a runs keys sound ledger next live has mine
+
+  abbrev pub AllTurns : Type 0
+  AllTurns = (past i : ℕ) (c : Core) (m : Rows) (r : Run) (a : ℕ) (runs : List (ℕ × ℕ)) (keys : List RowKey) (sound : Sound d c m)
+      (ledger : Ledger d room e asked first most past c m runs keys) (next : next_run c past ≡ Some i) (live : map.get c.runs i ≡ Some r) (has : find i runs ≡ Some a) (mine : Covered d room e asked first most past c m keys i r a)
+      (alive : r.deadline < c.now → ⊥) (f : ℕ) (rows : GoesOn m (rows_after (run_asks r) c.now m)) (full : FullStays room m (rows_after (run_asks r) c.now m)) (goes : GoesOn (rows_after (run_asks r) c.now m) e) → ResultsCome (rows_after (run_asks r) c.now m) e
+      → Turns past i c m r a runs keys sound ledger next live has mine alive f rows full goes
+
+pub both_on : {m n k : Rows} → GoesOn m n → GoesOn n k → GoesOn m k
+both_on p q = record {
+  keys = λ l h. q.keys l (p.keys l h);
+  intents = λ l i is. let j = p.intents l i is in let z = q.intents l j.0 j.1 in (
+    z.0,
+    z.1,
+    record {
+      issued = z.2.issued ∙ j.2.issued;
+      body = λ b h. z.2.body b (j.2.body b h);
+      outcome = λ o h. z.2.outcome o (j.2.outcome o h);
+      finish = λ t h. z.2.finish t (j.2.finish t h);
+    },
+  );
+  answers = λ id func step x f a held. q.answers id func step x f a (p.answers id func step x f a held);
+}
+
+module _ (goes_on : EventsGoOn) (stays_full : EventsStayFull) (stand : RunsStand) (few : FirstStagesAreFew) (lower : TurnsLower) (no_over : NoTurnIsOver) (of_it : StartedRootsAreOfIt) (rise : StepsRise) (firsts : FirstsAreOpen) (closes : ClosesEnd) (spared : NoneIsSpared)
+    (d : Deployment) (room : ℕ) (e : Rows) (asked : IntentId → List Answer) (first most : ℕ)
+    (refused : (z : Core) (sound_e : Sound d z e) (areas : AreAsked d e asked) → AllRefused goes_on stays_full stand few lower no_over of_it rise firsts closes spared d room e asked first most z sound_e areas)
+    (turns : (z : Core) (sound_e : Sound d z e) (areas : AreAsked d e asked) → AllTurns goes_on stays_full stand few lower no_over of_it rise firsts closes spared d room e asked first most z sound_e areas) where
+  pub turns_pay : TurnsPay d room e asked first most
+  turns_pay past old new i c b m n x runs keys z sound sb sound_e areas goes come fewer next event not_spent ledger =
+      let l = subst (IsLeast c.runs past) next (next_least c past) in
+      by_option (map.get c.runs i) (λ none. let clash : false ≡ true = sym (ap is_some none) ∙ l.1 in absurd (no_bool clash)) (λ r live.
+      let k = ledger.runs_covered i r live in
+      pays_so goes_on stays_full stand few lower no_over of_it rise firsts closes spared d room e asked first most z sound_e areas past i c m r k.0 runs keys sound ledger next live k.1 k.2 old new b n x sb goes come fewer event not_spent
+      (refused z sound_e areas past i c m r k.0 runs keys sound ledger next live k.1 k.2 (both_on (goes_on d room old new (Event.Turn i) c b m n (Ok x) event) goes))
+      (λ alive f rows full along results. turns z sound_e areas past i c m r k.0 runs keys sound ledger next live k.1 k.2 alive f rows full along results))
+    where
+      no_bool : false ≡ true → ⊥
+      no_bool h = cc

@@ -1,0 +1,5 @@
+use Rattle.beldi_bound.proofs.KnownAsked.{intents_asked}
+use Rattle.beldi_bound.proofs.laws.intents_are_asked.Goals as goal
+
+pub returns : goal.returns
+returns c = intents_asked

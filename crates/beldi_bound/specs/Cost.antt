@@ -1,0 +1,87 @@
+-- What an intent costs: the turns that a run of it takes at most, by the answers that the rows hold for it.
+use Rattle.std.specs.Prelude.{◌≡◌, ℕ, ◌+◌, ◌*◌, List, [], ◌∷◌, ◌++◌, length, Option, Some, None}
+use Rattle.std.specs.FinMap as map
+use Rattle.beldi_value.specs.declared.{id.IntentId.IntentId, place.TxId.TxId}
+use Rattle.beldi_tree.specs.declared.deployment.Deployment.{Deployment}
+use Rattle.beldi_lang.specs.declared.effect.{Answer.Answer, Effect.Effect}
+use Rattle.beldi_plain.specs.{Plain.Instance, Plain.effect_of, Plain.item_of}
+use Rattle.beldi_order.specs.Txs.{tx_now}
+use Rattle.beldi_row.specs.{Key.RowKey, Table.Rows, declared.key.Kind.Kind, declared.row.Body.Body, declared.row.IntentRow.IntentRow, declared.row.Row.Row}
+use Rattle.beldi_known.specs.Stands.{held_answer}
+use Rattle.beldi_upkeep.specs.Checked.{body_at}
+use Rattle.beldi_bound.specs.Visits.{chain, end_cost}
+
+-- ---- effects
+-- by the rows of its item, outside a transaction ..
+abbrev pub cost_outside : ℕ → Effect → ℕ
+cost_outside c (Effect.Read t k) = c + 2
+cost_outside c (Effect.Write t k v) = c + 3
+cost_outside c (Effect.CondWrite t k r o v) = c + 3
+cost_outside c (Effect.Lock t k) = c + 3
+cost_outside c (Effect.Unlock t k) = c + 3
+cost_outside c (Effect.Call f a) = 2
+cost_outside c (Effect.Async f a) = 3
+cost_outside c (Effect.Return x) = 2
+cost_outside c e = 0
+
+-- .. and inside one; v is what its end costs
+abbrev pub cost_inside : ℕ → ℕ → Effect → ℕ
+cost_inside c v (Effect.Read t k) = 3 * c + 6
+cost_inside c v (Effect.Write t k u) = 2 * c + 7
+cost_inside c v (Effect.CondWrite t k r o u) = 3 * c + 9
+cost_inside c v (Effect.End commit) = v
+cost_inside c v e = cost_outside c e
+
+abbrev pub item_chain : Rows → Instance → Effect → ℕ
+item_chain e q (Effect.Read t k) = chain e (item_of q t k)
+item_chain e q (Effect.Write t k v) = chain e (item_of q t k)
+item_chain e q (Effect.CondWrite t k r o v) = chain e (item_of q t k)
+item_chain e q (Effect.Lock t k) = chain e (item_of q t k)
+item_chain e q (Effect.Unlock t k) = chain e (item_of q t k)
+item_chain e q f = 1
+
+-- an effect of an instance at a step, by the transaction that it stands in
+abbrev pub effect_cost : Rows → Instance → Option TxId → ℕ → Effect → ℕ
+effect_cost e q None step f = cost_outside (item_chain e q f) f
+effect_cost e q (Some t) step f = cost_inside (item_chain e q f) (end_cost e t step) f
+
+-- ---- answers
+-- an instance that was made with this body, and was answered so
+abbrev pub with_answers : Body → List Answer → Instance
+with_answers b given = record { func = b.func; args = b.args; from = b.from; within = b.tx; answers = given; outcome = None }
+
+-- the answer that the rows hold at the step after these
+abbrev pub next_held : Deployment → Rows → IntentId → Body → List Answer → Option Answer
+next_held d e id b given = let q = with_answers b given in held_answer e id b.func (length given) (tx_now d id q) (effect_of d q)
+
+-- these are the answers that the rows hold, one after another, up to the first step at which they hold none
+pub record Asked (d : Deployment) (e : Rows) (id : IntentId) (b : Body) (given : List Answer) : Type 0 where
+  pub each : (front : List Answer) (a : Answer) (rest : List Answer) → front ++ a ∷ rest ≡ given → next_held d e id b front ≡ Some a
+  pub last : next_held d e id b given ≡ None
+
+-- .. for each intent that has a body
+abbrev pub AreAsked : Deployment → Rows → (IntentId → List Answer) → Type 0
+AreAsked d e asked = (home : ℕ) (id : IntentId) (i : IntentRow) (b : Body) → map.get e (record { home = home; kind = Kind.Intent id }) ≡ Some (Row.Intent i) → i.body ≡ Some b → Asked d e id b (asked id)
+
+-- ---- what an intent costs
+-- the effect after these answers
+abbrev pub step_cost : Deployment → Rows → IntentId → Body → List Answer → ℕ
+step_cost d e id b given = let q = with_answers b given in effect_cost e q (tx_now d id q) (length given) (effect_of d q)
+
+-- that effect, and those after each further answer
+abbrev pub cost_from : Deployment → Rows → IntentId → Body → List Answer → List Answer → ℕ
+cost_from d e id b given [] = step_cost d e id b given
+cost_from d e id b given (a ∷ rest) = step_cost d e id b given + cost_from d e id b (given ++ a ∷ []) rest
+
+-- the first turn of a run, and all effects that are asked
+abbrev pub body_cost : Deployment → Rows → (IntentId → List Answer) → IntentId → Option Body → ℕ
+body_cost d e asked id None = 0
+body_cost d e asked id (Some b) = 1 + cost_from d e id b [] (asked id)
+
+abbrev pub kind_cost : Deployment → Rows → (IntentId → List Answer) → Kind → Option Row → ℕ
+kind_cost d e asked (Kind.Intent id) r = body_cost d e asked id (body_at r)
+kind_cost d e asked k r = 0
+
+-- by the key of its row: nothing where the row has no body
+abbrev pub cost_at : Deployment → Rows → (IntentId → List Answer) → RowKey → ℕ
+cost_at d e asked k = kind_cost d e asked k.kind (map.get e k)

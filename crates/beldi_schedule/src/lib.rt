@@ -1,0 +1,14 @@
+//! Settling: which event a host is given next so that all that can end ends, and what follows of its answer. It is a machine that knows no
+//! table: the next event is a function of where it stands and of which runs live, and where it stands then one of the answer.
+//!
+//! Its definitions: `specs/Settle` (the machine) and `specs/Settles` (its events, one after another, over rows that are told). What is
+//! proved of them stands in `beldi_bound`: what its ends say.
+//!
+//! Files (`src/`): `machine` where a settling stands, and where it goes.
+#![tactic(auto)]
+
+mod machine;
+
+pub use machine::{
+    At, Next, Settled, Standing, Waits, begun, first_at, go_on, ic_heard, turn_heard, unparked,
+};

@@ -1,0 +1,285 @@
+// Where a settling stands, and where it goes.
+ghost use Rattle.std.specs.Prelude.{◌≡◌, ◌<◌, ◌++◌, ◌∷◌, [], IfOk, OnOk};
+ghost use Rattle.beldi_schedule.specs.Settle.{HasTurns, begun, counted, counts, end_of, ends_round, first_at, go_on, ic_heard, is_empty, is_spent, is_waiting, parked, round_over, turn_heard, unparked};
+ghost use Rattle.beldi_schedule.specs.declared.machine.Standing.TheVariants.{Goes};
+
+use beldi_step::Seen;
+use std::alloc::{AllocError, Global};
+use std::marker::Model;
+
+/// Runs that wait, each with what its last turn was answered.
+#[derive(Drop)]
+pub struct Waits {
+    runs: Vec<(u64, Seen)>,
+}
+
+impl Model for Waits {
+    ghost use Rattle.std.specs.Prelude.{ℕ, List};
+    ghost use Rattle.std.specs.Coded.{codes, coded_ℕ};
+    ghost use Rattle.beldi_step.specs.contracts.event.Seen as seen;
+    ghost use Rattle.beldi_step.specs.declared.event.Seen.{Seen};
+
+    ghost Value = { List (ℕ × Seen) };
+
+    ghost coded = { Prim.hlevel (codes, coded_ℕ, seen.the_row.coded) };
+
+    ghost view = { λ a. a.runs.items };
+}
+
+/// Where a settling stands.
+#[derive(Drop)]
+pub struct At {
+    /// How many turns were counted.
+    pub turns: u64,
+    /// The live runs up to this number wait.
+    pub past: u64,
+    /// Those that wait.
+    pub waiting: Waits,
+    /// A turn was counted since they were all given turns.
+    pub moved: bool,
+    /// The intent collector goes round; then, whether it started a run.
+    pub round: Option<bool>,
+}
+
+/// How a settling ends, with the turns that were counted.
+#[derive(Drop)]
+pub enum Settled {
+    /// No run is live.
+    All(u64),
+    /// The budget is used up.
+    Unsettled(u64),
+    /// An event was answered so.
+    Spent(u64),
+    /// All live runs wait.
+    Stuck { turns: u64, waiting: Waits },
+}
+
+/// A settling goes on, or is over.
+#[derive(Drop)]
+pub enum Standing {
+    Goes(At),
+    Over(Settled),
+}
+
+/// What a settling does next.
+#[derive(Drop)]
+pub enum Next {
+    /// It gives a run a turn.
+    Turn(At, u64),
+    /// It gives the intent collector one.
+    Collect(At),
+    /// It sets the intent collector before all rows.
+    Reset(At),
+}
+
+impl Waits {
+    fn new(alloc: Global) -> Waits
+        ensures { result ≡ [] }
+    {
+        Waits {
+            runs: Vec::new(alloc),
+        }
+    }
+
+    /// No run waits.
+    pub fn is_empty(&self) -> bool
+        ensures { result ≡ is_empty self.now }
+    {
+        self.runs.is_empty()
+    }
+
+    /// The runs that wait, in the order of their numbers, each with its last answer.
+    pub fn as_slice(&self) -> &[(u64, Seen)]
+        ensures { result.now ≡ self.entry.now }
+    {
+        self.runs.as_slice()
+    }
+
+    fn push(&mut self, run: u64, seen: Seen) -> Result<(), AllocError>
+        ensures { OnOk result (self.new ≡ self.old ++ (run, seen) ∷ []) }
+    {
+        match self.runs.push((run, seen)) {
+            Ok(()) => Ok(()),
+            Err(_) => Err(AllocError),
+        }
+    }
+
+    fn cleared(mut self) -> Waits
+        ensures { result ≡ [] }
+    {
+        self.runs.clear();
+        self
+    }
+}
+
+/// Where a settling begins.
+pub fn first_at(alloc: Global) -> At
+    ensures { result ≡ first_at }
+{
+    At {
+        turns: 0,
+        past: 0,
+        waiting: Waits::new(alloc),
+        moved: false,
+        round: None,
+    }
+}
+
+/// It is over where the budget is used up.
+pub fn go_on(budget: u64, at: At) -> Standing
+    ensures next { result ≡ go_on budget at }
+    ensures turns { HasTurns budget result }
+{
+    if budget <= at.turns {
+        Standing::Over(Settled::Unsettled(at.turns))
+    } else {
+        Standing::Goes(at)
+    }
+}
+
+/// No run is taken to wait.
+pub fn unparked(at: At) -> At
+    ensures { result ≡ unparked at }
+{
+    At {
+        turns: at.turns,
+        past: 0,
+        waiting: at.waiting.cleared(),
+        moved: false,
+        round: at.round,
+    }
+}
+
+/// The intent collector stands before all rows, and goes round.
+pub fn begun(at: At) -> At
+    ensures { result ≡ begun at }
+{
+    At {
+        round: Some(false),
+        ..at
+    }
+}
+
+// The run stays where it stands.
+fn is_waiting(seen: &Seen) -> bool
+    ensures { result ≡ is_waiting seen.now }
+{
+    match seen {
+        Seen::Held(_) | Seen::NotYet(_) | Seen::Full { .. } | Seen::Worn | Seen::Crowded => true,
+        _ => false,
+    }
+}
+
+fn counted(budget: u64, at: At) -> Standing
+    requires { at.turns < budget }
+    ensures { result ≡ counted budget at }
+{
+    go_on(
+        budget,
+        At {
+            turns: at.turns + 1,
+            moved: true,
+            ..at
+        },
+    )
+}
+
+fn parked(mut at: At, run: u64, seen: Seen) -> Result<Standing, AllocError>
+    ensures { IfOk result (λ s. s ≡ Goes (parked at run seen)) }
+{
+    match at.waiting.push(run, seen) {
+        Ok(()) => {
+            at.past = run;
+            Ok(Standing::Goes(at))
+        }
+        Err(why) => Err(why),
+    }
+}
+
+fn is_spent(seen: &Seen) -> bool
+    ensures { result ≡ is_spent seen.now }
+{
+    match seen {
+        Seen::Spent => true,
+        _ => false,
+    }
+}
+
+/// A run was given a turn: it is counted, unless the run waits.
+pub fn turn_heard(budget: u64, at: At, run: u64, seen: Seen) -> Result<Standing, AllocError>
+    requires { at.turns < budget }
+    ensures heard { IfOk result (λ s. s ≡ turn_heard budget at run seen) }
+    ensures turns { IfOk result (λ s. HasTurns budget s) }
+{
+    if is_spent(&seen) {
+        Ok(Standing::Over(Settled::Spent(at.turns)))
+    } else if is_waiting(&seen) {
+        parked(at, run, seen)
+    } else {
+        Ok(counted(budget, at))
+    }
+}
+
+fn ends_round(seen: &Seen) -> bool
+    ensures { result ≡ ends_round seen.now }
+{
+    match seen {
+        Seen::Round | Seen::Crowded => true,
+        _ => false,
+    }
+}
+
+fn counts(seen: &Seen) -> bool
+    ensures { result ≡ counts seen.now }
+{
+    match seen {
+        Seen::Launched { .. } | Seen::Dropped => true,
+        _ => false,
+    }
+}
+
+// Nobody goes on.
+fn end_of(at: At, live: Option<u64>) -> Settled
+    ensures { result ≡ end_of at live }
+{
+    match live {
+        None => Settled::All(at.turns),
+        Some(_) => Settled::Stuck {
+            turns: at.turns,
+            waiting: at.waiting,
+        },
+    }
+}
+
+// The intent collector has gone round.
+fn round_over(at: At, live: Option<u64>) -> Standing
+    ensures { result ≡ round_over live at at.round }
+{
+    match at.round {
+        Some(true) => Standing::Goes(At { round: None, ..at }),
+        _ => Standing::Over(end_of(at, live)),
+    }
+}
+
+/// The intent collector was given a turn; `live` is the least live run after it.
+pub fn ic_heard(budget: u64, at: At, seen: &Seen, live: Option<u64>) -> Standing
+    requires { at.turns < budget }
+    ensures heard { result ≡ ic_heard budget live at seen.now }
+    ensures turns { HasTurns budget result }
+{
+    if is_spent(seen) {
+        Standing::Over(Settled::Spent(at.turns))
+    } else if ends_round(seen) {
+        round_over(at, live)
+    } else if counts(seen) {
+        counted(
+            budget,
+            At {
+                round: Some(true),
+                ..at
+            },
+        )
+    } else {
+        Standing::Goes(at)
+    }
+}

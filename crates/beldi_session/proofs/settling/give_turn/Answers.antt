@@ -1,0 +1,41 @@
+use Rattle.beldi_session.proofs.Names.{Err, Ok, OutOfMemory, Turn, core_of, refl, sight, turn_heard, was_taken, Event}
+use Rattle.beldi_session.proofs.SettleEvents.{turn_taken, settling_answered, settling_broke}
+use Rattle.beldi_session.proofs.settling.give_turn.Goals as goal
+
+pub returns-in-Ok-turn_heard-clause-does : goal.returns-in-Ok-turn_heard-clause-does
+returns-in-Ok-turn_heard-clause-does g c = λ s held faults is.
+    let e = c.in-Ok.ensures in
+    let x = c.in-Ok.seen in
+    settling_answered c.args.budget (sight c.args.host.now c.args.out.now held faults) (sight c.event.new.self c.write_reply_told.new.out held faults) refl refl e.code (Event.Turn c.args.run) s (Turn c.args.at c.args.run) is
+    (turn_heard c.args.budget c.args.at c.args.run x) x (Ok c.in-Ok-turn_heard.next) (refl, refl) e.step (c.in-Ok-turn_heard.ensures.heard, c.in-Ok-write_reply_told.ensures) (λ y. cc)
+
+pub returns-in-Ok-turn_heard-clause-taken : goal.returns-in-Ok-turn_heard-clause-taken
+returns-in-Ok-turn_heard-clause-taken g c =
+    let t = g.T.Table in
+    let old = c.args.host.now in
+    let new = c.event.new.self in
+    let x = c.in-Ok.seen in
+    turn_taken (core_of old) (core_of new) c.args.budget c.args.at c.args.run x c.in-Ok-turn_heard.next c.in-Ok-turn_heard.ensures.heard
+    (was_taken old.code (Event.Turn c.args.run) (core_of old) (core_of new) (t.state old.table) (t.state new.table) x c.in-Ok.ensures.step)
+
+pub returns-in-Err-turn_heard-clause-does : goal.returns-in-Err-turn_heard-clause-does
+returns-in-Err-turn_heard-clause-does g c = λ s held faults is.
+    let e = c.in-Ok.ensures in
+    let x = c.in-Ok.seen in
+    settling_answered c.args.budget (sight c.args.host.now c.args.out.now held faults) (sight c.event.new.self c.write_reply_told.new.out held faults) refl refl e.code (Event.Turn c.args.run) s (Turn c.args.at c.args.run) is
+    (turn_heard c.args.budget c.args.at c.args.run x) x (Err OutOfMemory) (refl, refl) e.step tt (λ y. cc)
+
+pub returns-in-Err-write_reply_told-clause-does : goal.returns-in-Err-write_reply_told-clause-does
+returns-in-Err-write_reply_told-clause-does g c = λ s held faults is.
+    let e = c.in-Ok.ensures in
+    let x = c.in-Ok.seen in
+    settling_answered c.args.budget (sight c.args.host.now c.args.out.now held faults) (sight c.event.new.self c.write_reply_told.new.out held faults) refl refl e.code (Event.Turn c.args.run) s (Turn c.args.at c.args.run) is
+    (turn_heard c.args.budget c.args.at c.args.run x) x (Err OutOfMemory) (refl, refl) e.step tt (λ y. cc)
+
+pub returns-in-Err-clause-does : goal.returns-in-Err-clause-does
+returns-in-Err-clause-does g c = λ s held faults is.
+    let e = c.in-Err.ensures in
+    settling_broke c.args.budget (sight c.args.host.now c.args.out.now held faults) (sight c.event.new.self c.args.out.now held faults) refl refl e.code (Event.Turn c.args.run) s (Turn c.args.at c.args.run) is c.in-Err.field-0 refl e.step
+
+pub returns-in-Ok-turn_heard-clause-heard : goal.returns-in-Ok-turn_heard-clause-heard
+returns-in-Ok-turn_heard-clause-heard g c = record { answer = c.in-Ok.seen; step = c.in-Ok.ensures.step; follows_so = c.in-Ok-turn_heard.ensures.heard }

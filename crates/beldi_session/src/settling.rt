@@ -1,0 +1,211 @@
+// Settling: each live run is given turns until all that are left wait, and an intent that has no run is given one.
+ghost use Rattle.std.specs.Prelude.{◌≡◌, ◌<◌, ◌++◌, ◌∷◌, [], ℕ, List, Option, IfOk, OnOk, flat_map};
+ghost use Rattle.beldi_host.specs.Host.{core_of};
+ghost use Rattle.beldi_host.specs.Right.{IsRight};
+ghost use Rattle.beldi_step.specs.Next.{next_run};
+ghost use Rattle.beldi_step.specs.declared.event.Event.TheVariants as event;
+ghost use Rattle.beldi_schedule.specs.Settle.{HasTurns, WasTaken, first_at, go_on, ic_heard, next_of, restless, turn_heard, turns_in};
+ghost use Rattle.beldi_schedule.specs.declared.machine.Next.TheVariants.{Turn, Collect};
+ghost use Rattle.beldi_schedule.specs.declared.machine.Standing.TheVariants.{Goes, Over};
+ghost use Rattle.beldi_upkeep.specs.Checked.{StartsAreOfIt};
+ghost use Rattle.beldi_session.specs.Script.{Action, Settle};
+ghost use Rattle.beldi_session.specs.Session.{Does, DoesTo, left_by, sight};
+ghost use Rattle.beldi_session.specs.Settling.{Advanced, Heard, KeepsPromises};
+ghost use Rattle.beldi_session.specs.Settled.{settled_text, wait_text};
+
+use crate::answer::{write_answer, write_numbered, write_reply_told};
+use crate::session::{Stop, appended};
+use beldi_bound::settlings_are_as_promised;
+use beldi_check::Checked;
+use beldi_host::Host;
+use beldi_row::Table;
+use beldi_schedule::{
+    At, Next, Settled, Standing, Waits, begun, first_at, go_on, ic_heard, turn_heard, unparked,
+};
+use beldi_step::{Event, Seen};
+use beldi_value::Str;
+use std::alloc::{AllocError, Global};
+
+// All live runs wait: they are given turns again where a turn was counted meanwhile.
+fn restless<T: Table>(host: &Host<T>, at: At) -> Next
+    ensures next { result ≡ restless (core_of host.now) at }
+    ensures turns { turns_in result ≡ at.turns }
+{
+    if at.moved && !at.waiting.is_empty() {
+        match host.next_run(0) {
+            Some(run) => Next::Turn(unparked(at), run),
+            None => Next::Reset(at),
+        }
+    } else {
+        Next::Reset(at)
+    }
+}
+
+fn next_of<T: Table>(host: &Host<T>, at: At) -> Next
+    ensures next { result ≡ next_of (core_of host.now) at }
+    ensures turns { turns_in result ≡ at.turns }
+{
+    match at.round {
+        Some(_) => Next::Collect(at),
+        None => match host.next_run(at.past) {
+            Some(run) => Next::Turn(at, run),
+            None => restless(host, at),
+        },
+    }
+}
+
+// ---- events
+// Gives a run a turn, and appends the line of a reply.
+fn give_turn<T: Table>(
+    alloc: Global,
+    host: &mut Host<T>,
+    out: &mut Str,
+    budget: u64,
+    at: At,
+    run: u64,
+) -> Result<Standing, Stop>
+    requires { at.turns < budget }
+    ensures does { (s : At) (held : Option (List ℕ)) (faults : ℕ) → next_of (core_of host.old) s ≡ Turn at run → DoesTo (Settle budget (Goes s) ∷ []) (left_by budget result) (sight host.old out.old held faults) (sight host.new out.new held faults) result }
+    ensures turns { IfOk result (λ next. HasTurns budget next) }
+    ensures taken { IfOk result (λ next. WasTaken (core_of host.old) (core_of host.new) next) }
+    ensures heard { IfOk result (λ next. Heard host.old.code (event.Turn run) (λ c x. turn_heard budget at run x) (core_of host.old) (core_of host.new) (T.state host.old.table) (T.state host.new.table) next) }
+{
+    match host.event(Event::Turn(run)) {
+        Ok(seen) => match write_reply_told(alloc, &seen, out) {
+            Ok(()) => match turn_heard(budget, at, run, seen) {
+                Ok(next) => Ok(next),
+                Err(_) => Err(Stop::OutOfMemory),
+            },
+            Err(_) => {
+                drop(seen);
+                Err(Stop::OutOfMemory)
+            }
+        },
+        Err(_) => Err(Stop::OutOfMemory),
+    }
+}
+
+// Gives the intent collector a turn.
+fn collect<T: Table>(host: &mut Host<T>, budget: u64, at: At) -> Result<Standing, Stop>
+    requires { at.turns < budget }
+    ensures does { (s : At) (text : List ℕ) (held : Option (List ℕ)) (faults : ℕ) → next_of (core_of host.old) s ≡ Collect at → DoesTo (Settle budget (Goes s) ∷ []) (left_by budget result) (sight host.old text held faults) (sight host.new text held faults) result }
+    ensures turns { IfOk result (λ next. HasTurns budget next) }
+    ensures taken { IfOk result (λ next. WasTaken (core_of host.old) (core_of host.new) next) }
+    ensures heard { IfOk result (λ next. Heard host.old.code event.Ic (λ c x. ic_heard budget (next_run c 0) at x) (core_of host.old) (core_of host.new) (T.state host.old.table) (T.state host.new.table) next) }
+{
+    match host.event(Event::Ic) {
+        Ok(seen) => {
+            let next = ic_heard(budget, at, &seen, host.next_run(0));
+            drop(seen);
+            Ok(next)
+        }
+        Err(_) => Err(Stop::OutOfMemory),
+    }
+}
+
+// One event.
+fn advance<T: Table>(
+    alloc: Global,
+    host: &mut Host<T>,
+    out: &mut Str,
+    budget: u64,
+    at: At,
+) -> Result<Standing, Stop>
+    requires { at.turns < budget }
+    ensures does { (held : Option (List ℕ)) (faults : ℕ) → DoesTo (Settle budget (Goes at) ∷ []) (left_by budget result) (sight host.old out.old held faults) (sight host.new out.new held faults) result }
+    ensures turns { IfOk result (λ next. HasTurns budget next) }
+    ensures taken { IfOk result (λ next. WasTaken (core_of host.old) (core_of host.new) next) }
+    ensures advanced { IfOk result (λ next. Advanced host.old.code budget at (core_of host.old) (core_of host.new) (T.state host.old.table) (T.state host.new.table) next) }
+{
+    match next_of(host, at) {
+        Next::Turn(at, run) => give_turn(alloc, host, out, budget, at, run),
+        Next::Collect(at) => collect(host, budget, at),
+        Next::Reset(at) => {
+            host.ic_reset();
+            collect(host, budget, begun(at))
+        }
+    }
+}
+
+// Appends how a settling ended.
+fn write_settled(
+    alloc: Global,
+    code: &Checked,
+    settled: &Settled,
+    out: &mut Str,
+) -> Result<(), AllocError>
+    ensures { OnOk result (out.new ≡ out.old ++ settled_text code.now settled.now) }
+{
+    match settled {
+        Settled::All(turns) => write_numbered(alloc, "settled ", *turns, out),
+        Settled::Unsettled(turns) => write_numbered(alloc, "unsettled ", *turns, out),
+        Settled::Spent(turns) => write_numbered(alloc, "spent ", *turns, out),
+        Settled::Stuck { turns, waiting } => {
+            write_numbered(alloc, "stuck ", *turns, out)?;
+            write_waits(alloc, code, waiting, out)
+        }
+    }
+}
+
+fn write_waits(
+    alloc: Global,
+    code: &Checked,
+    waiting: &Waits,
+    out: &mut Str,
+) -> Result<(), AllocError>
+    ensures { OnOk result (out.new ≡ out.old ++ flat_map (wait_text code.now) waiting.now) }
+{
+    for (run, seen) in waiting.as_slice().iter() {
+        out.push_text("run ")?;
+        out.push_number(*run)?;
+        out.push_text(" ")?;
+        write_answer(alloc, code, seen, out)?;
+    }
+    Ok(())
+}
+
+fn tell_settled<T: Table>(
+    alloc: Global,
+    host: &Host<T>,
+    out: &mut Str,
+    budget: u64,
+    settled: &Settled,
+) -> Result<(), Stop>
+    ensures { (held : Option (List ℕ)) (faults : ℕ) → Does (Settle budget (Over settled.now) ∷ []) (sight host.now out.old held faults) (sight host.now out.new held faults) result }
+{
+    appended(write_settled(alloc, host.code(), settled, out))
+}
+
+/// Gives turns until all live runs wait or are over, at most the budget, and appends the lines of replies and of how it ended. Of a right
+/// host whose book starts functions of its deployment alone it keeps its promises: its turns are at most the work, it is settled only where
+/// all have ended, and stuck only with a cause, and with a budget above the work what can end ends.
+pub fn settle<T: Table>(
+    alloc: Global,
+    host: &mut Host<T>,
+    out: &mut Str,
+    budget: u64,
+) -> Result<Settled, Stop>
+    ensures does { (held : Option (List ℕ)) (faults : ℕ) → Does (Settle budget (go_on budget first_at) ∷ []) (sight host.old out.old held faults) (sight host.new out.new held faults) result }
+    ensures promises { IsRight host.old → StartsAreOfIt host.old.code (core_of host.old).book → IfOk result (λ x. KeepsPromises host.old.code budget (core_of host.old) (core_of host.new) (T.state host.old.table) (T.state host.new.table) x) }
+{
+    settlings_are_as_promised();
+    host.keeps_rules();
+    let mut standing = go_on(budget, first_at(alloc));
+    loop {
+        match standing {
+            Standing::Goes(at) => match advance(alloc, host, out, budget, at) {
+                Ok(next) => standing = next,
+                Err(stop) => return Err(stop),
+            },
+            Standing::Over(settled) => {
+                return match tell_settled(alloc, host, out, budget, &settled) {
+                    Ok(()) => Ok(settled),
+                    Err(stop) => {
+                        drop(settled);
+                        Err(stop)
+                    }
+                };
+            }
+        }
+    }
+}
