@@ -34,7 +34,7 @@ class Source:
                 end = it.end()
                 break
             tokens.append(it[0])
-        self.deployment = text[:end].rstrip()
+        self.deployment, self.tokens = text[:end].rstrip(), tokens
         self.functions = Reader(tokens).functions()
         number = text.count("\n", 0, end) + 1
         lines = text[end:].split("\n")[1:]
