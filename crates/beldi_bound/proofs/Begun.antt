@@ -1,10 +1,13 @@
 -- A turn of a run that has begun, by what its stage says: it goes on in its effect, or to the next one, or it is over.
+use Rattle.beldi_order.proofs.Maps.{same_some}
+use Rattle.beldi_upkeep.proofs.{Overs.no_turn_over, Started.started_of_it}
+use Rattle.beldi_bound.proofs.{Closed.closes_end, Closed.none_spared, FirstStages.first_stages_are_few, FirstsOpen.firsts_open, Rising.TellsAnswer, Rising.steps_rise, Standing.runs_stand, Turning.turns_lower}
 use Rattle.std.specs.FinMap as map
 use Rattle.std.proofs.Common.{◌==◌, eq-eqb, eqb-true, ltb-true, nat_lt, ◌||◌, ◌≡◌, ◌⊎◌, inl, inr, ℕ, zero, suc, ◌+◌, ◌*◌, ◌<◌, ◌≤◌, Bool, true, false, List, [], ◌∷◌, length, Option, Some, None, refl, sym, ap, subst, ◌∙◌, arith}
 use Rattle.std.proofs.lemmas.Bool.Decides.{nat_tests}
-use Rattle.beldi_value.specs.{declared.id.IntentId.IntentId, declared.outcome.Outcome.Outcome, declared.place.Caller.Caller}
+use Rattle.beldi_value.specs.{declared.id.IntentId.IntentId, declared.outcome.Outcome.Outcome}
 use Rattle.beldi_tree.specs.declared.deployment.Deployment.{Deployment}
-use Rattle.beldi_lang.specs.declared.{effect.Answer.Answer, effect.Effect.Effect, machine.Machine.Machine}
+use Rattle.beldi_lang.specs.declared.{effect.Answer.Answer, machine.Machine.Machine}
 use Rattle.beldi_book.specs.Order.{count_changes}
 use Rattle.beldi_row.specs.{Key.RowKey, Table.Rows, declared.key.Kind.Kind, declared.row.Body.Body, declared.row.IntentRow.IntentRow, declared.row.Row.Row}
 use Rattle.beldi_walk.specs.Query.{rows_after, told_by}
@@ -13,9 +16,9 @@ use Rattle.beldi_known.proofs.Cases.{by_cases}
 use Rattle.beldi_step.specs.{Host.Core, Host.counted, Host.has_run, Host.is_crowded, Host.made, Host.may_start, Host.started, Host.with_run, Host.put_run, Host.turn_next, Host.turned_core, Next.next_run, declared.run.Begun.Begun, declared.run.Mark.Mark, declared.run.Run.Run, declared.run.RunAt.RunAt, declared.run.RunTx.RunTx, declared.run.Says.Says, declared.run.Stage.Stage, declared.run.Wait.Wait, declared.event.Seen.Seen}
 use Rattle.beldi_step.specs.Run.{Turned, asks_at, at_once, at_stage, callee_of, says_of, first_stage, goes_from, run_asks, takes, told_at, turned_by}
 use Rattle.beldi_laws.specs.OneAnswer.{IsBegun}
-use Rattle.beldi_upkeep.specs.Checked.{Checked, NoTurnIsOver, StartedRootsAreOfIt, is_close, next_says, next_turn}
+use Rattle.beldi_upkeep.specs.Checked.{Checked, is_close, next_says, next_turn}
 use Rattle.beldi_bound.specs.{Cost.AreAsked, Cost.cost_from, Cost.step_cost, Ends.IsIn, Ends.Sound, Left.SaysLower, Left.left_at, Work.has_ended, Work.seat}
-use Rattle.beldi_bound.proofs.{Costs.body_costs, Costs.its_cost, Costs.splits, Costs.rest_more, Ending.covers_left, Ending.knows_it, Ending.over, Ending.some_left, Ending.waits, Entries.run_there, Numbers.put_apart, Numbers.put_same, Waited.async_goes, Facts.FirstStagesAreFew, Facts.GoesOn, Facts.RunsStand, Facts.Stands, Facts.TurnsLower, Facts.begun_left, Facts.rest_left, Facts.rest_cost, GoingOn.Funds, GoingOn.by_key, GoingOn.by_none, GoingOn.fewer, Lists.without, GoingOn.Keys, GoingOn.goes_at, GoingOn.goes_on, GoingOn.leaves}
+use Rattle.beldi_bound.proofs.{Costs.body_costs, Costs.its_cost, Costs.splits, Costs.rest_more, Ending.covers_left, Ending.knows_it, Ending.over, Ending.some_left, Ending.waits, Entries.run_there, Numbers.put_apart, Numbers.put_same, Waited.async_goes, Facts.GoesOn, Facts.Stands, Facts.begun_left, Facts.rest_left, Facts.rest_cost, GoingOn.Funds, GoingOn.by_key, GoingOn.by_none, GoingOn.fewer, Lists.without, GoingOn.Keys, GoingOn.goes_at, GoingOn.goes_on, GoingOn.leaves}
 use Rattle.beldi_bound.proofs.Ledger.{CoversAt, Covers, HasBody, IsStarted, Ledger, Pays, find}
 use Rattle.beldi_bound.proofs.Frames.{Cost, Covered, Due, Leaves, Mid, Paid, Spare, Stuck, body_on, ended_stays, stays_so}
 use Rattle.beldi_bound.proofs.Paying.{New, amount_of, own_live, pays, put_self, with_new}
@@ -30,6 +33,10 @@ restand s w = record {
   has = s.has;
   along = record { answers = s.along.answers; later = s.along.later; all = s.along.all; func = s.along.func; caller = s.along.caller; steps = s.along.steps; machine = s.along.machine; effect = s.along.effect; tx = s.along.tx };
 }
+
+first_false : (a b : Bool) → (a || b) ≡ false → a ≡ false
+first_false true b h = cc
+first_false false b h = refl
 
 module _ (d : Deployment) (room : ℕ) (e : Rows) (asked : IntentId → List Answer) (first most : ℕ) where
   -- what is left is covered at a stage, but for what is midway
@@ -48,10 +55,10 @@ module _ (d : Deployment) (room : ℕ) (e : Rows) (asked : IntentId → List Ans
       one i j b c h p q = let same : i ≡ j = cc in let both : Some b ≡ Some c = sym p ∙ ap (λ (z : IntentRow). z.body) same ∙ q in cc
 
   -- after more answers no more is left than there was past the effect before
-  pub next_few : (few : FirstStagesAreFew) (n : Rows) (r s : Run) (g h : Begun) → s.id ≡ r.id → seat s ≡ seat r → (p : Stands d e asked r g) (q : Stands d e asked s h) → g.machine.steps < h.machine.steps
+  pub next_few : (n : Rows) (r s : Run) (g h : Begun) → s.id ≡ r.id → seat s ≡ seat r → (p : Stands d e asked r g) (q : Stands d e asked s h) → g.machine.steps < h.machine.steps
       → first_stage s.id h.caller h.tx h.machine.steps h.machine.effect ≡ Some h.stage → begun_left n q ≤ rest_left p
-  next_few few n r s g h same_id same p q more stage =
-      let f = few d e n s.id q.body (asked s.id) s h refl q.along stage in
+  next_few n r s g h same_id same p q more stage =
+      let f = first_stages_are_few d e n s.id q.body (asked s.id) s h refl q.along stage in
       let steps_p = p.along.steps in let steps_q = q.along.steps in
       let longer : length p.along.answers < length q.along.answers = less (length p.along.answers) (length q.along.answers) g.machine.steps h.machine.steps steps_p steps_q more in
       let rest = rest_more d e s.id q.body p.along.answers p.along.later q.along.answers q.along.later (p.along.all ∙ ap asked (sym same_id) ∙ sym q.along.all) longer in
@@ -70,30 +77,7 @@ module _ (d : Deployment) (room : ℕ) (e : Rows) (asked : IntentId → List Ans
       split given [] = omega arith
       split given (a ∷ rest) = refl
 
--- ---- facts of the machine and of right hosts, which are still to be shown
--- a run that goes on from an answer has more answers
-abbrev pub TellsAnswer : Says → Answer → Type 0
-TellsAnswer (Says.Answers b m) a = b ≡ a
-TellsAnswer (Says.Starts b) a = b ≡ a
-TellsAnswer s a = ⊥
-
-abbrev pub StepsRise : Type 0
-StepsRise = (d : Deployment) (c : Core) (m : Rows) (i : ℕ) (r : Run) (g : Begun) (a : Answer) → Sound d c m → map.get c.runs i ≡ Some r → r.at ≡ RunAt.Begins g → TellsAnswer (next_says c m r g) a → g.machine.steps < (at_once d r.id (takes d g.machine g.tx a)).0.steps
-
--- an effect does not begin amid the call of one that nobody waits for
-abbrev pub FirstsAreOpen : Type 0
-FirstsAreOpen = (id : IntentId) (c : Option Caller) (o : Option RunTx) (step : ℕ) (f : Effect) (z : AsyncAt) → first_stage id c o step f ≡ Some (Stage.Async z) → z ≡ AsyncAt.Open
-
--- who ends has ended, and no turn is spared of an intent that closes
-abbrev pub ClosesEnd : Type 0
-ClosesEnd = (d : Deployment) (c : Core) (m : Rows) (i : ℕ) (r : Run) (g : Begun) → Sound d c m → map.get c.runs i ≡ Some r → r.at ≡ RunAt.Begins g → is_close g.stage ≡ true → has_ended (map.get (rows_after (run_asks r) c.now m) (seat r)) ≡ true
-
-abbrev pub NoneIsSpared : Type 0
-NoneIsSpared = (d : Deployment) (room : ℕ) (c : Core) (m e : Rows) (asked : IntentId → List Answer) (first most i : ℕ) (r : Run) (g : Begun) → Sound d c m → AreAsked d e asked → map.get c.runs i ≡ Some r → r.at ≡ RunAt.Begins g → (s : Stands d e asked r g) → is_close g.stage ≡ true
-    → Spare d room e asked first most (seat r) ≡ 0
-
-module _ (no_over : NoTurnIsOver) (stand : RunsStand) (few : FirstStagesAreFew) (lower : TurnsLower) (rise : StepsRise) (firsts : FirstsAreOpen) (closes : ClosesEnd) (spared : NoneIsSpared) (of_it : StartedRootsAreOfIt)
-    (d : Deployment) (room : ℕ) (e : Rows) (asked : IntentId → List Answer) (first most : ℕ) (past i : ℕ) (c : Core) (m : Rows) (r : Run) (a : ℕ) (runs : List (ℕ × ℕ)) (keys : List RowKey) (sound : Sound d c m)
+module _ (d : Deployment) (room : ℕ) (e : Rows) (asked : IntentId → List Answer) (first most : ℕ) (past i : ℕ) (c : Core) (m : Rows) (r : Run) (a : ℕ) (runs : List (ℕ × ℕ)) (keys : List RowKey) (sound : Sound d c m)
     (ledger : Ledger d room e asked first most past c m runs keys) (next : next_run c past ≡ Some i) (live : map.get c.runs i ≡ Some r) (has : find i runs ≡ Some a) (mine : Covered d room e asked first most past c m keys i r a)
     (alive : r.deadline < c.now → ⊥) (f : ℕ) (areas : AreAsked d e asked) (rows : GoesOn m (rows_after (run_asks r) c.now m)) (full : FullStays room m (rows_after (run_asks r) c.now m)) (goes : GoesOn (rows_after (run_asks r) c.now m) e)
     (g : Begun) (at : r.at ≡ RunAt.Begins g) where
@@ -116,7 +100,7 @@ module _ (no_over : NoTurnIsOver) (stand : RunsStand) (few : FirstStagesAreFew) 
   all_left = covers_left d room e asked first most past c m i r g (begun_left m its.0) (Spare d room e asked first most (seat r) + a) g.stage its.1
 
   pub says_lower : (y : Says) → next_says c m r g ≡ y → SaysLower (Left N) (Left m g.stage) y
-  says_lower y is = subst (SaysLower (Left N) (Left m g.stage)) is (lower d c m e i r g sound goes live at)
+  says_lower y is = subst (SaysLower (Left N) (Left m g.stage)) is (turns_lower d c m e i r g sound goes live at)
 
   -- some is left of it after the turn
   module _ (b : Core) (s : Run) (h : Begun) (sb : Sound d b N) (lives : map.get b.runs i ≡ Some s) (at1 : s.at ≡ RunAt.Begins h) where
@@ -124,7 +108,7 @@ module _ (no_over : NoTurnIsOver) (stand : RunsStand) (few : FirstStagesAreFew) 
     left_then q = let k = knows_it sb.upkeep.right i s h lives at1 in some_left sb.upkeep.right s h k.0 e asked k.1 q
 
     pub stands_then : Stands d e asked s h
-    stands_then = stand d b N e asked i s h sb goes areas lives at1
+    stands_then = runs_stand d b N e asked i s h sb goes areas lives at1
 
   -- ---- it goes on, with a run that it started, or without
   abbrev pub Midway : Core → Run → Begun → ℕ → Type 0
@@ -157,8 +141,8 @@ module _ (no_over : NoTurnIsOver) (stand : RunsStand) (few : FirstStagesAreFew) 
     pub answers : 1 ≤ Left m g.stage → s.id ≡ r.id → g.machine.steps < h.machine.steps → first_stage s.id h.caller h.tx h.machine.steps h.machine.effect ≡ Some h.stage → Pays d room e asked first most past runs keys 1 f b N
     answers some same_id more stage =
         let q = stands_then b s h sb lives_then at1 in
-        let k = next_few d room e asked first most few N r s g h same_id seat_so its.0 q more stage in
-        moves q (join (begun_left N q) (Left m g.stage) (rest_left its.0) some k) (λ z is later. absurd (later (firsts s.id h.caller h.tx h.machine.steps h.machine.effect z (stage ∙ ap Some is))))
+        let k = next_few d room e asked first most N r s g h same_id seat_so its.0 q more stage in
+        moves q (join (begun_left N q) (Left m g.stage) (rest_left its.0) some k) (λ z is later. absurd (later (firsts_open s.id h.caller h.tx h.machine.steps h.machine.effect z (stage ∙ ap Some is))))
       where
         join : (l x y : ℕ) → 1 ≤ x → l ≤ y → suc l ≤ x + y
         join l x y h k = omega arith
@@ -175,19 +159,19 @@ module _ (no_over : NoTurnIsOver) (stand : RunsStand) (few : FirstStagesAreFew) 
 
   -- it is over only where it closes its intent
   checked : Checked d c m
-  checked = record { right = sound.upkeep.right; rules = sound.rules; roots = of_it d c m sound.upkeep.started sound.starts }
+  checked = record { right = sound.upkeep.right; rules = sound.rules; roots = started_of_it d c m sound.upkeep.started sound.starts }
 
   begun_it : IsBegun c r.id r g
   begun_it = record { number = i; live = live; same_id = refl; begun = at }
 
   pub is_over : (k : Option Mark) (o : Option Outcome) → (next_turn d c m r).next ≡ None → 1 ≤ Left m g.stage → Turn (record { next = None; mark = k; starts = false; wait = None; reply = o })
   is_over k o none some sb =
-      let close = no_over d c m r g checked begun_it none in
+      let close = no_turn_over d c m r g checked begun_it none in
       let b = (turn_next (counted c) i r (record { next = None; mark = k; starts = false; wait = None; reply = o })).0 in
       let cost = its_cost d room e asked first most its.0 in
       over d room e asked first most past i c m r a runs keys sound ledger next live has mine b refl refl refl N rows full f
-      (amount (Left m g.stage) (rest_left its.0) (Spare d room e asked first most (seat r)) a all_left some (spared d room c m e asked first most i r g sound areas live at its.0 close))
-      (λ since. (closes d c m i r g sound live at close, first_cost (Cost d room e asked first most (seat r)) (cost_from d e r.id its.0.body [] (asked r.id)) cost))
+      (amount (Left m g.stage) (rest_left its.0) (Spare d room e asked first most (seat r)) a all_left some (none_spared d room c m e asked first most i r g sound areas live at its.0 close))
+      (λ since. (closes_end d c m i r g sound live at close, first_cost (Cost d room e asked first most (seat r)) (cost_from d e r.id its.0.body [] (asked r.id)) cost))
     where
       amount : (l x s a : ℕ) → l + x ≤ s + a → 1 ≤ l → s ≡ 0 → 1 ≤ a
       amount l x s a h k z = omega arith
@@ -204,7 +188,7 @@ module _ (no_over : NoTurnIsOver) (stand : RunsStand) (few : FirstStagesAreFew) 
   -- the effect is answered
   pub answered : (v : Answer) (k : Option Mark) → next_says c m r g ≡ Says.Answers v k → Turn (turned_by d r g (Says.Answers v k))
   answered v k says = by_stage (at_once d r.id (takes d g.machine g.tx v)) k (first_stage r.id g.caller (at_once d r.id (takes d g.machine g.tx v)).1 (at_once d r.id (takes d g.machine g.tx v)).0.steps (at_once d r.id (takes d g.machine g.tx v)).0.effect) refl
-      (ap (λ (t : Turned). t.next) (turn_is (Says.Answers v k) says)) (says_lower (Says.Answers v k) says) (rise d c m i r g v sound live at (subst (λ y. TellsAnswer y v) (sym says) refl))
+      (ap (λ (t : Turned). t.next) (turn_is (Says.Answers v k) says)) (says_lower (Says.Answers v k) says) (steps_rise d c m i r g v sound live at (subst (λ y. TellsAnswer y v) (sym says) refl))
     where
       by_stage : (z : Machine × Option RunTx) (k : Option Mark) (w : Option Stage) → first_stage r.id g.caller z.1 z.0.steps z.0.effect ≡ w → (next_turn d c m r).next ≡ (goes_from r z g.caller k w).next → 1 ≤ Left m g.stage → g.machine.steps < z.0.steps → Turn (goes_from r z g.caller k w)
       by_stage z k None is next_is some more sb = is_over k None next_is some sb
@@ -237,12 +221,9 @@ module _ (no_over : NoTurnIsOver) (stand : RunsStand) (few : FirstStagesAreFew) 
   -- it has none yet
   pub not_started : (s : Run) → s.id ≡ r.id → (j : IntentId) → has_run (put_run c.runs i (Some s)) j ≡ false → (k : RowKey) → k.kind ≡ Kind.Intent j → IsStarted first c k → ⊥
   not_started s same j none k kind st = by_cases (st.number == i)
-      (λ t. let is : st.number ≡ i = eqb-true st.number i t in clash (run_there (put_run c.runs i (Some s)) i s j (put_self c.runs i (Some s)) (same ∙ ap (λ (z : Run). z.id) (some_is (sym live ∙ sym (ap (map.get c.runs) is) ∙ st.live)) ∙ ids)))
+      (λ t. let is : st.number ≡ i = eqb-true st.number i t in clash (run_there (put_run c.runs i (Some s)) i s j (put_self c.runs i (Some s)) (same ∙ ap (λ (z : Run). z.id) (same_some (sym live ∙ sym (ap (map.get c.runs) is) ∙ st.live)) ∙ ids)))
       (λ t. clash (run_there (put_run c.runs i (Some s)) st.number st.run j (put_apart c.runs i (Some s) st.number (λ is. not_so st.number i is t) ∙ st.live) ids))
     where
-      some_is : {x y : Run} → Some x ≡ Some y → x ≡ y
-      some_is h = cc
-
       id_is : {x y : IntentId} → Kind.Intent x ≡ Kind.Intent y → x ≡ y
       id_is h = cc
 
@@ -354,10 +335,6 @@ module _ (no_over : NoTurnIsOver) (stand : RunsStand) (few : FirstStagesAreFew) 
     by_callee None is sb = moved Middle None keys refl refl ledger.since sb (none_new Middle)
     by_callee (Some q) is sb = either (λ (p : Core × Option ℕ). Sound d p.0 N → Pays d room e asked first most past runs keys 1 f p.0 N) (has_run (put_run c.runs i (Some Opened)) q.id || is_crowded Middle) _ _
         (λ t sb. moved Middle None keys refl refl ledger.since sb (none_new Middle)) (λ t. with_callee q is (first_false (has_run (put_run c.runs i (Some Opened)) q.id) (is_crowded Middle) t)) sb
-      where
-        first_false : (a b : Bool) → (a || b) ≡ false → a ≡ false
-        first_false true b h = cc
-        first_false false b h = refl
 
     pub opens : Turn (turned_by d r g (Says.Opens k))
     opens = by_callee (callee_of r) refl
@@ -461,7 +438,7 @@ module _ (no_over : NoTurnIsOver) (stand : RunsStand) (few : FirstStagesAreFew) 
       Mean = turned_core (counted c) i r.id (record (goes_from r Z g.caller None (Some w)) { starts = true })
 
       answer_to : (b : Core) (u : New) (kept : List RowKey) → b.runs ≡ with_new (c.last_run + 1) u (put_run c.runs i (Some Next)) → b.now ≡ c.now → first ≤ b.last_run → Sound d b N → Pays_new b u kept → Pays d room e asked first most past runs keys 1 f b N
-      answer_to b u kept runs_so now_so last_ok sb paid = answers b u kept Next H runs_so now_so last_ok refl refl refl sb paid (says_lower (Says.Starts v) says) refl (rise d c m i r g v sound live at (subst (λ y. TellsAnswer y v) (sym says) refl)) is_first
+      answer_to b u kept runs_so now_so last_ok sb paid = answers b u kept Next H runs_so now_so last_ok refl refl refl sb paid (says_lower (Says.Starts v) says) refl (steps_rise d c m i r g v sound live at (subst (λ y. TellsAnswer y v) (sym says) refl)) is_first
 
       module _ (q : Run) (is : callee_of r ≡ Some q) (none : has_run (put_run c.runs i (Some Next)) q.id ≡ false) (sb : Sound d (with_run Mean q) N) where
         new_last : first ≤ c.last_run + 1
@@ -489,11 +466,11 @@ module _ (no_over : NoTurnIsOver) (stand : RunsStand) (few : FirstStagesAreFew) 
             let b = with_run Mean q in
             let lives = own_live d room e asked first most past i c m r a runs keys ledger sound.upkeep.right.runs.numbers next live has b N keys (Some Next) (Some (q, 1)) refl in
             let its1 = stands_then b Next H sb lives refl in
-            let few1 = next_few d room e asked first most few N r Next g H refl refl its.0 its1 (rise d c m i r g v sound live at (subst (λ y. TellsAnswer y v) (sym says) refl)) is_first in
+            let few1 = next_few d room e asked first most N r Next g H refl refl its.0 its1 (steps_rise d c m i r g v sound live at (subst (λ y. TellsAnswer y v) (sym says) refl)) is_first in
             let p = splits d room e asked first most (seat r) in
             let two = two_less (Left m g.stage) (rest_left its.0) (begun_left N its1) (Spare d room e asked first most (seat r)) a p.one (says_lower (Says.Starts v) says) few1 (left_then b Next H sb lives refl its1) ((noted q is).extra over_it) in
             goes_at d room e asked first most past i c m r a runs keys sound ledger next live has mine alive b N keys (Some (q, 1)) Next H refl refl new_last rows full (λ k there. inl there) (λ k there. there) refl refl f two.0 refl its1
-            (cover_stage d room e asked first most past b N i Next H (begun_left N its1) (Spare d room e asked first most (seat r) + two.0) w two.2 (λ z is later. absurd (later (firsts r.id g.caller Z.1 Z.0.steps Z.0.effect z (is_first ∙ ap Some is)))))
+            (cover_stage d room e asked first most past b N i Next H (begun_left N its1) (Spare d room e asked first most (seat r) + two.0) w two.2 (λ z is later. absurd (later (firsts_open r.id g.caller Z.1 Z.0.steps Z.0.effect z (is_first ∙ ap Some is)))))
             its.2
             (λ z is. subst (λ (y : Run × ℕ). Covered d room e asked first most past b N keys (c.last_run + 1) y.0 y.1) (pair_is is)
             (new_covered b q keys 1 refl (noted q is_callee).deadline (subst (Covers d room e asked first most past b N keys (c.last_run + 1) q 1) (sym (noted q is_callee).looks) (omega arith, λ open_still. absurd (not_open open_still))) (λ open_still. absurd (not_open open_still)) (λ looks. (noted q is_callee).found)))
@@ -523,16 +500,12 @@ module _ (no_over : NoTurnIsOver) (stand : RunsStand) (few : FirstStagesAreFew) 
       by_noted None is sb = answer_to Mean None keys refl refl ledger.since sb (none_new Mean)
       by_noted (Some q) is sb = either (λ (p : Core × Option ℕ). Sound d p.0 N → Pays d room e asked first most past runs keys 1 f p.0 N) (has_run (put_run c.runs i (Some Next)) q.id || is_crowded Mean) _ _
           (λ t sb. answer_to Mean None keys refl refl ledger.since sb (none_new Mean)) (λ t. with_noted q is (first_false (has_run (put_run c.runs i (Some Next)) q.id) (is_crowded Mean) t)) sb
-        where
-          first_false : (a b : Bool) → (a || b) ≡ false → a ≡ false
-          first_false true b h = cc
-          first_false false b h = refl
 
     pub noted_so : Turn (turned_by d r g (Says.Starts v))
     noted_so = by_stage (first_stage r.id g.caller Z.1 Z.0.steps Z.0.effect) refl (ap (λ (t : Turned). t.next) (turn_is (Says.Starts v) says))
       where
         by_stage : (o : Option Stage) → first_stage r.id g.caller Z.1 Z.0.steps Z.0.effect ≡ o → (next_turn d c m r).next ≡ (goes_from r Z g.caller None o).next → Turn (record (goes_from r Z g.caller None o) { starts = true })
-        by_stage None is none sb = absurd (not_close (no_over d c m r g checked begun_it none))
+        by_stage None is none sb = absurd (not_close (no_turn_over d c m r g checked begun_it none))
         by_stage (Some w) is next_is sb = by_noted w is (callee_of r) refl sb
 
   -- ---- whatever it says

@@ -1,4 +1,5 @@
 -- What a right host says of the row of an intent: one that has ended has its body, and so has one of a callee.
+use Rattle.beldi_known.proofs.Begins.{false_true}
 use Rattle.std.proofs.Common.{◌≡◌, ℕ, ◌==◌, ◌||◌, Bool, true, false, Option, Some, None, is_some, refl, sym, ap, subst, ◌∙◌, arith}
 use Rattle.std.specs.FinMap as map
 use Rattle.beldi_value.specs.{Id.has_no_hops, declared.id.IntentId.IntentId, declared.outcome.Outcome.Outcome, declared.place.TxId.TxId}
@@ -86,11 +87,8 @@ module _ (d : Deployment) (c : Core) (m : Rows) (h : Right d c m) (home : ℕ) (
 
   by_tx : (t : Option TxId) (f : Option ℕ) (o : Option Outcome) → q.within ≡ t → o ≡ None → FinishMatches (tx_over d h.known) t f o → (is_some o || is_some f) ≡ true → is_some q.outcome ≡ true
   by_tx None f o in_it none g ends = absurd (neither o f none g ends)
-  by_tx (Some t) f o in_it none g ends = by_option (tx_end d h.known t) (λ open_still. let clash : false ≡ true = sym (ap is_some open_still) ∙ g (finished o f none ends) in absurd (no_bool clash)) (λ z over. decided_over d h.known h.sane id q t z made in_it over)
+  by_tx (Some t) f o in_it none g ends = by_option (tx_end d h.known t) (λ open_still. let clash : false ≡ true = sym (ap is_some open_still) ∙ g (finished o f none ends) in absurd (false_true clash)) (λ z over. decided_over d h.known h.sane id q t z made in_it over)
     where
-      no_bool : false ≡ true → ⊥
-      no_bool h = cc
-
       finished : (o : Option Outcome) (f : Option ℕ) → o ≡ None → (is_some o || is_some f) ≡ true → is_some f ≡ true
       finished o f none ends = grind arith
 

@@ -1,5 +1,6 @@
 -- What a run that stands at a call knows of its callee: while the call has no result the callee has not ended, whoever it was called in;
 -- and one that is called without a wait has its row at the note, and has ended only once the call is registered.
+use Rattle.beldi_known.proofs.Begins.{false_true}
 use Rattle.std.proofs.Common.{◌≡◌, ℕ, eq-eqb, Bool, true, false, Option, Some, None, is_some, if◌then◌else◌, refl, sym, ap, subst, ◌∙◌}
 use Rattle.std.specs.FinMap as map
 use Rattle.beldi_value.{proofs.Callees.no_root, specs.Id.child_of, specs.declared.id.IntentId.IntentId, specs.declared.outcome.Outcome.Outcome, specs.declared.value.Value.Value}
@@ -108,12 +109,9 @@ module _ (d : Deployment) (c : Core) (m : Rows) (h : Right d c m) (r : Run) (g :
 
   -- ---- the row of its call, once the callee is known
   pub row_there : (f : ℕ) (v : Value) → g.machine.effect ≡ Effect.Call f v → is_some (map.get h.known callee) ≡ true → (x : InvokeRow) × (map.get m call_key ≡ Some (Row.Invoke x)) × (x.func ≡ f)
-  row_there f v is made = by_option (map.get h.known callee) (λ none. let clash : false ≡ true = sym (ap is_some none) ∙ made in absurd (no_bool clash))
+  row_there f v is made = by_option (map.get h.known callee) (λ none. let clash : false ≡ true = sym (ap is_some none) ∙ made in absurd (false_true clash))
       (λ j there. let row = call_row (map.get m call_key) j.func (result_of j) (owed j there) in (row.0, row.1, row.2 ∙ func_is (called j there).waits j.func f j.args v (effect_is j there ∙ is)))
     where
-      no_bool : false ≡ true → ⊥
-      no_bool h = cc
-
       func_is : (w : Bool) (f g : ℕ) (v u : Value) → call_of w f v ≡ Effect.Call g u → f ≡ g
       func_is true f g v u h = cc
       func_is false f g v u h = cc

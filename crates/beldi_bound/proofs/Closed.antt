@@ -1,4 +1,9 @@
 -- A run that is to close its intent: its body returns, so nothing more is asked of it, no turn of it is spared, and its next turn ends it.
+use Rattle.beldi_bound.specs.Ends.{Sound}
+use Rattle.beldi_step.specs.declared.run.RunAt.{RunAt}
+use Rattle.beldi_step.specs.Host.{Core}
+use Rattle.beldi_bound.proofs.Frames.{Spare}
+use Rattle.beldi_bound.proofs.Going.{goes_same}
 use Rattle.std.proofs.Common.{◌≡◌, ℕ, ◌||◌, Bool, true, List, [], ◌∷◌, ◌++◌, append-nil, length, Option, Some, None, is_some, refl, sym, ap, ◌∙◌}
 use Rattle.std.specs.FinMap as map
 use Rattle.std.specs.Prelude.{not}
@@ -16,7 +21,7 @@ use Rattle.beldi_step.specs.{Run.is_inherited, Run.asks_at, Run.run_asks, Run.st
 use Rattle.beldi_laws.specs.Right.{AtStage, StandsAt}
 use Rattle.beldi_upkeep.specs.Checked.{body_at, is_close}
 use Rattle.beldi_bound.specs.{Cost.AreAsked, Cost.with_answers, Work.has_ended, Work.seat}
-use Rattle.beldi_bound.proofs.{Begun.ClosesEnd, Begun.NoneIsSpared, Ending.goes_same, Ending.knows_it, Facts.Stands, KnownAsked.intents_asked, Standing.runs_stand}
+use Rattle.beldi_bound.proofs.{Ending.knows_it, Facts.Stands, KnownAsked.intents_asked, Standing.runs_stand}
 use Rattle.beldi_bound.proofs.Ledger.{callee_key, if_free, spare_of, stuck_by}
 
 module _ {d : Deployment} (m : Rows) (p : PlainState) (book : List Entry) {known : Known} {id : IntentId} {home : ℕ} {c : Option Caller} {s : Machine} {o : Option RunTx} (k : StandsAt d known id home c s o) where
@@ -50,6 +55,10 @@ module _ (d : Deployment) (e : Rows) (asked : IntentId → List Answer) (r : Run
           no_some : {a : Answer} → None ≡ Some a → ⊥
           no_some h = cc
 
+abbrev pub NoneIsSpared : Type 0
+NoneIsSpared = (d : Deployment) (room : ℕ) (c : Core) (m e : Rows) (asked : IntentId → List Answer) (first most i : ℕ) (r : Run) (g : Begun) → Sound d c m → AreAsked d e asked → map.get c.runs i ≡ Some r → r.at ≡ RunAt.Begins g → (s : Stands d e asked r g) → is_close g.stage ≡ true
+    → Spare d room e asked first most (seat r) ≡ 0
+
 pub none_spared : NoneIsSpared
 none_spared d room c m e asked first most i r g sound areas live at s close =
     let k = knows_it sound.upkeep.right i r g live at in
@@ -63,6 +72,9 @@ none_spared d room c m e asked first most i r g sound areas live at s close =
 ends_it : (o : Outcome) (stamp : Bool) (now : ℕ) (i : IntentRow) (z : Option Outcome) → i.outcome ≡ z → is_ended (end_with o stamp now i z).0 ≡ true
 ends_it o stamp now i None is = refl
 ends_it o stamp now i (Some u) is = ap (λ y. is_some y || is_some i.finish) is
+
+abbrev pub ClosesEnd : Type 0
+ClosesEnd = (d : Deployment) (c : Core) (m : Rows) (i : ℕ) (r : Run) (g : Begun) → Sound d c m → map.get c.runs i ≡ Some r → r.at ≡ RunAt.Begins g → is_close g.stage ≡ true → has_ended (map.get (rows_after (run_asks r) c.now m) (seat r)) ≡ true
 
 pub closes_end : ClosesEnd
 closes_end d c m i r g sound live at close =

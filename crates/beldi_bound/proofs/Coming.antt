@@ -1,4 +1,5 @@
 -- Every event brings results so: a result is set by a run that gives it back alone, and that run has its row.
+use Rattle.beldi_known.proofs.{Answers.true_false, Begins.false_true}
 use Rattle.std.specs.Prelude.{Result, Ok, Err, nat_lt, ◌^◌, ◌-◌, ◌+◌, ◌||◌}
 use Rattle.std.specs.declared.alloc.AllocError.{AllocError}
 use Rattle.std.proofs.Common.{◌≡◌, ℕ, ◌==◌, eq-eqb, Bool, true, false, Option, Some, None, is_some, if◌then◌else◌, refl, sym, ap, subst, ◌∙◌, arith}
@@ -73,10 +74,7 @@ query_backs (Query.Act k a) = is_back a
 query_backs q = false
 
 none_backs : (q : Query) (m : Rows) → query_backs q ≡ false → Backs q m
-none_backs (Query.Act k a) m h = λ t. let clash : true ≡ false = sym t ∙ h in absurd (no_bool clash)
-  where
-    no_bool : true ≡ false → ⊥
-    no_bool h = cc
+none_backs (Query.Act k a) m h = λ t. let clash : true ≡ false = sym t ∙ h in absurd (true_false clash)
 none_backs (Query.After k) m h = tt
 
 module _ (d : Deployment) (c : Core) (m : Rows) (h : Right d c m) (i : ℕ) (r : Run) (live : map.get c.runs i ≡ Some r) where
@@ -119,14 +117,8 @@ module _ (d : Deployment) (c : Core) (m : Rows) (h : Right d c m) (i : ℕ) (r :
 
   back_stage : (g : Begun) → r.at ≡ RunAt.Begins g → (b : Option Caller) (e : Effect) → g.caller ≡ b → Backs (stage_asks r.id r.func b g.tx g.machine.steps e Stage.Back) m
   back_stage g at (Some cl) (Effect.Return o) from = λ t. back_row g at cl from
-  back_stage g at (Some cl) e from = λ t. absurd (no_bool t)
-    where
-      no_bool : false ≡ true → ⊥
-      no_bool h = cc
-  back_stage g at None e from = λ t. absurd (no_bool t)
-    where
-      no_bool : false ≡ true → ⊥
-      no_bool h = cc
+  back_stage g at (Some cl) e from = λ t. absurd (false_true t)
+  back_stage g at None e from = λ t. absurd (false_true t)
 
   run_backs : Backs (run_asks r) m
   run_backs = by_at r.at refl
@@ -150,16 +142,13 @@ module _ (d : Deployment) (c : Core) (m : Rows) (h : Right d c m) where
   of_run i None is = tt
   of_run i (Some r) is = if_plan PlanBacks (nat_lt r.deadline c.now) _ _ (λ t. tt) (λ t. run_backs d c m h i r is)
 
-  no_bool : false ≡ true → ⊥
-  no_bool h = cc
-
   of_crash : (i : ℕ) (o : Option Run) → PlanBacks (crash_plan (counted c) i o)
   of_crash i None = tt
   of_crash i (Some r) = if_plan PlanBacks (nat_lt r.deadline c.now) _ _ (λ t. tt) (λ t. tt)
 
   plan_backs : (e : Event) → PlanBacks (plan_of d e (counted c))
-  plan_backs Event.Ticket = if_plan PlanBacks (c.newest == 2 ^ 32 - 1) _ _ (λ t. tt) (λ t t2. absurd (no_bool t2))
-  plan_backs (Event.Request t f a) = if_plan PlanBacks ((t == 0) || nat_lt c.newest t) _ _ (λ u. tt) (λ u. if_plan PlanBacks (is_crowded (counted c)) _ _ (λ u. tt) (λ u t2. absurd (no_bool t2)))
+  plan_backs Event.Ticket = if_plan PlanBacks (c.newest == 2 ^ 32 - 1) _ _ (λ t. tt) (λ t t2. absurd (false_true t2))
+  plan_backs (Event.Request t f a) = if_plan PlanBacks ((t == 0) || nat_lt c.newest t) _ _ (λ u. tt) (λ u. if_plan PlanBacks (is_crowded (counted c)) _ _ (λ u. tt) (λ u t2. absurd (false_true t2)))
   plan_backs (Event.Turn i) = of_run i (map.get c.runs i) refl
   plan_backs (Event.Lost i) = of_run i (map.get c.runs i) refl
   plan_backs (Event.Crash i) = of_crash i (map.get c.runs i)

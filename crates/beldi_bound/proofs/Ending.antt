@@ -1,4 +1,6 @@
 -- Turns that tell nothing: of a run past its deadline, where the table failed, or where it had no room; and turns that wait.
+use Rattle.beldi_order.proofs.Maps.{same_some}
+use Rattle.beldi_bound.proofs.Going.{goes_same}
 use Rattle.std.specs.FinMap as map
 use Rattle.std.proofs.Common.{◌≡◌, ◌⊎◌, inl, inr, ℕ, zero, suc, ◌+◌, ◌*◌, ◌<◌, ◌≤◌, ◌==◌, eqb-true, eq-eqb, nat_lt, ltb-true, lt-ltb, true, false, List, ◌∷◌, Option, Some, None, refl, sym, ap, subst, ◌∙◌, arith}
 use Rattle.beldi_value.specs.{declared.id.IntentId.IntentId}
@@ -14,13 +16,6 @@ use Rattle.beldi_bound.proofs.{Costs.splits, Falls.IsEnd, Falls.left_some, Facts
 use Rattle.beldi_bound.proofs.Ledger.{CoversAt, Covers, Ledger, Pays, find}
 use Rattle.beldi_bound.proofs.Frames.{Cost, Covered, Due, Leaves, Mid, Paid, Spare, ledger_by, others, stays_so}
 use Rattle.beldi_bound.proofs.Paying.{paid_by, pays}
-
-pub goes_same : (m : Rows) → GoesOn m m
-goes_same m = record {
-  keys = λ k there. there;
-  intents = λ k i is. (i, is, record { issued = refl; body = λ b is. is; outcome = λ o is. is; finish = λ t is. is });
-  answers = λ id func step x e a held. held;
-}
 
 pub share : (f x : ℕ) → 1 ≤ f → x ≤ f * x
 share f x h = grind arith
@@ -167,14 +162,11 @@ module _ (d : Deployment) (room : ℕ) (e : Rows) (asked : IntentId → List Ans
             paid k (inl there) = inl there
             paid k (inr s) = inr (record { number = s.number; run = s.run; since = s.since; live = same s.number ∙ s.live; own = s.own })
 
-        some_run : {x y : Run} → Some x ≡ Some y → x ≡ y
-        some_run h = cc
-
         not_so : (p q : ℕ) → p ≡ q → (p == q) ≡ false → ⊥
         not_so p q is f = let clash : true ≡ false = sym (eq-eqb p q is) ∙ f in cc
 
         each : (j : ℕ) (s : Run) → map.get b.runs j ≡ Some s → (y : ℕ) × (find j runs ≡ Some y) × Covered d room e asked first most i b n keys j s y
         each j s there = by_cases (j == i)
-            (λ t. let is : j ≡ i = eqb-true j i t in let its : r ≡ s = some_run (sym live ∙ sym (ap (map.get c.runs) is) ∙ sym (same j) ∙ there) in
+            (λ t. let is : j ≡ i = eqb-true j i t in let its : r ≡ s = same_some (sym live ∙ sym (ap (map.get c.runs) is) ∙ sym (same j) ∙ there) in
             subst (λ z. (y : ℕ) × (find z runs ≡ Some y) × Covered d room e asked first most i b n keys z s y) (sym is) (a, has, subst (λ z. Covered d room e asked first most i b n keys i z a) its (stays_so d room e asked first most leaves past i i r a mid mine)))
             (λ o. let k = ledger.runs_covered j s (sym (same j) ∙ there) in (k.0, k.1, others d room e asked first most leaves past i i j s k.0 next (λ is. not_so j i is o) k.2))

@@ -1,4 +1,5 @@
 -- Live runs by number, and rows by key, among the entries of their maps.
+use Rattle.beldi_order.proofs.Maps.{same_some}
 use Rattle.std.specs.{FinMap.FinMap, FinMap.find as find_entry, FinMap.get-entries, FinMap.nat_cmp-IsAntisymmetric, Cmp.Equal-is, FinMap.IsAntisymmetric, List.list_any, Ordering.is_eq, Ordering.nat_cmp, declared.cmp.Ordering.Ordering}
 use Rattle.std.specs.FinMap as map
 use Rattle.std.proofs.lemmas.Cmp.{tied_itself}
@@ -13,12 +14,12 @@ module _ {K X : Type 0} {R : K → K → Ordering} (exact : IsAntisymmetric R) w
   found_in : (q : K) (x : X) (es : List (K × X)) → find_entry R q es ≡ Some x → IsIn (q, x) es
   found_in q x [] h = cc
   found_in q x (e ∷ es) h = (elim (is_eq (R q e.0)) as (λ b. is_eq (R q e.0) ≡ b → cond b (Some e.1) (find_entry R q es) ≡ Some x → IsIn (q, x) (e ∷ es)) [
-    | true ↦ λ t here. let key : q ≡ e.0 = exact q e.0 ((Equal-is (R q e.0)).0 t) in let value : x ≡ e.1 = some_is here in inl (λ i. (key i, value i))
+    | true ↦ λ t here. let key : q ≡ e.0 = exact q e.0 ((Equal-is (R q e.0)).0 t) in let value : x ≡ e.1 = same_some here in inl (λ i. (key i, value i))
     | false ↦ λ t there. inr (found_in q x es there)
   ]) refl h
     where
-      some_is : {x y : X} → Some y ≡ Some x → x ≡ y
-      some_is h = cc
+      same_some : {x y : X} → Some y ≡ Some x → x ≡ y
+      same_some h = cc
 
   pub entry_of : (m : FinMap R X) (q : K) (x : X) → map.get m q ≡ Some x → IsIn (q, x) (map.entries m)
   entry_of m q x h = found_in q x (map.entries m) (sym (get-entries m q) ∙ h)
@@ -36,12 +37,9 @@ run_there live i r id h same = any_in (λ (e : ℕ × Run). is_eq (id_cmp e.1.id
 first_is_past : (past i : ℕ) (es : List (ℕ × Run)) → first_past past es ≡ Some i → past < i
 first_is_past past i [] h = cc
 first_is_past past i (e ∷ es) h = (elim (nat_lt past e.0) as (λ b. nat_lt past e.0 ≡ b → (if b then Some e.0 else first_past past es) ≡ Some i → past < i) [
-  | true ↦ λ t here. let is : e.0 ≡ i = some_is here in let l = ltb-true past e.0 t in omega (arith, is, l)
+  | true ↦ λ t here. let is : e.0 ≡ i = same_some here in let l = ltb-true past e.0 t in omega (arith, is, l)
   | false ↦ λ t there. first_is_past past i es there
 ]) refl h
-  where
-    some_is : {x y : ℕ} → Some x ≡ Some y → x ≡ y
-    some_is h = cc
 
 none_is_past : (past i : ℕ) (r : Run) (es : List (ℕ × Run)) → first_past past es ≡ None → IsIn (i, r) es → past < i → ⊥
 none_is_past past i r [] h there less = there

@@ -1,8 +1,11 @@
 -- A settling counts at most the work: event by event, what it has counted and what the ledger still holds never rises, but for failures.
+use Rattle.beldi_row.specs.Key.{least_key}
+use Rattle.beldi_upkeep.specs.Checked.{NoFirstTurnIsOver}
+use Rattle.beldi_bound.proofs.{Going.events_go_on, Going.goes_same, Going.goes_then, Soundly.at_cursor, Soundly.sound_on, Soundly.sound_then, Standing.runs_stand, TurnsPaid.turns_paid}
 use Rattle.std.specs.FinMap as map
 use Rattle.std.specs.declared.alloc.AllocError.{AllocError}
 use Rattle.std.proofs.Math.Nat.{add-mul}
-use Rattle.std.proofs.Common.{Bool, List, None, Err, Ok, Option, Result, Some, ap, arith, false, if◌then◌else◌, leb-true, nat_le, nat_lt, not, refl, subst, sym, true, ℕ, ◌&&◌, ◌*◌, ◌+◌, ◌-◌, ◌<◌, ◌^◌, ◌||◌, ◌∙◌, ◌≡◌, ◌≤◌}
+use Rattle.std.proofs.Common.{Bool, List, None, Err, Ok, Option, Result, Some, ap, arith, false, if◌then◌else◌, nat_le, nat_lt, not, refl, subst, sym, true, ℕ, ◌&&◌, ◌*◌, ◌+◌, ◌-◌, ◌<◌, ◌^◌, ◌||◌, ◌∙◌, ◌≡◌, ◌≤◌}
 use Rattle.beldi_value.specs.declared.id.IntentId.{IntentId}
 use Rattle.beldi_tree.specs.declared.deployment.Deployment.{Deployment}
 use Rattle.beldi_lang.specs.declared.effect.Answer.{Answer}
@@ -12,31 +15,14 @@ use Rattle.beldi_collect.specs.{Collect.collect_says, declared.cursor.Found.Foun
 use Rattle.beldi_step.proofs.Runs.{after_event, either}
 use Rattle.beldi_step.specs.{Host.Core, Host.EventBy, Host.EventOn, Host.Followed, Host.after_turn, Host.asks, Host.at_once, Host.collect_next, Host.counted as one_taken, Host.ended_run, Host.has_run, Host.is_crowded, Host.last_moment, Host.may_start, Host.most_events, Host.plan_of, Host.run_next, Host.run_plan, Host.started, Host.turned_core, Run.callee_of, Run.run_asks, Run.run_told, Run.says_of, Next.next_run, Next.reset, declared.event.Event.Event, declared.event.Seen.Seen, declared.run.Begun.Begun, declared.run.Run.Run, declared.run.RunAt.RunAt, declared.run.TurnSays.TurnSays, declared.run.Wait.Wait}
 use Rattle.beldi_book.specs.Order.{count_changes}
-use Rattle.beldi_laws.proofs.Moves.{with_runs}
 use Rattle.beldi_schedule.specs.{Settle.begun, Settle.by_round as goes_round, Settle.core_for, Settle.counted, Settle.counts, Settle.end_of, Settle.ends_round, Settle.event_of, Settle.first_at, Settle.go_on, Settle.heard_of, Settle.ic_heard, Settle.is_empty, Settle.is_spent, Settle.is_waiting, Settle.next_of, Settle.parked, Settle.restless, Settle.round_over, Settle.turn_heard, Settle.turn_or, Settle.turns_of, Settle.unparked, Settle.unless_spent}
-use Rattle.beldi_schedule.specs.declared.machine.{At.At, Next.Next, Settled.Settled, Settled.TheVariants.Unsettled, Standing.Standing, Standing.TheVariants.Goes, Standing.TheVariants.Over}
+use Rattle.beldi_schedule.specs.declared.machine.{At.At, Next.Next, Settled.Settled, Standing.Standing, Standing.TheVariants.Goes, Standing.TheVariants.Over}
 use Rattle.beldi_schedule.specs.Settles.{Advances, Settles, State, goes, stands}
 use Rattle.beldi_bound.specs.{Cost.AreAsked, Ends.IsBelowEnd, Ends.Sound, Work.work_of}
-use Rattle.beldi_bound.proofs.{Entries.next_is_past, Entries.none_past, Facts.EventsGoOn, Facts.GoesOn, Facts.RunsStand, RoundsPay.ledger_moves, Bringing.settling_brings, ResultsCome.ResultsCome, ResultsCome.results_same, ResultsCome.results_then, RoundsPay.rounds_pay, Starting.ledger_begins}
+use Rattle.beldi_bound.proofs.{Entries.next_is_past, Entries.none_past, Facts.GoesOn, RoundsPay.ledger_moves, Bringing.settling_brings, ResultsCome.ResultsCome, ResultsCome.results_same, ResultsCome.results_then, RoundsPay.rounds_pay, Starting.ledger_begins}
 use Rattle.beldi_bound.proofs.Ledger.{Ledger, Pays, RoundsPay, TurnsPay, due, past_after, total, turn_of}
 
--- ---- rows that go on
-pub goes_same : (m : Rows) → GoesOn m m
-goes_same m = record {
-  keys = λ k h. h;
-  intents = λ k i at. (i, at, record { issued = refl; body = λ b h. h; outcome = λ o h. h; finish = λ t h. h });
-  answers = λ i f n x e a h. h;
-}
-
-pub goes_then : (l m n : Rows) → GoesOn l m → GoesOn m n → GoesOn l n
-goes_then l m n g h = record {
-  keys = λ k there. h.keys k (g.keys k there);
-  intents = λ k i at. let x = g.intents k i at in let y = h.intents k x.0 x.1 in
-      (y.0, y.1, record { issued = y.2.issued ∙ x.2.issued; body = λ b e. y.2.body b (x.2.body b e); outcome = λ o e. y.2.outcome o (x.2.outcome o e); finish = λ t e. y.2.finish t (x.2.finish t e) });
-  answers = λ i f k x e a held. h.answers i f k x e a (g.answers i f k x e a held);
-}
-
--- ---- what an event of a settling leaves beside: the moment, and what is sound
+-- ---- an event of a settling leaves the moment
 module _ (d : Deployment) where
   started_now : (c : Core) (o : Option Run) → (started c o).0.now ≡ c.now
   started_now c None = refl
@@ -93,36 +79,12 @@ module _ (d : Deployment) where
         by_taken true s = round_came (one_taken c) s.0 s.1
         by_taken false s = ap (λ (w : Core). w.now) s.0.0
 
-  -- the cursor may stand anywhere
-  pub reset_sound : (c : Core) (m : Rows) → Sound d c m → Sound d (reset c) m
-  reset_sound c m h = let u = h.upkeep in record {
-    upkeep = record {
-      right = with_runs u.right (reset c) refl refl u.right.runs;
-      seats = u.seats;
-      owe = record { each = u.owe.each };
-      past = u.past;
-      passes = record { each = u.passes.each };
-      near = record { soon = u.near.soon; near = u.near.near };
-      free = u.free;
-      started = u.started;
-    };
-    rules = h.rules;
-    starts = h.starts;
-  }
-
--- ---- all events of a settling: rows go on, failures are never fewer, and the host stays sound
-abbrev pub SoundGoesOn : Type 0
-SoundGoesOn = (d : Deployment) (room budget : ℕ) (a : At) (s u : State) (z : Standing) → Sound d s.core s.rows → Advances d room budget a s u z → Sound d u.core u.rows
-
+-- ---- all events of a settling: rows go on, and failures are never fewer
 module _ {d : Deployment} {room budget : ℕ} where
-  pub settling_goes : {y v : Standing} {s t : State} → EventsGoOn → Settles d room budget y s v t → GoesOn s.rows t.rows × (s.faults ≤ t.faults)
-  settling_goes on (stands y s) = (goes_same s.rows, omega arith)
-  settling_goes on (goes a s y u v t adv rest) = let h = settling_goes on rest in
-      (goes_then s.rows u.rows t.rows (on d room s.faults u.faults (event_of (next_of s.core a)) (core_for (next_of s.core a) s.core) u.core s.rows u.rows (Ok adv.answer) adv.event) h.0, let l = adv.later in let m = h.1 in omega (arith, l, m))
-
-  pub settling_sound : {y v : Standing} {s t : State} → SoundGoesOn → Settles d room budget y s v t → Sound d s.core s.rows → Sound d t.core t.rows
-  settling_sound on (stands y s) h = h
-  settling_sound on (goes a s y u v t adv rest) h = settling_sound on rest (on d room budget a s u y h adv)
+  pub settling_goes : {y v : Standing} {s t : State} → Settles d room budget y s v t → GoesOn s.rows t.rows × (s.faults ≤ t.faults)
+  settling_goes (stands y s) = (goes_same s.rows, omega arith)
+  settling_goes (goes a s y u v t adv rest) = let h = settling_goes rest in
+      (goes_then (events_go_on d room s.faults u.faults (event_of (next_of s.core a)) (core_for (next_of s.core a) s.core) u.core s.rows u.rows (Ok adv.answer) adv.event) h.0, let l = adv.later in let m = h.1 in omega (arith, l, m))
 
 -- ---- a settling that is under way, with what it has counted and what its ledger holds
 -- while the intent collector goes round, no run that has begun is past the number
@@ -232,7 +194,7 @@ module _ (d : Deployment) (room : ℕ) (e : Rows) (asked : IntentId → List Ans
           let c = reset s.core in
           let idle = λ (i : ℕ) (r : Run) (g : Begun) (less : a.past < i) (live : map.get c.runs i ≡ Some r) (at : r.at ≡ RunAt.Begins g). none_past s.core a.past i r h.1 live less in
           round_holds budget s u n (begun a) x (next_run u.core 0) h.0.runs h.0.keys h.0.less (idle_then a.past s.faults u.faults c u.core s.rows u.rows x idle event)
-          (λ apart. rounds_pay a.past s.faults u.faults c u.core s.rows u.rows x h.0.runs h.0.keys z (reset_sound d s.core s.rows before) after in_the_end asks goes below soon (λ i r g next live at. idle i r g (next_is_past c a.past i next) live at) event apart
+          (λ apart. rounds_pay a.past s.faults u.faults c u.core s.rows u.rows x h.0.runs h.0.keys z (at_cursor least_key before) after in_the_end asks goes below soon (λ i r g next live at. idle i r g (next_is_past c a.past i next) live at) event apart
           (ledger_moves d room e asked first most a.past a.past s.core c s.rows h.0.runs h.0.keys refl refl refl (λ i next. next) h.0.ledger))
 
       event_pays : (a : At) (y : Standing) → Advances d room budget a s u y → Ready a s n → Holds (n + failures budget s u n) y u
@@ -254,73 +216,33 @@ module _ (d : Deployment) (room : ℕ) (e : Rows) (asked : IntentId → List Ans
     shares : (o m n k : ℕ) → o ≤ m → m ≤ n → (m - o) * k + (n - m) * k ≡ (n - o) * k
     shares o m n k l h = sym (add-mul (m - o) (n - m) k) ∙ ap (λ z. z * k) (omega (arith, l, h))
 
-    module _ (sound_on : SoundGoesOn) (goes_on : EventsGoOn) where
-      now_next : (s u : State) (w : Next) (x : Seen) → EventOn d room s.faults u.faults (event_of w) (core_for w s.core) s.rows u.core u.rows (Ok x) → u.core.now ≡ s.core.now
-      now_next s u (Next.Turn a i) x event = turn_now d room s.faults u.faults s.core u.core s.rows u.rows x i event
-      now_next s u (Next.Collect a) x event = round_now d room s.faults u.faults s.core u.core s.rows u.rows x event
-      now_next s u (Next.Reset a) x event = round_now d room s.faults u.faults (reset s.core) u.core s.rows u.rows x event
+    now_next : (s u : State) (w : Next) (x : Seen) → EventOn d room s.faults u.faults (event_of w) (core_for w s.core) s.rows u.core u.rows (Ok x) → u.core.now ≡ s.core.now
+    now_next s u (Next.Turn a i) x event = turn_now d room s.faults u.faults s.core u.core s.rows u.rows x i event
+    now_next s u (Next.Collect a) x event = round_now d room s.faults u.faults s.core u.core s.rows u.rows x event
+    now_next s u (Next.Reset a) x event = round_now d room s.faults u.faults (reset s.core) u.core s.rows u.rows x event
 
-      pub counts_few : {y v : Standing} {s t : State} (n : ℕ) → Settles d room budget y s v t → Sound d s.core s.rows → GoesOn t.rows e → ResultsCome t.rows e → t.faults < 2 ^ 64 - 1 → s.core.now ≤ last_moment → Holds n y s → Counts (n + (t.faults - s.faults) * (most + 1)) v
-      counts_few n (stands y s) sound goes_e come_e below soon h = counts_more n (n + (s.faults - s.faults) * (most + 1)) y (omega arith) (held n y s h)
-      counts_few n (goes a s y u v t adv rest) sound goes_e come_e below soon h =
-          let sound_then = sound_on d room budget a s u y sound adv in
-          let on = settling_goes goes_on rest in
-          let l = adv.later in
-          let m = on.1 in
-          let now = now_next s u (next_of s.core a) adv.answer adv.event in
-          let step = event_pays s u n sound sound_then (goes_then u.rows t.rows e on.0 goes_e) (results_then (settling_brings (sound_on d room budget) rest sound_then) come_e) (omega (arith, below, m)) soon a y adv h in
-          let last = counts_few (n + (u.faults - s.faults) * (most + 1)) rest sound_then goes_e come_e below (omega (arith, now, soon)) step in
-          let all = shares s.faults u.faults t.faults (most + 1) l m in
-          counts_more _ _ v (omega (arith, all)) last
-
--- ---- a budget is used up where it is not above what was counted
-module _ (d : Deployment) (room budget : ℕ) where
-  abbrev Used : Standing → Type 0
-  Used (Goes a) = Unit {0}
-  Used (Over x) = (n : ℕ) → x ≡ Unsettled n → budget ≤ n
-
-  go_on_used : (a : At) → Used (go_on budget a)
-  go_on_used a = either Used (nat_le budget a.turns) _ _ (λ t n is. let l = leb-true budget a.turns t in let same : a.turns ≡ n = number is in omega (arith, l, same)) (λ t. tt)
-    where
-      number : {m n : ℕ} → Unsettled m ≡ Unsettled n → m ≡ n
-      number h = cc
-
-  end_used : (a : At) (o : Option ℕ) → Used (Over (end_of a o))
-  end_used a None n is = cc
-  end_used a (Some i) n is = cc
-
-  unless_used : (a : At) (x : Seen) (z : Standing) → Used z → Used (unless_spent a x z)
-  unless_used a x z h = either Used (is_spent x) _ _ (λ t n is. cc) (λ t. h)
-
-  round_used : (a : At) (live : Option ℕ) (o : Option Bool) → Used (round_over live a o)
-  round_used a live (Some true) = tt
-  round_used a live (Some false) = end_used a live
-  round_used a live None = end_used a live
-
-  ic_used : (a : At) (live : Option ℕ) (x : Seen) → Used (ic_heard budget live a x)
-  ic_used a live x = unless_used a x _ (either Used (ends_round x) _ _ (λ t. round_used a live a.round) (λ t. either Used (counts x) _ _ (λ u. go_on_used (record a { turns = a.turns + 1; moved = true; round = Some true })) (λ u. tt)))
-
-  heard_used : (c : Core) (w : Next) (x : Seen) → Used (heard_of budget c w x)
-  heard_used c (Next.Turn a i) x = unless_used a x _ (either Used (is_waiting x) _ _ (λ t. tt) (λ t. go_on_used (record a { turns = a.turns + 1; moved = true })))
-  heard_used c (Next.Collect a) x = ic_used a (next_run c 0) x
-  heard_used c (Next.Reset a) x = ic_used (begun a) (next_run c 0) x
-
-  chain_used : {y v : Standing} {s t : State} → Settles d room budget y s v t → Used y → Used v
-  chain_used (stands y s) h = h
-  chain_used (goes a s y u v t adv rest) h = chain_used rest (subst Used (sym adv.next) (heard_used u.core (next_of s.core a) adv.answer))
-
-  pub used : (s t : State) (x : Settled) → Settles d room budget (go_on budget first_at) s (Over x) t → (n : ℕ) → x ≡ Unsettled n → budget ≤ n
-  used s t x chain = chain_used chain (go_on_used first_at)
+    pub counts_few : {y v : Standing} {s t : State} (n : ℕ) → Settles d room budget y s v t → Sound d s.core s.rows → GoesOn t.rows e → ResultsCome t.rows e → t.faults < 2 ^ 64 - 1 → s.core.now ≤ last_moment → Holds n y s → Counts (n + (t.faults - s.faults) * (most + 1)) v
+    counts_few n (stands y s) sound goes_e come_e below soon h = counts_more n (n + (s.faults - s.faults) * (most + 1)) y (omega arith) (held n y s h)
+    counts_few n (goes a s y u v t adv rest) sound goes_e come_e below soon h =
+        let after = sound_on sound adv in
+        let on = settling_goes rest in
+        let l = adv.later in
+        let m = on.1 in
+        let now = now_next s u (next_of s.core a) adv.answer adv.event in
+        let step = event_pays s u n sound after (goes_then on.0 goes_e) (results_then (settling_brings rest after) come_e) (omega (arith, below, m)) soon a y adv h in
+        let last = counts_few (n + (u.faults - s.faults) * (most + 1)) rest after goes_e come_e below (omega (arith, now, soon)) step in
+        let all = shares s.faults u.faults t.faults (most + 1) l m in
+        counts_more _ _ v (omega (arith, all)) last
 
 -- ---- the bound
-pub turns_are_few : ((d : Deployment) (room : ℕ) (e : Rows) (asked : IntentId → List Answer) (first most : ℕ) → TurnsPay d room e asked first most) → SoundGoesOn → EventsGoOn → RunsStand
+pub turns_are_few : NoFirstTurnIsOver
     → (d : Deployment) (room budget : ℕ) (s t : State) (x : Settled) (asked : IntentId → List Answer) → Sound d s.core s.rows → s.core.now ≤ last_moment → AreAsked d t.rows asked → IsBelowEnd t.faults
     → Settles d room budget (go_on budget first_at) s (Over x) t → turns_of x ≤ work_of d asked s t
-turns_are_few turns_pay sound_on goes_on stand d room budget s t x asked sound soon held_so below chain =
+turns_are_few no_first d room budget s t x asked sound soon held_so below chain =
     let first = s.core.last_run in
-    let start = ledger_begins d room s t asked stand sound (settling_goes goes_on chain).0 held_so in
+    let start = ledger_begins d room s t asked runs_stand sound (settling_goes chain).0 held_so in
     let n = total (due d room t.rows asked first start.most) start.runs start.keys in
     let ready : Ready d room t.rows asked first start.most first_at s n = record { runs = start.runs; keys = start.keys; ledger = start.ledger; less = omega arith; idle = λ b is. cc } in
     let holds : Holds d room t.rows asked first start.most n (go_on budget first_at) s = either (λ z. Holds d room t.rows asked first start.most n z s) (nat_le budget 0) _ _ (λ t. omega arith) (λ t. ready) in
-    let few = counts_few d room t.rows asked first start.most (turns_pay d room t.rows asked first start.most) (rounds_pay d room t.rows asked first start.most) t.core (settling_sound sound_on chain sound) held_so budget sound_on goes_on n chain sound (goes_same t.rows) (results_same t.rows) below soon holds in
+    let few = counts_few d room t.rows asked first start.most (turns_paid no_first d room t.rows asked first start.most) (rounds_pay d room t.rows asked first start.most) t.core (sound_then chain sound) held_so budget n chain sound (goes_same t.rows) (results_same t.rows) below soon holds in
     let less = start.less in omega (arith, few, less)

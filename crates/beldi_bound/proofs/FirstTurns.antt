@@ -1,4 +1,5 @@
 -- The first turn of a run: it begins its body, or is over as its intent has ended.
+use Rattle.beldi_bound.proofs.{FirstStages.first_stages_are_few, FirstsOpen.firsts_open, Standing.runs_stand}
 use Rattle.std.specs.FinMap as map
 use Rattle.std.proofs.Common.{◌≡◌, inl, ℕ, suc, ◌+◌, ◌<◌, ◌≤◌, true, false, List, [], ◌∷◌, Option, Some, None, is_some, refl, sym, ap, subst, ◌∙◌, arith}
 use Rattle.beldi_value.specs.declared.{id.IntentId.IntentId, place.Caller.Caller}
@@ -12,14 +13,13 @@ use Rattle.beldi_step.specs.{Host.Core, Host.counted, Host.turn_next, Next.next_
 use Rattle.beldi_step.specs.Run.{Turned, asks_at, at_once, begin_in, body_registered, first_stage, goes_from, run_asks, told_at, within}
 use Rattle.beldi_upkeep.specs.Checked.{has_begun, next_turn}
 use Rattle.beldi_bound.specs.{Cost.AreAsked, Cost.cost_from, Cost.step_cost, Ends.Sound, Left.left_at, Work.has_ended, Work.seat}
-use Rattle.beldi_bound.proofs.{Begun.FirstsAreOpen, Begun.cover_stage, Costs.front_few, Costs.its_cost, Costs.splits, Ending.knows_it, Ending.over, Ending.some_left, Facts.FirstStagesAreFew, Facts.GoesOn, Facts.RunsStand, Facts.Stands, Facts.begun_left, Facts.rest_cost, Facts.rest_left, GoingOn.goes_on}
+use Rattle.beldi_bound.proofs.{Begun.cover_stage, Costs.front_few, Costs.its_cost, Costs.splits, Ending.knows_it, Ending.over, Ending.some_left, Facts.GoesOn, Facts.Stands, Facts.begun_left, Facts.rest_cost, Facts.rest_left, GoingOn.goes_on}
 use Rattle.beldi_bound.proofs.Ledger.{Covers, HasBody, Ledger, find}
 use Rattle.beldi_bound.proofs.Frames.{Cost, Covered, Due, Spare}
 use Rattle.beldi_bound.proofs.Paying.{own_live}
 use Rattle.beldi_bound.proofs.Turns.{FullStays, Paying}
 
-module _ (stand : RunsStand) (few : FirstStagesAreFew) (firsts : FirstsAreOpen)
-    (d : Deployment) (room : ℕ) (e : Rows) (asked : IntentId → List Answer) (first most : ℕ) (past i : ℕ) (c : Core) (m : Rows) (r : Run) (a : ℕ) (runs : List (ℕ × ℕ)) (keys : List RowKey) (sound : Sound d c m)
+module _ (d : Deployment) (room : ℕ) (e : Rows) (asked : IntentId → List Answer) (first most : ℕ) (past i : ℕ) (c : Core) (m : Rows) (r : Run) (a : ℕ) (runs : List (ℕ × ℕ)) (keys : List RowKey) (sound : Sound d c m)
     (ledger : Ledger d room e asked first most past c m runs keys) (next : next_run c past ≡ Some i) (live : map.get c.runs i ≡ Some r) (has : find i runs ≡ Some a) (mine : Covered d room e asked first most past c m keys i r a)
     (alive : r.deadline < c.now → ⊥) (f : ℕ) (areas : AreAsked d e asked) (rows : GoesOn m (rows_after (run_asks r) c.now m)) (full : FullStays room m (rows_after (run_asks r) c.now m)) (goes : GoesOn (rows_after (run_asks r) c.now m) e) where
   abbrev pub N : Rows
@@ -63,11 +63,11 @@ module _ (stand : RunsStand) (few : FirstStagesAreFew) (firsts : FirstsAreOpen)
           let b = (turn_next (counted c) i r (goes_from r z from None (Some w))).0 in
           let open_still = k.open_still s goes_next in
           let lives = own_live d room e asked first most past i c m r a runs keys ledger sound.upkeep.right.runs.numbers next live has b N keys (Some s) None refl in
-          let q = stand d b N e asked i s h sb goes areas lives refl in
+          let q = runs_stand d b N e asked i s h sb goes areas lives refl in
           let know = knows_it sb.upkeep.right i s h lives refl in
           let some = some_left sb.upkeep.right s h know.0 e asked know.1 q in
           goes_on d room e asked first most past i c m r a runs keys sound ledger next live has mine alive b N keys None s h refl refl ledger.since rows full (λ j there. inl there) (λ j there. there) refl refl f refl q some (less s h q refl is open_still)
-          (λ x more le. cover_stage d room e asked first most past b N i s h (begun_left N q) x w le (λ v st later. absurd (later (firsts r.id from z.1 z.0.steps z.0.effect v (is ∙ ap Some st)))))
+          (λ x more le. cover_stage d room e asked first most past b N i s h (begun_left N q) x w le (λ v st later. absurd (later (firsts_open r.id from z.1 z.0.steps z.0.effect v (is ∙ ap Some st)))))
           (λ j st. ledger.stuck_paid (seat r) j st open_still) (λ v st. cc) (omega arith)
         where
           join : (left rest step from whole cost its x : ℕ) → left ≤ step → from ≡ step + rest → from ≤ whole → cost ≡ 1 + whole → cost ≡ its → its ≤ x → suc (left + rest) ≤ x
@@ -79,7 +79,7 @@ module _ (stand : RunsStand) (few : FirstStagesAreFew) (firsts : FirstsAreOpen)
 
           less : (s : Run) (h : Begun) (q : Stands d e asked s h) → seat s ≡ seat r → first_stage s.id h.caller h.tx h.machine.steps h.machine.effect ≡ Some h.stage → has_ended (map.get m (seat r)) ≡ false → suc (begun_left N q) ≤ Spare d room e asked first most (seat r) + a
           less s h q same st open_still =
-              let left = few d e N s.id q.body (asked s.id) s h refl q.along st in
+              let left = first_stages_are_few d e N s.id q.body (asked s.id) s h refl q.along st in
               let whole = split s.id q.body q.along.answers q.along.later in
               let front = front_few d e s.id q.body q.along.answers q.along.later (asked s.id) q.along.all in
               let cost = its_cost d room e asked first most q in

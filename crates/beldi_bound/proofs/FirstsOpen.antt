@@ -1,10 +1,10 @@
 -- An effect does not begin amid the call of one that nobody waits for.
+use Rattle.beldi_step.specs.Run.{first_stage}
 use Rattle.std.proofs.Common.{◌≡◌, ℕ, Bool, true, false, Option, Some, None, if◌then◌else◌, sym}
 use Rattle.beldi_value.specs.{Id.has_callees, declared.id.IntentId.IntentId, declared.place.Caller.Caller}
 use Rattle.beldi_lang.specs.declared.effect.Effect.{Effect}
 use Rattle.beldi_call.specs.declared.async_call.AsyncAt.{AsyncAt}
 use Rattle.beldi_step.specs.{declared.run.RunTx.RunTx, declared.run.Stage.Stage, Run.first_end, Run.first_of, Run.first_outside, Run.last_stage}
-use Rattle.beldi_bound.proofs.Begun.{FirstsAreOpen}
 
 abbrev IsOpen : Option Stage → Type 0
 IsOpen w = (z : AsyncAt) → w ≡ Some (Stage.Async z) → z ≡ AsyncAt.Open
@@ -33,6 +33,9 @@ last_open (Some c) = by_wait c.waits
     by_wait : (b : Bool) → IsOpen (Some (if b then Stage.Back else Stage.Tell))
     by_wait true = λ z is. cc
     by_wait false = λ z is. cc
+
+abbrev pub FirstsAreOpen : Type 0
+FirstsAreOpen = (id : IntentId) (c : Option Caller) (o : Option RunTx) (step : ℕ) (f : Effect) (z : AsyncAt) → first_stage id c o step f ≡ Some (Stage.Async z) → z ≡ AsyncAt.Open
 
 pub firsts_open : FirstsAreOpen
 firsts_open id c o step (Effect.Read t k) z is = of_open Stage.Ask (Effect.Read t k) o (λ z is. cc) z is

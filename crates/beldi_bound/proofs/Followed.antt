@@ -1,4 +1,6 @@
 -- A late run is followed: beside it lives one of its intent that was answered more, in time, unless the intent has ended.
+use Rattle.beldi_bound.proofs.Ending.{knows_it}
+use Rattle.beldi_bound.proofs.{Going.events_go_on, Soundly.sound_on}
 use Rattle.std.specs.FinMap as map
 use Rattle.std.proofs.Common.{◌≡◌, ◌⊎◌, inl, inr, ℕ, ◌+◌, ◌==◌, ◌<◌, ◌≤◌, ◌||◌, eqb-true, eq-eqb, true, false, List, Option, Some, None, is_some, Ok, refl, sym, ap, subst, ◌∙◌, arith}
 use Rattle.beldi_value.specs.declared.{id.IntentId.IntentId, place.Caller.Caller, place.Place.Place}
@@ -19,12 +21,8 @@ use Rattle.beldi_schedule.specs.{Settle.first_at, Settle.go_on, Settles.Advances
 use Rattle.beldi_laws.specs.{Right.AtStage, Right.Inside, Right.Knows, Right.Right, Right.StandsAt}
 use Rattle.beldi_upkeep.{proofs.Overs.no_turn_over, proofs.Started.started_of_it, specs.Checked.Checked, specs.Checked.next_says, specs.Checked.next_turn}
 use Rattle.beldi_bound.specs.{Ends.IsBelowEnd, Ends.IsLate, Ends.Sound, Work.has_ended, Work.seat}
-use Rattle.beldi_bound.proofs.{Facts.EventsGoOn, Facts.GoesOn, Facts.LatesAreFollowed, LogRows.OwnLog, LogRows.first_puts, LogRows.log_put, LogRows.new_log, LogRows.stage_puts, Steps.Stays, Steps.Turns, Steps.next_steps}
-use Rattle.beldi_bound.proofs.Lates.{GoesFrom, IsRead, StoodAt, answer_goes, begin_here, begin_no_walk, close_ends, few_steps, is_answer, knows_it, same_effect, same_open, same_seat, told_there, turn_goes, turn_is, walk_stood, walks_read}
-
--- ---- a host stays sound
-abbrev pub SoundOn : Type 0
-SoundOn = (d : Deployment) (room budget : ℕ) (a : At) (s u : State) (z : Standing) → Sound d s.core s.rows → Advances d room budget a s u z → Sound d u.core u.rows
+use Rattle.beldi_bound.proofs.{Facts.GoesOn, Facts.LatesAreFollowed, LogRows.OwnLog, LogRows.first_puts, LogRows.log_put, LogRows.new_log, LogRows.stage_puts, Steps.Stays, Steps.Turns, Steps.next_steps}
+use Rattle.beldi_bound.proofs.Lates.{GoesFrom, IsRead, StoodAt, answer_goes, begin_here, begin_no_walk, close_ends, few_steps, is_answer, same_effect, same_open, same_seat, told_there, turn_goes, turn_is, walk_stood, walks_read}
 
 same_begun : {g f : Begun} → RunAt.Begins g ≡ RunAt.Begins f → g ≡ f
 same_begun h = cc
@@ -296,7 +294,7 @@ module _ (d : Deployment) (c b : Core) (m n : Rows) (sound : Sound d c m) (then_
       (λ apart. lived r late ended i (t.lived i r late.begun (same_number i t.number apart) live late.at))
 
 -- ---- along a settling in which no failure is counted
-module _ (sound_on : SoundOn) (goes_on : EventsGoOn) (d : Deployment) (room budget : ℕ) where
+module _ (d : Deployment) (room budget : ℕ) where
   -- failures never become fewer
   never_falls : (z : Standing) (s : State) (y : Standing) (u : State) → Settles d room budget z s y u → s.faults ≤ u.faults
   never_falls z s y u (Settles.stands w v) = omega arith
@@ -312,8 +310,8 @@ module _ (sound_on : SoundOn) (goes_on : EventsGoOn) (d : Deployment) (room budg
     where
       by_step : Stays s.core s.rows u.core u.rows ⊎ Turns d s.core s.rows u.core u.rows → AllFollowed u.core u.rows
       by_step (inl t) = stays_keep s.core u.core s.rows u.rows t all
-      by_step (inr t) = turns_keep d s.core u.core s.rows u.rows sound (sound_on d room budget a s u z sound step)
-          (goes_on d room s.faults u.faults (event_of (next_of s.core a)) (core_for (next_of s.core a) s.core) u.core s.rows u.rows (Ok step.answer) step.event) t all
+      by_step (inr t) = turns_keep d s.core u.core s.rows u.rows sound (sound_on sound step)
+          (events_go_on d room s.faults u.faults (event_of (next_of s.core a)) (core_for (next_of s.core a) s.core) u.core s.rows u.rows (Ok step.answer) step.event) t all
 
   followed_on : (z : Standing) (s : State) (y : Standing) (t : State) → Settles d room budget z s y t → Sound d s.core s.rows → t.faults ≡ s.faults → IsBelowEnd t.faults → AllFollowed s.core s.rows → AllFollowed t.core t.rows
   followed_on z s y t (Settles.stands w v) sound same below all = all
@@ -322,9 +320,9 @@ module _ (sound_on : SoundOn) (goes_on : EventsGoOn) (d : Deployment) (room budg
       let more = never_falls w u q p rest in
       let here : u.faults ≡ v.faults = omega (arith, one, more, same) in
       let then_same : p.faults ≡ u.faults = omega (arith, one, more, same) in
-      followed_on w u q p rest (sound_on d room budget a v u w sound step) then_same below (one_event a v u w sound step here (omega (arith, below, more)) all)
+      followed_on w u q p rest (sound_on sound step) then_same below (one_event a v u w sound step here (omega (arith, below, more)) all)
 
-pub lates_followed : SoundOn → EventsGoOn → LatesAreFollowed
-lates_followed sound_on goes_on d room budget s t x sound none settles same below i r late live ended =
-    let f = followed_on sound_on goes_on d room budget (go_on budget first_at) s (Over x) t settles sound same below (λ j k z there open_still. absurd (none j k there z)) i r late live ended in
+pub lates_followed : LatesAreFollowed
+lates_followed d room budget s t x sound none settles same below i r late live ended =
+    let f = followed_on d room budget (go_on budget first_at) s (Over x) t settles sound same below (λ j k z there open_still. absurd (none j k there z)) i r late live ended in
     (f.number, f.run, f.begun, f.live, f.same_id, f.at, f.further)

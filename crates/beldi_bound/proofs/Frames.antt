@@ -1,4 +1,5 @@
 -- What an event leaves of a ledger: the runs that it does not touch are covered as before, and who may get a run has one or may get one.
+use Rattle.beldi_order.proofs.Maps.{same_some}
 use Rattle.std.specs.FinMap as map
 use Rattle.std.proofs.Common.{◌≡◌, ◌⊎◌, inl, inr, ℕ, ◌+◌, ◌<◌, ◌≤◌, ◌==◌, ◌||◌, eqb-true, Bool, true, false, List, [], ◌∷◌, ◌++◌, length, append-nil, append_assoc, Option, Some, None, is_some, if◌then◌else◌, refl, sym, ap, subst, ◌∙◌, arith}
 use Rattle.beldi_value.specs.{Id.child_of, declared.id.IntentId.IntentId}
@@ -99,12 +100,9 @@ module _ (d : Deployment) (room : ℕ) (e : Rows) (asked : IntentId → List Ans
   free_if : (o : Option RowKey) (j : RowKey) → if_free d room e asked first most o ≡ Some j → Cost j ≡ 0
   free_if None j h = cc
   free_if (Some x) j h = (elim (Cost x == 0) as (λ t. (Cost x == 0) ≡ t → (if t then Some x else None) ≡ Some j → Cost j ≡ 0) [
-    | true ↦ λ z is. ap Cost (sym (some_is is)) ∙ eqb-true (Cost x) 0 z
+    | true ↦ λ z is. ap Cost (sym (same_some is)) ∙ eqb-true (Cost x) 0 z
     | false ↦ λ z is. cc
   ]) refl h
-    where
-      some_is : {x y : RowKey} → Some x ≡ Some y → x ≡ y
-      some_is h = cc
 
   free_by : (id : IntentId) (o : Option Body) (j : RowKey) → stuck_by d room e asked first most id o ≡ Some j → Cost j ≡ 0
   free_by id None j h = cc
@@ -161,11 +159,8 @@ module _ (d : Deployment) (room : ℕ) (e : Rows) (asked : IntentId → List Ans
     pub others : (i j : ℕ) (r : Run) (a : ℕ) → next_run c past ≡ Some i → (j ≡ i → ⊥) → Covered past c m keys j r a → Covered after b n kept j r a
     others i j r a next apart = stays_so j r a mid
       where
-        some_is : {x y : ℕ} → Some x ≡ Some y → x ≡ y
-        some_is h = cc
-
         mid : (g : Begun) (w : AsyncAt) → (w ≡ AsyncAt.Open → ⊥) → r.at ≡ RunAt.Begins g → g.stage ≡ Stage.Async w → Mid past c m j r g → Mid after b n j r g
-        mid g w later at is (IsMidway.acts own bare) = absurd (apart (some_is (sym own ∙ next)))
+        mid g w later at is (IsMidway.acts own bare) = absurd (apart (same_some (sym own ∙ next)))
         mid g w later at is (IsMidway.stands f v effect stage filled none) = let k = s.full filled in IsMidway.stands f v effect stage k.1 (k.0 (intent_key (child_of r.id g.machine.steps) f) none)
 
     -- ---- the whole

@@ -22,7 +22,7 @@ use Rattle.beldi_laws.proofs.{Cases.by_list, Cases.false_by, Passing.tx_step_is,
 use Rattle.beldi_upkeep.specs.{Checked.next_turn, Upkeep.Upkeep}
 use Rattle.beldi_upkeep.proofs.{FromRight.row_at, Notes.knows}
 use Rattle.beldi_bound.specs.{Ends.HasCause, Ends.IsIn, Work.has_ended, Work.seat}
-use Rattle.beldi_bound.proofs.{Chain.Greatest, Chain.LiveRun, Chain.greatest, Chain.in_numbers, Chain.live_run, Chain.numbers, Facts.AllWait, Facts.EachHasRun, Facts.WaitsNow, Waits.Called, Waits.Stopped, Waits.Why, Waits.stopped, Waits.waits_begun}
+use Rattle.beldi_bound.proofs.{Chain.Greatest, Chain.LiveRun, Chain.greatest, Chain.in_numbers, Chain.live_run, Chain.numbers, Facts.AllWait, Facts.EachHasRun, Facts.WaitsNow, Waits.Called, Waits.Stopped, Waits.Why, Waits.stopped, Waited.waits_begun}
 
 -- ---- no run stands at a Begin
 begin_only : (e : Effect) → is_begin e ≡ true → e ≡ Effect.Begin

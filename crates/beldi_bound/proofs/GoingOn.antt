@@ -1,4 +1,5 @@
 -- A turn of a run that goes on: it has a turn less to take, and may have started a run, which is paid by the key of its intent.
+use Rattle.beldi_order.proofs.Maps.{same_some}
 use Rattle.std.specs.FinMap as map
 use Rattle.std.proofs.Common.{◌≡◌, ◌⊎◌, inl, inr, ℕ, zero, suc, ◌+◌, ◌*◌, ◌<◌, ◌≤◌, false, List, Some, None, refl, sym, ap, subst, ◌∙◌, arith}
 use Rattle.beldi_value.specs.declared.id.IntentId.{IntentId}
@@ -66,9 +67,6 @@ module _ (d : Deployment) (room : ℕ) (e : Rows) (asked : IntentId → List Ans
     module _ (b : Core) (n : Rows) (kept : List RowKey) (u : New) (s : Run) (g : Begun) (runs_so : b.runs ≡ with_new (c.last_run + 1) u (put_run c.runs i (Some s))) (now_so : b.now ≡ c.now) (last_ok : first ≤ b.last_run)
         (rows : GoesOn m n) (full : room ≤ map.len m → ((k : RowKey) → map.get m k ≡ None → map.get n k ≡ None) × (room ≤ map.len n))
         (keep : (k : RowKey) → IsIn k keys → Paid d room e asked first most b kept k) (within : (k : RowKey) → IsIn k kept → IsIn k keys) (deadline_so : s.deadline ≡ r.deadline) (seat_so : seat s ≡ seat r) where
-      some_run : {x y : Run} → Some x ≡ Some y → x ≡ y
-      some_run h = cc
-
       pub leaves : Leaves d room e asked first most c b m n keys kept
       leaves = record {
         rows = rows;
@@ -101,7 +99,7 @@ module _ (d : Deployment) (room : ℕ) (e : Rows) (asked : IntentId → List Ans
           → 1 + (x + amount_of u + Keys kept) ≤ a + Keys keys + f * (most + 1) → Pays d room e asked first most past runs keys 1 f b n
       goes_at f x at its cov stuck new fund =
           pays d room e asked first most past i c m r a runs keys ledger sound.upkeep.right.runs.numbers next live has b n kept (Some s) u runs_so past x leaves
-          (λ z is. subst (λ y. Covered d room e asked first most past b n kept i y x) (some_run is) (covered x (subst (Covers d room e asked first most past b n kept i s x) (sym at) (its, at_stage, stuck_so)) not_first)) new 1 f fund
+          (λ z is. subst (λ y. Covered d room e asked first most past b n kept i y x) (same_some is) (covered x (subst (Covers d room e asked first most past b n kept i s x) (sym at) (its, at_stage, stuck_so)) not_first)) new 1 f fund
         where
           not_first : s.at ≡ RunAt.Looks → ⊥
           not_first is = let clash : RunAt.Looks ≡ RunAt.Begins g = sym is ∙ at in cc

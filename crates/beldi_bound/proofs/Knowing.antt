@@ -1,4 +1,6 @@
 -- What is known of a run that has begun and has its turn: of the callee that it calls, and of a call that nobody waits for.
+use Rattle.beldi_known.proofs.Begins.{false_true}
+use Rattle.beldi_order.proofs.Maps.{same_some}
 use Rattle.std.specs.FinMap as map
 use Rattle.std.proofs.Common.{◌≡◌, ◌⊎◌, inl, inr, ℕ, suc, ◌+◌, eq-eqb, ◌<◌, ◌≤◌, Bool, true, false, List, [], ◌∷◌, ◌++◌, append-nil, length, Option, Some, None, is_some, if◌then◌else◌, refl, sym, ap, subst, ◌∙◌, arith}
 use Rattle.beldi_value.{proofs.Callees.no_root, specs.Id.child_of, specs.Id.has_callees, specs.Id.has_no_hops, specs.declared.id.IntentId.IntentId, specs.declared.outcome.Outcome.Outcome, specs.declared.place.TxId.TxId, specs.declared.value.Value.Value}
@@ -19,16 +21,14 @@ use Rattle.beldi_known.{proofs.Acts.kinds_apart, proofs.Cases.by_cases, proofs.R
 use Rattle.beldi_step.specs.{Host.Core, Host.counted, Host.turn_next, Next.next_run, declared.run.Begun.Begun, declared.run.Mark.Mark, declared.run.Run.Run, declared.run.RunAt.RunAt, declared.run.RunTx.RunTx, declared.run.Says.Says, declared.run.Stage.Stage, declared.run.Wait.Wait}
 use Rattle.beldi_step.specs.Run.{asks_at, async_answer, async_here_asks, at_stage, call_answer, call_here_asks, callee_at, callee_body, callee_by, callee_of, place_of, run_asks, stage_asks, turned_by, tx_at}
 use Rattle.beldi_laws.specs.Right.{AtStage, is_opened}
-use Rattle.beldi_upkeep.{proofs.FromRight.child_key, specs.Callees.HasPut, specs.Checked.NoTurnIsOver, specs.Checked.StartedRootsAreOfIt, specs.Checked.body_at, specs.Checked.is_close, specs.Checked.next_says}
+use Rattle.beldi_upkeep.{proofs.FromRight.child_key, specs.Callees.HasPut, specs.Checked.body_at, specs.Checked.is_close, specs.Checked.next_says}
 use Rattle.beldi_bound.specs.{Cost.AreAsked, Cost.with_answers, Ends.Sound, Left.left_at, Work.has_ended, Work.seat}
-use Rattle.beldi_bound.proofs.{Begun.Awaits, Begun.BegunKnows, Begun.CallsIt, Begun.ClosesEnd, Begun.FirstsAreOpen, Begun.Midway, Begun.NoneIsSpared, Begun.NotedIt, Begun.StepsRise, Begun.its, Begun.restand, Begun.says_lower, Bodies.callee_func, Bodies.callee_has, Bodies.has_body, Calling.async_over, Calling.call_over, Calling.row_there, Costs.body_costs, Ending.knows_it, Facts.FirstStagesAreFew, Facts.GoesOn, Facts.RunsStand, Facts.Stands, Facts.TurnsLower, Facts.begun_left, Facts.rest_left, Nexts.next_put, ResultsCome.ResultsCome, Saying.SaysCall, Saying.call_act, Saying.is_async, Saying.no_result, Saying.opens_unregistered, Saying.stage_asyncs, Saying.stage_calls, Saying.starts_noted}
+use Rattle.beldi_bound.proofs.{Begun.Awaits, Begun.BegunKnows, Begun.CallsIt, Begun.Midway, Begun.NotedIt, Begun.its, Begun.restand, Begun.says_lower, Bodies.callee_func, Bodies.callee_has, Bodies.has_body, Calling.async_over, Calling.call_over, Calling.row_there, Costs.body_costs, Ending.knows_it, Facts.GoesOn, Facts.Stands, Facts.begun_left, Facts.rest_left, Nexts.next_put, ResultsCome.ResultsCome, Saying.SaysCall, Saying.call_act, Saying.is_async, Saying.no_result, Saying.opens_unregistered, Saying.stage_asyncs, Saying.stage_calls, Saying.starts_noted}
 use Rattle.beldi_bound.proofs.Ledger.{CoversAt, HasBody, IsMidway, Ledger, callee_key, find, if_free, stuck_by}
 use Rattle.beldi_bound.proofs.Frames.{Cost, Covered, Mid, Spare, Stuck, body_on}
 use Rattle.beldi_bound.proofs.Turns.{FullStays}
 
 -- ---- small facts
-some_run : {x y : Run} → Some x ≡ Some y → x ≡ y
-some_run h = cc
 
 waits_child : (id : IntentId) (o : Option RunTx) (step : ℕ) (z : CallSays) (j : IntentId) → call_answer id o step z ≡ Says.Waits (Wait.Result j) → child_of id step ≡ j
 waits_child id o step (CallSays.Opened first) j h = cc
@@ -67,8 +67,7 @@ put_there : (b : Body) (now : ℕ) (o : Option Row) → (act (Act.Register b) no
 put_there b now None h = cc
 put_there b now (Some r) h = cc
 
-module _ (no_over : NoTurnIsOver) (stand : RunsStand) (few : FirstStagesAreFew) (lower : TurnsLower) (rise : StepsRise) (firsts : FirstsAreOpen) (closes : ClosesEnd) (spared : NoneIsSpared) (of_it : StartedRootsAreOfIt)
-    (d : Deployment) (room : ℕ) (e : Rows) (asked : IntentId → List Answer) (first most : ℕ) (past i : ℕ) (c : Core) (m : Rows) (r : Run) (a : ℕ) (runs : List (ℕ × ℕ)) (keys : List RowKey) (sound : Sound d c m)
+module _ (d : Deployment) (room : ℕ) (e : Rows) (asked : IntentId → List Answer) (first most : ℕ) (past i : ℕ) (c : Core) (m : Rows) (r : Run) (a : ℕ) (runs : List (ℕ × ℕ)) (keys : List RowKey) (sound : Sound d c m)
     (ledger : Ledger d room e asked first most past c m runs keys) (next : next_run c past ≡ Some i) (live : map.get c.runs i ≡ Some r) (has : find i runs ≡ Some a) (mine : Covered d room e asked first most past c m keys i r a)
     (alive : r.deadline < c.now → ⊥) (f : ℕ) (areas : AreAsked d e asked) (rows : GoesOn m (rows_after (run_asks r) c.now m)) (full : FullStays room m (rows_after (run_asks r) c.now m)) (goes : GoesOn (rows_after (run_asks r) c.now m) e)
     (g : Begun) (at : r.at ≡ RunAt.Begins g) (z : Core) (sound_e : Sound d z e) (come : ResultsCome (rows_after (run_asks r) c.now m) e) where
@@ -121,7 +120,7 @@ module _ (no_over : NoTurnIsOver) (stand : RunsStand) (few : FirstStagesAreFew) 
       none : result_in (call_at m key) ≡ None
       none = no_result r.id g.tx step func c.now w (map.get m key) (subst (λ t. SaysCall (call_answer r.id g.tx step (call_says func w t))) told_is (subst SaysCall (sym says) is))
 
-      calls_it : CallsIt no_over stand few lower rise firsts closes spared of_it d room e asked first most past i c m r a runs keys sound ledger next live has mine alive f areas rows full goes g at Q
+      calls_it : CallsIt d room e asked first most past i c m r a runs keys sound ledger next live has mine alive f areas rows full goes g at Q
       calls_it = record {
         body = B;
         registers = refl;
@@ -129,11 +128,11 @@ module _ (no_over : NoTurnIsOver) (stand : RunsStand) (few : FirstStagesAreFew) 
         open_still = by_cases (has_ended (map.get m (seat Q))) (λ ends. absurd (call_over d c m sound.upkeep.right r g (knows_it sound.upkeep.right i r g live at).0 func ends v effect none)) (λ o. o);
       }
 
-  opened_it : (k : Option Mark) → next_says c m r g ≡ Says.Opens k → (q : Run) → callee_of r ≡ Some q → CallsIt no_over stand few lower rise firsts closes spared of_it d room e asked first most past i c m r a runs keys sound ledger next live has mine alive f areas rows full goes g at q
+  opened_it : (k : Option Mark) → next_says c m r g ≡ Says.Opens k → (q : Run) → callee_of r ≡ Some q → CallsIt d room e asked first most past i c m r a runs keys sound ledger next live has mine alive f areas rows full goes g at q
   opened_it k says q is =
       let h = stage_calls r.id r.func g.caller g.tx (count_changes c.book) step g.machine.effect g.stage told (Says.Opens k) says tt in
-      subst (λ x. CallsIt no_over stand few lower rise firsts closes spared of_it d room e asked first most past i c m r a runs keys sound ledger next live has mine alive f areas rows full goes g at x)
-      (some_run (sym (calls_q h.at h.said.func h.said.args h.stage h.said.effect h.said.short) ∙ is)) (calls_it h.at h.said.func h.said.args h.stage h.said.effect h.said.short (Says.Opens k) h.said.says tt)
+      subst (λ x. CallsIt d room e asked first most past i c m r a runs keys sound ledger next live has mine alive f areas rows full goes g at x)
+      (same_some (sym (calls_q h.at h.said.func h.said.args h.stage h.said.effect h.said.short) ∙ is)) (calls_it h.at h.said.func h.said.args h.stage h.said.effect h.said.short (Says.Opens k) h.said.says tt)
 
   -- ---- it waits for a result
   module _ (w : CallAt) (func : ℕ) (v : Value) (stage : g.stage ≡ Stage.Call w) (effect : g.machine.effect ≡ Effect.Call func v) (short : has_callees r.id ≡ true) (looks : w ≡ CallAt.Look) (bare : result_in (call_at m key) ≡ None) where
@@ -158,14 +157,11 @@ module _ (no_over : NoTurnIsOver) (stand : RunsStand) (few : FirstStagesAreFew) 
         ∙ ap call_in (set_here m key (act Act.Look c.now (map.get m key)).0 ∙ look_same c.now (map.get m key))
 
     s : Stands d e asked r g
-    s = (its no_over stand few lower rise firsts closes spared of_it d room e asked first most past i c m r a runs keys sound ledger next live has mine alive f areas rows full goes g at).0
+    s = (its d room e asked first most past i c m r a runs keys sound ledger next live has mine alive f areas rows full goes g at).0
 
     -- where it has one in the end, the callee has its row then
     got_row : (o : Option InvokeRow) → call_at e key ≡ o → is_some (result_in o) ≡ true → is_some (map.get e (key_in func child)) ≡ true
-    got_row None is some = absurd (no_bool some)
-      where
-        no_bool : false ≡ true → ⊥
-        no_bool h = cc
+    got_row None is some = absurd (false_true some)
     got_row (Some x) is some = subst (λ n. is_some (map.get e (key_in n child)) ≡ true) call_there.2
         (come.come r.func r.id step call_there.0 x (same_call ∙ ap call_in call_there.1) (ap (λ o. result_in (call_in o)) (sym call_there.1) ∙ bare) is some)
 
@@ -202,7 +198,7 @@ module _ (no_over : NoTurnIsOver) (stand : RunsStand) (few : FirstStagesAreFew) 
             ∙ ap (λ n. if_free d room e asked first most (Some (intent_key (child_of r.id n) func))) steps
             ∙ ap (λ t. if t then Some (seat P) else None) (eq-eqb (Cost d room e asked first most (seat P)) 0 free)
 
-  awaits_it : (j : IntentId) → next_says c m r g ≡ Says.Waits (Wait.Result j) → Awaits no_over stand few lower rise firsts closes spared of_it d room e asked first most past i c m r a runs keys sound ledger next live has mine alive f areas rows full goes g at j
+  awaits_it : (j : IntentId) → next_says c m r g ≡ Says.Waits (Wait.Result j) → Awaits d room e asked first most past i c m r a runs keys sound ledger next live has mine alive f areas rows full goes g at j
   awaits_it j says =
       let h = stage_calls r.id r.func g.caller g.tx (count_changes c.book) step g.machine.effect g.stage told (Says.Waits (Wait.Result j)) says tt in
       let looks = is_look h.at (looks_waits r.id g.tx step h.said.func h.at told j h.said.says) in record {
@@ -217,10 +213,7 @@ module _ (no_over : NoTurnIsOver) (stand : RunsStand) (few : FirstStagesAreFew) 
   no_close_it : (v : Answer) → next_says c m r g ≡ Says.Starts v → is_close g.stage ≡ true → ⊥
   no_close_it v says close =
       let h = stage_asyncs r.id r.func g.caller g.tx (count_changes c.book) step g.machine.effect g.stage told (Says.Starts v) says tt in
-      let clash : false ≡ true = ap is_close (sym h.stage) ∙ close in no_bool clash
-    where
-      no_bool : false ≡ true → ⊥
-      no_bool h = cc
+      let clash : false ≡ true = ap is_close (sym h.stage) ∙ close in false_true clash
 
   module _ (func : ℕ) (v : Value) (stage : g.stage ≡ Stage.Async AsyncAt.Note) (effect : g.machine.effect ≡ Effect.Async func v) (short : has_callees r.id ≡ true) where
     abbrev A : Run
@@ -240,11 +233,11 @@ module _ (no_over : NoTurnIsOver) (stand : RunsStand) (few : FirstStagesAreFew) 
     }
 
     abbrev S : Stands d e asked r g
-    S = (its no_over stand few lower rise firsts closes spared of_it d room e asked first most past i c m r a runs keys sound ledger next live has mine alive f areas rows full goes g at).0
+    S = (its d room e asked first most past i c m r a runs keys sound ledger next live has mine alive f areas rows full goes g at).0
 
     extra_it : has_ended (map.get m (seat A)) ≡ true → suc (begun_left m S) ≤ Spare d room e asked first most (seat r) + a
     extra_it ends = by_cover (subst (CoversAt d room e asked first most past c m i r g (begun_left m S) (Spare d room e asked first most (seat r) + a)) stage
-        (its no_over stand few lower rise firsts closes spared of_it d room e asked first most past i c m r a runs keys sound ledger next live has mine alive f areas rows full goes g at).1)
+        (its d room e asked first most past i c m r a runs keys sound ledger next live has mine alive f areas rows full goes g at).1)
       where
         apart : Stage.Async AsyncAt.Note ≡ Stage.Async AsyncAt.Register → ⊥
         apart h = cc
@@ -254,16 +247,16 @@ module _ (no_over : NoTurnIsOver) (stand : RunsStand) (few : FirstStagesAreFew) 
         by_cover (inr (le, IsMidway.acts own bare)) = absurd (async_over d c m sound.upkeep.right r g (knows_it sound.upkeep.right i r g live at).0 func ends sound.upkeep.seats v effect bare)
         by_cover (inr (le, IsMidway.stands f1 v1 effect1 stage1 filled absent)) = absurd (apart (sym stage ∙ stage1))
 
-    noted_a : NotedIt no_over stand few lower rise firsts closes spared of_it d room e asked first most past i c m r a runs keys sound ledger next live has mine alive f areas rows full goes g at A
+    noted_a : NotedIt d room e asked first most past i c m r a runs keys sound ledger next live has mine alive f areas rows full goes g at A
     noted_a = record { looks = refl; deadline = refl; found = found_it; extra = extra_it }
 
-  noted_it : (v : Answer) → next_says c m r g ≡ Says.Starts v → (q : Run) → callee_of r ≡ Some q → NotedIt no_over stand few lower rise firsts closes spared of_it d room e asked first most past i c m r a runs keys sound ledger next live has mine alive f areas rows full goes g at q
+  noted_it : (v : Answer) → next_says c m r g ≡ Says.Starts v → (q : Run) → callee_of r ≡ Some q → NotedIt d room e asked first most past i c m r a runs keys sound ledger next live has mine alive f areas rows full goes g at q
   noted_it v says q is =
       let h = stage_asyncs r.id r.func g.caller g.tx (count_changes c.book) step g.machine.effect g.stage told (Says.Starts v) says tt in
       let note = starts_noted h.at (async_says h.said.func h.at told) v h.said.says in
       let stage = h.stage ∙ ap Stage.Async note in
-      subst (λ x. NotedIt no_over stand few lower rise firsts closes spared of_it d room e asked first most past i c m r a runs keys sound ledger next live has mine alive f areas rows full goes g at x)
-      (some_run (sym (notes_a h.said.func h.said.args stage h.said.effect h.said.short) ∙ is)) (noted_a h.said.func h.said.args stage h.said.effect h.said.short)
+      subst (λ x. NotedIt d room e asked first most past i c m r a runs keys sound ledger next live has mine alive f areas rows full goes g at x)
+      (same_some (sym (notes_a h.said.func h.said.args stage h.said.effect h.said.short) ∙ is)) (noted_a h.said.func h.said.args stage h.said.effect h.said.short)
 
   -- ---- midway
   module _ (w : Stage) (k : Option Mark) (says : next_says c m r g ≡ Says.On w k) where
@@ -274,13 +267,13 @@ module _ (no_over : NoTurnIsOver) (stand : RunsStand) (few : FirstStagesAreFew) 
     b1 = (turn_next (counted c) i r (turned_by d r g (Says.On w k))).0
 
     abbrev S1 : Stands d e asked r g
-    S1 = (its no_over stand few lower rise firsts closes spared of_it d room e asked first most past i c m r a runs keys sound ledger next live has mine alive f areas rows full goes g at).0
+    S1 = (its d room e asked first most past i c m r a runs keys sound ledger next live has mine alive f areas rows full goes g at).0
 
     next_then : next_run b1 past ≡ Some i
     next_then = next_put c b1 past i s1 refl next
 
     lowers : suc (left_at e N r.func r.id g.tx step g.machine.effect w) ≤ left_at e m r.func r.id g.tx step g.machine.effect g.stage
-    lowers = says_lower no_over stand few lower rise firsts closes spared of_it d room e asked first most past i c m r a runs keys sound ledger next live has mine alive f areas rows full goes g at (Says.On w k) says
+    lowers = says_lower d room e asked first most past i c m r a runs keys sound ledger next live has mine alive f areas rows full goes g at (Says.On w k) says
 
     by_note : (x : Back) → async_answer AsyncAt.Note (note_says x) ≡ Says.On w k → w ≡ Stage.Async AsyncAt.Note
     by_note Back.Set h = cc
@@ -318,7 +311,7 @@ module _ (no_over : NoTurnIsOver) (stand : RunsStand) (few : FirstStagesAreFew) 
 
       from_register : (x : ℕ) → suc x ≡ Spare d room e asked first most (seat r) + a → begun_left N (restand S1 w) ≤ x → (suc (begun_left N (restand S1 w)) ≤ x) ⊎ ((begun_left N (restand S1 w) ≤ x) × Mid d room e asked first most past b1 N i s1 (at_stage g w))
       from_register x one enough = by_cover (subst (CoversAt d room e asked first most past c m i r g (begun_left m S1) (Spare d room e asked first most (seat r) + a)) stage
-          (its no_over stand few lower rise firsts closes spared of_it d room e asked first most past i c m r a runs keys sound ledger next live has mine alive f areas rows full goes g at).1)
+          (its d room e asked first most past i c m r a runs keys sound ledger next live has mine alive f areas rows full goes g at).1)
         where
           fits : (l0 l1 rest x n : ℕ) → suc l1 ≤ l0 → suc (l0 + rest) ≤ n → suc x ≡ n → suc (l1 + rest) ≤ x
           fits l0 l1 rest x n h k o = omega (arith, h, k, o)
@@ -332,7 +325,7 @@ module _ (no_over : NoTurnIsOver) (stand : RunsStand) (few : FirstStagesAreFew) 
               let bare = (full filled).0 row_key (ap (λ n. map.get m (intent_key child n)) (sym same) ∙ absent) in
               absurd (put_there (B1 AsyncAt.Register func args stage effect short) c.now (map.get m row_key) (sym set_is ∙ bare))
 
-    mid_it : Midway no_over stand few lower rise firsts closes spared of_it d room e asked first most past i c m r a runs keys sound ledger next live has mine alive f areas rows full goes g at b1 s1 (at_stage g w) (begun_left N (restand S1 w))
+    mid_it : Midway d room e asked first most past i c m r a runs keys sound ledger next live has mine alive f areas rows full goes g at b1 s1 (at_stage g w) (begun_left N (restand S1 w))
     mid_it z1 is later x one enough =
         let h = stage_asyncs r.id r.func g.caller g.tx (count_changes c.book) step g.machine.effect g.stage told (Says.On w k) says (ap is_async is) in
         by_at h.at h.stage h.said.effect h.said.says h.said.short
@@ -347,5 +340,5 @@ module _ (no_over : NoTurnIsOver) (stand : RunsStand) (few : FirstStagesAreFew) 
         by_at {func} {args} AsyncAt.Note stage effect says1 short = absurd (one_less (left_at e N r.func r.id g.tx step g.machine.effect w) (left_at e m r.func r.id g.tx step g.machine.effect g.stage) lowers
             (ap (left_at e N r.func r.id g.tx step g.machine.effect) (by_note (back_of told) says1)) (ap (left_at e m r.func r.id g.tx step g.machine.effect) stage))
 
-  pub begun_knows : BegunKnows no_over stand few lower rise firsts closes spared of_it d room e asked first most past i c m r a runs keys sound ledger next live has mine alive f areas rows full goes g at
+  pub begun_knows : BegunKnows d room e asked first most past i c m r a runs keys sound ledger next live has mine alive f areas rows full goes g at
   begun_knows = record { mid = mid_it; opened = opened_it; no_close = no_close_it; noted = noted_it; awaits = awaits_it }

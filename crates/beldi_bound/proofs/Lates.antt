@@ -16,15 +16,11 @@ use Rattle.beldi_intent.specs.Intent.{body_told, intent_key}
 use Rattle.beldi_call.specs.declared.{async_call.AsyncAt.AsyncAt, call.CallAt.CallAt}
 use Rattle.beldi_known.{proofs.Cases.by_option, proofs.Frame.begins, specs.Known.Known}
 use Rattle.beldi_step.specs.{Host.Core, declared.run.Begun.Begun, declared.run.Mark.Mark, declared.run.OpenTx.OpenTx, declared.run.Run.Run, declared.run.RunAt.RunAt, declared.run.RunTx.RunTx, declared.run.Says.Says, declared.run.Stage.Stage, Run.answer_at_once, Run.ask_says, Run.asks_at, Run.at_once, Run.at_stage, Run.begin_in, Run.body_registered, Run.close_asks, Run.first_stage, Run.goes_from, Run.goes_to, Run.is_inherited, Run.once, Run.run_asks, Run.stage_asks, Run.takes, Run.takes_if, Run.told_at, Run.turned_by, Run.within}
-use Rattle.beldi_laws.specs.{Right.AtStage, Right.Inside, Right.Knows, Right.KnowsAt, Right.Right, Right.RunAt as RunKnows, Right.StandsAt, Right.open_of}
+use Rattle.beldi_laws.specs.{Right.AtStage, Right.Inside, Right.Knows, Right.Right, Right.StandsAt, Right.open_of}
 use Rattle.beldi_laws.proofs.{OpenOf.open_begun, OpenOf.own_begin, Turns.at_steps, Turns.effect_here, Turns.front_here, Turns.wanted_here, Widths.answered_small}
 use Rattle.beldi_upkeep.specs.Checked.{has_begun, is_close, next_says, next_turn}
 use Rattle.beldi_bound.specs.Work.{has_ended, seat}
 use Rattle.beldi_bound.proofs.Standing.{its_row}
-
--- what a live run that has begun knows
-pub knows_it : {d : Deployment} {c : Core} {m : Rows} (h : Right d c m) (i : ℕ) (r : Run) (g : Begun) → map.get c.runs i ≡ Some r → r.at ≡ RunAt.Begins g → (k : Knows d h.known r g) × Inside m h.plain c.book k g.stage
-knows_it {d} {c} {m} h i r g live at = subst (KnowsAt d m h.plain c.book h.known r) at (subst (RunKnows d m h.plain c.book h.known) live (h.runs.runs i))
 
 -- ---- two runs of one intent
 module _ {d : Deployment} {c : Core} {m : Rows} (h : Right d c m) (r s : Run) (g f : Begun) (k : Knows d h.known r g) (l : Knows d h.known s f) (ids : r.id ≡ s.id) where

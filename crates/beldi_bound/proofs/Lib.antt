@@ -45,7 +45,6 @@ mod Rising
 mod Rounds
 mod RoundsPay
 mod Saying
-mod SoundOn
 mod Soundly
 mod StageLeft
 mod Stages

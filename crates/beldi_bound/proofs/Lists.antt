@@ -1,4 +1,5 @@
 -- Amounts and keys in a ledger: one that is set, one that is taken out, and what that makes of their sum.
+use Rattle.beldi_order.proofs.Maps.{same_some}
 use Rattle.std.proofs.Common.{List, Some, [], ap, arith, eq-eqb, eqb-true, false, if◌then◌else◌, inl, inr, refl, sym, true, ℕ, ◌+◌, ◌==◌, ◌⊎◌, ◌∙◌, ◌∷◌, ◌≡◌}
 use Rattle.std.specs.Ordering.{is_eq}
 use Rattle.beldi_row.{proofs.Gets.key_same, proofs.Gets.key_self, specs.Key.RowKey, specs.Key.key_cmp}
@@ -37,12 +38,9 @@ module _ (i b : ℕ) where
   pub sum_put : (a : ℕ) (xs : List (ℕ × ℕ)) → find i xs ≡ Some a → sum_of amount (put i b xs) + a ≡ sum_of amount xs + b
   sum_put a [] h = cc
   sum_put a (x ∷ xs) h = (elim (i == x.0) as (λ t. (i == x.0) ≡ t → sum_of amount (if t then (i, b) ∷ xs else x ∷ put i b xs) + a ≡ sum_of amount (x ∷ xs) + b) [
-    | true ↦ λ e. let is : x.1 ≡ a = some_is (sym (ap (λ t. if t then Some x.1 else find i xs) e) ∙ h) in omega (arith, is)
+    | true ↦ λ e. let is : x.1 ≡ a = same_some (sym (ap (λ t. if t then Some x.1 else find i xs) e) ∙ h) in omega (arith, is)
     | false ↦ λ e. let rest = sum_put a xs (sym (ap (λ t. if t then Some x.1 else find i xs) e) ∙ h) in omega (arith, rest)
   ]) refl
-    where
-      some_is : {m n : ℕ} → Some m ≡ Some n → m ≡ n
-      some_is h = cc
 
 -- ---- keys
 pub without_sum : (f : RowKey → ℕ) (k : RowKey) (ks : List RowKey) → IsIn k ks → sum_of f (without k ks) + f k ≡ sum_of f ks

@@ -1,7 +1,8 @@
 -- The least live run past a number is the same one after it was put anew.
+use Rattle.beldi_known.proofs.Begins.{false_true}
 use Rattle.std.specs.FinMap as map
 use Rattle.std.proofs.lemmas.Bool.Decides.{nat_tests}
-use Rattle.std.proofs.Common.{◌≡◌, ℕ, ltb-true, nat_lt, true, false, Option, Some, None, is_some, sym, ap, subst, ◌∙◌, arith}
+use Rattle.std.proofs.Common.{◌≡◌, ℕ, ltb-true, nat_lt, false, Option, Some, None, is_some, sym, ap, subst, ◌∙◌, arith}
 use Rattle.beldi_known.proofs.Cases.{by_cases}
 use Rattle.beldi_step.specs.{Host.Core, Host.put_run, Next.next_run, declared.run.Run.Run}
 use Rattle.beldi_bound.proofs.{Numbers.IsLeast, Numbers.next_least, Numbers.put_apart, Paying.put_self}
@@ -16,15 +17,12 @@ module _ (c b : Core) (past i : ℕ) (s : Run) (runs_so : b.runs ≡ put_run c.r
   none_run : {s : Run} → None ≡ Some s → ⊥
   none_run h = cc
 
-  no_bool : false ≡ true → ⊥
-  no_bool h = cc
-
   neither : (n i : ℕ) → nat_lt n i ≡ false → nat_lt i n ≡ false → n ≡ i
   neither n i h k = grind (arith, nat_tests)
 
   at_least : (o : Option ℕ) → IsLeast b.runs past o → o ≡ Some i
   at_least None l = absurd (none_run (sym (l i before.0) ∙ own))
-  at_least (Some n) l = by_cases (nat_lt n i) (λ t. let less = ltb-true n i t in absurd (no_bool (sym (ap is_some (ap (λ z. map.get z n) runs_so ∙ put_apart c.runs i (Some s) n (λ is. omega (arith, less, is)) ∙ before.2 n l.0 less)) ∙ l.1)))
+  at_least (Some n) l = by_cases (nat_lt n i) (λ t. let less = ltb-true n i t in absurd (false_true (sym (ap is_some (ap (λ z. map.get z n) runs_so ∙ put_apart c.runs i (Some s) n (λ is. omega (arith, less, is)) ∙ before.2 n l.0 less)) ∙ l.1)))
       (λ f. by_cases (nat_lt i n) (λ t. let less = ltb-true i n t in absurd (none_run (sym (l.2 i before.0 less) ∙ own))) (λ g. ap Some (neither n i f g)))
 
   pub next_put : next_run b past ≡ Some i

@@ -1,4 +1,5 @@
 -- What a turn makes of a ledger: its run's amount is set anew, a run that it starts is put in front, and keys are put in or taken out.
+use Rattle.beldi_order.proofs.Maps.{same_some}
 use Rattle.std.specs.FinMap as map
 use Rattle.std.specs.{FinMap.FinMap, Cmp.nat_cmp_total, Ordering.is_eq, Ordering.nat_cmp}
 use Rattle.std.proofs.lemmas.Cmp.{tied_itself}
@@ -48,9 +49,6 @@ listed_sum n (Some z) xs = refl
 sums : (t a x s s2 s3 u k l f : ℕ) → s2 + a ≡ s + x → s3 ≡ u + s2 → t + (x + u + l) ≤ a + k + f → t + (s3 + l) ≤ s + k + f
 sums t a x s s2 s3 u k l f p q h = omega arith
 
-some_run : {x y : Run} → Some x ≡ Some y → x ≡ y
-some_run h = cc
-
 module _ (d : Deployment) (room : ℕ) (e : Rows) (asked : IntentId → List Answer) (first most : ℕ) (past i : ℕ) (c : Core) (m : Rows) (r : Run) (a : ℕ) (runs : List (ℕ × ℕ)) (keys : List RowKey)
     (ledger : Ledger d room e asked first most past c m runs keys) (numbers : (j : ℕ) → IsTrue (is_some (map.get c.runs j)) → (1 ≤ j) × (j ≤ c.last_run)) (next : next_run c past ≡ Some i) (live : map.get c.runs i ≡ Some r) (has : find i runs ≡ Some a) where
   module _ (b : Core) (n : Rows) (kept : List RowKey) (o : Option Run) (u : New) (runs_so : b.runs ≡ with_new (c.last_run + 1) u (put_run c.runs i o)) where
@@ -72,7 +70,7 @@ module _ (d : Deployment) (room : ℕ) (e : Rows) (asked : IntentId → List Ans
         → (k : RowKey) → (has_ended (map.get n k) ≡ false) ⊎ (Cost d room e asked first most k ≡ 0) → Paid d room e asked first most c keys k → Paid d room e asked first most b kept k
     paid_by keep own k why (inl there) = keep k there
     paid_by keep own k why (inr s) = by_cases (s.number == i)
-        (λ t. let same : s.number ≡ i = eqb-true s.number i t in own k (subst (λ z. first < z) same s.since) (ap seat (some_run (sym live ∙ sym (ap (map.get c.runs) same) ∙ s.live)) ∙ s.own) why)
+        (λ t. let same : s.number ≡ i = eqb-true s.number i t in own k (subst (λ z. first < z) same s.since) (ap seat (same_some (sym live ∙ sym (ap (map.get c.runs) same) ∙ s.live)) ∙ s.own) why)
         (λ f. inr (record { number = s.number; run = s.run; since = s.since; live = old_live s.number s.run (λ is. not_so s.number is f) s.live; own = s.own }))
       where
         not_so : (x : ℕ) → x ≡ i → (x == i) ≡ false → ⊥
@@ -104,7 +102,7 @@ module _ (d : Deployment) (room : ℕ) (e : Rows) (asked : IntentId → List Ans
       at_new (Some z) is s there = (
         z.1,
         ap (λ (y : New). find (c.last_run + 1) (listed (c.last_run + 1) y (put i x runs))) is ∙ ap (λ t. if t then Some z.1 else find (c.last_run + 1) (put i x runs)) (eq-eqb (c.last_run + 1) (c.last_run + 1) refl),
-        subst (λ k. Covered d room e asked first most after b n kept (c.last_run + 1) k z.1) (some_run (sym (new_live z is) ∙ there)) (new z is),
+        subst (λ k. Covered d room e asked first most after b n kept (c.last_run + 1) k z.1) (same_some (sym (new_live z is) ∙ there)) (new z is),
       )
 
       at_own : (s : Run) → map.get b.runs i ≡ Some s → HasAmount i s

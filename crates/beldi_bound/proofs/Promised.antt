@@ -6,14 +6,9 @@ use Rattle.beldi_tree.specs.declared.deployment.Deployment.{Deployment}
 use Rattle.beldi_lang.specs.declared.effect.Answer.{Answer}
 use Rattle.beldi_step.specs.{Host.last_moment, Host.most_runs, declared.event.Seen.Seen, declared.run.Begun.Begun, declared.run.Run.Run, declared.run.RunAt.RunAt}
 use Rattle.beldi_upkeep.specs.Checked.{NoFirstTurnIsOver}
-use Rattle.beldi_schedule.specs.{Settle.first_at, Settle.go_on, Settle.turns_of, Settles.Settles, Settles.State, Settles.goes, Settles.stands, declared.machine.Settled.Settled, declared.machine.Standing.Standing, declared.machine.Standing.TheVariants.Over}
+use Rattle.beldi_schedule.specs.{Settle.first_at, Settle.go_on, Settle.turns_of, Settles.Settles, Settles.State, declared.machine.Settled.Settled, declared.machine.Standing.TheVariants.Over}
 use Rattle.beldi_bound.specs.{Cost.AreAsked, Ends.AllHaveEnded, Ends.HasCause, Ends.HasNoLock, Ends.IsBelowEnd, Ends.IsUnhindered, Ends.NoneIsLate, Ends.SettlesAsPromised, Ends.Sound, Ends.crowded, Ends.hindered, Ends.left, Work.work_of}
-use Rattle.beldi_bound.proofs.{Causes.waits_have_cause, Ended.settled_have_ended, Facts.AllWait, Facts.AreFollowed, Facts.EachHasRun, Followed.lates_followed, Going.events_go_on, Going.waits_leave_rows, Machine.settles_so, SoundOn.settles_few, Soundly.sound_on, Turning.turns_lower, Used.budget_used, Visiting.ends_lower}
-
--- the host is sound at the end
-sound_then : {d : Deployment} {room budget : ℕ} {y z : Standing} {s t : State} → Settles d room budget y s z t → Sound d s.core s.rows → Sound d t.core t.rows
-sound_then (stands z s) h = h
-sound_then (goes a s z u y t first rest) h = sound_then rest (sound_on h first)
+use Rattle.beldi_bound.proofs.{Causes.waits_have_cause, Ended.settled_have_ended, Facts.AllWait, Facts.AreFollowed, Facts.EachHasRun, Followed.lates_followed, Going.waits_leave_rows, Machine.settles_so, Few.turns_are_few, Soundly.sound_then, Used.budget_used}
 
 module _ (d : Deployment) (room budget : ℕ) (s t : State) (sound : Sound d s.core s.rows) where
   abbrev Ends : Settled → Type 0
@@ -31,7 +26,7 @@ module _ (d : Deployment) (room budget : ℕ) (s t : State) (sound : Sound d s.c
 
   module _ (no_first : NoFirstTurnIsOver) (early : s.core.now ≤ last_moment) where
     few : (x : Settled) → Ends x → (asked : IntentId → List Answer) → AreAsked d t.rows asked → IsBelowEnd t.faults → turns_of x ≤ work_of d asked s t
-    few x h asked areas below = settles_few (turns_lower ends_lower) no_first d room budget s t x asked sound early areas below h
+    few x h asked areas below = turns_are_few no_first d room budget s t x asked sound early areas below h
 
     -- nothing hinders a wait, and no run is late
     no_cause : (n : ℕ) (waiting : List (ℕ × Seen)) → IsUnhindered t.core (Settled.Stuck n waiting) → AreFollowed t.core t.rows → HasCause t.core t.rows waiting → ⊥
@@ -53,7 +48,7 @@ module _ (d : Deployment) (room budget : ℕ) (s t : State) (sound : Sound d s.c
         late m u = omega (arith, m, u, enough)
     completes (Settled.Spent n) h asked areas no_lock none_late same below free enough = absurd free
     completes (Settled.Stuck n waiting) h asked areas no_lock none_late same below free enough =
-        absurd (no_cause n waiting free (lates_followed (λ d room budget a s u z h adv. sound_on h adv) events_go_on d room budget s t (Settled.Stuck n waiting) sound none_late h same below) (caused n waiting h no_lock))
+        absurd (no_cause n waiting free (lates_followed d room budget s t (Settled.Stuck n waiting) sound none_late h same below) (caused n waiting h no_lock))
 
 pub settles_as_promised : NoFirstTurnIsOver → SettlesAsPromised
 settles_as_promised no_first d room budget s t x sound early h = record {

@@ -15,9 +15,8 @@ use Rattle.beldi_call.specs.{Async.async_asks, declared.async_call.AsyncAt.Async
 use Rattle.beldi_known.specs.Known.{Known}
 use Rattle.beldi_step.specs.{Host.Core, Host.counted, Run.asks_at, Run.async_here_asks, Run.callee_body, Run.place_of, Run.run_asks, Run.stage_asks, declared.run.Begun.Begun, declared.run.Run.Run, declared.run.RunAt.RunAt, declared.run.RunTx.RunTx, declared.run.Stage.Stage}
 use Rattle.beldi_laws.specs.Right.{AtStage, StandsAt}
-use Rattle.beldi_upkeep.specs.Checked.{NoTurnIsOver, StartedRootsAreOfIt}
 use Rattle.beldi_bound.specs.{Cost.AreAsked, Ends.Sound}
-use Rattle.beldi_bound.proofs.{Begun.ClosesEnd, Begun.FirstsAreOpen, Begun.NoneIsSpared, Begun.StepsRise, Ending.knows_it, Facts.EventsGoOn, Facts.FirstStagesAreFew, Facts.RunsStand, Facts.TurnsLower, FirstKnown.ended_costs, Frames.Mid, TurnsPay.AllRefused, TurnsPay.EventsStayFull}
+use Rattle.beldi_bound.proofs.{Ending.knows_it, FirstKnown.ended_costs, Frames.Mid, TurnsPay.AllRefused}
 use Rattle.beldi_bound.proofs.Ledger.{IsMidway}
 
 pub record AsyncHere (id : IntentId) (e : Effect) : Type 0 where
@@ -56,9 +55,8 @@ module _ (d : Deployment) (room : ℕ) (e : Rows) (asked : IntentId → List Ans
       ∙ ap (λ t. if t then async_asks r.func (place_of r.id g.machine.steps) (B here.func here.args) w else look_asks r.id r.func) here.short in
       by_full w here.func here.args l k later here.is stage (subst (λ q. CameOn q c.now room (Err (TableErr.Full l k)) m m) asks came)
 
-module _ (goes_on : EventsGoOn) (stays_full : EventsStayFull) (stand : RunsStand) (few : FirstStagesAreFew) (lower : TurnsLower) (no_over : NoTurnIsOver) (of_it : StartedRootsAreOfIt) (rise : StepsRise) (firsts : FirstsAreOpen) (closes : ClosesEnd) (spared : NoneIsSpared)
-    (d : Deployment) (room : ℕ) (e : Rows) (asked : IntentId → List Answer) (first most : ℕ) (z : Core) (sound_e : Sound d z e) (areas : AreAsked d e asked) where
-  pub all_refused : AllRefused goes_on stays_full stand few lower no_over of_it rise firsts closes spared d room e asked first most z sound_e areas
+module _ (d : Deployment) (room : ℕ) (e : Rows) (asked : IntentId → List Answer) (first most : ℕ) (z : Core) (sound_e : Sound d z e) (areas : AreAsked d e asked) where
+  pub all_refused : AllRefused d room e asked first most z sound_e areas
   all_refused past i c m r a runs keys sound ledger next live has mine goes = record {
     ended = λ over. ended_costs d c m i r sound live room e asked first most goes over;
     mid = λ l k came g w later at stage was. full_mid d room e asked first most i i c (counted c) m r g sound live l k came w later at stage;

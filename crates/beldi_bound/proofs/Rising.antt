@@ -1,4 +1,12 @@
 -- A run that goes on from an answer has more answers: a body that wants one has had few, and each answer is a step.
+use Rattle.std.specs.FinMap as map
+use Rattle.beldi_upkeep.specs.Checked.{next_says}
+use Rattle.beldi_bound.specs.Ends.{Sound}
+use Rattle.beldi_step.specs.declared.run.RunAt.{RunAt}
+use Rattle.beldi_step.specs.declared.run.Begun.{Begun}
+use Rattle.beldi_step.specs.declared.run.Run.{Run}
+use Rattle.beldi_step.specs.declared.run.Says.{Says}
+use Rattle.beldi_step.specs.Host.{Core}
 use Rattle.std.proofs.Common.{◌≡◌, ℕ, ◌-◌, ◌^◌, ◌<◌, ◌≤◌, Bool, true, false, List, [], ◌∷◌, length, Option, Some, None, is_some, IsTrue, refl, sym, subst, ◌∙◌, arith}
 use Rattle.beldi_value.specs.{declared.id.IntentId.IntentId, declared.outcome.Outcome.Outcome, declared.place.Caller.Caller}
 use Rattle.beldi_tree.specs.{Names.func_at, declared.deployment.Deployment.Deployment}
@@ -15,7 +23,13 @@ use Rattle.beldi_laws.specs.Right.{AtStage, StandsAt}
 use Rattle.beldi_plain.specs.Plain.{PlainState}
 use Rattle.beldi_book.specs.declared.entry.Entry.{Entry}
 use Rattle.beldi_known.specs.Known.{Known}
-use Rattle.beldi_bound.proofs.{Begun.StepsRise, Begun.TellsAnswer, Ending.knows_it}
+use Rattle.beldi_bound.proofs.{Ending.knows_it}
+
+-- a run that goes on from an answer has more answers
+abbrev pub TellsAnswer : Says → Answer → Type 0
+TellsAnswer (Says.Answers b m) a = b ≡ a
+TellsAnswer (Says.Starts b) a = b ≡ a
+TellsAnswer s a = ⊥
 
 -- ---- steps of a machine
 released_steps : (func n : ℕ) (o : Outcome) (s : State) (ls : List HeldLock) (rest : List Answer) → (released func n o s ls rest).steps ≡ n
@@ -102,6 +116,9 @@ not_last id func c o changes step e Stage.Back t a h = absurd (back_tells o (bac
 not_last id func c o changes step e Stage.Tell t a h = absurd h
 not_last id func c o changes step e Stage.Close t a h = absurd (close_tells id c e (is_did t) a h)
 not_last id func c o changes step e w t a h = refl
+
+abbrev pub StepsRise : Type 0
+StepsRise = (d : Deployment) (c : Core) (m : Rows) (i : ℕ) (r : Run) (g : Begun) (a : Answer) → Sound d c m → map.get c.runs i ≡ Some r → r.at ≡ RunAt.Begins g → TellsAnswer (next_says c m r g) a → g.machine.steps < (at_once d r.id (takes d g.machine g.tx a)).0.steps
 
 pub steps_rise : StepsRise
 steps_rise d c m i r g a sound live at tells =

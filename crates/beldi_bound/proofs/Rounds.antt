@@ -1,4 +1,5 @@
 -- What a round of the intent collector says: up to where it stands, each intent that has a body and has not ended has a run.
+use Rattle.beldi_order.proofs.Maps.{same_some}
 use Rattle.std.specs.{Option.option_map, Ordering.MatchOrdering, Ordering.is_eq, Ordering.nat_cmp, Ordering.ordering_reverse, Ordering.ordering_then, Cmp.Lexicographic.slice_cmp, Cmp.ranks, FinMap.FinMap, declared.cmp.Ordering.Ordering, declared.cmp.Ordering.TheVariants.Less, declared.cmp.Ordering.TheVariants.Equal, declared.cmp.Ordering.TheVariants.Greater}
 use Rattle.std.specs.FinMap as map
 use Rattle.std.specs.declared.alloc.AllocError.{AllocError}
@@ -41,20 +42,14 @@ open_there : (k : RowKey) (r : Row) (id : IntentId) (b : Body) → IsOpen k r id
 open_there k r id b h = (λ j. open_at (h.key j) (h.row j)) ∙ (λ j. option_map (λ y. (id, y)) (if h.lasts j then None else h.has j))
 
 same_pair : (v w : IntentId × Body) → Some v ≡ Some w → v.0 ≡ w.0
-same_pair v w h = ap (λ (z : IntentId × Body). z.0) (some_is h)
-  where
-    some_is : Some v ≡ Some w → v ≡ w
-    some_is h = cc
+same_pair v w h = ap (λ (z : IntentId × Body). z.0) (same_some h)
 
 is_open : (k : RowKey) (r : Row) (x : IntentId × Body) → open_at k.kind r ≡ Some x → k.kind ≡ Kind.Intent x.0
 is_open k r x = by_row k.kind refl r
   where
     by_body : (id : IntentId) → k.kind ≡ Kind.Intent id → (o : Option Body) → option_map (λ y. (id, y)) o ≡ Some x → k.kind ≡ Kind.Intent x.0
     by_body id at None h = cc
-    by_body id at (Some y) h = subst (λ (z : IntentId × Body). k.kind ≡ Kind.Intent z.0) (some_is h) at
-      where
-        some_is : {v w : IntentId × Body} → Some v ≡ Some w → v ≡ w
-        some_is h = cc
+    by_body id at (Some y) h = subst (λ (z : IntentId × Body). k.kind ≡ Kind.Intent z.0) (same_some h) at
 
     by_row : (kind : Kind) → k.kind ≡ kind → (s : Row) → open_at kind s ≡ Some x → k.kind ≡ Kind.Intent x.0
     by_row (Kind.Intent id) at (Row.Intent i) h = by_body id at (if is_ended i then None else i.body) h
@@ -128,11 +123,8 @@ module _ (runs : FinMap nat_cmp Run) (m : Rows) (k : RowKey) (e : RowKey × Row)
     abbrev Goal : Type 0
     Goal = (has_run runs id ≡ true) ⊎ (key_cmp (passing e.0 e.0.kind) q ≡ Less)
 
-    some_is : {v w : Row} → Some v ≡ Some w → v ≡ w
-    some_is h = cc
-
     at_row : q ≡ e.0 → has_run runs id ≡ true
-    at_row same = own id b (record { intent = i; key = ap (λ (z : RowKey). z.kind) (sym same) ∙ is; row = some_is (sym least.1 ∙ ap (map.get m) (sym same) ∙ there); lasts = lasts; has = has })
+    at_row same = own id b (record { intent = i; key = ap (λ (z : RowKey). z.kind) (sym same) ∙ is; row = same_some (sym least.1 ∙ ap (map.get m) (sym same) ∙ there); lasts = lasts; has = has })
 
     at_home : (t : Bool) → q ≡ (if t then zero_key (e.0.home + 1) else e.0) → has_run runs id ≡ true
     at_home true same = let clash : None ≡ Some (Row.Intent i) = sym (first (e.0.home + 1)) ∙ ap (map.get m) (sym same) ∙ there in cc

@@ -1,5 +1,6 @@
 -- What an event of the intent collector makes of the ledger: it starts a run for a key that is taken out, or the table failed and one of
 -- its failures pays; else all is as it was.
+use Rattle.beldi_order.proofs.Maps.{same_some}
 use Rattle.std.specs.{FinMap.nat_cmp-IsAntisymmetric, Cmp.Equal-is, Cmp.nat_cmp_total, Option.option_map, Ordering.is_eq, Ordering.nat_cmp}
 use Rattle.std.specs.FinMap as map
 use Rattle.std.specs.Prelude.{IsTrue}
@@ -130,15 +131,15 @@ module _ (d : Deployment) (room : ℕ) (e : Rows) (asked : IntentId → List Ans
         by_number : (i : ℕ) (r : Run) → map.get b.runs i ≡ Some r → (n : ℕ) × (find i runs_now ≡ Some n) × IsCovered d room e asked first most past b m (without its keys) i r n
         by_number i r live = by_cases (is_eq (nat_cmp i (c.last_run + 1)))
             (λ t. let same : i ≡ c.last_run + 1 = nat_cmp-IsAntisymmetric i (c.last_run + 1) ((Equal-is (nat_cmp i (c.last_run + 1))).0 t) in
-            let own : new ≡ r = some_is (sym newest ∙ ap (map.get b.runs) (sym same) ∙ live) in
+            let own : new ≡ r = same_some (sym newest ∙ ap (map.get b.runs) (sym same) ∙ live) in
             (worth, ap (λ z. if z then Some worth else find i runs) (eq-eqb i (c.last_run + 1) same), subst (λ z. IsCovered d room e asked first most past b m (without its keys) z r worth) (sym same) (subst (λ z. IsCovered d room e asked first most past b m (without its keys) (c.last_run + 1) z worth) own new_covered)))
             (λ t. let old = sym (got i ∙ ap (λ z. cond z (Some new) (map.get c.runs i)) t) ∙ live in
             let x = h.runs_covered i r old in
             let less = numbers i r old in
             (x.0, ap (λ z. if z then Some worth else find i runs) (apart i less) ∙ x.1, covered past past c b m keys (without its keys) moved i r (midway i r old) x.0 now x.2))
           where
-            some_is : {x y : Run} → Some x ≡ Some y → x ≡ y
-            some_is w = cc
+            same_some : {x y : Run} → Some x ≡ Some y → x ≡ y
+            same_some w = cc
 
             apart : (i : ℕ) → i ≤ c.last_run → (i == (c.last_run + 1)) ≡ false
             apart i l = by_cases (i == (c.last_run + 1)) (λ t. let same = eqb-true i (c.last_run + 1) t in absurd (omega (arith, l, same))) (λ t. t)
@@ -163,10 +164,7 @@ is_open k r x = by_row k.kind refl r refl
     by_body : (id : IntentId) (i : IntentRow) → k.kind ≡ Kind.Intent id → r ≡ Row.Intent i → (b : Bool) → is_ended i ≡ b → (o : Option Body) → i.body ≡ o → option_map (λ y. (id, y)) (if b then None else o) ≡ Some x → IsOpen k r x.0 x.1
     by_body id i at is true ended o has h = cc
     by_body id i at is false lasts None has h = cc
-    by_body id i at is false lasts (Some y) has h = subst (λ (z : IntentId × Body). IsOpen k r z.0 z.1) (some_is h) (record { intent = i; key = at; row = is; lasts = lasts; has = has })
-      where
-        some_is : {v w : IntentId × Body} → Some v ≡ Some w → v ≡ w
-        some_is h = cc
+    by_body id i at is false lasts (Some y) has h = subst (λ (z : IntentId × Body). IsOpen k r z.0 z.1) (same_some h) (record { intent = i; key = at; row = is; lasts = lasts; has = has })
 
     by_row : (kind : Kind) → k.kind ≡ kind → (s : Row) → r ≡ s → open_at kind s ≡ Some x → IsOpen k r x.0 x.1
     by_row (Kind.Intent id) at (Row.Intent i) is h = by_body id i at is (is_ended i) refl i.body refl h

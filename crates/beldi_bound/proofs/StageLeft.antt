@@ -1,4 +1,5 @@
 -- What is left of an effect at any stage is at most what it costs; at a visit two turns more may be left, of a first row that is absent.
+use Rattle.beldi_order.proofs.Maps.{same_some}
 use Rattle.std.specs.Ordering.{is_eq}
 use Rattle.std.specs.Option.{option_map}
 use Rattle.std.specs.FinMap as map
@@ -54,10 +55,7 @@ module _ (m : Rows) where
       place_is h = cc
 
 behind_more : (ps hs xs : List ℕ) (s : ℕ) → behind ps hs ≡ Some xs → behind ps (hs ++ s ∷ []) ≡ Some (xs ++ s ∷ [])
-behind_more [] hs xs s h = ap (λ z. Some (z ++ s ∷ [])) (some_is h)
-  where
-    some_is : {a b : List ℕ} → Some a ≡ Some b → a ≡ b
-    some_is h = cc
+behind_more [] hs xs s h = ap (λ z. Some (z ++ s ∷ [])) (same_some h)
 behind_more (p ∷ ps) [] xs s h = cc
 behind_more (p ∷ ps) (h ∷ hs) xs s is = (elim (p == h) as (λ b. (if b then behind ps hs else None) ≡ Some xs → (if b then behind ps (hs ++ s ∷ []) else None) ≡ Some (xs ++ s ∷ [])) [
   | true ↦ λ i. behind_more ps hs xs s i

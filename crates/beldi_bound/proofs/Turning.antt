@@ -1,4 +1,5 @@
--- A turn of a live run leaves less of its effect, given that a turn at the end of a transaction does.
+-- A turn of a live run leaves less of its effect.
+use Rattle.beldi_bound.proofs.Visiting.{ends_lower, is_end}
 use Rattle.std.specs.FinMap as map
 use Rattle.std.proofs.Common.{List, ◌≡◌, ℕ, Bool, true, false, is_some, Option, None, Some, refl, ap, sym, ◌∙◌, subst}
 use Rattle.beldi_tree.specs.declared.deployment.Deployment.{Deployment}
@@ -19,17 +20,7 @@ use Rattle.beldi_laws.specs.{OneAnswer.IsBegun, Right.AtStage, Right.Knows, Righ
 use Rattle.beldi_upkeep.specs.Checked.{ShadowsAreFree, is_of_lock, is_own_note, is_shadow_note, next_says, works_on}
 use Rattle.beldi_upkeep.proofs.{Notes.knows, Notes.notes_are_own, Notes.shadow_notes_are_own, Still.called_there}
 use Rattle.beldi_bound.specs.{Ends.Sound, Left.CanWork, Left.Needs, Left.OfLock, Left.OfWrite, Left.SaysLower, Left.aside_there, Left.end_left, Left.item_there, Left.left_at, Left.stage_left}
-use Rattle.beldi_bound.proofs.{Facts.GoesOn, Facts.TurnsLower, Stages.stages_lower}
-
--- ---- what remains beside the stages of this file: those at the end of a transaction
-abbrev pub is_end : Stage → Bool
-is_end (Stage.Decide w) = true
-is_end (Stage.End v) = true
-is_end s = false
-
-abbrev pub EndsLower : Type 0
-EndsLower = (d : Deployment) (c : Core) (m e : Rows) (i : ℕ) (r : Run) (g : Begun) → Sound d c m → GoesOn (rows_after (run_asks r) c.now m) e → map.get c.runs i ≡ Some r → r.at ≡ RunAt.Begins g → is_end g.stage ≡ true
-    → SaysLower (left_at e (rows_after (run_asks r) c.now m) r.func r.id g.tx g.machine.steps g.machine.effect) (left_at e m r.func r.id g.tx g.machine.steps g.machine.effect g.stage) (next_says c m r g)
+use Rattle.beldi_bound.proofs.{Facts.TurnsLower, Stages.stages_lower}
 
 -- ---- the notes that a run may find
 of_lock : (n : Option Note) → ((w : Note) → n ≡ Some w → is_of_lock w ≡ true) → OfLock n
@@ -129,5 +120,5 @@ lowers_by d c m e i r g sound live begun apart =
     subst (λ z. SaysLower (left_at e (rows_after z c.now m) r.func r.id g.tx step f) (left_at e m r.func r.id g.tx step f g.stage) (next_says c m r g)) (sym asked)
     (subst (λ z. SaysLower (left_at e n r.func r.id g.tx step f) z (next_says c m r g)) same (stages_lower v m c.now r.id r.func g.caller g.tx (count_changes c.book) step f g.stage (has_needs d c m i r g sound live begun apart)))
 
-pub turns_lower : EndsLower → TurnsLower
-turns_lower ends d c m e i r g sound goes live begun = by_cases (is_end g.stage) (λ is. ends d c m e i r g sound goes live begun is) (λ apart. lowers_by d c m e i r g sound live begun apart)
+pub turns_lower : TurnsLower
+turns_lower d c m e i r g sound goes live begun = by_cases (is_end g.stage) (λ is. ends_lower d c m e i r g sound goes live begun is) (λ apart. lowers_by d c m e i r g sound live begun apart)

@@ -1,4 +1,6 @@
 -- What a turn of a run may come to, and that its event is one of these.
+use Rattle.beldi_known.proofs.Answers.{true_false}
+use Rattle.beldi_order.proofs.Maps.{same_some}
 use Rattle.std.specs.FinMap as map
 use Rattle.std.specs.declared.alloc.AllocError.{AllocError}
 use Rattle.std.proofs.Common.{◌≡◌, ℕ, ◌-◌, ◌^◌, ◌<◌, ◌≤◌, nat_lt, ltb-true, lt-ltb, Bool, true, false, List, Option, Some, None, Result, Ok, Err, if◌then◌else◌, refl, sym, ap, subst, ◌∙◌, arith}
@@ -67,15 +69,9 @@ module _ (d : Deployment) (room : ℕ) (e : Rows) (asked : IntentId → List Ans
         where
           none_some : {z : Run} → None ≡ Some z → ⊥
           none_some h = cc
-      by_plan (Some s) is = subst (λ z. Came (run_plan (counted c) i (Some z))) (sym (some_run is)) (either Came (nat_lt r.deadline c.now) _ _
+      by_plan (Some s) is = subst (λ z. Came (run_plan (counted c) i (Some z))) (sym (same_some is)) (either Came (nat_lt r.deadline c.now) _ _
           (λ late ev. as_it (ended_run (counted c) i) Seen.Expired m ev.0.0 ev.0.1 ev.1 (ways.expired (ltb-true r.deadline c.now late)))
-          (λ alive. by_answer (λ late. let clash : true ≡ false = sym (lt-ltb r.deadline c.now late) ∙ alive in absurd (no_bool clash))))
-        where
-          some_run : {x y : Run} → Some x ≡ Some y → x ≡ y
-          some_run h = cc
-
-          no_bool : true ≡ false → ⊥
-          no_bool h = cc
+          (λ alive. by_answer (λ late. let clash : true ≡ false = sym (lt-ltb r.deadline c.now late) ∙ alive in absurd (true_false clash))))
 
       pub by_event : EventOn d room old new (Event.Turn i) c m b n (Ok x) → Paying f (b, x) n
       by_event = either Came (nat_lt c.taken most_events) _ _ (λ t. by_plan (map.get c.runs i) live) (λ t ev. absurd (not_spent ev.0.1))

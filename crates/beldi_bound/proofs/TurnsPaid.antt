@@ -1,4 +1,5 @@
--- Each turn pays: all that is needed of it, but for what a turn lowers, and that no first turn that finds its body is over.
+-- Each turn pays, where no first turn that finds its body is over.
+use Rattle.beldi_bound.proofs.{Going.goes_then}
 use Rattle.std.specs.FinMap as map
 use Rattle.std.proofs.Common.{◌≡◌, ℕ, ◌<◌, false, List, Some}
 use Rattle.beldi_value.specs.declared.id.IntentId.{IntentId}
@@ -7,30 +8,30 @@ use Rattle.beldi_lang.specs.declared.effect.Answer.{Answer}
 use Rattle.beldi_row.specs.{Key.RowKey, Table.Rows}
 use Rattle.beldi_walk.specs.Query.{rows_after}
 use Rattle.beldi_step.specs.{Host.Core, Next.next_run, Run.run_asks, declared.run.Run.Run}
-use Rattle.beldi_upkeep.{proofs.Overs.no_turn_over, proofs.Started.started_of_it, specs.Checked.NoFirstTurnIsOver, specs.Checked.has_begun}
+use Rattle.beldi_upkeep.{proofs.Started.started_of_it, specs.Checked.NoFirstTurnIsOver, specs.Checked.has_begun}
 use Rattle.beldi_bound.specs.{Cost.AreAsked, Ends.Sound, Work.seat}
-use Rattle.beldi_bound.proofs.{Closed.closes_end, Closed.none_spared, Facts.GoesOn, Facts.TurnsLower, FirstKnown.begins_open, FirstKnown.ended_costs, FirstKnown.over_ended, FirstKnown.registers_costs, FirstStages.first_stages_are_few, FirstTurns.FirstKnows, FirstsOpen.firsts_open, Frames.Covered, Frames.ended_stays, Going.events_go_on, Knowing.begun_knows, Refusing.all_refused, Rising.steps_rise, Standing.runs_stand, StaysFull.events_stay_full, Turns.FullStays}
+use Rattle.beldi_bound.proofs.{Facts.GoesOn, FirstKnown.begins_open, FirstKnown.ended_costs, FirstKnown.over_ended, FirstKnown.registers_costs, FirstTurns.FirstKnows, Frames.Covered, Frames.ended_stays, Knowing.begun_knows, Refusing.all_refused, Turns.FullStays}
 use Rattle.beldi_bound.proofs.Ledger.{Ledger, TurnsPay, find}
-use Rattle.beldi_bound.proofs.TurnsPay.{AllTurns, both_on, turns_pay}
+use Rattle.beldi_bound.proofs.TurnsPay.{AllTurns, turns_pay}
 
 module _ (no_first : NoFirstTurnIsOver) (d : Deployment) (room : ℕ) (e : Rows) (asked : IntentId → List Answer) (first most : ℕ) (areas : AreAsked d e asked) (past i : ℕ) (c : Core) (m : Rows) (r : Run) (a : ℕ) (runs : List (ℕ × ℕ)) (keys : List RowKey) (sound : Sound d c m)
     (ledger : Ledger d room e asked first most past c m runs keys) (next : next_run c past ≡ Some i) (live : map.get c.runs i ≡ Some r) (has : find i runs ≡ Some a) (mine : Covered d room e asked first most past c m keys i r a)
     (alive : r.deadline < c.now → ⊥) (f : ℕ) (rows : GoesOn m (rows_after (run_asks r) c.now m)) (full : FullStays room m (rows_after (run_asks r) c.now m)) (goes : GoesOn (rows_after (run_asks r) c.now m) e) (yet : has_begun r.at ≡ false) where
-  pub first_knows : FirstKnows runs_stand first_stages_are_few firsts_open d room e asked first most past i c m r a runs keys sound ledger next live has mine alive f areas rows full goes
+  pub first_knows : FirstKnows d room e asked first most past i c m r a runs keys sound ledger next live has mine alive f areas rows full goes
   first_knows = record {
     open_still = λ s goes_next. begins_open d c m i r sound live yet s goes_next;
     ended = λ none looks. let over = over_ended d c m i r sound live no_first started_of_it yet none (λ at. let h = looks at in (h.body, h.there, h.func)) in
-        (ended_stays rows (seat r) over, ended_costs d c m i r sound live room e asked first most (both_on rows goes) over);
+        (ended_stays rows (seat r) over, ended_costs d c m i r sound live room e asked first most (goes_then rows goes) over);
     registers = λ b at. registers_costs d c m i r sound live room e asked first most goes b at;
   }
 
-module _ (lower : TurnsLower) (no_first : NoFirstTurnIsOver) (d : Deployment) (room : ℕ) (e : Rows) (asked : IntentId → List Answer) (first most : ℕ) where
-  all_turns : (z : Core) (sound_e : Sound d z e) (areas : AreAsked d e asked) → AllTurns events_go_on events_stay_full runs_stand first_stages_are_few lower no_turn_over started_of_it steps_rise firsts_open closes_end none_spared d room e asked first most z sound_e areas
+module _ (no_first : NoFirstTurnIsOver) (d : Deployment) (room : ℕ) (e : Rows) (asked : IntentId → List Answer) (first most : ℕ) where
+  all_turns : (z : Core) (sound_e : Sound d z e) (areas : AreAsked d e asked) → AllTurns d room e asked first most z sound_e areas
   all_turns z sound_e areas past i c m r a runs keys sound ledger next live has mine alive f rows full goes come = record {
     firsts_know = first_knows no_first d room e asked first most areas past i c m r a runs keys sound ledger next live has mine alive f rows full goes;
-    begun_know = λ g at. begun_knows no_turn_over runs_stand first_stages_are_few lower steps_rise firsts_open closes_end none_spared started_of_it d room e asked first most past i c m r a runs keys sound ledger next live has mine alive f areas rows full goes g at z sound_e come;
+    begun_know = λ g at. begun_knows d room e asked first most past i c m r a runs keys sound ledger next live has mine alive f areas rows full goes g at z sound_e come;
   }
 
   pub turns_paid : TurnsPay d room e asked first most
-  turns_paid = turns_pay events_go_on events_stay_full runs_stand first_stages_are_few lower no_turn_over started_of_it steps_rise firsts_open closes_end none_spared d room e asked first most
-      (all_refused events_go_on events_stay_full runs_stand first_stages_are_few lower no_turn_over started_of_it steps_rise firsts_open closes_end none_spared d room e asked first most) all_turns
+  turns_paid = turns_pay d room e asked first most
+      (all_refused d room e asked first most) all_turns

@@ -1,7 +1,9 @@
 -- A turn of the least live run past a number keeps the ledger, and where it does not wait the total falls by one at least.
+use Rattle.beldi_known.proofs.Begins.{false_true}
+use Rattle.beldi_bound.proofs.{Going.events_go_on, StaysFull.events_stay_full}
+use Rattle.beldi_bound.proofs.Going.{goes_same, goes_then}
 use Rattle.std.specs.FinMap as map
-use Rattle.std.specs.declared.alloc.AllocError.{AllocError}
-use Rattle.std.proofs.Common.{◌≡◌, ℕ, ◌-◌, ◌^◌, ◌<◌, ◌≤◌, true, false, List, Some, is_some, Result, Ok, Err, refl, sym, ap, subst, ◌∙◌}
+use Rattle.std.proofs.Common.{◌≡◌, ℕ, ◌-◌, ◌^◌, ◌<◌, ◌≤◌, true, false, List, Some, is_some, Ok, Err, refl, sym, ap, subst, ◌∙◌}
 use Rattle.beldi_value.specs.{declared.id.IntentId.IntentId}
 use Rattle.beldi_tree.specs.declared.deployment.Deployment.{Deployment}
 use Rattle.beldi_lang.specs.declared.effect.{Answer.Answer}
@@ -10,19 +12,14 @@ use Rattle.beldi_walk.specs.Query.{CameOn, rows_after}
 use Rattle.beldi_call.specs.declared.async_call.AsyncAt.{AsyncAt}
 use Rattle.beldi_known.proofs.Cases.{by_option}
 use Rattle.beldi_step.specs.{Host.Core, Host.EventOn, Host.counted, Host.ended_run, Host.turn_next, Next.next_run, Run.run_asks, declared.event.Event.Event, declared.event.Seen.Seen, declared.run.Begun.Begun, declared.run.Run.Run, declared.run.RunAt.RunAt, declared.run.Stage.Stage}
-use Rattle.beldi_upkeep.specs.Checked.{NoTurnIsOver, StartedRootsAreOfIt, has_begun, next_turn}
+use Rattle.beldi_upkeep.specs.Checked.{has_begun, next_turn}
 use Rattle.beldi_bound.specs.{Cost.AreAsked, Ends.Sound, Work.has_ended, Work.seat}
-use Rattle.beldi_bound.proofs.{Begun.BegunKnows, Begun.ClosesEnd, Begun.FirstsAreOpen, Begun.NoneIsSpared, Begun.StepsRise, Begun.begun_so, Ending.expired, Ending.failed, Ending.goes_same, Ending.waits, Facts.EventsGoOn, Facts.FirstStagesAreFew, Facts.GoesOn, Facts.RunsStand, Facts.TurnsLower, FirstTurns.FirstKnows, FirstTurns.first_so, Numbers.IsLeast, ResultsCome.ResultsCome, Numbers.next_least}
+use Rattle.beldi_bound.proofs.{Begun.BegunKnows, Begun.begun_so, Ending.expired, Ending.failed, Ending.waits, Facts.GoesOn, FirstTurns.FirstKnows, FirstTurns.first_so, Numbers.IsLeast, ResultsCome.ResultsCome, Numbers.next_least}
 use Rattle.beldi_bound.proofs.Ledger.{Ledger, TurnsPay, find}
 use Rattle.beldi_bound.proofs.Frames.{Cost, Covered, Mid}
 use Rattle.beldi_bound.proofs.Turns.{FullStays, Paying, Ways, by_event}
 
--- an event adds no row where there is no room for one
-abbrev pub EventsStayFull : Type 0
-EventsStayFull = (d : Deployment) (room old new : ℕ) (e : Event) (c b : Core) (m n : Rows) (r : Result Seen AllocError) → EventOn d room old new e c m b n r → FullStays room m n
-
-module _ (goes_on : EventsGoOn) (stays_full : EventsStayFull) (stand : RunsStand) (few : FirstStagesAreFew) (lower : TurnsLower) (no_over : NoTurnIsOver) (of_it : StartedRootsAreOfIt) (rise : StepsRise) (firsts : FirstsAreOpen) (closes : ClosesEnd) (spared : NoneIsSpared)
-    (d : Deployment) (room : ℕ) (e : Rows) (asked : IntentId → List Answer) (first most : ℕ) (z : Core) (sound_e : Sound d z e) (areas : AreAsked d e asked) where
+module _ (d : Deployment) (room : ℕ) (e : Rows) (asked : IntentId → List Answer) (first most : ℕ) (z : Core) (sound_e : Sound d z e) (areas : AreAsked d e asked) where
   module _ (past i : ℕ) (c : Core) (m : Rows) (r : Run) (a : ℕ) (runs : List (ℕ × ℕ)) (keys : List RowKey) (sound : Sound d c m)
       (ledger : Ledger d room e asked first most past c m runs keys) (next : next_run c past ≡ Some i) (live : map.get c.runs i ≡ Some r) (has : find i runs ≡ Some a) (mine : Covered d room e asked first most past c m keys i r a) where
     -- what is known of the rows where the run is refused ..
@@ -32,8 +29,8 @@ module _ (goes_on : EventsGoOn) (stays_full : EventsStayFull) (stand : RunsStand
 
     -- .. and where it has its turn
     pub record Turns (alive : r.deadline < c.now → ⊥) (f : ℕ) (rows : GoesOn m (rows_after (run_asks r) c.now m)) (full : FullStays room m (rows_after (run_asks r) c.now m)) (goes : GoesOn (rows_after (run_asks r) c.now m) e) : Type 0 where
-      pub firsts_know : has_begun r.at ≡ false → FirstKnows stand few firsts d room e asked first most past i c m r a runs keys sound ledger next live has mine alive f areas rows full goes
-      pub begun_know : (g : Begun) (at : r.at ≡ RunAt.Begins g) → BegunKnows no_over stand few lower rise firsts closes spared of_it d room e asked first most past i c m r a runs keys sound ledger next live has mine alive f areas rows full goes g at
+      pub firsts_know : has_begun r.at ≡ false → FirstKnows d room e asked first most past i c m r a runs keys sound ledger next live has mine alive f areas rows full goes
+      pub begun_know : (g : Begun) (at : r.at ≡ RunAt.Begins g) → BegunKnows d room e asked first most past i c m r a runs keys sound ledger next live has mine alive f areas rows full goes g at
 
     module _ (old new : ℕ) (b : Core) (n : Rows) (x : Seen) (sb : Sound d b n) (goes : GoesOn n e) (come : ResultsCome n e) (fewer : new < 2 ^ 64 - 1) (event : EventOn d room old new (Event.Turn i) c m b n (Ok x)) (not_spent : x ≡ Seen.Spent → ⊥) (refused : Refused)
         (turns : (alive : r.deadline < c.now → ⊥) (f : ℕ) (rows : GoesOn m (rows_after (run_asks r) c.now m)) (full : FullStays room m (rows_after (run_asks r) c.now m)) (goes : GoesOn (rows_after (run_asks r) c.now m) e) → ResultsCome (rows_after (run_asks r) c.now m) e → Turns alive f rows full goes) where
@@ -57,12 +54,12 @@ module _ (goes_on : EventsGoOn) (stays_full : EventsStayFull) (stand : RunsStand
           its = turns alive (new - old) here.0 here.1 here.2 here.3
 
           at_first : has_begun r.at ≡ false → Paying d room e asked first most past i c m r runs keys (new - old) (turn_next (counted c) i r (next_turn d c m r)) N
-          at_first yet = first_so stand few firsts d room e asked first most past i c m r a runs keys sound ledger next live has mine alive (new - old) areas here.0 here.1 here.2 (its.firsts_know yet) yet sb2
+          at_first yet = first_so d room e asked first most past i c m r a runs keys sound ledger next live has mine alive (new - old) areas here.0 here.1 here.2 (its.firsts_know yet) yet sb2
 
           by_at : (x : RunAt) → r.at ≡ x → Paying d room e asked first most past i c m r runs keys (new - old) (turn_next (counted c) i r (next_turn d c m r)) N
           by_at RunAt.Looks at = at_first (ap has_begun at)
           by_at (RunAt.Registers w) at = at_first (ap has_begun at)
-          by_at (RunAt.Begins g) at = begun_so no_over stand few lower rise firsts closes spared of_it d room e asked first most past i c m r a runs keys sound ledger next live has mine alive (new - old) areas here.0 here.1 here.2 g at (its.begun_know g at) sb2
+          by_at (RunAt.Begins g) at = begun_so d room e asked first most past i c m r a runs keys sound ledger next live has mine alive (new - old) areas here.0 here.1 here.2 g at (its.begun_know g at) sb2
 
       ways : Ways d room e asked first most past i c m r runs keys (new - old) live Went
       ways = record {
@@ -73,7 +70,7 @@ module _ (goes_on : EventsGoOn) (stays_full : EventsStayFull) (stand : RunsStand
       }
 
       went : Went n
-      went = (goes_on d room old new (Event.Turn i) c b m n (Ok x) event, stays_full d room old new (Event.Turn i) c b m n (Ok x) event, goes, come)
+      went = (events_go_on d room old new (Event.Turn i) c b m n (Ok x) event, events_stay_full d room old new (Event.Turn i) c b m n (Ok x) event, goes, come)
 
       pub pays_so : Paying d room e asked first most past i c m r runs keys (new - old) (b, x) n
       pays_so = by_event d room e asked first most past i c m r runs keys (new - old) live old new fewer b n x not_spent sb Went went ways refl event
@@ -90,34 +87,14 @@ module _ (goes_on : EventsGoOn) (stays_full : EventsStayFull) (stand : RunsStand
       (alive : r.deadline < c.now → ⊥) (f : ℕ) (rows : GoesOn m (rows_after (run_asks r) c.now m)) (full : FullStays room m (rows_after (run_asks r) c.now m)) (goes : GoesOn (rows_after (run_asks r) c.now m) e) → ResultsCome (rows_after (run_asks r) c.now m) e
       → Turns past i c m r a runs keys sound ledger next live has mine alive f rows full goes
 
-pub both_on : {m n k : Rows} → GoesOn m n → GoesOn n k → GoesOn m k
-both_on p q = record {
-  keys = λ l h. q.keys l (p.keys l h);
-  intents = λ l i is. let j = p.intents l i is in let z = q.intents l j.0 j.1 in (
-    z.0,
-    z.1,
-    record {
-      issued = z.2.issued ∙ j.2.issued;
-      body = λ b h. z.2.body b (j.2.body b h);
-      outcome = λ o h. z.2.outcome o (j.2.outcome o h);
-      finish = λ t h. z.2.finish t (j.2.finish t h);
-    },
-  );
-  answers = λ id func step x f a held. q.answers id func step x f a (p.answers id func step x f a held);
-}
-
-module _ (goes_on : EventsGoOn) (stays_full : EventsStayFull) (stand : RunsStand) (few : FirstStagesAreFew) (lower : TurnsLower) (no_over : NoTurnIsOver) (of_it : StartedRootsAreOfIt) (rise : StepsRise) (firsts : FirstsAreOpen) (closes : ClosesEnd) (spared : NoneIsSpared)
-    (d : Deployment) (room : ℕ) (e : Rows) (asked : IntentId → List Answer) (first most : ℕ)
-    (refused : (z : Core) (sound_e : Sound d z e) (areas : AreAsked d e asked) → AllRefused goes_on stays_full stand few lower no_over of_it rise firsts closes spared d room e asked first most z sound_e areas)
-    (turns : (z : Core) (sound_e : Sound d z e) (areas : AreAsked d e asked) → AllTurns goes_on stays_full stand few lower no_over of_it rise firsts closes spared d room e asked first most z sound_e areas) where
+module _ (d : Deployment) (room : ℕ) (e : Rows) (asked : IntentId → List Answer) (first most : ℕ)
+    (refused : (z : Core) (sound_e : Sound d z e) (areas : AreAsked d e asked) → AllRefused d room e asked first most z sound_e areas)
+    (turns : (z : Core) (sound_e : Sound d z e) (areas : AreAsked d e asked) → AllTurns d room e asked first most z sound_e areas) where
   pub turns_pay : TurnsPay d room e asked first most
   turns_pay past old new i c b m n x runs keys z sound sb sound_e areas goes come fewer next event not_spent ledger =
       let l = subst (IsLeast c.runs past) next (next_least c past) in
-      by_option (map.get c.runs i) (λ none. let clash : false ≡ true = sym (ap is_some none) ∙ l.1 in absurd (no_bool clash)) (λ r live.
+      by_option (map.get c.runs i) (λ none. let clash : false ≡ true = sym (ap is_some none) ∙ l.1 in absurd (false_true clash)) (λ r live.
       let k = ledger.runs_covered i r live in
-      pays_so goes_on stays_full stand few lower no_over of_it rise firsts closes spared d room e asked first most z sound_e areas past i c m r k.0 runs keys sound ledger next live k.1 k.2 old new b n x sb goes come fewer event not_spent
-      (refused z sound_e areas past i c m r k.0 runs keys sound ledger next live k.1 k.2 (both_on (goes_on d room old new (Event.Turn i) c b m n (Ok x) event) goes))
+      pays_so d room e asked first most z sound_e areas past i c m r k.0 runs keys sound ledger next live k.1 k.2 old new b n x sb goes come fewer event not_spent
+      (refused z sound_e areas past i c m r k.0 runs keys sound ledger next live k.1 k.2 (goes_then (events_go_on d room old new (Event.Turn i) c b m n (Ok x) event) goes))
       (λ alive f rows full along results. turns z sound_e areas past i c m r k.0 runs keys sound ledger next live k.1 k.2 alive f rows full along results))
-    where
-      no_bool : false ≡ true → ⊥
-      no_bool h = cc

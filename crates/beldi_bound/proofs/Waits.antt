@@ -5,62 +5,27 @@ use Rattle.std.proofs.Common.{Bool, List, None, Option, Some, ap, arith, false, 
 use Rattle.std.specs.Option.{option_map}
 use Rattle.std.specs.Prelude.{option_and_then}
 use Rattle.beldi_value.specs.{Id.age_of, Id.child_of, Id.is_older, Passes.passes, declared.id.IntentId.IntentId, declared.outcome.Outcome.Outcome, declared.place.Caller.Caller, declared.place.Owner.Owner, declared.place.Place.Place, declared.place.TxId.TxId, declared.value.Value.Value}
-use Rattle.beldi_tree.specs.{Names.func_at, declared.deployment.Deployment.Deployment, declared.deployment.Func.Func}
-use Rattle.beldi_lang.specs.{Callee.answer_of, Machine.begun as machine_begun, declared.effect.Answer.Answer, declared.effect.Effect.Effect, declared.machine.Machine.Machine}
+use Rattle.beldi_tree.specs.{declared.deployment.Deployment.Deployment}
+use Rattle.beldi_lang.specs.{Callee.answer_of, declared.effect.Answer.Answer, declared.effect.Effect.Effect}
 use Rattle.beldi_book.specs.Order.{count_changes}
 use Rattle.beldi_plain.specs.{Item.Item, Operation.OnItem, Operation.item_in, Operation.op_of}
-use Rattle.beldi_row.specs.{Act.Tell, Act.act, Act.at_tail, Act.died, Act.cond_to, Act.did, Act.entered, Act.given_or, Act.held, Act.held_or, Act.if_owned, Act.next_or, Act.noted_or, Act.not_owner, Act.other_owner, Act.owned_or, Act.owns, Act.unless_held, Act.waits_for, Log.note_at, Log.owner_eq, Table.Rows, declared.act.Act.Act, declared.notes.Note.Note, declared.row.Body.Body, declared.row.Cell.Cell, declared.row.Row.Row}
+use Rattle.beldi_row.specs.{Act.Tell, Act.act, Act.at_tail, Act.died, Act.cond_to, Act.did, Act.entered, Act.given_or, Act.held, Act.held_or, Act.if_owned, Act.next_or, Act.noted_or, Act.not_owner, Act.other_owner, Act.owned_or, Act.owns, Act.unless_held, Act.waits_for, Log.note_at, Log.owner_eq, Table.Rows, declared.act.Act.Act, declared.notes.Note.Note, declared.row.Cell.Cell, declared.row.Row.Row}
 use Rattle.beldi_walk.specs.Query.{Told, said, told_by}
 use Rattle.beldi_daal.specs.{Cell.cell_goes, Cell.cell_key, Cell.done_note, Cell.got_or_held, Cell.op_act, Cell.read_goes, Cell.write_asks, Cell.write_goes, Content.SoundAt, Content.content_in, declared.cell.CellOp.CellOp, declared.cell.WriteAt.WriteAt, declared.cell.WriteAt.TheVariants.Make, declared.cell.WriteAt.TheVariants.Try, declared.cell.WriteGoes.WriteGoes}
 use Rattle.beldi_lock.specs.{Lock.item_goes, declared.lock.LockAt.LockAt}
 use Rattle.beldi_invokelog.specs.{InvokeLog.call_in, InvokeLog.invoke_key, InvokeLog.result_in, InvokeLog.result_of, InvokeLog.back_of, declared.invoke_log.Back.Back}
 use Rattle.beldi_readlog.specs.ReadLog.{given_in, given_of, log_key}
-use Rattle.beldi_intent.specs.Intent.{body_told, is_did, look_asks}
+use Rattle.beldi_intent.specs.Intent.{is_did, look_asks}
 use Rattle.beldi_txn.specs.{End.end_goes, End.first_visit, Tx.lock_leads, Tx.item_of, Tx.tx_asks, Tx.tx_goes, TxTurn.Fits, declared.end.EndGoes.EndGoes, declared.end.Visit.Visit, declared.tx.TxAt.TxAt, declared.tx.TxGoes.TxGoes}
 use Rattle.beldi_call.specs.{Async.async_asks, Async.async_says, Call.call_asks, Call.call_says, declared.async_call.AsyncAt.AsyncAt, declared.async_call.AsyncSays.AsyncSays, declared.call.CallAt.CallAt}
-use Rattle.beldi_step.specs.{declared.run.Begun.Begun, declared.run.Mark.Mark, declared.run.Run.Run, declared.run.RunAt.RunAt, declared.run.RunTx.RunTx, declared.run.Says.Says, declared.run.Stage.Stage, declared.run.Wait.Wait, Host.Core, Noted.noted_answer}
-use Rattle.beldi_step.specs.Run.{ask_says, asks_at as run_asks_at, async_answer, at_once, back_says, begin_in, begin_of, body_registered, call_answer, callee_body, cell_op, close_says, decided_says, done_says, first_stage, goes_from, goes_to, note_of_op, own_tx, place_of, put_answer, put_asks, put_says, stage_asks, stage_says, takes, told_at, turned_by, tx_at, tx_of, tx_says, visit_says, walk_says, within, write_says, OnCell}
+use Rattle.beldi_step.specs.{declared.run.Begun.Begun, declared.run.Mark.Mark, declared.run.Run.Run, declared.run.RunTx.RunTx, declared.run.Says.Says, declared.run.Stage.Stage, declared.run.Wait.Wait, Host.Core, Noted.noted_answer}
+use Rattle.beldi_step.specs.Run.{ask_says, async_answer, back_says, begin_of, call_answer, callee_body, cell_op, close_says, decided_says, done_says, note_of_op, own_tx, place_of, put_answer, put_asks, put_says, stage_asks, stage_says, tx_at, tx_of, tx_says, visit_says, walk_says, write_says, OnCell}
 use Rattle.beldi_order.proofs.Maps.{same_some}
 use Rattle.beldi_known.specs.{Contents.content_of, Contents.head_key, Operations.cell_of, Stands.held_answer, Stands.told_by as note_told}
 use Rattle.beldi_known.proofs.Cases.{by_option}
 use Rattle.beldi_laws.specs.Right.{AtStage, Knows, Right}
-use Rattle.beldi_upkeep.specs.Checked.{next_says, next_turn}
+use Rattle.beldi_upkeep.specs.Checked.{next_says}
 use Rattle.beldi_upkeep.proofs.Overs.{its_cell}
-
--- ---- a run that waits has begun
-goes_never : (r : Run) (s : Machine × Option RunTx) (c : Option Caller) (m : Option Mark) (w : Option Stage) → (goes_from r s c m w).wait ≡ None
-goes_never r s c m None = refl
-goes_never r s c m (Some w) = refl
-
-goes_to_never : (d : Deployment) (r : Run) (s : Machine × Option RunTx) (c : Option Caller) (m : Option Mark) → (goes_to d r s c m).wait ≡ None
-goes_to_never d r s c m = let z = at_once d r.id s in goes_never r z c m (first_stage r.id c z.1 z.0.steps z.0.effect)
-
-begins_never : (d : Deployment) (r : Run) (f : Option Func) (b : Option Body) → (begin_in d r f b).wait ≡ None
-begins_never d r f None = refl
-begins_never d r None (Some b) = refl
-begins_never d r (Some f) (Some b) = goes_to_never d r (machine_begun d r.func b.args (is_some b.tx), within b.tx) b.from None
-
-turn_waits : (d : Deployment) (r : Run) (g : Begun) (s : Says) (w : Wait) → (turned_by d r g s).wait ≡ Some w → s ≡ Says.Waits w
-turn_waits d r g (Says.On z m) w is = cc
-turn_waits d r g Says.Stays w is = cc
-turn_waits d r g (Says.Opens m) w is = cc
-turn_waits d r g (Says.Waits v) w is = cc
-turn_waits d r g (Says.Starts a) w is = let clash = sym (goes_to_never d r (takes d g.machine g.tx a) g.caller None) ∙ is in cc
-turn_waits d r g (Says.Answers a m) w is = let clash = sym (goes_to_never d r (takes d g.machine g.tx a) g.caller m) ∙ is in cc
-turn_waits d r g (Says.Ends m o) w is = cc
-
-pub record BegunWait (c : Core) (m : Rows) (r : Run) (w : Wait) : Type 0 where
-  pub begun : Begun
-  pub at : r.at ≡ RunAt.Begins begun
-  pub says : next_says c m r begun ≡ Says.Waits w
-
-pub waits_begun : (d : Deployment) (c : Core) (m : Rows) (r : Run) (w : Wait) → (next_turn d c m r).wait ≡ Some w → BegunWait c m r w
-waits_begun d c m r w = by_at r.at refl
-  where
-    by_at : (a : RunAt) → r.at ≡ a → (told_at d (count_changes c.book) r a (told_by (run_asks_at r a) c.now m)).wait ≡ Some w → BegunWait c m r w
-    by_at RunAt.Looks at is = let clash = sym (begins_never d r (func_at d r.func) (body_told r.func (told_by (run_asks_at r RunAt.Looks) c.now m))) ∙ is in cc
-    by_at (RunAt.Registers b) at is = let clash = sym (begins_never d r (func_at d r.func) (body_registered r.func b (told_by (run_asks_at r (RunAt.Registers b)) c.now m))) ∙ is in cc
-    by_at (RunAt.Begins g) at is = record { begun = g; at = at; says = turn_waits d r g (next_says c m r g) w is }
 
 -- ---- an act on a cell that tells an owner
 noted_held : (c : Cell) (o : Option Note) (r : Cell × Tell) (w : Owner) → (noted_or c o r).1 ≡ held w → (o ≡ None) × (r.1 ≡ held w)

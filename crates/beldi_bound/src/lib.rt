@@ -21,7 +21,7 @@
 //!   `Frames`; `Costs`, `Falls`, `StageLeft` what amounts are worth; `Turns`, `FirstTurns`, `Ending`, `GoingOn`, `Waited`, `Begun`,
 //!   `Refusing`, `Rising`, `Closed`, `FirstsOpen`, `FirstKnown`, `Bodies`, `Saying`, `Calling`, `Knowing`, `Nexts`, `StaysFull`,
 //!   `ResultsCome`, `Coming`, `Bringing` a turn, by case; `TurnsPay`, `TurnsPaid` each turn; `RoundsPay` each event of the collector;
-//!   `Starting`, `Few`, `SoundOn` the whole.
+//!   `Starting`, `Few` the whole.
 //! - Ends: `Going` what events leave of rows; `Soundly` that the host stays so; `Numbers`, `Parked`, `Rounds`, `Machine` what is so at the end;
 //!   `Used`, `Ended`; `Chain`, `Waits`, `NoLocks`, `Fronts`, `Causes` why all wait; `LogRows`, `Lates`, `Steps`, `Followed` that a
 //!   late run is followed.
