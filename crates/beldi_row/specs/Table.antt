@@ -1,9 +1,9 @@
 -- The rows of a table as a map, and what a call of a table does.
-use Rattle.std.specs.Prelude.{◌≡◌, ℕ, ◌+◌, ◌-◌, ◌^◌, ◌≤◌, ◌<◌, ◌⊎◌, min, Bool, not, ◌&&◌, is_some, List, [], ◌∷◌, Option, Some, None, Result, Ok, Err, if◌then◌else◌, IsTrue, IsErrOf}
+use Rattle.std.specs.Prelude.{◌≡◌, ℕ, ◌+◌, ◌-◌, ◌^◌, ◌≤◌, ◌<◌, ◌⊎◌, min, Bool, false, not, ◌&&◌, ◌||◌, is_some, IfSome, List, [], ◌∷◌, Option, Some, None, Result, Ok, Err, if◌then◌else◌, IsTrue, IsErrOf}
 use Rattle.std.specs.{FinMap.FinMap, Option.option_map, Ordering.is_lt, declared.cmp.Ordering.TheVariants.Less}
 use denote.Bor.{Bor}
 use Rattle.std.specs.FinMap as map
-use Rattle.beldi_row.specs.{Key.RowKey, Key.key_cmp, Act.Tell, Act.act, Act.off, Act.tell_of, declared.row.Row.Row, declared.act.Act.Act, declared.act.Said.Said, declared.table.TableErr.TableErr, declared.table.TableErr.TheVariants.OutOfMemory, declared.table.TableErr.TheVariants.Failed, declared.table.TableErr.TheVariants.Full}
+use Rattle.beldi_row.specs.{Key.RowKey, Key.key_cmp, Act.Tell, Act.act, Act.off, Act.tell_of, declared.key.Kind.Kind, declared.row.Row.Row, declared.act.Act.Act, declared.act.Said.Said, declared.table.Opens.Opens, declared.table.TableErr.TableErr, declared.table.TableErr.TheVariants.OutOfMemory, declared.table.TableErr.TheVariants.Failed, declared.table.TableErr.TheVariants.Full}
 
 abbrev pub Rows : Type 0
 Rows = FinMap key_cmp Row
@@ -138,6 +138,27 @@ pub record Went (k : RowKey) (old new : TableState) (result : Result (Option (Bo
   pub cause : HasCause old.faults new.faults result
   pub room : new.room ≡ old.room
   pub calls : OneCall old.calls new.calls
+
+-- the row of an intent that has something to do, and neither an outcome nor a finish
+abbrev pub is_open : Kind → Row → Bool
+is_open (Kind.Intent id) (Row.Intent i) = is_some i.body && not (is_some i.outcome || is_some i.finish)
+is_open k r = false
+
+-- no open intent has a key past k; or none between two keys
+abbrev pub NoneOpen : Rows → RowKey → Type 0
+NoneOpen m k = (q : RowKey) (r : Row) → key_cmp k q ≡ Less → map.get m q ≡ Some r → is_open q.kind r ≡ false
+
+abbrev pub NoneOpenTo : Rows → RowKey → RowKey → Type 0
+NoneOpenTo m k end = (q : RowKey) (r : Row) → key_cmp k q ≡ Less → key_cmp q end ≡ Less → map.get m q ≡ Some r → is_open q.kind r ≡ false
+
+-- what a table says of the open intents past a key
+abbrev pub OpensOn : RowKey → Opens → Rows → Type 0
+OpensOn k Opens.Untold m = Unit {0}
+OpensOn k Opens.None m = NoneOpen m k
+OpensOn k (Opens.First q) m = NoneOpenTo m k q.now
+
+abbrev pub OpensTold : RowKey → Opens → Option Rows → Type 0
+OpensTold k o told = IfSome told (OpensOn k o)
 
 -- the one room that a table is given, 0 where it is given none
 abbrev pub room_of : List ℕ → ℕ

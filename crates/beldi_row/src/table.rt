@@ -2,7 +2,8 @@
 ghost use Rattle.std.specs.Prelude.{⊤};
 ghost use Rattle.std.specs.Borrow.{sem, follows_so};
 ghost use mathlib.Core.Option.{none};
-ghost use Rattle.beldi_row.specs.Table.{TableState, Acted, Went, Readied, IsCount};
+ghost use Rattle.beldi_row.specs.Table.{TableState, Acted, Went, Readied, IsCount, OpensTold};
+ghost use Rattle.beldi_row.specs.declared.table.Opens.TheVariants.{Untold};
 
 use crate::act::{Act, Said};
 use crate::key::RowKey;
@@ -36,6 +37,17 @@ impl From<AllocError> for TableErr {
     }
 }
 
+/// What a table says of open intents: those that have something to do, and neither an outcome nor a finish.
+#[derive(Drop)]
+pub enum Opens<'a> {
+    /// It does not say.
+    Untold,
+    /// None has a key past the one that was asked for.
+    None,
+    /// None has a key past that one and before this one.
+    First(&'a RowKey),
+}
+
 /// A table of rows, ordered by their keys.
 pub trait Table {
     /// What contracts see of it: its rows, its failures, its room, and how many calls of `act` and `next` it has had.
@@ -61,4 +73,12 @@ pub trait Table {
     fn next(&mut self, after: &RowKey) -> Result<Option<(&RowKey, &Row)>, TableErr>
         ensures* went { sem 𝓛 (follows_so Self.row Self.row self.entry.ghost_name none (λ _ _. ⊤) (λ now.
             Went after.now (state self.entry.now) (state now) result)) };
+
+    /// The open intents past a key, where the table keeps them in order beside its rows: then whoever looks for one need not
+    /// go from row to row. It counts no call.
+    fn opens(&self, _after: &RowKey) -> Opens<'_>
+        ensures { OpensTold _after.now result (state self.entry.now).rows }
+    {
+        Opens::Untold
+    }
 }

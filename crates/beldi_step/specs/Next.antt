@@ -1,7 +1,9 @@
--- What a host is asked for between two events: its least live run past a number, and that the intent collector begins anew.
-use Rattle.std.specs.Prelude.{ℕ, nat_lt, List, [], ◌∷◌, Option, Some, None, if◌then◌else◌}
+-- What a host is asked for between two events: its least live run past a number, and that the intent collector begins anew, or goes on past
+-- rows that are of no open intent.
+use Rattle.std.specs.Prelude.{◌≡◌, ℕ, nat_lt, false, List, [], ◌∷◌, Option, Some, None, if◌then◌else◌}
 use Rattle.std.specs.FinMap as map
-use Rattle.beldi_row.specs.Key.{least_key}
+use Rattle.std.specs.declared.cmp.Ordering.TheVariants.{Less}
+use Rattle.beldi_row.specs.{Key.RowKey, Key.key_cmp, Key.least_key, declared.row.Row.Row, Table.Rows, Table.is_open}
 use Rattle.beldi_step.specs.Host.{Core}
 use Rattle.beldi_step.specs.declared.run.Run.{Run}
 
@@ -17,3 +19,11 @@ next_run c i = first_past i (map.entries c.runs)
 -- the intent collector stands before all rows
 abbrev pub reset : Core → Core
 reset c = record c { cursor = least_key }
+
+-- .. or at a key
+abbrev pub at_key : RowKey → Core → Core
+at_key k c = record c { cursor = k }
+
+-- no open intent has a key past one of these, up to the other
+pub record PassesNoOpen (m : Rows) (k q : RowKey) : Type 0 where
+  pub none : (e : RowKey) (r : Row) → key_cmp k e ≡ Less → (key_cmp q e ≡ Less → ⊥) → map.get m e ≡ Some r → is_open e.kind r ≡ false

@@ -1,2 +1,3 @@
 pub mod FailingTable
 pub mod MapTable
+pub mod Opened

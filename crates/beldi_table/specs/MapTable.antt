@@ -21,5 +21,10 @@ ChangedOn a now k room m n r (Err (Full live most)) = (n ≡ m) × IsFull a now 
 -- an act on the row with a key: it was done so; or there is no row, and the act is given back; or the rows are as before
 abbrev pub Tries : Act → ℕ → RowKey → MapTable → MapTable → Result Tried TableErr → Type 0
 Tries a now k s t (Ok (Done c)) = ChangedOn a now k s.room (rows_of s) (rows_of t) (map.get (rows_of t) k) (Ok c)
-Tries a now k s t (Ok (Absent b)) = (b ≡ a) × (t ≡ s) × (map.get (rows_of s) k ≡ None)
+Tries a now k s t (Ok (Absent b)) = (b ≡ a) × (rows_of t ≡ rows_of s) × (map.get (rows_of s) k ≡ None)
 Tries a now k s t (Err e) = (rows_of t ≡ rows_of s) × (e ≡ OutOfMemory)
+
+-- a row is added; out of memory, the rows are as before
+abbrev pub Put : RowKey → Row → Rows → Rows → Result Unit TableErr → Type 0
+Put k r m n (Ok u) = n ≡ map.insert m k r
+Put k r m n (Err e) = (n ≡ m) × (e ≡ OutOfMemory)

@@ -4,19 +4,27 @@ ghost use Rattle.std.specs.Option.{option_copied};
 ghost use Rattle.std.specs.FinMap as map;
 ghost use Rattle.beldi_row.specs.Act.{said_by};
 ghost use Rattle.beldi_row.specs.Table.{room_of};
+ghost use Rattle.beldi_table.specs.Opened.{Indexed};
 
-use beldi_row::{Act, Change, Row, RowKey, Said, Table, TableErr, apply, made, missing, tell};
+use crate::open_keys::{binds, follow, forget_if, is_open, note_if, switches};
+use beldi_row::{
+    Act, Change, Opens, Row, RowKey, Said, Table, TableErr, apply, made, missing, tell,
+};
 use beldi_value::or_drop;
 use std::alloc::Global;
-use std::collections::BTreeMap;
+use std::collections::{BTreeMap, BTreeSet};
+use std::mem;
 use std::ops::Bound;
 
-/// A table that never fails. It tells its rows, and counts no calls.
+/// A table that never fails. It tells its rows, and counts no calls. It keeps the keys of its open intents beside them, so
+/// that `opens` need not go from row to row.
 #[derive(Drop)]
 pub struct MapTable {
     alloc: Global,
     rows: BTreeMap<RowKey, Row>,
+    open_keys: BTreeSet<RowKey>,
     room: u32,
+    ghost indexed: { Indexed rows open_keys },
 }
 
 // A number of rows as it is answered.
@@ -46,7 +54,7 @@ enum Tried {
 }
 
 impl MapTable {
-    ghost use Rattle.beldi_table.specs.MapTable.{rows_of, ChangedOn, Tries};
+    ghost use Rattle.beldi_table.specs.MapTable.{rows_of, ChangedOn, Tries, Put};
 
     /// A table without rows and without room for any.
     pub fn new(alloc: Global) -> MapTable
@@ -56,6 +64,7 @@ impl MapTable {
         MapTable {
             alloc,
             rows: BTreeMap::new(alloc),
+            open_keys: BTreeSet::new(alloc),
             room: 0,
         }
     }
@@ -66,13 +75,24 @@ impl MapTable {
         ensures room { self.new.room ≡ self.old.room }
     {
         if let Act::Look = act {
+            // It owns nothing.
+            mem::forget(act);
             return Ok(Tried::Done(Change::Row));
         }
         match self.rows.get_mut(key) {
-            Some(row) => match apply(row, act, now) {
-                Ok(change) => Ok(Tried::Done(change)),
-                Err(why) => Err(why),
-            },
+            Some(row) => {
+                let switched = switches(&act);
+                if !note_if(&mut self.open_keys, self.alloc, key, binds(&act)) {
+                    drop(act);
+                    return Err(TableErr::OutOfMemory);
+                }
+                let applied = apply(row, act, now);
+                follow(&mut self.open_keys, key, row, switched);
+                match applied {
+                    Ok(change) => Ok(Tried::Done(change)),
+                    Err(why) => Err(why),
+                }
+            }
             None => Ok(Tried::Absent(act)),
         }
     }
@@ -115,23 +135,46 @@ impl MapTable {
                         room: self.room,
                     });
                 }
-                match self.rows.insert(key, row) {
-                    Ok(replaced) => {
-                        drop(replaced);
-                        Ok(said)
-                    }
-                    Err(failed) => {
-                        drop(failed);
-                        Err(TableErr::OutOfMemory)
-                    }
+                match self.put(key, row) {
+                    Ok(()) => Ok(said),
+                    Err(why) => Err(why),
                 }
+            }
+        }
+    }
+
+    // Adds a row. Out of memory, the rows are as before.
+    fn put(&mut self, key: RowKey, row: Row) -> Result<(), TableErr>
+        requires { map.get (rows_of self.old) key ≡ None }
+        ensures rows { Put key row (rows_of self.old) (rows_of self.new) result }
+        ensures room { self.new.room ≡ self.old.room }
+    {
+        let opens = is_open(key.kind(), &row);
+        if !note_if(&mut self.open_keys, self.alloc, &key, opens) {
+            drop(key);
+            drop(row);
+            return Err(TableErr::OutOfMemory);
+        }
+        match self.rows.insert(key, row) {
+            Ok(replaced) => {
+                drop(replaced);
+                Ok(())
+            }
+            Err(failed) => {
+                let (key, row) = failed.value;
+                drop(row);
+                forget_if(&mut self.open_keys, &key, true);
+                drop(key);
+                Err(TableErr::OutOfMemory)
             }
         }
     }
 }
 
 impl Table for MapTable {
-    ghost use Rattle.beldi_table.specs.MapTable.{map_state};
+    ghost use Rattle.beldi_row.specs.Table.{OpensTold};
+    ghost use Rattle.beldi_table.specs.Opened.{IsOpenPast};
+    ghost use Rattle.beldi_table.specs.MapTable.{rows_of, map_state};
 
     ghost state = { map_state };
 
@@ -164,5 +207,16 @@ impl Table for MapTable {
                 .range((Bound::Excluded(after), Bound::Unbounded))
                 .next(),
         )
+    }
+
+    fn opens(&self, after: &RowKey) -> Opens<'_>
+        ensures told { OpensTold after.now result (map_state self.now).rows }
+        ensures first { IsOpenPast after.now result (rows_of self.now) }
+    {
+        let past = (Bound::Excluded(after), Bound::Unbounded);
+        match self.open_keys.range(past).next() {
+            Some(key) => Opens::First(key),
+            None => Opens::None,
+        }
     }
 }

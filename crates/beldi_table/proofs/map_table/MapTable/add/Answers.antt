@@ -1,7 +1,7 @@
 use Rattle.std.specs.FinMap as map
 use Rattle.std.proofs.Common.{arith, sym, ◌∙◌, refl}
-use Rattle.beldi_row.{specs.KeyOrder.key_total, specs.KeyOrder.key_exact, proofs.Rows.one_set, proofs.Rows.len_rows}
-use Rattle.beldi_table.proofs.Changes.{none_added, one_added, would_add}
+use Rattle.beldi_row.{specs.KeyOrder.key_total, specs.KeyOrder.key_exact, proofs.Rows.len_rows}
+use Rattle.beldi_table.{specs.MapTable.rows_of, proofs.Changes.none_added, proofs.Changes.one_added, proofs.Changes.would_add}
 use Rattle.beldi_table.proofs.map_table.MapTable.add.Goals as goal
 
 pub returns-in-None-clause-rows : goal.returns-in-None-clause-rows
@@ -28,7 +28,7 @@ returns-in-Ok-clause-rows c =
     let es = c.args.self.now.rows.entries in
     let m = map.from_entries es in
     let long = len_rows key_total key_exact es c.len-live.ensures.ordered in
-    one_added c.args.act c.args.now c.args.key c.args.self.now.room m (map.from_entries c.insert.new.self.entries) c.in-Some.row c.missing-said.result
+    one_added c.args.act c.args.now c.args.key c.args.self.now.room m (rows_of c.put.new.self) c.in-Some.row c.missing-said.result
     c.requires (sym c.made.ensures ∙ c.in-Some.is) (c.missing-said.ensures c.args.now)
-    (one_set key_total key_exact es c.insert.new.self.entries c.args.key c.in-Some.row c.in-Ok.ensures.updates.0)
+    c.in-Ok.ensures.rows
     (omega (arith, long))

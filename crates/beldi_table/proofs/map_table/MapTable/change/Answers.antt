@@ -1,35 +1,51 @@
 use Rattle.std.specs.Option.{option_copied_mut}
 use Rattle.std.specs.FinMap as map
 use Rattle.std.proofs.Common.{rules, refl, sym, ◌∙◌, ap}
-use Rattle.beldi_row.{specs.KeyOrder.key_total, specs.KeyOrder.key_exact, proofs.Rows.get_rows, proofs.Rows.one_set}
-use Rattle.beldi_table.{specs.MapTable.rows_of, proofs.Changes.there, proofs.Changes.unchanged, proofs.Changes.looks}
+use Rattle.beldi_row.{specs.declared.table.TableErr.TheVariants.OutOfMemory, specs.KeyOrder.key_total, specs.KeyOrder.key_exact, proofs.Rows.get_rows}
+use Rattle.beldi_table.{specs.MapTable.rows_of, proofs.Changes.applied, proofs.Changes.unapplied, proofs.Changes.looks, proofs.Indexes.row_there, proofs.Indexes.not_acted}
 use Rattle.beldi_table.proofs.map_table.MapTable.change.Goals as goal
+
+pub invariant_of-self-in-Some : goal.invariant_of-self-in-Some
+invariant_of-self-in-Some c =
+    let old = c.args.self.now in
+    let row = c.apply-applied.new.row in record {
+      indexed = row_there c.args.act c.args.now c.args.key.now c.in-Some.row.now row c.apply-applied.result c.binds.result c.switches-switched.result old.rows (c.get_mut.follows.lender row) old.open_keys c.note_if.new.keys c.follow.new.keys
+          c.binds.ensures c.switches-switched.ensures c.apply-applied.ensures (sym c.get_mut.ensures.value ∙ ap option_copied_mut c.in-Some.is)
+          old.indexed ((c.get_mut.follows.holds row).3 (search rules)).0 c.if-not-note_if.ensures c.follow.ensures;
+    }
+
+pub invariant_of-self : goal.invariant_of-self
+invariant_of-self c =
+    let old = c.args.self.now in
+    let row = c.in-Some.row.now in record {
+      indexed = not_acted c.args.key.now row old.rows (c.get_mut.follows.lender row) old.open_keys c.note_if.new.keys
+          (sym c.get_mut.ensures.value ∙ ap option_copied_mut c.in-Some.is) old.indexed ((c.get_mut.follows.holds row).3 (search rules)).0 c.if-not-note_if.ensures;
+    }
+
+pub returns-then-not-note_if : goal.returns-then-not-note_if
+returns-then-not-note_if c =
+    let row = c.in-Some.row.now in record {
+      tries = unapplied c.args.act c.args.now c.args.key.now c.args.self.now.rows (c.get_mut.follows.lender row) row row OutOfMemory
+          (sym c.get_mut.ensures.value ∙ ap option_copied_mut c.in-Some.is) ((c.get_mut.follows.holds row).3 (search rules)).0 (refl, refl);
+      room = refl;
+    }
 
 pub returns-in-Ok-clause-tries : goal.returns-in-Ok-clause-tries
 returns-in-Ok-clause-tries c =
-    let old = c.args.self.now.rows in
-    let new = c.get_mut.follows.lender c.apply.new.row in
-    let h = c.get_mut.follows.holds c.apply.new.row in
-    there c.args.act c.args.now c.args.key.now c.args.self.now.room (map.from_entries old.entries) (map.from_entries new.entries) c.in-Some.row.now c.apply.new.row c.in-Ok.change
-    (get_rows key_total key_exact old.entries c.args.key.now ∙ sym c.get_mut.ensures.value ∙ ap option_copied_mut c.in-Some.is)
-    (one_set key_total key_exact old.entries new.entries c.args.key.now c.apply.new.row (h.3 (search rules)).0)
-    c.in-Ok.ensures
+    let row = c.apply-applied.new.row in
+    applied c.args.act c.args.now c.args.key.now c.args.self.now.room c.args.self.now.rows (c.get_mut.follows.lender row) c.in-Some.row.now row c.in-Ok.change
+    (sym c.get_mut.ensures.value ∙ ap option_copied_mut c.in-Some.is) ((c.get_mut.follows.holds row).3 (search rules)).0 c.in-Ok.ensures
 
 pub returns-in-Err-clause-tries : goal.returns-in-Err-clause-tries
 returns-in-Err-clause-tries c =
-    let old = c.args.self.now.rows in
-    let new = c.get_mut.follows.lender c.apply.new.row in
-    let h = c.get_mut.follows.holds c.apply.new.row in
-    let same = unchanged c.args.key.now (map.from_entries old.entries) (map.from_entries new.entries) c.in-Some.row.now c.apply.new.row
-    (get_rows key_total key_exact old.entries c.args.key.now ∙ sym c.get_mut.ensures.value ∙ ap option_copied_mut c.in-Some.is)
-    (one_set key_total key_exact old.entries new.entries c.args.key.now c.apply.new.row (h.3 (search rules)).0)
-    c.in-Err.ensures.0 in
-    (same, c.in-Err.ensures.1)
+    let row = c.apply-applied.new.row in
+    unapplied c.args.act c.args.now c.args.key.now c.args.self.now.rows (c.get_mut.follows.lender row) c.in-Some.row.now row c.in-Err.why
+    (sym c.get_mut.ensures.value ∙ ap option_copied_mut c.in-Some.is) ((c.get_mut.follows.holds row).3 (search rules)).0 c.in-Err.ensures
 
 pub returns-in-None-clause-tries : goal.returns-in-None-clause-tries
 returns-in-None-clause-tries c = (
   refl,
-  ap (λ rows. record { alloc = c.args.self.now.alloc; rows = rows; room = c.args.self.now.room }) c.get_mut.follows.holds-at-none,
+  ap (λ rows. map.from_entries rows.entries) c.get_mut.follows.holds-at-none,
   get_rows key_total key_exact c.args.self.now.rows.entries c.args.key.now ∙ sym c.get_mut.ensures.value ∙ ap option_copied_mut c.in-None.is,
 )
 
