@@ -50,6 +50,7 @@ fn take_some<N: Link>(link: &mut N, into: &mut Vec<u8>, most: usize) -> Result<u
     requires some { 0 < most }
     ensures takes { TakesSome (N.seen link.old) (N.seen link.new) into.old.items into.new.items most result }
     ensures later { N.faults link.old ≤ N.faults link.new }
+    ensures refusals { N.refusals link.old ≤ N.refusals link.new }
     ensures cause { result ≡ Err Fault → Rose (N.faults link.old) (N.faults link.new) }
 {
     let mut piece = [0u8; PIECE];
@@ -66,6 +67,7 @@ pub fn gather<N: Link>(link: &mut N, bytes: &mut Vec<u8>) -> Result<Scan, Stop>
     requires empty { bytes.old.items ≡ [] }
     ensures takes { HeadGathers (N.seen link.old) (N.seen link.new) bytes.new.items result }
     ensures later { N.faults link.old ≤ N.faults link.new }
+    ensures refusals { N.refusals link.old ≤ N.refusals link.new }
     ensures cause { result ≡ Err Fault → Rose (N.faults link.old) (N.faults link.new) }
 {
     let mut scan = Scan::new();
@@ -84,6 +86,7 @@ pub fn gather<N: Link>(link: &mut N, bytes: &mut Vec<u8>) -> Result<Scan, Stop>
 pub fn fill<N: Link>(link: &mut N, body: &mut Vec<u8>, size: usize) -> Result<(), Stop>
     ensures takes { Fills (N.seen link.old) (N.seen link.new) body.old.items body.new.items size result }
     ensures later { N.faults link.old ≤ N.faults link.new }
+    ensures refusals { N.refusals link.old ≤ N.refusals link.new }
     ensures cause { result ≡ Err Fault → Rose (N.faults link.old) (N.faults link.new) }
 {
     while body.len() < size {

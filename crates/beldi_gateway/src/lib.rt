@@ -7,7 +7,8 @@
 //! - `serve_one` says of one exchange which bytes were taken and written and what the desk was asked (`Serves`): a whole response was
 //!   written, of just what the bytes that were taken come to and what the desk said of it; or the connection ended before any byte,
 //!   and the desk is as it was; or, after a fault of the link or where memory is short, a front of that response, or nothing asked.
-//!   `cut` is told only where the connection ended. A fault comes only where the link's count rose (`cause`).
+//!   `cut` is told only where the connection ended. A fault comes only where the link's count rose (`cause`); neither of its counts falls
+//!   (`later`, `refusals`).
 //! - As laws: a path is for a call just where it is `/call/`, a function's name, a slash and a ticket (`paths_have_forms`); a request asks a
 //!   question just where its path and body are of the question's text (`questions_are_written`); the same bytes come to one question
 //!   (`bytes_come_to_one`), and lead a desk that stands alike to one answer (`an_exchange_has_one_answer`).

@@ -11,6 +11,7 @@ use beldi_outside::Link;
 pub fn send<N: Link>(link: &mut N, bytes: &[u8]) -> Result<(), Stop>
     ensures sends { Sends (N.seen link.old) (N.seen link.new) bytes.now result }
     ensures later { N.faults link.old ≤ N.faults link.new }
+    ensures refusals { N.refusals link.old ≤ N.refusals link.new }
     ensures cause { result ≡ Err Fault → Rose (N.faults link.old) (N.faults link.new) }
 {
     let mut at = 0;

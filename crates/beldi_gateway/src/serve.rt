@@ -38,6 +38,7 @@ fn take_body<N: Link>(
 ) -> Result<Vec<u8>, Stop>
     ensures comes { BodyComes (λ v. v.items) (N.seen link.old) (N.seen link.new) rest.now size result }
     ensures later { N.faults link.old ≤ N.faults link.new }
+    ensures refusals { N.refusals link.old ≤ N.refusals link.new }
     ensures cause { result ≡ Err LinkFault → Rose (N.faults link.old) (N.faults link.new) }
 {
     let Ok(mut body) = Vec::from_slice(alloc, rest) else {
@@ -78,6 +79,7 @@ fn answer_plan<D: Desk, N: Link>(
 ) -> Result<Response, Stop>
     ensures fills { FillsPlan (D.funcs desk.old) D.keeps want path.now rest.now desk.old desk.new (N.seen link.old) (N.seen link.new) result }
     ensures later { N.faults link.old ≤ N.faults link.new }
+    ensures refusals { N.refusals link.old ≤ N.refusals link.new }
     ensures cause { result ≡ Err LinkFault → Rose (N.faults link.old) (N.faults link.new) }
 {
     let body = match take_body(alloc, link, rest, want.size as usize) {
@@ -103,6 +105,7 @@ fn answer<D: Desk, N: Link>(
     requires short { length bytes.now ≤ 16384 }
     ensures answers { AnswersTo (D.funcs desk.old) D.keeps scan bytes.now desk.old desk.new (N.seen link.old) (N.seen link.new) result }
     ensures later { N.faults link.old ≤ N.faults link.new }
+    ensures refusals { N.refusals link.old ≤ N.refusals link.new }
     ensures cause { result ≡ Err LinkFault → Rose (N.faults link.old) (N.faults link.new) }
 {
     match plan_of(alloc, scan, bytes) {
@@ -120,6 +123,7 @@ fn answer<D: Desk, N: Link>(
 fn reply<N: Link>(alloc: Global, link: &mut N, response: &Response) -> Result<u16, Stop>
     ensures replies { Replies response.now (N.seen link.old) (N.seen link.new) result }
     ensures later { N.faults link.old ≤ N.faults link.new }
+    ensures refusals { N.refusals link.old ≤ N.refusals link.new }
     ensures cause { result ≡ Err LinkFault → Rose (N.faults link.old) (N.faults link.new) }
 {
     let Ok(text) = response.text(alloc) else {
@@ -139,6 +143,7 @@ fn exchange<D: Desk, N: Link>(
 ) -> Result<Option<u16>, Stop>
     ensures exchanges { Exchanged (D.funcs desk.old) D.keeps desk.old desk.new (N.seen link.old) (N.seen link.new) result }
     ensures later { N.faults link.old ≤ N.faults link.new }
+    ensures refusals { N.refusals link.old ≤ N.refusals link.new }
     ensures cause { result ≡ Err LinkFault → Rose (N.faults link.old) (N.faults link.new) }
 {
     let mut bytes = Vec::new(alloc);
@@ -171,6 +176,7 @@ pub fn serve_one<D: Desk, N: Link>(
 ) -> Result<Served, OutOfMemory>
     ensures serves { Serves (D.funcs desk.old) D.keeps desk.old desk.new (N.seen link.old) (N.seen link.new) result }
     ensures later { N.faults link.old ≤ N.faults link.new }
+    ensures refusals { N.refusals link.old ≤ N.refusals link.new }
     ensures cause { result ≡ Ok Fault → Rose (N.faults link.old) (N.faults link.new) }
 {
     match exchange(alloc, desk, link) {

@@ -1,5 +1,5 @@
 -- A connection that gives some bytes more.
-use Rattle.std.proofs.Common.{arith, ℕ, zero, suc, ◌≡◌, ◌+◌, ◌++◌, List, [], ◌∷◌, take, drop, ap, refl}
+use Rattle.std.proofs.Common.{arith, ℕ, zero, suc, ◌≡◌, ◌+◌, ◌++◌, List, [], ◌∷◌, take, drop, ap}
 use Rattle.beldi_outside.specs.Connection.{Connection, took}
 
 pub take_more : {A : Type 0} (n m : ℕ) (xs : List A) → take (n + m) xs ≡ take n xs ++ take m (drop n xs)

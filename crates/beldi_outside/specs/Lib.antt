@@ -2,3 +2,4 @@ pub mod Connection
 pub mod Memory
 pub mod MemoryLink
 pub mod Outside
+pub mod Ready

@@ -1,5 +1,5 @@
 -- The link in memory: which calls are refused or fail, and what the others do.
-use Rattle.std.specs.Prelude.{◌≡◌, ℕ, ◌^◌, ◌-◌, min, Bool, true, false, List, [], ◌∷◌, ◌++◌, length, Option, Some, None, is_some, Result, Ok, Err}
+use Rattle.std.specs.Prelude.{◌≡◌, ℕ, min, true, false, List, [], ◌∷◌, length, Option, Some, None, Result, Ok, Err}
 use Rattle.beldi_outside.specs.Connection.{Connection, Connections, fresh, closing, took, failed_once, wrote}
 use Rattle.beldi_outside.specs.{declared.traits.Failed.Failed, Outside.counted, Memory.Plan, Memory.fails_now, Memory.passed, Memory.failed}
 

@@ -307,10 +307,9 @@ impl MemClock {
 }
 
 impl Clock for MemClock {
-    fn now(&mut self) -> u64
-        ensures goes_on { self.new ≡ told_next self.old }
-        ensures tells { result ≡ self.new.last }
-    {
+    ghost tells = { λ c m d. (d ≡ told_next c) × (m ≡ d.last) };
+
+    fn now(&mut self) -> u64 {
         if let Some(moment) = self.moments.get(self.next) {
             self.last = *moment;
             self.next += 1;

@@ -91,6 +91,10 @@ pub trait Link {
 
 /// Tells moments.
 pub trait Clock {
+    /// What it may tell: the clock before, the moment, and the clock after.
+    ghost tells: { Self → ℕ → Self → Type 0 };
+
     /// The moment of this call, in milliseconds. It cannot fail. It may lie before an earlier answer.
-    fn now(&mut self) -> u64;
+    fn now(&mut self) -> u64
+        ensures { tells self.old result self.new };
 }

@@ -1,9 +1,9 @@
 // Requests as they come in, whole and a byte at a time, and what is written; the real link and the clock once.
 use beldi_gateway::{CallSaid, Desk, Served, TicketSaid, serve_one};
-use beldi_outside::{Link, MemLink, TcpLink, WallClock};
+use beldi_outside::{Link, MemLink, ReadyLink, WallClock};
 use beldi_value::{Outcome, Value, or_drop};
 use std::alloc::Global;
-use std::io::{Read, Write};
+use std::io::{self, Read, Write};
 use std::net::{Ipv4Addr, SocketAddr, TcpStream};
 use std::test::Fail;
 
@@ -435,31 +435,42 @@ fn limits_are_kept(rt: HostRuntime) -> Result<(), Fail> {
     Ok(())
 }
 
-// Whether a client's request for a ticket is served over the open connection.
+// Whether a client's request for a ticket is served, once it has come.
 fn takes_and_sends<N: Link>(
     alloc: Global,
     link: &mut N,
     client: &mut TcpStream,
 ) -> Result<bool, Fail> {
     client.write_all(b"POST /tickets HTTP/1.1\r\n\r\n")?;
+    let accepted = link.accept().is_ok();
     let mut desk = EchoDesk { asked: 0 };
     let served = serve_one(alloc, &mut desk, link)?;
     link.close();
     let mut piece = [0u8; 15];
     client.read_exact(&mut piece)?;
-    Ok(served == Served::Status(200) && piece == *b"HTTP/1.1 200 OK")
+    Ok(accepted && served == Served::Status(200) && piece == *b"HTTP/1.1 200 OK")
+}
+
+// Whether a client is served beside one that came first and sends nothing.
+fn serves_beside_another<N: Link>(rt: &HostRuntime, link: &mut N) -> Result<bool, Fail> {
+    let server = SocketAddr::from((Ipv4Addr::LOCALHOST, 47_113));
+    let idle = TcpStream::connect(rt, server)?;
+    let mut client = or_drop!(TcpStream::connect(rt, server); idle);
+    let passed = takes_and_sends(rt.alloc(), link, &mut client);
+    drop(client);
+    drop(idle);
+    passed
 }
 
 #[test]
 fn the_real_link_takes_and_sends(rt: HostRuntime) -> Result<(), Fail> {
-    let mut link = TcpLink::new(&rt);
+    let mut link = ReadyLink::new(rt.alloc(), &rt, io::sink());
     assert!(rt; link.accept().is_err());
     assert!(rt; link.listen(47_113).is_ok());
-    let server = SocketAddr::from((Ipv4Addr::LOCALHOST, 47_113));
-    let mut client = or_drop!(TcpStream::connect(&rt, server); link);
-    assert!(rt; link.accept().is_ok());
-    let passed = or_drop!(takes_and_sends(rt.alloc(), &mut link, &mut client); link, client);
-    assert!(rt; passed);
+    let passed = serves_beside_another(&rt, &mut link);
+    link.finish();
+    drop(link);
+    assert!(rt; passed?);
     Ok(())
 }
 

@@ -6,6 +6,7 @@ invariant-loop-body g l =
     let n = g.N.Link in
     record {
       later : n.faults l.fn.link ≤ n.faults l.link;
+      refusals : n.refusals l.fn.link ≤ n.refusals l.link;
       gathers : Gathers (n.seen l.fn.link) (n.seen l.link) l.fn.body.items l.body.items;
     }
 

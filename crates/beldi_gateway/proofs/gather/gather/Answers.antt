@@ -31,6 +31,7 @@ loop-scan-preserved g c =
     let lines = rw (c.deref.ensures.value, from) at c.pass_all-scan.ensures.lines in
     record {
       later = omega (arith, h.later, c.in-Ok.ensures.later);
+      refusals = omega (arith, h.refusals, c.in-Ok.ensures.refusals);
       moves = head_grows (n.seen c.args.link.now) (n.seen c.loop-scan.link) (n.seen c.take_some.new.link) x y h.moves t.0;
       scan = scan_grows c.loop-scan.scan c.pass_all-scan.result x y t.0.took h.scan t.0.into (scanned ∙ ap (scan_on c.loop-scan.scan) all);
       short = omega (arith, h.short, t.1, t.2);

@@ -6,6 +6,7 @@ invariant-loop-scan g l =
     let n = g.N.Link in
     record {
       later : n.faults l.fn.link ≤ n.faults l.link;
+      refusals : n.refusals l.fn.link ≤ n.refusals l.link;
       moves : Moves l.bytes.items [] (n.seen l.fn.link) (n.seen l.link);
       scan : l.scan ≡ scan_on start l.bytes.items;
       short : length l.bytes.items ≤ 16384;

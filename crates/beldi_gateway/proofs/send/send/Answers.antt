@@ -31,5 +31,6 @@ loop-at-preserved g c =
     record {
       within = omega (arith, c.loop-at.invariant.within, bound, length-drop at bytes);
       later = omega (arith, c.loop-at.invariant.later, c.in-Ok.ensures.cause.later);
+      refusals = omega (arith, c.loop-at.invariant.refusals, c.in-Ok.ensures.later);
       moves = wrote_more at m bytes (n.seen c.args.link.now) (n.seen c.loop-at.link) (n.seen c.write.new.self) c.loop-at.invariant.moves told;
     }

@@ -7,6 +7,7 @@ invariant-loop-at g l =
     record {
       within : l.at ≤ length l.bytes;
       later : n.faults l.fn.link ≤ n.faults l.link;
+      refusals : n.refusals l.fn.link ≤ n.refusals l.link;
       moves : Moves [] (take l.at l.bytes) (n.seen l.fn.link) (n.seen l.link);
     }
 
