@@ -17,7 +17,7 @@ use Rattle.beldi_step.specs.{Host.Core, Host.EventBy, Host.EventOn, Host.Followe
 use Rattle.beldi_book.specs.Order.{count_changes}
 use Rattle.beldi_schedule.specs.{Settle.begun, Settle.by_round as goes_round, Settle.core_for, Settle.counted, Settle.counts, Settle.end_of, Settle.ends_round, Settle.event_of, Settle.first_at, Settle.go_on, Settle.heard_of, Settle.ic_heard, Settle.is_empty, Settle.is_spent, Settle.is_waiting, Settle.next_of, Settle.parked, Settle.restless, Settle.round_over, Settle.turn_heard, Settle.turn_or, Settle.turns_of, Settle.unparked, Settle.unless_spent}
 use Rattle.beldi_schedule.specs.declared.machine.{At.At, Next.Next, Settled.Settled, Standing.Standing, Standing.TheVariants.Goes, Standing.TheVariants.Over}
-use Rattle.beldi_schedule.specs.Settles.{Advances, Settles, State, goes, stands}
+use Rattle.beldi_schedule.specs.Settles.{Advances, MaySkip, Settles, State, goes, set_to, skips, stands}
 use Rattle.beldi_bound.specs.{Cost.AreAsked, Ends.IsBelowEnd, Ends.Sound, Work.work_of}
 use Rattle.beldi_bound.proofs.{Entries.next_is_past, Entries.none_past, Facts.GoesOn, RoundsPay.ledger_moves, Bringing.settling_brings, ResultsCome.ResultsCome, ResultsCome.results_same, ResultsCome.results_then, RoundsPay.rounds_pay, Starting.ledger_begins}
 use Rattle.beldi_bound.proofs.Ledger.{Ledger, Pays, RoundsPay, TurnsPay, due, past_after, total, turn_of}
@@ -85,6 +85,7 @@ module _ {d : Deployment} {room budget : ℕ} where
   settling_goes (stands y s) = (goes_same s.rows, omega arith)
   settling_goes (goes a s y u v t adv rest) = let h = settling_goes rest in
       (goes_then (events_go_on d room s.faults u.faults (event_of (next_of s.core a)) (core_for (next_of s.core a) s.core) u.core s.rows u.rows (Ok adv.answer) adv.event) h.0, let l = adv.later in let m = h.1 in omega (arith, l, m))
+  settling_goes (skips a s b q v t may rest) = settling_goes rest
 
 -- ---- a settling that is under way, with what it has counted and what its ledger holds
 -- while the intent collector goes round, no run that has begun is past the number
@@ -124,6 +125,13 @@ module _ (d : Deployment) (room : ℕ) (e : Rows) (asked : IntentId → List Ans
       idle = λ b is. let clash = sym round ∙ is in cc;
     }
 
+    -- where no run is past the number, the intent collector may go round; and where it stands is no matter
+    begun_holds : (a : At) → Ready a s n → next_run s.core a.past ≡ None → Ready (begun a) s n
+    begun_holds a h none = record { runs = h.runs; keys = h.keys; ledger = h.ledger; less = h.less; idle = λ b is i r g less live at. none_past s.core a.past i r none live less }
+
+    set_holds : (a : At) (q : RowKey) → Ready a s n → Ready a (set_to q s) n
+    set_holds a q h = record { runs = h.runs; keys = h.keys; ledger = ledger_moves d room e asked first most a.past a.past s.core (set_to q s).core s.rows h.runs h.keys refl refl refl (λ i next. next) h.ledger; less = h.less; idle = h.idle }
+
     next_holds : (a : At) → Ready a s n → NextHolds s n (next_of s.core a)
     next_holds a h = by_round a.round refl
       where
@@ -131,6 +139,12 @@ module _ (d : Deployment) (room : ℕ) (e : Rows) (asked : IntentId → List Ans
         by_round (Some b) is = (h, b, is)
         by_round None is = turn_or_holds a (restless s.core a) (next_run s.core a.past) refl h is (λ none.
             either (NextHolds s n) (a.moved && not (is_empty a.waiting)) _ _ (λ t. turn_or_holds (unparked a) (Next.Reset a) (next_run s.core 0) refl (unparked_holds a h is none) is (λ u. (h, none))) (λ t. (h, none)))
+
+    -- it passes over rows
+    skip_holds : (w : Next) (b : At) (q : RowKey) → NextHolds s n w → MaySkip s.core s.rows w b q → Ready b (set_to q s) n
+    skip_holds (Next.Turn a i) b q h may = absurd may
+    skip_holds (Next.Collect a) b q h may = subst (λ z. Ready z (set_to q s) n) (sym may.0) (set_holds a q h.0)
+    skip_holds (Next.Reset a) b q h may = subst (λ z. Ready z (set_to q s) n) (sym may.0) (set_holds (begun a) q (begun_holds a h.0 h.1))
 
   -- ---- what follows of an answer
   module _ (budget : ℕ) (s u : State) (n : ℕ) where
@@ -192,10 +206,9 @@ module _ (d : Deployment) (room : ℕ) (e : Rows) (asked : IntentId → List Ans
           (λ apart. rounds_pay a.past s.faults u.faults s.core u.core s.rows u.rows x h.0.runs h.0.keys z before after in_the_end asks goes below soon (λ i r g next live at. idle i r g (next_is_past s.core a.past i next) live at) event apart h.0.ledger)
       next_pays (Next.Reset a) x event h =
           let c = reset s.core in
-          let idle = λ (i : ℕ) (r : Run) (g : Begun) (less : a.past < i) (live : map.get c.runs i ≡ Some r) (at : r.at ≡ RunAt.Begins g). none_past s.core a.past i r h.1 live less in
-          round_holds budget s u n (begun a) x (next_run u.core 0) h.0.runs h.0.keys h.0.less (idle_then a.past s.faults u.faults c u.core s.rows u.rows x idle event)
-          (λ apart. rounds_pay a.past s.faults u.faults c u.core s.rows u.rows x h.0.runs h.0.keys z (at_cursor least_key before) after in_the_end asks goes below soon (λ i r g next live at. idle i r g (next_is_past c a.past i next) live at) event apart
-          (ledger_moves d room e asked first most a.past a.past s.core c s.rows h.0.runs h.0.keys refl refl refl (λ i next. next) h.0.ledger))
+          let k = set_holds s n (begun a) least_key (begun_holds s n a h.0 h.1) in
+          round_holds budget s u n (begun a) x (next_run u.core 0) k.runs k.keys k.less (idle_then a.past s.faults u.faults c u.core s.rows u.rows x (k.idle false refl) event)
+          (λ apart. rounds_pay a.past s.faults u.faults c u.core s.rows u.rows x k.runs k.keys z (at_cursor least_key before) after in_the_end asks goes below soon (λ i r g next live at. k.idle false refl i r g (next_is_past c a.past i next) live at) event apart k.ledger)
 
       event_pays : (a : At) (y : Standing) → Advances d room budget a s u y → Ready a s n → Holds (n + failures budget s u n) y u
       event_pays a y adv h = subst (λ v. Holds (n + failures budget s u n) v u) (sym adv.next) (next_pays (next_of s.core a) adv.answer adv.event (next_holds s n a h))
@@ -233,6 +246,7 @@ module _ (d : Deployment) (room : ℕ) (e : Rows) (asked : IntentId → List Ans
         let last = counts_few (n + (u.faults - s.faults) * (most + 1)) rest after goes_e come_e below (omega (arith, now, soon)) step in
         let all = shares s.faults u.faults t.faults (most + 1) l m in
         counts_more _ _ v (omega (arith, all)) last
+    counts_few n (skips a s b q v t may rest) sound goes_e come_e below soon h = counts_few n rest (at_cursor q sound) goes_e come_e below soon (skip_holds s n (next_of s.core a) b q (next_holds s n a h) may)
 
 -- ---- the bound
 pub turns_are_few : NoFirstTurnIsOver

@@ -1,6 +1,6 @@
 -- A late run is followed: beside it lives one of its intent that was answered more, in time, unless the intent has ended.
 use Rattle.beldi_bound.proofs.Ending.{knows_it}
-use Rattle.beldi_bound.proofs.{Going.events_go_on, Soundly.sound_on}
+use Rattle.beldi_bound.proofs.{Few.settling_goes, Going.events_go_on, Soundly.at_cursor, Soundly.sound_on}
 use Rattle.std.specs.FinMap as map
 use Rattle.std.proofs.Common.{◌≡◌, ◌⊎◌, inl, inr, ℕ, ◌+◌, ◌==◌, ◌<◌, ◌≤◌, ◌||◌, eqb-true, eq-eqb, true, false, List, Option, Some, None, is_some, Ok, refl, sym, ap, subst, ◌∙◌, arith}
 use Rattle.beldi_value.specs.declared.{id.IntentId.IntentId, place.Caller.Caller, place.Place.Place}
@@ -17,7 +17,7 @@ use Rattle.beldi_readlog.specs.ReadLog.{log_key}
 use Rattle.beldi_intent.specs.Intent.{GoesOn as IntentOn, IntentGoesOn, intent_in, intent_key, is_ended}
 use Rattle.beldi_known.{proofs.Cases.by_cases, proofs.Cases.by_option, specs.Known.Known}
 use Rattle.beldi_step.specs.{Host.Core, Run.asks_at, Run.place_of, Run.run_asks, Run.stage_asks, Run.stage_says, Run.Turned, Run.told_at, Run.turned_by, declared.run.Begun.Begun, declared.run.Run.Run, declared.run.RunAt.RunAt, declared.run.RunTx.RunTx, declared.run.Stage.Stage}
-use Rattle.beldi_schedule.specs.{Settle.first_at, Settle.go_on, Settles.Advances, Settles.Settles, Settles.State, Settle.core_for, Settle.event_of, Settle.next_of, declared.machine.At.At, declared.machine.Standing.Standing, declared.machine.Standing.TheVariants.Over}
+use Rattle.beldi_schedule.specs.{Settle.first_at, Settle.go_on, Settles.Advances, Settles.Settles, Settles.State, Settles.set_to, Settle.core_for, Settle.event_of, Settle.next_of, declared.machine.At.At, declared.machine.Standing.Standing, declared.machine.Standing.TheVariants.Over}
 use Rattle.beldi_laws.specs.{Right.AtStage, Right.Inside, Right.Knows, Right.Right, Right.StandsAt}
 use Rattle.beldi_upkeep.{proofs.Overs.no_turn_over, proofs.Started.started_of_it, specs.Checked.Checked, specs.Checked.next_says, specs.Checked.next_turn}
 use Rattle.beldi_bound.specs.{Ends.IsBelowEnd, Ends.IsLate, Ends.Sound, Work.has_ended, Work.seat}
@@ -295,11 +295,6 @@ module _ (d : Deployment) (c b : Core) (m n : Rows) (sound : Sound d c m) (then_
 
 -- ---- along a settling in which no failure is counted
 module _ (d : Deployment) (room budget : ℕ) where
-  -- failures never become fewer
-  never_falls : (z : Standing) (s : State) (y : Standing) (u : State) → Settles d room budget z s y u → s.faults ≤ u.faults
-  never_falls z s y u (Settles.stands w v) = omega arith
-  never_falls z s y u (Settles.goes a v w x q p step rest) = let one = step.later in let more = never_falls w x q p rest in omega (arith, one, more)
-
   numbers : (c : Core) (m : Rows) → Sound d c m → (j : ℕ) (r : Run) → map.get c.runs j ≡ Some r → j ≤ c.last_run
   numbers c m sound j r live = (sound.upkeep.right.runs.numbers j (ap is_some live)).1
 
@@ -315,9 +310,10 @@ module _ (d : Deployment) (room budget : ℕ) where
 
   followed_on : (z : Standing) (s : State) (y : Standing) (t : State) → Settles d room budget z s y t → Sound d s.core s.rows → t.faults ≡ s.faults → IsBelowEnd t.faults → AllFollowed s.core s.rows → AllFollowed t.core t.rows
   followed_on z s y t (Settles.stands w v) sound same below all = all
+  followed_on z s y t (Settles.skips a v b q w p may rest) sound same below all = followed_on (Standing.Goes b) (set_to q v) w p rest (at_cursor q sound) same below (λ i r late live ended. lives_on (all i r late live ended) refl (all i r late live ended).live)
   followed_on z s y t (Settles.goes a v w u q p step rest) sound same below all =
       let one = step.later in
-      let more = never_falls w u q p rest in
+      let more = (settling_goes rest).1 in
       let here : u.faults ≡ v.faults = omega (arith, one, more, same) in
       let then_same : p.faults ≡ u.faults = omega (arith, one, more, same) in
       followed_on w u q p rest (sound_on sound step) then_same below (one_event a v u w sound step here (omega (arith, below, more)) all)

@@ -9,10 +9,10 @@ use Rattle.beldi_step.proofs.Runs.{either}
 use Rattle.beldi_step.specs.{Host.Core, Host.EventOn, Host.counted, Host.most_runs, Host.new_run, Host.with_run, Next.next_run, Next.reset, declared.event.Event.Event, declared.event.Seen.Seen, declared.run.Run.Run}
 use Rattle.beldi_known.proofs.Cases.{by_cases, by_option}
 use Rattle.beldi_schedule.specs.Settle.{begun, by_round, core_for, counted as counts_one, end_of, event_of, first_at, go_on, heard_of, ic_heard, is_empty, is_spent, is_waiting, next_of, parked, restless, round_over, turn_heard, turn_or, unparked, unless_spent}
-use Rattle.beldi_schedule.specs.Settles.{Settles, State, goes, stands}
+use Rattle.beldi_schedule.specs.Settles.{MaySkip, Settles, State, goes, skips, stands}
 use Rattle.beldi_schedule.specs.declared.machine.{At.At, Next.Next, Standing.Standing}
 use Rattle.beldi_bound.specs.Ends.{IsIn, Sound}
-use Rattle.beldi_bound.proofs.{Facts.AllWait, Facts.AtEnd, Facts.EachHasRun, Facts.SettlesSo, Facts.WaitsLeaveRows, Facts.WaitsNow, Numbers.IsLeast, Numbers.next_least, Numbers.no_runs, Numbers.put_apart, Parked.Comes, Parked.turn_comes_to, Rounds.HaveRunsTo, Rounds.Went, Rounds.at_end, Rounds.collector_went, Rounds.to_least, Soundly.sound_for, Soundly.sound_on}
+use Rattle.beldi_bound.proofs.{Facts.AllWait, Facts.AtEnd, Facts.EachHasRun, Facts.SettlesSo, Facts.WaitsLeaveRows, Facts.WaitsNow, Numbers.IsLeast, Numbers.next_least, Numbers.no_runs, Numbers.put_apart, Parked.Comes, Parked.turn_comes_to, Rounds.HaveRunsTo, Rounds.Went, Rounds.at_end, Rounds.collector_went, Rounds.over_none, Rounds.to_least, Soundly.at_cursor, Soundly.sound_for, Soundly.sound_on}
 
 -- ---- what is so while it goes on
 -- a run that is parked, as it was answered; where no turn was counted since it waits still
@@ -267,10 +267,18 @@ module _ (leave : WaitsLeaveRows) (d : Deployment) (room budget : ℕ) where
   comes old new c b m n x sound (Next.Collect a) f event = came old new c b m n x a sound f.0 f.1 event
   comes old new c b m n x sound (Next.Reset a) f event = came old new (reset c) b m n x (begun a) (sound_for (Next.Reset a) sound) (begun_goes d c m a sound f.0 f.1) refl event
 
+  -- where the intent collector passes over rows
+  passes : (c : Core) (m : Rows) → Sound d c m → (w : Next) (b : At) (q : RowKey) → Fits d c m w → MaySkip c m w b q → Goes d (at_key c q c.taken) m b
+  passes c m sound (Next.Turn a i) b q f may = absurd may
+  passes c m sound (Next.Collect a) b q f may = subst (Goes d (at_key c q c.taken) m) (sym may.0) (goes_at d c m sound budget a f.0 f.1 q c.taken (over_none c.runs m c.cursor q may.1))
+  passes c m sound (Next.Reset a) b q f may = subst (Goes d (at_key c q c.taken) m) (sym may.0)
+      (goes_at d (reset c) m (sound_for (Next.Reset a) sound) budget (begun a) (begun_goes d c m a sound f.0 f.1) refl q c.taken (over_none c.runs m least_key q may.1))
+
   pub kept : {y v : Standing} {s t : State} → Settles d room budget y s v t → Sound d s.core s.rows → Holds d s.core s.rows y → Holds d t.core t.rows v
   kept (stands y s) sound h = h
   kept (goes a s y u v t adv rest) sound h = kept rest (sound_on sound adv)
       (subst (Holds d u.core u.rows) (sym adv.next) (comes s.faults u.faults s.core u.core s.rows u.rows adv.answer sound (next_of s.core a) (fits d s.core s.rows sound a h) adv.event))
+  kept (skips a s b q v t may rest) sound h = kept rest (at_cursor q sound) (passes s.core s.rows sound (next_of s.core a) b q (fits d s.core s.rows sound a h) may)
 
 pub settles_so : WaitsLeaveRows → SettlesSo
 settles_so leave d room budget s t x sound chain = kept leave d room budget chain sound (goes_on d s.core s.rows budget first_at (record {

@@ -1,17 +1,17 @@
 -- What a round of the intent collector says: up to where it stands, each intent that has a body and has not ended has a run.
 use Rattle.beldi_order.proofs.Maps.{same_some}
-use Rattle.std.specs.{Option.option_map, Ordering.MatchOrdering, Ordering.is_eq, Ordering.nat_cmp, Ordering.ordering_reverse, Ordering.ordering_then, Cmp.Lexicographic.slice_cmp, Cmp.ranks, FinMap.FinMap, declared.cmp.Ordering.Ordering, declared.cmp.Ordering.TheVariants.Less, declared.cmp.Ordering.TheVariants.Equal, declared.cmp.Ordering.TheVariants.Greater}
+use Rattle.std.specs.{Option.option_map, Ordering.MatchOrdering, Ordering.is_eq, Ordering.is_lt, Ordering.nat_cmp, Ordering.ordering_reverse, Ordering.ordering_then, Cmp.Lexicographic.slice_cmp, Cmp.ranks, FinMap.FinMap, declared.cmp.Ordering.Ordering, declared.cmp.Ordering.TheVariants.Less, declared.cmp.Ordering.TheVariants.Equal, declared.cmp.Ordering.TheVariants.Greater}
 use Rattle.std.specs.FinMap as map
 use Rattle.std.specs.declared.alloc.AllocError.{AllocError}
-use Rattle.std.proofs.Common.{Bool, Err, List, None, Ok, Option, Result, Some, [], ap, arith, eqb-true, false, if◌then◌else◌, inl, inr, is_some, nat_lt, refl, subst, sym, true, ℕ, ◌+◌, ◌-◌, ◌<◌, ◌==◌, ◌^◌, ◌≤◌, ◌∙◌, ◌∷◌, ◌≡◌, ◌⊎◌}
+use Rattle.std.proofs.Common.{Bool, Err, List, None, Ok, Option, Result, Some, [], ap, arith, eqb-true, false, if◌then◌else◌, inl, inr, is_some, nat_lt, not, refl, subst, sym, true, ℕ, ◌&&◌, ◌+◌, ◌-◌, ◌<◌, ◌==◌, ◌^◌, ◌≤◌, ◌∙◌, ◌∷◌, ◌≡◌, ◌⊎◌}
 use Rattle.std.proofs.lemmas.Bool.{leb-true}
 use Rattle.beldi_value.specs.{Id.root_of, declared.id.IntentId.IntentId}
 use Rattle.beldi_tree.specs.declared.deployment.Deployment.{Deployment}
-use Rattle.beldi_row.{proofs.Gets.key_same, proofs.Least.next_row_least, specs.Key.RowKey, specs.Key.key_cmp, specs.Key.kind_cmp, specs.Key.least_key, specs.KeyOrder.key_total, specs.Table.IsNext, specs.Table.Rows, specs.Table.next_row, specs.declared.key.Kind.Kind, specs.declared.row.Body.Body, specs.declared.row.IntentRow.IntentRow, specs.declared.row.Row.Row, specs.declared.table.TableErr.TableErr}
+use Rattle.beldi_row.{proofs.Gets.key_same, proofs.Least.next_row_least, specs.Key.RowKey, specs.Key.key_cmp, specs.Key.kind_cmp, specs.Key.least_key, specs.KeyOrder.key_total, specs.Table.IsNext, specs.Table.Rows, specs.Table.is_open as row_is_open, specs.Table.next_row, specs.declared.key.Kind.Kind, specs.declared.row.Body.Body, specs.declared.row.IntentRow.IntentRow, specs.declared.row.Row.Row, specs.declared.table.TableErr.TableErr}
 use Rattle.beldi_walk.specs.{Query.CameOn, Query.Told, declared.query.Query.Query}
 use Rattle.beldi_intent.specs.Intent.{is_ended}
 use Rattle.beldi_collect.{proofs.Jumps.none_jumped, specs.Collect.collect_says, specs.Collect.found_says, specs.Collect.open_at, specs.Collect.passing, specs.Collect.row_says}
-use Rattle.beldi_step.specs.{Host.Core, Host.EventBy, Host.EventOn, Host.Followed, Host.at_once, Host.collect_next, Host.counted, Host.has_run, Host.is_crowded, Host.launched, Host.most_events, Host.most_runs, Host.new_run, Host.passed, Host.plan_of, Host.with_run, declared.event.Event.Event, declared.event.Seen.Seen, declared.run.Run.Run}
+use Rattle.beldi_step.specs.{Host.Core, Host.EventBy, Host.EventOn, Host.Followed, Host.at_once, Host.collect_next, Host.counted, Host.has_run, Host.is_crowded, Host.launched, Host.most_events, Host.most_runs, Host.new_run, Host.passed, Host.plan_of, Host.with_run, Next.PassesNoOpen, declared.event.Event.Event, declared.event.Seen.Seen, declared.run.Run.Run}
 use Rattle.beldi_known.{proofs.Cases.by_cases, specs.Rows.RootMatches, specs.Stands.key_in}
 use Rattle.beldi_laws.specs.Right.{Right}
 use Rattle.beldi_bound.specs.Ends.{Sound}
@@ -113,6 +113,20 @@ at_end c m k none h home id i b there has lasts = elim (h.each (key_in home id) 
   | inl run ↦ run
   | inr past ↦ let clash : None ≡ Some (Row.Intent i) = sym ((subst (IsNext m k) none (next_row_least m k)) (key_in home id) past) ∙ there in cc
 ]
+
+-- .. and passes over rows that are of no open intent
+pub over_none : (runs : FinMap nat_cmp Run) (m : Rows) (k q : RowKey) → PassesNoOpen m k q → HaveRunsTo runs m k → HaveRunsTo runs m q
+over_none runs m k q none h = record {
+  each = λ e id i b is there has lasts. elim (h.each e id i b is there has lasts) [
+    | inl run ↦ inl run
+    | inr past ↦ by_cases (is_lt (key_cmp q e)) (λ t. inr (is_less (key_cmp q e) t)) (λ f.
+        let clash : false ≡ true = sym (none.none e (Row.Intent i) past (λ less. let clash : true ≡ false = sym (ap is_lt less) ∙ f in cc) there) ∙ (λ j. row_is_open (is j) (Row.Intent i)) ∙ (λ j. is_some (has j) && not (lasts j)) in cc)
+  ];
+}
+  where
+    is_less : (o : Ordering) → is_lt o ≡ true → o ≡ Less
+    is_less Less t = refl
+    is_less o t = cc
 
 -- ---- it passes a row
 module _ (runs : FinMap nat_cmp Run) (m : Rows) (k : RowKey) (e : RowKey × Row) (first : (home : ℕ) → map.get m (zero_key home) ≡ None) (next : next_row m k ≡ Some e) (own : (id : IntentId) (b : Body) → IsOpen e.0 e.1 id b → has_run runs id ≡ true) where

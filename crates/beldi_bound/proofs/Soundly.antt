@@ -1,5 +1,5 @@
 -- An event of a settling leaves the host sound; and where the intent collector stands is nothing that has to be.
-use Rattle.beldi_schedule.specs.Settles.{Settles, goes, stands}
+use Rattle.beldi_schedule.specs.Settles.{Settles, goes, skips, stands}
 use Rattle.std.specs.Prelude.{Ok}
 use Rattle.std.proofs.Common.{List, [], append-nil, refl, sym, ap, slice_get, ◌++◌, ◌∙◌, ◌≡◌, ℕ}
 use Rattle.beldi_tree.specs.declared.deployment.Deployment.{Deployment}
@@ -53,3 +53,4 @@ sound_on {d} {room} {budget} {a} {s} {u} {z} h adv =
 pub sound_then : {d : Deployment} {room budget : ℕ} {y z : Standing} {s t : State} → Settles d room budget y s z t → Sound d s.core s.rows → Sound d t.core t.rows
 sound_then (stands z s) h = h
 sound_then (goes a s z u y t first rest) h = sound_then rest (sound_on h first)
+sound_then (skips a s b q y t may rest) h = sound_then rest (at_cursor q h)

@@ -5,7 +5,7 @@ use Rattle.std.proofs.lemmas.Bool.{leb-true}
 use Rattle.beldi_tree.specs.declared.deployment.Deployment.{Deployment}
 use Rattle.beldi_step.specs.{Host.Core, Next.next_run, declared.event.Seen.Seen}
 use Rattle.beldi_schedule.specs.Settle.{begun, counted, counts, end_of, ends_round, first_at, go_on, heard_of, ic_heard, is_spent, is_waiting, next_of, parked, round_over, turn_heard}
-use Rattle.beldi_schedule.specs.{Settles.Settles, Settles.State, Settles.goes, Settles.stands, declared.machine.At.At, declared.machine.Next.Next, declared.machine.Settled.Settled, declared.machine.Standing.Standing, declared.machine.Standing.TheVariants.Goes, declared.machine.Standing.TheVariants.Over}
+use Rattle.beldi_schedule.specs.{Settles.Settles, Settles.State, Settles.goes, Settles.skips, Settles.stands, declared.machine.At.At, declared.machine.Next.Next, declared.machine.Settled.Settled, declared.machine.Standing.Standing, declared.machine.Standing.TheVariants.Goes, declared.machine.Standing.TheVariants.Over}
 
 module _ (budget : ℕ) where
   abbrev IsUsed : Standing → Type 0
@@ -48,6 +48,7 @@ module _ (budget : ℕ) where
   used_then : {d : Deployment} {room : ℕ} {y z : Standing} {s t : State} → Settles d room budget y s z t → IsUsed y → IsUsed z
   used_then (stands z s) h = h
   used_then (goes a s z u y t first rest) h = used_then rest (subst IsUsed (sym first.next) (used_heard u.core (next_of s.core a) first.answer))
+  used_then (skips a s b q y t may rest) h = used_then rest tt
 
 pub budget_used : (d : Deployment) (room budget : ℕ) (s t : State) (n : ℕ) → Settles d room budget (go_on budget first_at) s (Over (Settled.Unsettled n)) t → budget ≤ n
 budget_used d room budget s t n h = used_then budget h (used_go_on budget first_at)

@@ -1,4 +1,7 @@
 pub mod Answered
 pub mod Asked
 pub mod Entered
-pub mod Strays
+pub mod Options
+pub mod Pairs
+pub mod Refused
+pub mod Serving

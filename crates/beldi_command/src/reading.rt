@@ -1,6 +1,6 @@
 // The words, read by the parser.
-ghost use Rattle.std.specs.Prelude.{◌≡◌, IfOk, map};
-ghost use Rattle.beldi_command.specs.Command.{command_of, gen_of, named_of};
+ghost use Rattle.std.specs.Prelude.{◌≡◌, IfOk, false, map};
+ghost use Rattle.beldi_command.specs.Command.{command_of, gen_of, gen_with, named_of};
 ghost use Rattle.beldi_command.specs.Parser.{has_divider};
 
 use crate::command::Command;
@@ -42,8 +42,40 @@ fn gen_of(seed: &Str, requests: &Str) -> Option<Command>
     }
 }
 
-// The command of words that `clap` reads: a name alone.
-fn read_name(alloc: Global, words: &[Str]) -> Result<Option<Command>, OutOfMemory>
+fn gen_with(words: &[Str]) -> Option<Command>
+    ensures { result ≡ gen_with words.now }
+{
+    match words {
+        [seed, requests] => gen_of(seed, requests),
+        _ => None,
+    }
+}
+
+// What `clap` makes of texts.
+fn parse(alloc: Global, texts: &[&str]) -> Result<Option<Command>, OutOfMemory>
+    requires { has_divider (map (λ t. t.now) texts.now) ≡ false }
+    ensures { IfOk result (λ c. c ≡ named_of (map (λ t. t.now) texts.now)) }
+{
+    match parser(alloc)?.try_get_matches_from(texts) {
+        Ok(matches) => {
+            let command = command_met(&matches);
+            drop(matches);
+            Ok(command)
+        }
+        Err(error) => {
+            let kind = error.kind();
+            drop(error);
+            match kind {
+                ErrorKind::OutOfMemory => Err(OutOfMemory),
+                _ => Ok(None),
+            }
+        }
+    }
+}
+
+// The command of words that `clap` reads, a name first.
+#[tactic(auto, using(crate::proofs::Pairs::divided))]
+fn read_named(alloc: Global, words: &[Str]) -> Result<Option<Command>, OutOfMemory>
     ensures { IfOk result (λ c. c ≡ named_of words.now) }
 {
     // `clap` would take `run --` for `run`.
@@ -51,22 +83,18 @@ fn read_name(alloc: Global, words: &[Str]) -> Result<Option<Command>, OutOfMemor
         return Ok(None);
     }
     let texts = texts_of(alloc, words)?;
-    match parser(alloc)?.try_get_matches_from(texts.as_slice()) {
-        Ok(matches) => Ok(command_met(&matches)),
-        Err(error) => match error.kind() {
-            ErrorKind::OutOfMemory => Err(OutOfMemory),
-            _ => Ok(None),
-        },
-    }
+    let command = parse(alloc, texts.as_slice());
+    drop(texts);
+    command
 }
 
 /// The command that these words, those after the program's name, ask for; none where they are outside the grammar
-/// `run | check | gen SEED N`. Out of memory, nothing is said of them.
+/// `run | check | serve --port P --requests M | gen SEED N`. Out of memory, nothing is said of them.
 pub fn read_command(alloc: Global, words: &[Str]) -> Result<Option<Command>, OutOfMemory>
     ensures { IfOk result (λ c. c ≡ command_of words.now) }
 {
     match words {
-        [word, seed, requests] if word.as_str() == "gen" => Ok(gen_of(seed, requests)),
-        _ => read_name(alloc, words),
+        [name, rest @ ..] if name.as_str() == "gen" => Ok(gen_with(rest)),
+        _ => read_named(alloc, words),
     }
 }

@@ -1,6 +1,7 @@
 mod Looks
 mod Names
 mod Newest
+mod Openings
 pub mod Right
 mod Skips
 mod Steps

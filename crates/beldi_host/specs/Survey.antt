@@ -1,5 +1,5 @@
 -- Calls that read the rows of a table, one after another, and change none.
-use Rattle.std.specs.Prelude.{◌≡◌, ◌⊎◌, ℕ, zero, ◌≤◌, ◌==◌, ◌||◌, max, IsSome, nat_lt, Bool, true, false, ◌++◌, List, [], ◌∷◌, Option, Some, None, Result, IfOk, OnOk, IsErrOf, if◌then◌else◌}
+use Rattle.std.specs.Prelude.{◌≡◌, ◌⊎◌, ℕ, zero, ◌≤◌, ◌==◌, ◌||◌, max, IsSome, IfSome, nat_lt, Bool, true, false, ◌++◌, List, [], ◌∷◌, Option, Some, None, Result, IfOk, OnOk, IsErrOf, if◌then◌else◌}
 use Rattle.std.specs.Ordering.{is_lt}
 use Rattle.std.specs.FinMap as map
 use Rattle.beldi_value.specs.declared.{outcome.Outcome.Outcome, place.Owner.Owner, place.Owner.TheVariants.Tx, value.Value.Value}
@@ -7,7 +7,7 @@ use Rattle.beldi_tree.specs.declared.deployment.Deployment.{Deployment}
 use Rattle.beldi_row.specs.{Key.RowKey, Key.key_cmp, Key.key_ticket, Key.rank_of, declared.key.Kind.Kind, declared.key.Kind.TheVariants.Data, declared.key.Kind.TheVariants.Shadow, declared.key.Kind.TheVariants.Lockset, declared.row.Row.Row, declared.row.Row.TheVariants.Intent, declared.row.Row.TheVariants.Cell, Act.Tell, Act.here, Table.Rows, Table.TableState, Table.Tells, Table.Rose}
 use Rattle.beldi_daal.specs.Cell.{shadow_key}
 use Rattle.beldi_intent.specs.Intent.{root_key}
-use Rattle.beldi_step.specs.{Host.Core, Host.first_core, Tables.row_line, Tables.value_line, Tables.decision_key, Tables.owned_value}
+use Rattle.beldi_step.specs.{Host.Core, Host.first_core, Next.PassesNoOpen, Tables.row_line, Tables.value_line, Tables.decision_key, Tables.owned_value}
 use Rattle.beldi_host.specs.declared.survey.{OpenErr.OpenErr, Owned.Owned, OpenErr.TheVariants.Failed, ReplySeen.ReplySeen, ReplySeen.TheVariants.Unknown, ReplySeen.TheVariants.Gone, ReplySeen.TheVariants.Waiting, ReplySeen.TheVariants.Reply}
 
 -- the rows are as before, and an answer is right of them
@@ -123,3 +123,7 @@ is_unknown newest t = (t == 0) || nat_lt newest t
 
 abbrev pub reply_seen : ℕ → ℕ → Rows → ReplySeen
 reply_seen newest t m = if is_unknown newest t then Unknown else row_seen (map.get m (root_key t))
+
+-- no row that is told is of an open intent and has a key past one of these, up to the other
+abbrev pub PassesToldOpen : Option Rows → RowKey → RowKey → Type 0
+PassesToldOpen told k q = IfSome told (λ m. PassesNoOpen m k q)

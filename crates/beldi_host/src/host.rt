@@ -1,7 +1,7 @@
 // The host: the one place where an event touches the table.
 ghost use Rattle.std.specs.Prelude.{◌≡◌, ◌++◌, ◌≤◌, ◌^◌, ◌↔◌, IsTrue, true, false, IfOk, IfErr, OnOk, OnErr};
 
-use crate::survey::{OpenErr, ReplySeen, list_tables, prepare, read_reply};
+use crate::survey::{OpenErr, ReplySeen, ahead, list_tables, prepare, read_reply};
 use beldi_book::Book;
 use beldi_check::Checked;
 use beldi_core::{HostCore, Pending, Planned, Runs};
@@ -10,6 +10,7 @@ use beldi_step::{Event, Seen};
 use beldi_value::{Str, or_drop};
 use beldi_walk::{Heard, Query};
 use std::alloc::{AllocError, Global};
+use std::mem::replace;
 
 /// A host: a deployment over a table, with what it knows beside them.
 #[derive(Drop)]
@@ -25,12 +26,12 @@ impl<T: Table> Host<T> {
     ghost use Rattle.beldi_check.specs.Keeps.{KeepsRules};
     ghost use Rattle.beldi_step.specs.Host.{Stepped, last_moment};
     ghost use Rattle.beldi_step.specs.Tables.{tables_text};
-    ghost use Rattle.beldi_host.specs.Survey.{Opened, Refused, NewestAt, Reads, reply_seen, is_unknown};
+    ghost use Rattle.beldi_host.specs.Survey.{Opened, PassesToldOpen, Refused, NewestAt, Reads, reply_seen, is_unknown};
     ghost use Rattle.beldi_host.specs.declared.survey.ReplySeen.TheVariants.{Unknown};
     ghost use Rattle.beldi_core.specs.Runs.{IsLeastPast};
     ghost use Rattle.beldi_walk.specs.declared.query.Query.TheVariants as queries;
     ghost use Rattle.beldi_host.specs.Host.{core_of};
-    ghost use Rattle.beldi_step.specs.Next.{next_run, reset};
+    ghost use Rattle.beldi_step.specs.Next.{at_key, next_run, reset};
     ghost use Rattle.beldi_core.specs.Parts.{core_in, Ready, Asked};
     ghost use Rattle.beldi_laws.specs.Laws.{is_gone};
     ghost use Rattle.beldi_host.specs.Right.{EndsLate, IsRight, HasLegalBook, AnswersAreKept, HasRows, ListsRun, TellsRun, HasNoRows, RowsStandFor};
@@ -131,6 +132,19 @@ impl<T: Table> Host<T> {
         ensures right { IsRight self.old → IsRight self.new }
     {
         self.core.cursor = RowKey::least(self.core.alloc);
+    }
+
+    /// Sets the intent collector forward over rows that are of no open intent, where the table tells them.
+    pub fn ic_skip(&mut self)
+        ensures core { core_of self.new ≡ at_key (core_of self.new).cursor (core_of self.old) }
+        ensures passes { PassesToldOpen (T.state self.old.table).rows (core_of self.old).cursor (core_of self.new).cursor }
+        ensures table { self.new.table ≡ self.old.table }
+        ensures code { self.new.code ≡ self.old.code }
+        ensures right { IsRight self.old → IsRight self.new }
+    {
+        if let Some(key) = ahead(self.core.alloc, &self.table, &self.core.cursor) {
+            drop(replace(&mut self.core.cursor, key));
+        }
     }
 
     /// Appends the listing of tables. After an `Err` the text is as before.

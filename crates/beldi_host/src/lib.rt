@@ -28,13 +28,14 @@
 //!   (`right_has_one_answer`).
 //! - Where the host is right, the listing of `tables` is that of the run (`listing`), and what `reply` tells is the
 //!   outcome that the root has in the run, or none (`plain`).
-//! - `next_run` is the least live run past a number (`IsLeastPast`); `ic_reset` sets the intent collector before all rows, and
-//!   keeps a right host right (`right`).
+//! - `next_run` is the least live run past a number (`IsLeastPast`); `ic_reset` sets the intent collector before all rows, and `ic_skip` to
+//!   a key, where it stood or past rows that are of no open intent, as far as the table's rows are told (`passes`). Both make no event,
+//!   leave the table as it was, and keep a right host right (`right`).
 //!
 //! Files:
 //! - Code (`src/`): `host` the host over its table; `survey` reads the rows; `laws` what a right host has.
 //! - Lemmas (`proofs/`): `Steps` reading all rows, `Skips` all but the items', `Looks` at one; `Newest` the greatest ticket;
-//!   `Right` what follows from the laws; `Taken` that an event counts once.
+//!   `Openings` where the intent collector may go on; `Right` what follows from the laws; `Taken` that an event counts once.
 #![tactic(auto)]
 
 mod host;

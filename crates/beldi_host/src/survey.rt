@@ -1,5 +1,5 @@
 // Calls that read the rows of a table and change none.
-ghost use Rattle.std.specs.Prelude.{◌≡◌, ◌≢◌, ◌++◌, IfOk, OnOk};
+ghost use Rattle.std.specs.Prelude.{◌≡◌, ◌≢◌, ◌++◌, IfOk, IfSome, OnOk};
 ghost use Rattle.std.specs.FinMap as map;
 ghost use Rattle.beldi_row.specs.Act.{tell_of};
 ghost use Rattle.beldi_row.specs.Key.{rank_of};
@@ -7,7 +7,7 @@ ghost use Rattle.beldi_row.specs.Table.{next_row, AtMostOne};
 ghost use Rattle.beldi_intent.specs.Intent.{root_key as root_key_of};
 ghost use Rattle.beldi_daal.specs.Cell.{shadow_key as shadow_key_of};
 ghost use Rattle.beldi_step.specs.Tables.{tables_text, decision_key as decision_key_of, is_committed as is_commit, value_in, owned_value as shown_value};
-ghost use Rattle.beldi_host.specs.Survey.{Reads, Prepared, newest_of, next_key_of, next_seen_of, next_line_of, seen_of, key_line, line_after, last_rank, Past, row_seen, told_row};
+ghost use Rattle.beldi_host.specs.Survey.{PassesToldOpen, Reads, Prepared, newest_of, next_key_of, next_seen_of, next_line_of, seen_of, key_line, line_after, last_rank, Past, row_seen, told_row};
 ghost use Rattle.beldi_host.specs.declared.survey.ReplySeen.TheVariants.{Unknown};
 
 use beldi_book::write_item;
@@ -15,7 +15,7 @@ use beldi_daal::shadow_key;
 use beldi_intent::root_key;
 use beldi_lang::Deployment;
 use beldi_readlog::log_key;
-use beldi_row::{Act, Kind, Row, RowKey, Said, Table, TableErr};
+use beldi_row::{Act, Kind, Opens, Row, RowKey, Said, Table, TableErr};
 use beldi_value::{IntentId, Outcome, Owner, Place, Str, TxId, Value, or_drop};
 use std::alloc::{AllocError, Global};
 
@@ -99,6 +99,31 @@ fn find_newest<T: Table>(alloc: Global, table: &mut T) -> Result<u32, OpenErr>
     }
     drop(at);
     Err(OpenErr::OutOfMemory)
+}
+
+/// A key from which the intent collector may go on where it stands at a cursor; none where the table does not tell, or no row
+/// would be passed by it. Between it and the open intent that comes next lie rows of that ticket and the one before alone.
+pub fn ahead<T: Table>(alloc: Global, table: &T, cursor: &RowKey) -> Option<RowKey>
+    ensures { IfSome result (λ k. PassesToldOpen (T.state table.now).rows cursor.now k) }
+{
+    match table.opens(cursor) {
+        Opens::Untold => None,
+        Opens::None => Some(root_in(alloc, u16::MAX, u32::MAX)),
+        Opens::First(key) => {
+            let before = root_in(alloc, key.home(), key.ticket().saturating_sub(1));
+            if *cursor < before && before < *key {
+                Some(before)
+            } else {
+                drop(before);
+                None
+            }
+        }
+    }
+}
+
+// The key of a ticket's root, in a home.
+fn root_in(alloc: Global, home: u16, ticket: u32) -> RowKey {
+    RowKey::new(home, Kind::Intent(IntentId::root(alloc, ticket)))
 }
 
 /// Makes a table ready for a host: sets its room, and finds the greatest ticket that a key names, or 0.

@@ -1,11 +1,13 @@
-//! The program over the real streams, a table in memory, no link and no clock. What it does is `top` of `beldi_program`.
-//! Its tests show what no clause can: what is written where a read, a write or a call of the table fails.
+//! The program over the real streams, a table in memory, a link over TCP and the system's clock. What it does is `top` of
+//! `beldi_program`.
+//! Its tests show what no clause can: what is written where a read, a write or a call of the table or the link fails, and what clients
+//! of a service over the link in memory are answered.
 #![tactic(auto)]
 
 #[cfg(test)]
 mod tests;
 
-use beldi_outside::{ClosedLink, MemClock, StdSink, StdSource};
+use beldi_outside::{ReadyLink, StdSink, StdSource, WallClock};
 use beldi_program::top;
 use beldi_table::MapTable;
 use beldi_value::Str;
@@ -28,8 +30,8 @@ fn main(rt: HostRuntime) -> ExitCode {
     };
     let mut source = StdSource::new(rt.reader());
     let mut sink = StdSink::new(io::writer(&rt));
-    let mut link = ClosedLink::new();
-    let mut clock = MemClock::new(Vec::new(alloc));
+    let mut link = ReadyLink::new(alloc, &rt, rt.stderr());
+    let mut clock = WallClock::new(&rt);
     let (status, table) = top(
         alloc,
         words.as_slice(),
@@ -39,6 +41,7 @@ fn main(rt: HostRuntime) -> ExitCode {
         &mut link,
         &mut clock,
     );
+    link.finish();
     // The process ends: the rows are not given back one by one.
     mem::forget(table);
     ExitCode::from(status)

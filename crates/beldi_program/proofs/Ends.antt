@@ -1,7 +1,7 @@
 -- How the program ends.
 use Rattle.std.specs.Prelude.{IfOk}
-use Rattle.beldi_program.proofs.Names.{Accepted, AsRead, Bool, ByStatus, Check, CheckEnds, Command, CommandEnds, Core, Cut, Deployment, Does, DoneBy, Ended, Ends, Err, Failed, Gen, GeneratedEnds, HasEnded, IsErrOf, IsPrefixOf, Line, List, LongOn, None, NothingDone, Numbered, Ok, OnOk, OpenErr, Opened, Option, OutOfMemory, ReadAllOn, ReadEnds, Refusal, Refused, Result, Right, Rose, Rows, Run, SessionEnds, Sight, SinkFault, SinkState, Some, SourceAsRead, SourceCommandEnds, SourceEnds, State, Stop, Stopped, SummedUp, TableState, TextEnds, Told, TookFront, Untouched, Vec, WentBy, Whole, Writes, WroteOn, [], actions_in, ap, arith, begins_right, check_at, check_by, counted, counted_on, end_of, false, false≢true, fine, first_core, generated, inl, inr, is_ok, is_whole, is_whole_source, kept, kept_faults, length, max_source, new_sink, newest_of, opened_at, reads_source, refl, refusal_text, said_at, script_of, source_at, state_at, status_of, subst, subst₂, suc, summary_text, sym, tested, told_map, told_same, told_tells, told_then, true, unchanged, usage, with_line, zero, ℕ, ◌&&◌, ◌+◌, ◌-◌, ◌^◌, ◌∙◌, ◌∷◌, ◌≡◌, ◌≤◌, ◌⊎◌}
-use Rattle.beldi_program.proofs.PlainRuns.{hosted_by, last_booked, said}
+use Rattle.beldi_program.proofs.Names.{Accepted, AsRead, BareEnds, Bool, ByStatus, Check, CheckEnds, Command, CommandEnds, Connections, Core, Cut, Deployment, Does, DoneBy, Ended, Ends, Err, Failed, Gen, GeneratedEnds, HasEnded, IsErrOf, IsPrefixOf, Line, List, LongOn, None, NothingDone, Numbered, Ok, OnOk, OpenErr, Opened, Option, OutOfMemory, ReadAllOn, ReadEnds, Refusal, Refused, Result, Right, Rose, Rows, Run, ServeEnds, ServiceEnds, Serving, ServingEnds, SessionEnds, Sight, SinkFault, SinkState, Some, Serve, SourceAsRead, SourceCommandEnds, SourceEnds, State, Stop, SummedUp, TableState, TextEnds, Told, TookFront, Untouched, Vec, WentBy, Whole, WordsAsRead, Writes, WroteOn, [], actions_in, ap, arith, begins_right, check_at, check_by, counted, counted_on, end_of, false, false≢true, fine, first_core, first_line, generated, inl, inr, is_bare_source, is_none, is_ok, is_whole, is_whole_asked, is_whole_by, is_whole_source, kept, kept_faults, length, max_source, new_sink, newest_of, opened_at, reads_source, refl, refusal_text, said_at, script_of, source_at, state_at, status_of, subst, subst₂, suc, summary_text, sym, tested, told_map, told_same, told_tells, told_then, true, usage, with_line, zero, ℕ, ◌&&◌, ◌+◌, ◌-◌, ◌^◌, ◌∙◌, ◌∷◌, ◌≡◌, ◌≤◌, ◌⊎◌}
+use Rattle.beldi_program.proofs.PlainRuns.{hosted_by, said}
 use Rattle.beldi_program.proofs.Names.map
 
 -- ---- a text that was written, or a front of it
@@ -13,7 +13,7 @@ front (Some x) (Some y) text e h = (h.0, h.1, h.3)
 -- ---- a session
 abbrev pub SessionBy : {X : Type 0} → Result X Stop → Deployment → List Numbered → Rows → Rows → ℕ → ℕ → List ℕ → Type 0
 SessionBy (Ok x) d lines m n f g w = Whole d lines m n f g w
-SessionBy (Err why) d lines m n f g w = Cut why d lines m n f g w
+SessionBy (Err why) d lines m n f g w = Cut d lines m n f g w
 
 module _ (d : Deployment) (lines : List Numbered) (m n : Rows) (f opened g : ℕ) (sooner : f ≤ opened) (core : Core) (w q : List ℕ) where
   begins : m ≡ map.empty → Right d (first_core (newest_of m) 0) m
@@ -23,19 +23,18 @@ module _ (d : Deployment) (lines : List Numbered) (m n : Rows) (f opened g : ℕ
   abbrev at_end : State
   at_end = record { core = core; rows = n; faults = g }
 
-  session : {X : Type 0} (r : Result X Stop) → OnOk r (q ≡ []) → WentBy d d.room (actions_in d lines) [] (opened_at m opened) at_end [] w q r → SessionBy r d lines m n f g w
+  session : {X : Type 0} (r : Result X Stop) → OnOk r (q ≡ []) → WentBy d d.room (actions_in d lines) [] (opened_at m 0 opened) at_end [] w q r → SessionBy r d lines m n f g w
   session (Ok x) none h =
-      let k = subst (λ z. WentBy d d.room (actions_in d lines) [] (opened_at m opened) at_end [] w z (fine x)) none h in
+      let k = subst (λ z. WentBy d d.room (actions_in d lines) [] (opened_at m 0 opened) at_end [] w z (fine x)) none h in
       record {
-        session = said d (actions_in d lines) [] m opened at_end at_end w [] begins k SinkFault (inl (unchanged at_end));
-        all = sym (last_booked d d.room k.responses (actions_in d lines) [] (opened_at m opened) at_end k.steps);
-        hosted = hosted_by d (actions_in d lines) [] m opened at_end at_end w [] begins k SinkFault (inl (unchanged at_end)) (λ s t. t ≡ s) f sooner refl;
+        session = said d (actions_in d lines) [] m opened at_end w [] begins k;
+        hosted = hosted_by d (actions_in d lines) [] m opened at_end w [] begins k f sooner;
       }
   session (Err why) none h = record {
     more = h.0;
-    rest = h.2;
-    session = said d (actions_in d lines) h.0 m opened h.1 at_end w h.2 begins h.3 why h.4;
-    hosted = hosted_by d (actions_in d lines) h.0 m opened h.1 at_end w h.2 begins h.3 why h.4 (Stopped why d d.room h.0) f sooner h.4;
+    rest = h.1;
+    session = said d (actions_in d lines) h.0 m opened at_end w h.1 begins h.2;
+    hosted = hosted_by d (actions_in d lines) h.0 m opened at_end w h.1 begins h.2 f sooner;
   }
 
 -- a host that was opened over a table, and the script that it carried out
@@ -48,9 +47,9 @@ hosted d t a b lines r o none end x = (
       (λ m n j v w. session d lines m j t.faults a.table.faults b.table.faults o.later b.core x.written b.waiting r end (begun m n j v w)) (told_tells t.rows a.table.rows (λ m n. (n ≡ m) × (a.core.newest ≡ newest_of m)) o.rows) x.went,
 )
   where
-    begun : (m n j : Rows) → (n ≡ m) × (a.core.newest ≡ newest_of m) → WentBy a.code a.table.room (actions_in a.code lines) [] (state_at a n) (state_at b j) a.waiting x.written b.waiting r → WentBy d d.room (actions_in d lines) [] (opened_at m a.table.faults) (state_at b j) [] x.written b.waiting r
+    begun : (m n j : Rows) → (n ≡ m) × (a.core.newest ≡ newest_of m) → WentBy a.code a.table.room (actions_in a.code lines) [] (state_at a n) (state_at b j) a.waiting x.written b.waiting r → WentBy d d.room (actions_in d lines) [] (opened_at m 0 a.table.faults) (state_at b j) [] x.written b.waiting r
     begun m n j v w =
-        subst (λ (p : List ℕ). WentBy d d.room (actions_in d lines) [] (opened_at m a.table.faults) (state_at b j) p x.written b.waiting r) none
+        subst (λ (p : List ℕ). WentBy d d.room (actions_in d lines) [] (opened_at m 0 a.table.faults) (state_at b j) p x.written b.waiting r) none
         (subst (λ (c : Core). WentBy d d.room (actions_in d lines) [] (record { core = c; rows = m; faults = a.table.faults }) (state_at b j) a.waiting x.written b.waiting r) (o.core ∙ ap (λ z. first_core z 0) v.1)
         (subst (λ (k : Rows). WentBy d d.room (actions_in d lines) [] (record { core = a.core; rows = k; faults = a.table.faults }) (state_at b j) a.waiting x.written b.waiting r) v.0
         (subst (λ (z : ℕ). WentBy d z (actions_in d lines) [] (state_at a n) (state_at b j) a.waiting x.written b.waiting r) o.room_set
@@ -114,6 +113,10 @@ module _ {K : Type 0} (held : K → Option (List ℕ)) (faults : K → ℕ) wher
   checked_rose (Ok text) k k' x = x.0
   checked_rose (Err y) k k' x = x.0
 
+  checked_link : (o : Result (List ℕ) Refusal) (k k' : K) → CheckEnds held faults o k k' Ended.LinkRefused → ⊥
+  checked_link (Ok text) k k' x = let clash = x.0 in cc
+  checked_link (Err y) k k' x = let clash = x.0 in cc
+
   checked_opens : (o : Result (List ℕ) Refusal) (k k' : K) → CheckEnds held faults o k k' Ended.TableFault → ⊥
   checked_opens (Ok text) k k' x = let clash = x.0 in cc
   checked_opens (Err y) k k' x = let clash = x.0 in cc
@@ -155,31 +158,115 @@ module _ {K T : Type 0} (held : K → Option (List ℕ)) (faults : K → ℕ) (s
   table_rose bytes (Ok p) k k' t t' x = (x.0, (x.1.1, x.1.0))
   table_rose bytes (Err y) k k' t t' x = let clash = x.1.0 in cc
 
-  -- by the command
-  done_read : (c : Command) (bytes : List ℕ) (k k' : K) (t t' : T) (e : Ended) → DoneBy held faults state c bytes k k' t t' e → is_read_end e ≡ true
-  done_read Run bytes k k' t t' e x = ends_read bytes (source_at bytes) k k' t t' e x
-  done_read Check bytes k k' t t' e x = checked_read held faults (check_at bytes) k k' e x.1
-  done_read (Gen seed n) bytes k k' t t' e x = absurd x
-
-  done_as : (c : Command) (bytes : List ℕ) (k k' : K) (t t' : T) (e : Ended) → DoneBy held faults state c bytes k k' t t' e → AsRead (is_whole_source bytes (source_at bytes)) e
-  done_as Run bytes k k' t t' e x = as_read bytes (source_at bytes) k k' t t' e x
-  done_as Check bytes k k' t t' e x = checked_as held faults (is_whole_source bytes (source_at bytes)) (check_at bytes) k k' e (is_checked bytes (source_at bytes)) x.1
-  done_as (Gen seed n) bytes k k' t t' e x = absurd x
-
   sink_rose : (bytes : List ℕ) (o : Result Accepted Refusal) (k k' : K) (t t' : T) → SourceEnds held faults state bytes o k k' t t' Ended.SinkFault → Rose (faults k) (faults k')
   sink_rose bytes (Ok p) k k' t t' x = x.0
   sink_rose bytes (Err y) k k' t t' x = x.1.0
 
-  pub done_rose : (c : Command) (bytes : List ℕ) (k k' : K) (t t' : T) → DoneBy held faults state c bytes k k' t t' Ended.SinkFault → Rose (faults k) (faults k')
-  done_rose Run bytes k k' t t' x = sink_rose bytes (source_at bytes) k k' t t' x
+  not_refused : (bytes : List ℕ) (o : Result Accepted Refusal) (k k' : K) (t t' : T) → SourceEnds held faults state bytes o k k' t t' Ended.LinkRefused → ⊥
+  not_refused bytes (Ok p) k k' t t' x = x
+  not_refused bytes (Err y) k k' t t' x = let clash = x.1.0 in cc
+
+-- what is so of a service, however it is served
+pub record IsProper {K T : Type 0} (held : K → Option (List ℕ)) (faults : K → ℕ) (state : T → TableState) (refused : Type 0) (serving : ServingEnds K T) : Type 0 where
+  pub read : (bytes : List ℕ) (requests : ℕ) (k k' : K) (t t' : T) (e : Ended) → serving bytes requests k k' t t' e → is_read_end e ≡ true
+  pub as_read : (bytes : List ℕ) (requests : ℕ) (k k' : K) (t t' : T) (e : Ended) → serving bytes requests k k' t t' e → AsRead (is_bare_source bytes (source_at bytes)) e
+  pub rose : (bytes : List ℕ) (requests : ℕ) (k k' : K) (t t' : T) → serving bytes requests k k' t t' Ended.SinkFault → Rose (faults k) (faults k')
+  pub opens : (bytes : List ℕ) (requests : ℕ) (k k' : K) (t t' : T) → serving bytes requests k k' t t' Ended.TableFault → Rose (state t).faults (state t').faults × (Told (state t).rows (state t').rows (λ m n. n ≡ m) × (k' ≡ k))
+  pub refuses : (bytes : List ℕ) (requests : ℕ) (k k' : K) (t t' : T) → serving bytes requests k k' t t' Ended.LinkRefused → refused
+
+module _ {K T : Type 0} (held : K → Option (List ℕ)) (faults : K → ℕ) (state : T → TableState) (refused : Type 0) (serving : ServingEnds K T) (proper : IsProper held faults state refused serving) where
+  -- by the command
+  done_read : (c : Command) (bytes : List ℕ) (k k' : K) (t t' : T) (e : Ended) → DoneBy held faults state serving c bytes k k' t t' e → is_read_end e ≡ true
+  done_read Run bytes k k' t t' e x = ends_read held faults state bytes (source_at bytes) k k' t t' e x
+  done_read Check bytes k k' t t' e x = checked_read held faults (check_at bytes) k k' e x.1
+  done_read (Serve port requests) bytes k k' t t' e x = proper.read bytes requests k k' t t' e x
+  done_read (Gen seed n) bytes k k' t t' e x = absurd x
+
+  done_as : (c : Command) (bytes : List ℕ) (k k' : K) (t t' : T) (e : Ended) → DoneBy held faults state serving c bytes k k' t t' e → AsRead (is_whole_by c bytes) e
+  done_as Run bytes k k' t t' e x = as_read held faults state bytes (source_at bytes) k k' t t' e x
+  done_as Check bytes k k' t t' e x = checked_as held faults (is_whole_source bytes (source_at bytes)) (check_at bytes) k k' e (is_checked bytes (source_at bytes)) x.1
+  done_as (Serve port requests) bytes k k' t t' e x = proper.as_read bytes requests k k' t t' e x
+  done_as (Gen seed n) bytes k k' t t' e x = absurd x
+
+  pub done_rose : (c : Command) (bytes : List ℕ) (k k' : K) (t t' : T) → DoneBy held faults state serving c bytes k k' t t' Ended.SinkFault → Rose (faults k) (faults k')
+  done_rose Run bytes k k' t t' x = sink_rose held faults state bytes (source_at bytes) k k' t t' x
   done_rose Check bytes k k' t t' x = checked_rose held faults (check_at bytes) k k' x.1
+  done_rose (Serve port requests) bytes k k' t t' x = proper.rose bytes requests k k' t t' x
   done_rose (Gen seed n) bytes k k' t t' x = absurd x
 
-  pub not_hosted : (c : Command) (bytes : List ℕ) (k k' : K) (t t' : T) → DoneBy held faults state c bytes k k' t t' Ended.TableFault
+  pub not_hosted : (c : Command) (bytes : List ℕ) (k k' : K) (t t' : T) → DoneBy held faults state serving c bytes k k' t t' Ended.TableFault
       → Rose (state t).faults (state t').faults × (Told (state t).rows (state t').rows (λ m n. n ≡ m) × (k' ≡ k))
-  not_hosted Run bytes k k' t t' x = table_rose bytes (source_at bytes) k k' t t' x
+  not_hosted Run bytes k k' t t' x = table_rose held faults state bytes (source_at bytes) k k' t t' x
   not_hosted Check bytes k k' t t' x = absurd (checked_opens held faults (check_at bytes) k k' x.1)
+  not_hosted (Serve port requests) bytes k k' t t' x = proper.opens bytes requests k k' t t' x
   not_hosted (Gen seed n) bytes k k' t t' x = absurd x
+
+  -- the link refuses only a service
+  done_refused : (c : Command) (bytes : List ℕ) (k k' : K) (t t' : T) → DoneBy held faults state serving c bytes k k' t t' Ended.LinkRefused → refused
+  done_refused (Serve port requests) bytes k k' t t' x = proper.refuses bytes requests k k' t t' x
+  done_refused Run bytes k k' t t' x = absurd (not_refused held faults state bytes (source_at bytes) k k' t t' x)
+  done_refused Check bytes k k' t t' x = absurd (checked_link held faults (check_at bytes) k k' x.1)
+  done_refused (Gen seed n) bytes k k' t t' x = absurd x
+
+-- ---- a service
+module _ {K T : Type 0} (held : K → Option (List ℕ)) (faults : K → ℕ) (state : T → TableState) {C : Type 0} (tells : C → ℕ → C → Type 0) (link link' : Option Connections) (clock : C) (refused : Type 0) where
+  abbrev pub Served : ServingEnds K T
+  Served = Serving held faults state tells link link' clock refused
+
+  abbrev Service : Accepted → ℕ → K → K → T → T → Ended → Type 0
+  Service p requests k k' t t' e = ServiceEnds held faults state tells link link' clock refused p.code requests k k' t t' e
+
+  -- by the first line after the deployment
+  module _ (bytes : List ℕ) (requests : ℕ) (k k' : K) (t t' : T) (e : Ended) (P : Type 0) (hosted : (p : Accepted) → is_bare_source bytes (Ok p) ≡ true → Service p requests k k' t t' e → P)
+      (told : (o : Result Accepted Refusal) (x : Refusal) → is_bare_source bytes o ≡ false → (t' ≡ t) × TextEnds held faults (refusal_text x) Ended.Refused k k' e → P) where
+    by_line : (p : Accepted) (o : Option Refusal) → first_line (script_of bytes p) ≡ o → BareEnds held faults state tells link link' clock refused p requests o k k' t t' e → P
+    by_line p None is x = hosted p (ap is_none is) x
+    by_line p (Some y) is x = told (Ok p) y (ap is_none is) x
+
+    by_source : (o : Result Accepted Refusal) → ServeEnds held faults state tells link link' clock refused bytes requests o k k' t t' e → P
+    by_source (Ok p) x = by_line p (first_line (script_of bytes p)) refl x
+    by_source (Err y) x = told (Err y) y refl x
+
+  service_read : (p : Accepted) (requests : ℕ) (k k' : K) (t t' : T) (e : Ended) → Service p requests k k' t t' e → is_read_end e ≡ true
+  service_read p requests k k' t t' Ended.Done x = refl
+  service_read p requests k k' t t' Ended.OutOfMemory x = refl
+  service_read p requests k k' t t' Ended.SinkFault x = refl
+  service_read p requests k k' t t' Ended.LinkRefused x = refl
+  service_read p requests k k' t t' Ended.TableFault x = refl
+  service_read p requests k k' t t' e x = absurd x
+
+  service_as : (whole : Bool) (p : Accepted) (requests : ℕ) (k k' : K) (t t' : T) (e : Ended) → whole ≡ true → Service p requests k k' t t' e → AsRead whole e
+  service_as whole p requests k k' t t' Ended.Done is x = is
+  service_as whole p requests k k' t t' Ended.Refused is x = absurd x
+  service_as whole p requests k k' t t' Ended.Usage is x = absurd x
+  service_as whole p requests k k' t t' e is x = tt
+
+  -- by what the source says
+  as_bare : (bytes : List ℕ) (requests : ℕ) (k k' : K) (t t' : T) (e : Ended) (o : Result Accepted Refusal) → ServeEnds held faults state tells link link' clock refused bytes requests o k k' t t' e → AsRead (is_bare_source bytes o) e
+  as_bare bytes requests k k' t t' e (Ok p) x = by_first (first_line (script_of bytes p)) x
+    where
+      by_first : (o : Option Refusal) → BareEnds held faults state tells link link' clock refused p requests o k k' t t' e → AsRead (is_none o) e
+      by_first None x = service_as true p requests k k' t t' e refl x
+      by_first (Some y) x = text_as held faults false (refusal_text y) Ended.Refused k k' e refl x.1
+  as_bare bytes requests k k' t t' e (Err y) x = text_as held faults false (refusal_text y) Ended.Refused k k' e refl x.1
+
+  -- out of memory before anything was done
+  pub unread_served : (bytes : List ℕ) (requests : ℕ) (o : Result Accepted Refusal) (k : K) (t : T) → ServeEnds held faults state tells link link' clock refused bytes requests o k k t t Ended.OutOfMemory
+  unread_served bytes requests (Ok p) k t = by (first_line (script_of bytes p))
+    where
+      by : (o : Option Refusal) → BareEnds held faults state tells link link' clock refused p requests o k k t t Ended.OutOfMemory
+      by None = inl (refl, told_same (λ m n. n ≡ m) (state t).rows (λ m. refl), omega arith)
+      by (Some x) = (refl, refl)
+  unread_served bytes requests (Err x) k t = (refl, refl)
+
+  pub is_proper : IsProper held faults state refused Served
+  is_proper = record {
+    read = λ bytes requests k k' t t' e x. by_source bytes requests k k' t t' e (is_read_end e ≡ true) (λ p is y. service_read p requests k k' t t' e y) (λ o y is z. text_read held faults (refusal_text y) Ended.Refused k k' e refl z.1) (source_at bytes) x;
+    as_read = λ bytes requests k k' t t' e x. as_bare bytes requests k k' t t' e (source_at bytes) x;
+    rose = λ bytes requests k k' t t' x. by_source bytes requests k k' t t' Ended.SinkFault (Rose (faults k) (faults k')) (λ p is y. y.0) (λ o y is z. z.1.0) (source_at bytes) x;
+    opens = λ bytes requests k k' t t' x. by_source bytes requests k k' t t' Ended.TableFault (Rose (state t).faults (state t').faults × (Told (state t).rows (state t').rows (λ m n. n ≡ m) × (k' ≡ k))) (λ p is y. (y.0, (y.1.1, y.1.0))) (λ o y is z. let clash = z.1.0 in cc) (source_at bytes) x;
+    refuses = λ bytes requests k k' t t' x. by_source bytes requests k k' t t' Ended.LinkRefused refused (λ p is y. y.0) (λ o y is z. let clash = z.1.0 in cc) (source_at bytes) x;
+  }
 
 -- ---- generated work
 module _ {K : Type 0} (held : K → Option (List ℕ)) (faults : K → ℕ) (n : ℕ) (text : List ℕ) (k k' : K) where
@@ -219,6 +306,17 @@ module _ {K T : Type 0} (held : K → Option (List ℕ)) (faults : K → ℕ) (s
   generated_rose (inl x) = let clash = x.0 in cc
   generated_rose (inr x) = summed_rose held faults n x.sink.bytes k k' x.ended x.told
 
+  generated_refused : GeneratedEnds held faults state seed n k k' t t' Ended.LinkRefused → ⊥
+  generated_refused (inl x) = let clash = x.0 in cc
+  generated_refused (inr x) = by_session x.ended x.session x.told
+    where
+      by_session : (ended : Ended) → SourceEnds kept kept_faults state (generated seed n) (source_at (generated seed n)) (new_sink [] (2 ^ 64 - 1)) x.sink t t' ended → SummedUp held faults n x.sink.bytes ended k k' Ended.LinkRefused → ⊥
+      by_session Ended.Done s t = let clash = t.0 in cc
+      by_session Ended.Refused s t = let clash = t.0 in cc
+      by_session Ended.SinkFault s t = let clash = t.0 in cc
+      by_session Ended.LinkRefused s u = not_refused kept kept_faults state (generated seed n) (source_at (generated seed n)) (new_sink [] (2 ^ 64 - 1)) x.sink t t' s
+      by_session end s t = let clash = t.0 in cc
+
   generated_opens : GeneratedEnds held faults state seed n k k' t t' Ended.TableFault → Rose (state t).faults (state t').faults × (Told (state t).rows (state t').rows (λ m n. n ≡ m) × (k' ≡ k))
   generated_opens (inl x) = let clash = x.0 in cc
   generated_opens (inr x) =
@@ -226,23 +324,34 @@ module _ {K T : Type 0} (held : K → Option (List ℕ)) (faults : K → ℕ) (s
       let w = table_rose kept kept_faults state (generated seed n) (source_at (generated seed n)) _ x.sink t t' (subst (λ z. SourceEnds kept kept_faults state (generated seed n) (source_at (generated seed n)) (new_sink [] (2 ^ 64 - 1)) x.sink t t' z) o.0 x.session) in
       (w.0, (w.1.0, o.1))
 
+-- ---- memory ran out before a command was read
+module _ {S K T : Type 0} (left : S → Option (List ℕ)) (source_faults : S → ℕ) (held : K → Option (List ℕ)) (faults : K → ℕ) (state : T → TableState) (serving : ServingEnds K T) (s : S) (k : K) (t : T) where
+  short_source : (c : Command) → SourceCommandEnds left source_faults held faults state serving c s s k k t t Ended.OutOfMemory
+  short_source c = inl (told_same (TookFront (max_source + 1)) (left s) (λ b. ([], refl, omega arith)), refl, refl)
+
+  pub short_words : (words : Option Command) → Ends left source_faults held faults state serving words s s k k t t Ended.OutOfMemory
+  short_words None = (refl, refl, refl)
+  short_words (Some (Gen seed n)) = (refl, inl (refl, refl, refl))
+  short_words (Some c) = short_source c
+
 -- ---- what is read off the ending
-module _ {S K T : Type 0} (left : S → Option (List ℕ)) (source_faults : S → ℕ) (held : K → Option (List ℕ)) (faults : K → ℕ) (state : T → TableState) (s s' : S) (k k' : K) (t t' : T) where
-  pub command_ends : (c : Command) (e : Ended) → ReadEnds left source_faults held faults state c s s' k k' t t' e → SourceCommandEnds left source_faults held faults state c s s' k k' t t' e
+module _ {S K T : Type 0} (left : S → Option (List ℕ)) (source_faults : S → ℕ) (held : K → Option (List ℕ)) (faults : K → ℕ) (state : T → TableState) (refused : Type 0) (serving : ServingEnds K T) (proper : IsProper held faults state refused serving) (s s' : S) (k k' : K) (t t' : T) where
+  pub command_ends : (c : Command) (e : Ended) → ReadEnds left source_faults held faults state serving c s s' k k' t t' e → SourceCommandEnds left source_faults held faults state serving c s s' k k' t t' e
   command_ends c Ended.OutOfMemory x = inr x
-  command_ends c Ended.Usage x = let clash = done_read held faults state c x.0 k k' t t' Ended.Usage x.3 in cc
-  command_ends c Ended.SourceFault x = let clash = done_read held faults state c x.0 k k' t t' Ended.SourceFault x.3 in cc
-  command_ends c Ended.TooLong x = let clash = done_read held faults state c x.0 k k' t t' Ended.TooLong x.3 in cc
+  command_ends c Ended.Usage x = let clash = done_read held faults state refused serving proper c x.0 k k' t t' Ended.Usage x.3 in cc
+  command_ends c Ended.SourceFault x = let clash = done_read held faults state refused serving proper c x.0 k k' t t' Ended.SourceFault x.3 in cc
+  command_ends c Ended.TooLong x = let clash = done_read held faults state refused serving proper c x.0 k k' t t' Ended.TooLong x.3 in cc
   command_ends c e x = x
 
   -- what is so of each command that reads the source, and of generated work
-  by_command : (e : Ended) (P : Type 0) → ((c : Command) → SourceCommandEnds left source_faults held faults state c s s' k k' t t' e → P) → ((seed n : ℕ) → GeneratedEnds held faults state seed n k k' t t' e → P)
-      → (c : Command) → CommandEnds left source_faults held faults state c s s' k k' t t' e → P
+  by_command : (e : Ended) (P : Type 0) → ((c : Command) → SourceCommandEnds left source_faults held faults state serving c s s' k k' t t' e → P) → ((seed n : ℕ) → GeneratedEnds held faults state seed n k k' t t' e → P)
+      → (c : Command) → CommandEnds left source_faults held faults state serving c s s' k k' t t' e → P
   by_command e P f g Run x = f Run x
   by_command e P f g Check x = f Check x
+  by_command e P f g (Serve port requests) x = f (Serve port requests) x
   by_command e P f g (Gen seed n) x = g seed n x.1
 
-  pub not_command : (o : Option Command) → Ends left source_faults held faults state o s s' k k' t t' Ended.Usage → o ≡ None
+  pub not_command : (o : Option Command) → Ends left source_faults held faults state serving o s s' k k' t t' Ended.Usage → o ≡ None
   not_command (Some c) x = absurd (by_command Ended.Usage ⊥ (λ c x. x) (λ seed n x. let clash = generated_read held faults state seed n k k' t t' Ended.Usage x in cc) c x)
   not_command None x = refl
 
@@ -251,29 +360,34 @@ module _ {S K T : Type 0} (left : S → Option (List ℕ)) (source_faults : S �
   other_words Ended.OutOfMemory x = inr (inr refl)
   other_words e x = inl (ap status_of x.0)
 
-  pub usage_told : (o : Option Command) (e : Ended) → o ≡ None → Ends left source_faults held faults state o s s' k k' t t' e → (t' ≡ t) × ((status_of e ≡ 2) ⊎ (status_of e ≡ 4) ⊎ (status_of e ≡ 1))
+  pub usage_told : (o : Option Command) (e : Ended) → o ≡ None → Ends left source_faults held faults state serving o s s' k k' t t' e → (t' ≡ t) × ((status_of e ≡ 2) ⊎ (status_of e ≡ 4) ⊎ (status_of e ≡ 1))
   usage_told (Some c) e h x = cc
   usage_told None e h x = (x.1, other_words e x.2)
 
-  pub unread : (o : Option Command) (e : Ended) → reads_source o ≡ false → Ends left source_faults held faults state o s s' k k' t t' e → s' ≡ s
+  pub unread : (o : Option Command) (e : Ended) → reads_source o ≡ false → Ends left source_faults held faults state serving o s s' k k' t t' e → s' ≡ s
   unread (Some Run) e h x = cc
   unread (Some Check) e h x = cc
+  unread (Some (Serve port requests)) e h x = cc
   unread (Some (Gen seed n)) e h x = x.0
   unread None e h x = x.0
 
-  pub source_fault : (o : Option Command) → Ends left source_faults held faults state o s s' k k' t t' Ended.SourceFault → Rose (source_faults s) (source_faults s')
+  pub source_fault : (o : Option Command) → Ends left source_faults held faults state serving o s s' k k' t t' Ended.SourceFault → Rose (source_faults s) (source_faults s')
   source_fault (Some c) x = by_command Ended.SourceFault (Rose (source_faults s) (source_faults s')) (λ c x. x.0) (λ seed n x. let clash = generated_read held faults state seed n k k' t t' Ended.SourceFault x in cc) c x
   source_fault None x = let clash = x.2.0 in cc
 
-  pub sink_fault : (o : Option Command) → Ends left source_faults held faults state o s s' k k' t t' Ended.SinkFault → Rose (faults k) (faults k')
-  sink_fault (Some c) x = by_command Ended.SinkFault (Rose (faults k) (faults k')) (λ c x. done_rose held faults state c x.0 k k' t t' x.3) (λ seed n x. generated_rose held faults state seed n k k' t t' x) c x
+  pub sink_fault : (o : Option Command) → Ends left source_faults held faults state serving o s s' k k' t t' Ended.SinkFault → Rose (faults k) (faults k')
+  sink_fault (Some c) x = by_command Ended.SinkFault (Rose (faults k) (faults k')) (λ c x. done_rose held faults state refused serving proper c x.0 k k' t t' x.3) (λ seed n x. generated_rose held faults state seed n k k' t t' x) c x
   sink_fault None x = x.2.0
 
-  pub open_fault : (o : Option Command) → Ends left source_faults held faults state o s s' k k' t t' Ended.TableFault → Rose (state t).faults (state t').faults × (Told (state t).rows (state t').rows (λ m n. n ≡ m) × (k' ≡ k))
-  open_fault (Some c) x = by_command Ended.TableFault _ (λ c x. not_hosted held faults state c x.0 k k' t t' x.3) (λ seed n x. generated_opens held faults state seed n k k' t t' x) c x
+  pub link_refusal : (o : Option Command) → Ends left source_faults held faults state serving o s s' k k' t t' Ended.LinkRefused → refused
+  link_refusal (Some c) x = by_command Ended.LinkRefused refused (λ c x. done_refused held faults state refused serving proper c x.0 k k' t t' x.3) (λ seed n x. absurd (generated_refused held faults state seed n k k' t t' x)) c x
+  link_refusal None x = let clash = x.2.0 in cc
+
+  pub open_fault : (o : Option Command) → Ends left source_faults held faults state serving o s s' k k' t t' Ended.TableFault → Rose (state t).faults (state t').faults × (Told (state t).rows (state t').rows (λ m n. n ≡ m) × (k' ≡ k))
+  open_fault (Some c) x = by_command Ended.TableFault _ (λ c x. not_hosted held faults state refused serving proper c x.0 k k' t t' x.3) (λ seed n x. generated_opens held faults state seed n k k' t t' x) c x
   open_fault None x = let clash = x.2.0 in cc
 
-  pub untouched : (o : Option Command) (e : Ended) → Ends left source_faults held faults state o s s' k k' t t' e → Untouched e (t' ≡ t) (Told (state t).rows (state t').rows (λ m n. n ≡ m)) (k' ≡ k)
+  pub untouched : (o : Option Command) (e : Ended) → Ends left source_faults held faults state serving o s s' k k' t t' e → Untouched e (t' ≡ t) (Told (state t).rows (state t').rows (λ m n. n ≡ m)) (k' ≡ k)
   untouched (Some c) Ended.SourceFault x = by_command Ended.SourceFault ((t' ≡ t) × (k' ≡ k)) (λ c x. (x.2, x.3)) (λ seed n x. let clash = generated_read held faults state seed n k k' t t' Ended.SourceFault x in cc) c x
   untouched (Some c) Ended.TooLong x = by_command Ended.TooLong ((t' ≡ t) × (k' ≡ k)) (λ c x. (x.1, x.2)) (λ seed n x. let clash = generated_read held faults state seed n k k' t t' Ended.TooLong x in cc) c x
   untouched o Ended.TableFault x = (open_fault o x).1
@@ -282,7 +396,7 @@ module _ {S K T : Type 0} (left : S → Option (List ℕ)) (source_faults : S �
   untouched o e x = tt
 
   -- to test a source leaves the table
-  pub tested_leaves : (e : Ended) → Ends left source_faults held faults state (Some Check) s s' k k' t t' e → t' ≡ t
+  pub tested_leaves : (e : Ended) → Ends left source_faults held faults state serving (Some Check) s s' k k' t t' e → t' ≡ t
   tested_leaves Ended.Usage x = absurd x
   tested_leaves Ended.SourceFault x = x.2
   tested_leaves Ended.TooLong x = x.1
@@ -299,10 +413,10 @@ module _ {S K T : Type 0} (left : S → Option (List ℕ)) (source_faults : S �
   short Ended.TooLong is b c bytes l same = cc
   short e is b c bytes l same = inl (subst (λ (z : List ℕ). length z ≤ max_source) (sym same) l)
 
-  read_short : (c : Command) (e : Ended) → ReadEnds left source_faults held faults state c s s' k k' t t' e → Long e
-  read_short c e x = told_map {P = λ b c. (b ≡ x.0) × (c ≡ [])} {Q = λ b c. LongOn b c e} (left s) (left s') (λ b a v. short e (done_read held faults state c x.0 k k' t t' e x.3) b a x.0 x.1 v.0) x.2
+  read_short : (c : Command) (e : Ended) → ReadEnds left source_faults held faults state serving c s s' k k' t t' e → Long e
+  read_short c e x = told_map {P = λ b c. (b ≡ x.0) × (c ≡ [])} {Q = λ b c. LongOn b c e} (left s) (left s') (λ b a v. short e (done_read held faults state refused serving proper c x.0 k k' t t' e x.3) b a x.0 x.1 v.0) x.2
 
-  source_long : (c : Command) (e : Ended) → SourceCommandEnds left source_faults held faults state c s s' k k' t t' e → Long e
+  source_long : (c : Command) (e : Ended) → SourceCommandEnds left source_faults held faults state serving c s s' k k' t t' e → Long e
   source_long c Ended.Usage x = absurd x
   source_long c Ended.SourceFault x = told_map {P = TookFront max_source} {Q = λ b c. LongOn b c Ended.SourceFault} (left s) (left s') (λ b c v. inr (inl refl)) x.1
   source_long c Ended.TooLong x = x.0
@@ -312,36 +426,38 @@ module _ {S K T : Type 0} (left : S → Option (List ℕ)) (source_faults : S �
   ]
   source_long c e x = read_short c e x
 
-  pub too_long : (o : Option Command) (e : Ended) → reads_source o ≡ true → Ends left source_faults held faults state o s s' k k' t t' e → Long e
+  pub too_long : (o : Option Command) (e : Ended) → reads_source o ≡ true → Ends left source_faults held faults state serving o s s' k k' t t' e → Long e
   too_long None e h x = cc
   too_long (Some Run) e h x = source_long Run e x
   too_long (Some Check) e h x = source_long Check e x
+  too_long (Some (Serve port requests)) e h x = source_long (Serve port requests) e x
   too_long (Some (Gen seed n)) e h x = cc
 
-  read_as : (o a : Option (List ℕ)) (bytes : List ℕ) (e : Ended) → Told o a (λ b c. (b ≡ bytes) × (c ≡ [])) → AsRead (is_whole_source bytes (source_at bytes)) e → SourceAsRead o e
-  read_as None a bytes e t h = tt
-  read_as (Some b) None bytes e t h = absurd t
-  read_as (Some b) (Some c) bytes e t h = subst (λ z. AsRead (is_whole_source z (source_at z)) e) (sym t.0) h
+  read_as : (c : Command) (o a : Option (List ℕ)) (bytes : List ℕ) (e : Ended) → Told o a (λ b c. (b ≡ bytes) × (c ≡ [])) → AsRead (is_whole_by c bytes) e → SourceAsRead c o e
+  read_as c None a bytes e t h = tt
+  read_as c (Some b) None bytes e t h = absurd t
+  read_as c (Some b) (Some d) bytes e t h = subst (λ z. AsRead (is_whole_by c z) e) (sym t.0) h
 
-  any_read : (o : Option (List ℕ)) (e : Ended) → ((whole : Bool) → AsRead whole e) → SourceAsRead o e
-  any_read None e h = tt
-  any_read (Some b) e h = h (is_whole_source b (source_at b))
+  any_read : (c : Command) (o : Option (List ℕ)) (e : Ended) → ((whole : Bool) → AsRead whole e) → SourceAsRead c o e
+  any_read c None e h = tt
+  any_read c (Some b) e h = h (is_whole_by c b)
 
-  read_refused : (c : Command) (e : Ended) → ReadEnds left source_faults held faults state c s s' k k' t t' e → SourceAsRead (left s) e
-  read_refused c e x = read_as (left s) (left s') x.0 e x.2 (done_as held faults state c x.0 k k' t t' e x.3)
+  read_refused : (c : Command) (e : Ended) → ReadEnds left source_faults held faults state serving c s s' k k' t t' e → SourceAsRead c (left s) e
+  read_refused c e x = read_as c (left s) (left s') x.0 e x.2 (done_as held faults state refused serving proper c x.0 k k' t t' e x.3)
 
-  source_refused : (c : Command) (e : Ended) → SourceCommandEnds left source_faults held faults state c s s' k k' t t' e → SourceAsRead (left s) e
+  source_refused : (c : Command) (e : Ended) → SourceCommandEnds left source_faults held faults state serving c s s' k k' t t' e → SourceAsRead c (left s) e
   source_refused c Ended.Usage x = absurd x
-  source_refused c Ended.SourceFault x = any_read (left s) Ended.SourceFault (λ w. tt)
-  source_refused c Ended.TooLong x = any_read (left s) Ended.TooLong (λ w. tt)
-  source_refused c Ended.OutOfMemory x = any_read (left s) Ended.OutOfMemory (λ w. tt)
+  source_refused c Ended.SourceFault x = any_read c (left s) Ended.SourceFault (λ w. tt)
+  source_refused c Ended.TooLong x = any_read c (left s) Ended.TooLong (λ w. tt)
+  source_refused c Ended.OutOfMemory x = any_read c (left s) Ended.OutOfMemory (λ w. tt)
   source_refused c e x = read_refused c e x
 
-  pub refused : (o : Option Command) (e : Ended) → reads_source o ≡ true → Ends left source_faults held faults state o s s' k k' t t' e → SourceAsRead (left s) e
-  refused None e h x = cc
-  refused (Some Run) e h x = source_refused Run e x
-  refused (Some Check) e h x = source_refused Check e x
-  refused (Some (Gen seed n)) e h x = cc
+  pub read_refused_by : (o : Option Command) (e : Ended) → reads_source o ≡ true → Ends left source_faults held faults state serving o s s' k k' t t' e → WordsAsRead o (left s) e
+  read_refused_by None e h x = cc
+  read_refused_by (Some Run) e h x = source_refused Run e x
+  read_refused_by (Some Check) e h x = source_refused Check e x
+  read_refused_by (Some (Serve port requests)) e h x = source_refused (Serve port requests) e x
+  read_refused_by (Some (Gen seed n)) e h x = cc
 
 -- ---- the status
 abbrev decode : ℕ → Ended
@@ -351,6 +467,7 @@ decode (suc (suc zero)) = Ended.Usage
 decode (suc (suc (suc zero))) = Ended.SourceFault
 decode (suc (suc (suc (suc zero)))) = Ended.SinkFault
 decode (suc (suc (suc (suc (suc zero))))) = Ended.Refused
+decode (suc (suc (suc (suc (suc (suc zero)))))) = Ended.LinkRefused
 decode (suc (suc (suc (suc (suc (suc (suc zero))))))) = Ended.TooLong
 decode n = Ended.TableFault
 
@@ -361,6 +478,7 @@ decoded Ended.Usage = refl
 decoded Ended.SourceFault = refl
 decoded Ended.SinkFault = refl
 decoded Ended.Refused = refl
+decoded Ended.LinkRefused = refl
 decoded Ended.TooLong = refl
 decoded Ended.TableFault = refl
 
@@ -369,69 +487,75 @@ pub same_end : (e f : Ended) → status_of e ≡ status_of f → e ≡ f
 same_end e f h = sym (decoded e) ∙ ap decode h ∙ decoded f
 
 -- ---- a source that is not refused
-module _ (b c : List ℕ) (P Q : Type 0) (p : P → ⊥) (q : Q → ⊥) (short : length b ≤ max_source) (whole : is_whole_source b (source_at b) ≡ true) where
-  done_or_short : (e : Ended) → AsRead (is_whole_source b (source_at b)) e → LongOn b c e → (e ≡ Ended.SourceFault → P) → (e ≡ Ended.SinkFault → Q) → (status_of e ≡ 0) ⊎ (status_of e ≡ 1) ⊎ (status_of e ≡ 8)
-  done_or_short Ended.Done r l s t = inl refl
-  done_or_short Ended.OutOfMemory r l s t = inr (inl refl)
-  done_or_short Ended.Usage r l s t = absurd r
-  done_or_short Ended.SourceFault r l s t = absurd (p (s refl))
-  done_or_short Ended.SinkFault r l s t = absurd (q (t refl))
-  done_or_short Ended.Refused r l s t = absurd (false≢true (sym r ∙ whole))
-  done_or_short Ended.TooLong r l s t = absurd (omega (arith, short, l.0))
-  done_or_short Ended.TableFault r l s t = inr (inr refl)
+module _ (c : Command) (b : List ℕ) (P Q R : Type 0) (p : P → ⊥) (q : Q → ⊥) (r : R → ⊥) (short : length b ≤ max_source) (whole : is_whole_by c b ≡ true) where
+  done_or_short : (e : Ended) → AsRead (is_whole_by c b) e → (after : List ℕ) → LongOn b after e → (e ≡ Ended.SourceFault → P) → (e ≡ Ended.SinkFault → Q) → (e ≡ Ended.LinkRefused → R) → (status_of e ≡ 0) ⊎ (status_of e ≡ 1) ⊎ (status_of e ≡ 8)
+  done_or_short Ended.Done a after l s t u = inl refl
+  done_or_short Ended.OutOfMemory a after l s t u = inr (inl refl)
+  done_or_short Ended.Usage a after l s t u = absurd a
+  done_or_short Ended.SourceFault a after l s t u = absurd (p (s refl))
+  done_or_short Ended.SinkFault a after l s t u = absurd (q (t refl))
+  done_or_short Ended.Refused a after l s t u = absurd (false≢true (sym a ∙ whole))
+  done_or_short Ended.LinkRefused a after l s t u = absurd (r (u refl))
+  done_or_short Ended.TooLong a after l s t u = absurd (omega (arith, short, l.0))
+  done_or_short Ended.TableFault a after l s t u = inr (inr refl)
 
-pub completed : (o a : Option (List ℕ)) (e : Ended) (P Q : Type 0) → SourceAsRead o e → Told o a (λ b c. LongOn b c e) → (e ≡ Ended.SourceFault → P) → (e ≡ Ended.SinkFault → Q) → (P → ⊥) → (Q → ⊥)
-    → Told o a (λ b c. length b ≤ max_source → is_whole_source b (source_at b) ≡ true → (status_of e ≡ 0) ⊎ (status_of e ≡ 1) ⊎ (status_of e ≡ 8))
-completed None a e P Q r l s t p q = tt
-completed (Some b) None e P Q r l s t p q = l
-completed (Some b) (Some c) e P Q r l s t p q = λ short whole. done_or_short b c P Q p q short whole e r l s t
+pub completed : (words : Option Command) (o a : Option (List ℕ)) (e : Ended) (P Q R : Type 0) → WordsAsRead words o e → Told o a (λ b c. LongOn b c e) → (e ≡ Ended.SourceFault → P) → (e ≡ Ended.SinkFault → Q) → (e ≡ Ended.LinkRefused → R) → (P → ⊥) → (Q → ⊥) → (R → ⊥)
+    → Told o a (λ b c. length b ≤ max_source → is_whole_asked words b ≡ true → (status_of e ≡ 0) ⊎ (status_of e ≡ 1) ⊎ (status_of e ≡ 8))
+completed words None a e P Q R read l s t u p q r = tt
+completed words (Some b) None e P Q R read l s t u p q r = l
+completed None (Some b) (Some c) e P Q R read l s t u p q r = λ short whole. cc
+completed (Some w) (Some b) (Some c) e P Q R read l s t u p q r = λ short whole. done_or_short w b P Q R p q r short whole e read c l s t u
 
 -- ---- what the clauses of `top` say is read off how the program ended, and the status
-module _ {S K T : Type 0} {left : S → Option (List ℕ)} {source_faults : S → ℕ} {held : K → Option (List ℕ)} {faults : K → ℕ} {state : T → TableState} {words : Option Command} {s s' : S} {k k' : K} {t t' : T} {e : Ended}
-    (x : HasEnded left source_faults held faults state words s s' k k' t t' e) (n : ℕ) (is : n ≡ status_of e) where
-  by_ending : (f : Ended) → e ≡ f → Ends left source_faults held faults state words s s' k k' t t' f
-  by_ending f h = subst (Ends left source_faults held faults state words s s' k k' t t') h x.ends
+module _ {S K T : Type 0} {left : S → Option (List ℕ)} {source_faults : S → ℕ} {held : K → Option (List ℕ)} {faults : K → ℕ} {state : T → TableState} {serving : ServingEnds K T} {words : Option Command} {s s' : S} {k k' : K} {t t' : T} {e : Ended} {refused : Type 0} (proper : IsProper held faults state refused serving)
+    (x : HasEnded left source_faults held faults state serving words s s' k k' t t' e) (n : ℕ) (is : n ≡ status_of e) where
+  by_ending : (f : Ended) → e ≡ f → Ends left source_faults held faults state serving words s s' k k' t t' f
+  by_ending f h = subst (Ends left source_faults held faults state serving words s s' k k' t t') h x.ends
 
-  by_status : (f : Ended) → n ≡ status_of f → Ends left source_faults held faults state words s s' k k' t t' f
+  by_status : (f : Ended) → n ≡ status_of f → Ends left source_faults held faults state serving words s s' k k' t t' f
   by_status f h = by_ending f (same_end e f (sym is ∙ h))
 
   pub usage_at : (n ≡ 2 → words ≡ None) × (words ≡ None → (n ≡ 2) ⊎ (n ≡ 4) ⊎ (n ≡ 1))
   usage_at = (
-    λ h. not_command left source_faults held faults state s s' k k' t t' words (by_status Ended.Usage h),
-    λ h. subst (λ (z : ℕ). (z ≡ 2) ⊎ (z ≡ 4) ⊎ (z ≡ 1)) (sym is) (usage_told left source_faults held faults state s s' k k' t t' words e h x.ends).1,
+    λ h. not_command left source_faults held faults state refused serving proper s s' k k' t t' words (by_status Ended.Usage h),
+    λ h. subst (λ (z : ℕ). (z ≡ 2) ⊎ (z ≡ 4) ⊎ (z ≡ 1)) (sym is) (usage_told left source_faults held faults state refused serving proper s s' k k' t t' words e h x.ends).1,
   )
 
   pub source_fault_at : n ≡ 3 → Rose (source_faults s) (source_faults s')
-  source_fault_at h = source_fault left source_faults held faults state s s' k k' t t' words (by_status Ended.SourceFault h)
+  source_fault_at h = source_fault left source_faults held faults state refused serving proper s s' k k' t t' words (by_status Ended.SourceFault h)
 
   pub sink_fault_at : n ≡ 4 → Rose (faults k) (faults k')
-  sink_fault_at h = sink_fault left source_faults held faults state s s' k k' t t' words (by_status Ended.SinkFault h)
+  sink_fault_at h = sink_fault left source_faults held faults state refused serving proper s s' k k' t t' words (by_status Ended.SinkFault h)
 
   pub open_fault_at : n ≡ 8 → Rose (state t).faults (state t').faults
-  open_fault_at h = (open_fault left source_faults held faults state s s' k k' t t' words (by_status Ended.TableFault h)).0
+  open_fault_at h = (open_fault left source_faults held faults state refused serving proper s s' k k' t t' words (by_status Ended.TableFault h)).0
 
-  pub session_at : ByStatus n (Ends left source_faults held faults state words s s' k k' t t')
+  pub session_at : ByStatus n (Ends left source_faults held faults state serving words s s' k k' t t')
   session_at = (e, is, x.ends)
 
   pub too_long_at : reads_source words ≡ true → ByStatus n (λ e. Told (left s) (left s') (λ b c. LongOn b c e))
-  too_long_at h = (e, is, too_long left source_faults held faults state s s' k k' t t' words e h x.ends)
+  too_long_at h = (e, is, too_long left source_faults held faults state refused serving proper s s' k k' t t' words e h x.ends)
 
-  pub refused_at : reads_source words ≡ true → ByStatus n (λ e. SourceAsRead (left s) e)
-  refused_at h = (e, is, refused left source_faults held faults state s s' k k' t t' words e h x.ends)
+  pub link_refused_at : n ≡ 6 → refused
+  link_refused_at h = link_refusal left source_faults held faults state refused serving proper s s' k k' t t' words (by_status Ended.LinkRefused h)
+
+  pub refused_at : reads_source words ≡ true → ByStatus n (λ e. WordsAsRead words (left s) e)
+  refused_at h = (e, is, read_refused_by left source_faults held faults state refused serving proper s s' k k' t t' words e h x.ends)
 
   pub untouched_at : ByStatus n (λ e. Untouched e (t' ≡ t) (Told (state t).rows (state t').rows (λ m n. n ≡ m)) (k' ≡ k))
-  untouched_at = (e, is, untouched left source_faults held faults state s s' k k' t t' words e x.ends)
+  untouched_at = (e, is, untouched left source_faults held faults state refused serving proper s s' k k' t t' words e x.ends)
 
   pub unread_at : (reads_source words ≡ false → s' ≡ s) × (words ≡ None → t' ≡ t)
-  unread_at = (λ h. unread left source_faults held faults state s s' k k' t t' words e h x.ends, λ h. (usage_told left source_faults held faults state s s' k k' t t' words e h x.ends).0)
+  unread_at = (λ h. unread left source_faults held faults state refused serving proper s s' k k' t t' words e h x.ends, λ h. (usage_told left source_faults held faults state refused serving proper s s' k k' t t' words e h x.ends).0)
 
-  pub complete_at : reads_source words ≡ true → (Rose (source_faults s) (source_faults s') → ⊥) → (Rose (faults k) (faults k') → ⊥)
-      → Told (left s) (left s') (λ b c. length b ≤ max_source → is_whole_source b (source_at b) ≡ true → (n ≡ 0) ⊎ (n ≡ 1) ⊎ (n ≡ 8))
-  complete_at h p q =
-      subst (λ (z : ℕ). Told (left s) (left s') (λ b c. length b ≤ max_source → is_whole_source b (source_at b) ≡ true → (z ≡ 0) ⊎ (z ≡ 1) ⊎ (z ≡ 8))) (sym is)
-      (completed (left s) (left s') e (Rose (source_faults s) (source_faults s')) (Rose (faults k) (faults k')) (refused left source_faults held faults state s s' k k' t t' words e h x.ends) (too_long left source_faults held faults state s s' k k' t t' words e h x.ends)
-      (λ f. source_fault left source_faults held faults state s s' k k' t t' words (by_ending Ended.SourceFault f))
-      (λ f. sink_fault left source_faults held faults state s s' k k' t t' words (by_ending Ended.SinkFault f)) p q)
+  pub complete_at : reads_source words ≡ true → (Rose (source_faults s) (source_faults s') → ⊥) → (Rose (faults k) (faults k') → ⊥) → (refused → ⊥)
+      → Told (left s) (left s') (λ b c. length b ≤ max_source → is_whole_asked words b ≡ true → (n ≡ 0) ⊎ (n ≡ 1) ⊎ (n ≡ 8))
+  complete_at h p q r =
+      subst (λ (z : ℕ). Told (left s) (left s') (λ b c. length b ≤ max_source → is_whole_asked words b ≡ true → (z ≡ 0) ⊎ (z ≡ 1) ⊎ (z ≡ 8))) (sym is)
+      (completed words (left s) (left s') e (Rose (source_faults s) (source_faults s')) (Rose (faults k) (faults k')) refused (read_refused_by left source_faults held faults state refused serving proper s s' k k' t t' words e h x.ends) (too_long left source_faults held faults state refused serving proper s s' k k' t t' words e h x.ends)
+      (λ f. source_fault left source_faults held faults state refused serving proper s s' k k' t t' words (by_ending Ended.SourceFault f))
+      (λ f. sink_fault left source_faults held faults state refused serving proper s s' k k' t t' words (by_ending Ended.SinkFault f))
+      (λ f. link_refusal left source_faults held faults state refused serving proper s s' k k' t t' words (by_ending Ended.LinkRefused f)) p q r)
 
   pub tested_at : words ≡ Some Check → t' ≡ t
-  tested_at h = tested_leaves left source_faults held faults state s s' k k' t t' e (subst (λ o. Ends left source_faults held faults state o s s' k k' t t' e) h x.ends)
+  tested_at h = tested_leaves left source_faults held faults state refused serving proper s s' k k' t t' e (subst (λ o. Ends left source_faults held faults state serving o s s' k k' t t' e) h x.ends)

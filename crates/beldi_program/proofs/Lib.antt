@@ -6,3 +6,4 @@ mod Listed
 mod Names
 mod PlainRuns
 mod Skipped
+mod Services

@@ -1,26 +1,27 @@
 -- Names that the lemmas of this crate import, gathered.
-pub use Rattle.std.specs.Prelude.{IsErrOf, OnOk, ◌-◌, ◌^◌, option_to_list, ◌&&◌}
+pub use Rattle.std.specs.Prelude.{IsErrOf, OnOk, is_none, ◌-◌, ◌^◌, option_to_list, ◌&&◌}
 pub use Rattle.std.{proofs.lemmas.Bool.false≢true, proofs.lemmas.List.append-nil, proofs.lemmas.Option.same_Some, specs.Global.Vec, specs.declared.alloc.AllocError.AllocError}
 pub use Rattle.std.specs.FinMap as map
 pub use Rattle.std.proofs.Common.{Bool, Err, IfOk, List, None, Ok, Option, Result, Some, [], ap, append_assoc, arith, false, inl, inr, length, refl, subst, subst₂, suc, sym, true, zero, ℕ, ◌++◌, ◌+◌, ◌∙◌, ◌∷◌, ◌≡◌, ◌≤◌, ◌⊎◌}
 pub use Rattle.beldi_value.specs.declared.{outcome.Outcome.Outcome, value.Value.Value}
 pub use Rattle.beldi_tree.specs.declared.deployment.Deployment.{Deployment}
 pub use Rattle.beldi_book.specs.declared.entry.Entry.{Entry}
-pub use Rattle.beldi_plain.specs.Replies.{HasReply, starts_of}
-pub use Rattle.beldi_row.specs.{Key.least_key, Table.Rows, Table.TableState}
-pub use Rattle.beldi_step.specs.{Host.Core, Host.EventOn, Host.first_core, Next.reset, declared.event.Event.Event, declared.event.Seen.Seen}
+pub use Rattle.beldi_plain.specs.{Legal.IsLegal, Replies.HasReply, Replies.starts_of}
+pub use Rattle.beldi_row.specs.{Key.RowKey, Key.least_key, Table.Rows, Table.TableState}
+pub use Rattle.beldi_step.specs.{Host.Core, Host.EventOn, Host.first_core, Next.at_key, Next.reset, declared.event.Event.Event, declared.event.Seen.Seen}
 pub use Rattle.beldi_laws.{proofs.Events.keeps_right, proofs.Events.replies, proofs.Events.right_legal, proofs.Listing.listing_plain, proofs.OneEvent.book_grew, proofs.Standing.right_stands, proofs.Starts.outcomes_stay, proofs.Starts.starts_bound, specs.Laws.BookGrew, specs.Laws.bound_by as bound_by_event, specs.Right.Right}
 pub use Rattle.beldi_host.{proofs.Right.at_cursor, proofs.Right.begins_right, proofs.Right.said_of, specs.Said.SaidOf, specs.Survey.Opened, specs.Survey.Refused, specs.Survey.newest_of, specs.declared.survey.OpenErr.OpenErr, specs.declared.survey.ReplySeen.ReplySeen, specs.declared.survey.ReplySeen.TheVariants.Gone, specs.declared.survey.ReplySeen.TheVariants.Reply, specs.declared.survey.ReplySeen.TheVariants.Unknown, specs.declared.survey.ReplySeen.TheVariants.Waiting}
 pub use Rattle.beldi_script.specs.{Cut.lines_of, declared.line.Line.Line}
+pub use Rattle.beldi_outside.specs.Connection.{Connections}
 pub use Rattle.beldi_outside.specs.Outside.{IsPrefixOf, ReadAllOn, Rose, Told, TookFront, WroteOn, max_source}
 pub use Rattle.beldi_outside.{proofs.Told.told_map, proofs.Told.told_same, proofs.Told.told_then, specs.Memory.SinkState, specs.Memory.new_sink, specs.declared.traits.Failed.Failed}
-pub use Rattle.beldi_command.specs.declared.command.Command.{Command, TheVariants.Check, TheVariants.Gen, TheVariants.Run}
+pub use Rattle.beldi_command.specs.declared.command.Command.{Command, TheVariants.Check, TheVariants.Gen, TheVariants.Run, TheVariants.Serve}
 pub use Rattle.beldi_generator.specs.{Generated.generated, Summary.summary_text}
-pub use Rattle.beldi_session.specs.Response.{Answered, AtFirst, BookIs, IsTo, IsToSettling, LineRefused, ReplyAlone, ReplyIs, Report, Reported, Response, RowsAre, SettledIs, TablesAre, WentBack, is_turn, responses_text}
-pub use Rattle.beldi_session.specs.Script.{Action, Carry, CountRows, ListBook, ListTables, Refuse, Settle, TellReply, actions_in, is_ok, is_whole}
-pub use Rattle.beldi_session.specs.Session.{BrokeOff, Does, EventBroke, Follows, IsReport, IsStep, Leaves, SettlingLeaves, Sight, Steps, Stopped, Unchanged, Went, WentBy, Writes, first_event, sight, state_at}
+pub use Rattle.beldi_session.specs.Response.{Answered, AtFirst, BookIs, BrokeOff, IsTo, IsToSettling, LineRefused, ReplyAlone, ReplyIs, Report, Reported, Response, RowsAre, SettledIs, TablesAre, WentBack, WentOn, is_turn, responses_text}
+pub use Rattle.beldi_session.specs.Script.{Action, Call, Carry, CountRows, ListBook, ListTables, Refuse, Settle, TellReply, actions_in, is_ok, is_whole}
+pub use Rattle.beldi_session.specs.Session.{Does, Follows, IsReport, IsStep, Leads, Leaves, SettlingLeaves, Sight, Steps, Unchanged, Went, WentBy, Writes, sight, state_at}
 pub use Rattle.beldi_schedule.specs.{Settle.next_of, declared.machine.Next.Next, declared.machine.Next.TheVariants.Collect, declared.machine.Next.TheVariants.Reset, declared.machine.Next.TheVariants.Turn, declared.machine.Standing.TheVariants.Goes, declared.machine.Standing.TheVariants.Over, Settles.State}
-pub use Rattle.beldi_session.{proofs.Responses.told_tells, proofs.Went.fine, proofs.Went.unchanged, specs.Check.check_at, specs.Check.check_by, specs.Check.counted, specs.Check.counted_on, specs.Check.tested, specs.Check.with_line, specs.Refusal.refusal_text, specs.Source.Numbered, specs.Source.numbered, specs.Source.said_at, specs.Source.script_of, specs.Source.source_at, specs.declared.refusal.Refusal.Refusal, specs.declared.session.Stop.Stop, specs.declared.session.Stop.TheVariants.OutOfMemory, specs.declared.session.Stop.TheVariants.SinkFault, specs.declared.source.Accepted.Accepted}
-pub use Rattle.beldi_program.specs.Headline.{AsRead, ByStatus, CheckEnds, CommandEnds, Cut, DoneBy, Ends, GeneratedEnds, HasEnded, LongOn, NothingDone, ReadEnds, SessionEnds, SourceAsRead, SourceCommandEnds, SourceEnds, SummedUp, TextEnds, Untouched, Whole, end_of, is_whole_source, kept, kept_faults, reads_source, status_of, usage}
-pub use Rattle.beldi_program.specs.PlainRun.{AreTo, Booked, GoesOn, IsPlainRun, IsReportSo, IsSo, Moment, Moments, RowsStandFor, Session, TellOutcomes, bound_by, bound_in, last_book, outcome_in, responses_in}
-pub use Rattle.beldi_program.specs.{Hosted.Hosted, Hosted.StepsTo, Hosted.opened_at, declared.program.Ended.Ended}
+pub use Rattle.beldi_session.{proofs.Responses.told_tells, proofs.Went.fine, proofs.Went.unchanged, specs.Check.check_at, specs.Check.check_by, specs.Check.counted, specs.Check.counted_on, specs.Check.tested, specs.Check.with_line, specs.Refusal.refusal_text, specs.Source.Numbered, specs.Source.first_line, specs.Source.numbered, specs.Source.said_at, specs.Source.script_of, specs.Source.source_at, specs.declared.refusal.Refusal.Refusal, specs.declared.session.Stop.Stop, specs.declared.session.Stop.TheVariants.OutOfMemory, specs.declared.session.Stop.TheVariants.SinkFault, specs.declared.source.Accepted.Accepted}
+pub use Rattle.beldi_program.specs.Headline.{AsRead, BareEnds, ByStatus, CheckEnds, CommandEnds, Cut, DoneBy, Ends, GeneratedEnds, HasEnded, LongOn, NothingDone, ReadEnds, ServeEnds, ServiceEnds, Serving, ServingEnds, SessionEnds, SourceAsRead, SourceCommandEnds, SourceEnds, SummedUp, TextEnds, Untouched, Whole, WordsAsRead, end_of, is_bare_source, is_whole_asked, is_whole_by, is_whole_source, kept, kept_faults, reads_source, status_of, usage}
+pub use Rattle.beldi_program.specs.PlainRun.{AreTo, Booked, IsPlainRun, IsReportSo, IsSo, Moment, Moments, RowsStandFor, Session, TellOutcomes, bound_by, bound_in, entries_in, last_book, loses, outcome_in, responses_in}
+pub use Rattle.beldi_program.specs.{Hosted.Hosted, Hosted.LeadsTo, Hosted.StepsTo, Hosted.opened_at, declared.program.Ended.Ended}

@@ -1,8 +1,9 @@
 -- What every step keeps, what is said at its moment, and what is so at the end.
 use Rattle.std.specs.Prelude.{◌≤◌}
 use Rattle.beldi_session.specs.Response.{Whole}
-use Rattle.beldi_program.proofs.Names.{Action, AllocError, Answered, AreTo, AtFirst, BookGrew, BookIs, Booked, BrokeOff, Carry, Collect, Core, CountRows, Deployment, Entry, Err, Event, EventBroke, EventOn, Follows, Goes, GoesOn, Gone, HasReply, Hosted, IsPlainRun, IsReport, IsReportSo, IsSo, IsStep, IsTo, IsToSettling, Leaves, LineRefused, List, ListBook, ListTables, Moment, Moments, Next, None, Ok, Option, OutOfMemory, Outcome, Over, Refuse, Reply, ReplyAlone, ReplyIs, ReplySeen, Report, Reported, Reset, Response, Result, Right, Rows, RowsAre, RowsStandFor, SaidOf, Seen, Session, Settle, SettledIs, SettlingLeaves, SinkFault, Some, State, Steps, StepsTo, Stop, Stopped, TablesAre, TellOutcomes, TellReply, Turn, Unchanged, Unknown, Value, Waiting, Went, WentBack, [], ap, append-nil, append_assoc, at_cursor, book_grew, bound_by, bound_by_event, bound_in, first_core, first_event, inl, inr, is_turn, keeps_right, last_book, least_key, listing_plain, newest_of, next_of, opened_at, option_to_list, outcome_in, outcomes_stay, refl, replies, reset, responses_in, responses_text, right_legal, right_stands, said_of, same_Some, starts_bound, starts_of, subst, sym, unchanged, ℕ, ◌++◌, ◌∙◌, ◌∷◌, ◌≡◌}
+use Rattle.beldi_program.proofs.Names.{Action, AllocError, Answered, AreTo, AtFirst, BookGrew, BookIs, Booked, BrokeOff, Call, Carry, Collect, Core, CountRows, Deployment, Entry, Err, Event, EventOn, Follows, Goes, Gone, HasReply, Hosted, IsLegal, IsPlainRun, IsReport, IsReportSo, IsSo, IsStep, IsTo, IsToSettling, Leads, LeadsTo, Leaves, LineRefused, List, ListBook, ListTables, Moment, Moments, Next, None, Ok, Outcome, Over, Refuse, Reply, ReplyAlone, ReplyIs, ReplySeen, Report, Reported, Reset, Response, Result, Right, RowKey, Rows, RowsAre, RowsStandFor, SaidOf, Seen, Session, Settle, SettledIs, SettlingLeaves, Some, State, Steps, StepsTo, TablesAre, TellOutcomes, TellReply, Turn, Unchanged, Unknown, Value, Waiting, Went, WentBack, WentOn, [], ap, append-nil, append_assoc, at_cursor, at_key, book_grew, bound_by, bound_by_event, bound_in, entries_in, false, first_core, is_turn, keeps_right, last_book, least_key, listing_plain, loses, newest_of, next_of, opened_at, outcome_in, outcomes_stay, refl, replies, responses_in, responses_text, right_legal, right_stands, said_of, same_Some, starts_bound, starts_of, subst, sym, unchanged, ℕ, ◌++◌, ◌∙◌, ◌∷◌, ◌≡◌}
 use Rattle.beldi_program.proofs.Names.map
+use Rattle.beldi_serve.proofs.Leading.{leads_so}
 
 abbrev Bound : Type 0
 Bound = List (ℕ × (ℕ × Value))
@@ -12,7 +13,6 @@ record Kept (d : Deployment) (s t : State) (bound : Bound) : Type 0 where
   pub right : Right d t.core t.rows
   pub starts : starts_of t.core.book ≡ starts_of s.core.book ++ bound
   pub keeps : (n : ℕ) (o : Outcome) → HasReply d s.core.book n o → HasReply d t.core.book n o
-  pub goes_on : GoesOn s.core.book t.core.book
 
 -- a response, with book and rows as they are
 abbrev booked_at : Response → State → Booked
@@ -27,7 +27,6 @@ module _ (d : Deployment) (room : ℕ) where
     right = still (Right d) s t u h;
     starts = ap (λ (c : Core). starts_of c.book) u.core ∙ sym (append-nil (starts_of s.core.book));
     keeps = λ n o r. still (λ c m. HasReply d c.book n o) s t u r;
-    goes_on = ([], append-nil s.core.book ∙ sym (ap (λ (c : Core). c.book) u.core));
   }
 
   kept_then : (s t u : State) (x y : Bound) → Kept d s t x → Kept d t u y → Kept d s u (x ++ y)
@@ -35,7 +34,6 @@ module _ (d : Deployment) (room : ℕ) where
     right = q.right;
     starts = q.starts ∙ ap (λ z. z ++ y) p.starts ∙ append_assoc (starts_of s.core.book) x y;
     keeps = λ n o r. q.keeps n o (p.keeps n o r);
-    goes_on = (p.goes_on.0 ++ q.goes_on.0, sym (append_assoc s.core.book p.goes_on.0 q.goes_on.0) ∙ ap (λ z. z ++ q.goes_on.0) p.goes_on.1 ∙ q.goes_on.1);
   }
 
   grew : (e : Event) (s t : State) (r : Result Seen AllocError) → EventOn d room s.faults t.faults e s.core s.rows t.core t.rows r → BookGrew e s.core t.core r
@@ -46,37 +44,27 @@ module _ (d : Deployment) (room : ℕ) where
     right = keeps_right d room s.faults t.faults e s.core t.core s.rows t.rows r h o;
     starts = starts_bound d room s.faults t.faults e s.core t.core s.rows t.rows r o;
     keeps = λ n w k. outcomes_stay d room s.faults t.faults e s.core t.core s.rows t.rows r n w h o k;
-    goes_on = (option_to_list (grew e s t r o).entry, sym (grew e s t r o).book);
   }
 
-  -- the intent collector was set before all rows
-  kept_back : (s t : State) → Right d s.core s.rows → t ≡ record s { core = reset s.core } → Kept d s t []
-  kept_back s t h o = subst (λ z. Kept d s z []) (sym o) (record {
-    right = at_cursor d s.core least_key s.rows h;
+  -- the intent collector was set to a key
+  kept_at : (k : RowKey) (s t : State) → Right d s.core s.rows → t ≡ record s { core = at_key k s.core } → Kept d s t []
+  kept_at k s t h o = subst (λ z. Kept d s z []) (sym o) (record {
+    right = at_cursor d s.core k s.rows h;
     starts = sym (append-nil (starts_of s.core.book));
     keeps = λ n w k. k;
-    goes_on = ([], append-nil s.core.book);
   })
 
   kept_step : (s t : State) (y : Response) → Right d s.core s.rows → IsStep d room s t y → Kept d s t (bound_by y)
   kept_step s t (Answered share e x) h o = kept_event e s t (Ok x) h o.0
-  kept_step s t WentBack h o = kept_back s t h o
+  kept_step s t WentBack h o = kept_at least_key s t h o
+  kept_step s t (WentOn k) h o = kept_at k s t h o.1
+  kept_step s t (BrokeOff None) h o = kept_same s t h o
+  kept_step s t (BrokeOff (Some e)) h o = kept_event e s t (Err (record {})) h o.0
   kept_step s t (Reported r) h o = kept_same s t h o.0
 
-  kept_steps : (ys : List Response) (fs more : List Action) (s t : State) → Right d s.core s.rows → Steps (IsStep d room) ys fs more s t → Kept d s t (bound_in ys)
-  kept_steps [] fs more s t h x = subst (λ z. Kept d s z []) (sym x.0) (kept_same s s h (unchanged s))
-  kept_steps (y ∷ ys) fs more s t h x = let k = kept_step s x.0 y h x.2 in kept_then s x.0 t (bound_by y) (bound_in ys) k (kept_steps ys x.1 more x.0 t k.right x.4)
-
-  event_broke : (s t : State) (o : Option Event) → Right d s.core s.rows → EventBroke d room s t o → Kept d s t []
-  event_broke s t None h o = absurd o
-  event_broke s t (Some e) h o = kept_event e s t (Err (record {})) h o.0
-
-  broke : (why : Stop) (more : List Action) (s t : State) → Right d s.core s.rows → BrokeOff why d room more s t → Kept d s t []
-  broke OutOfMemory more s t h o = event_broke s t (first_event s.core more) h o
-  broke SinkFault more s t h o = absurd o
-
-  kept_stop : (why : Stop) (more : List Action) (s t : State) → Right d s.core s.rows → Stopped why d room more s t → Kept d s t []
-  kept_stop why more s t h o = elim o [ inl u ↦ kept_same s t h u | inr b ↦ broke why more s t h b ]
+  kept_all : (ys : List Response) (s t : State) → Right d s.core s.rows → Leads (IsStep d room) ys s t → Kept d s t (bound_in ys)
+  kept_all [] s t h x = subst (λ z. Kept d s z []) (sym x) (kept_same s s h (unchanged s))
+  kept_all (y ∷ ys) s t h x = let k = kept_step s x.0 y h x.1 in kept_then s x.0 t (bound_by y) (bound_in ys) k (kept_all ys x.0 t k.right x.2)
 
   -- ---- the moment after a step
   report_so : (s t : State) (r : Report) → Right d s.core s.rows → IsReport d s t r → IsReportSo d s.core.book r
@@ -92,6 +80,16 @@ module _ (d : Deployment) (room : ℕ) where
   stands_for : (t : State) → Right d t.core t.rows → RowsStandFor d t.rows t.core.book
   stands_for t h p is = right_stands d t.core t.rows p h is
 
+  moment_at : (k : RowKey) (s t : State) (y : Response) → Right d s.core s.rows → t ≡ record s { core = at_key k s.core } → (loses y ≡ false → [] ≡ entries_in y) → IsSo d t.core.book y → Moment d s.core.book (booked_at y t)
+  moment_at k s t y h o told so = record {
+    entry = None;
+    grew = ap (λ (z : State). z.core.book) o ∙ sym (append-nil s.core.book);
+    told = told;
+    legal = right_legal d t.core t.rows (kept_at k s t h o).right;
+    tables = stands_for t (kept_at k s t h o).right;
+    so = so;
+  }
+
   moment : (s t : State) (y : Response) → Right d s.core s.rows → IsStep d room s t y → Moment d s.core.book (booked_at y t)
   moment s t (Answered share e x) h o =
       let g = grew e s t (Ok x) o.0 in
@@ -104,14 +102,27 @@ module _ (d : Deployment) (room : ℕ) where
         tables = stands_for t right;
         so = λ n w is. replies d room s.faults t.faults e s.core t.core s.rows t.rows x h o.0 n w is;
       }
-  moment s t WentBack h o = record {
+  moment s t WentBack h o = moment_at least_key s t WentBack h o (λ v. refl) tt
+  moment s t (WentOn k) h o = moment_at k s t (WentOn k) h o.1 (λ v. refl) tt
+  moment s t (BrokeOff None) h o = record {
     entry = None;
-    grew = ap (λ (z : State). z.core.book) o ∙ sym (append-nil s.core.book);
-    told = λ v. refl;
-    legal = right_legal d t.core t.rows (kept_back s t h o).right;
-    tables = stands_for t (kept_back s t h o).right;
+    grew = ap (λ (c : Core). c.book) o.core ∙ sym (append-nil s.core.book);
+    told = λ v. cc;
+    legal = right_legal d t.core t.rows (kept_same s t h o).right;
+    tables = stands_for t (kept_same s t h o).right;
     so = tt;
   }
+  moment s t (BrokeOff (Some e)) h o =
+      let g = grew e s t (Err (record {})) o.0 in
+      let right = (kept_step s t (BrokeOff (Some e)) h o).right in
+      record {
+        entry = g.entry;
+        grew = g.book;
+        told = λ v. cc;
+        legal = right_legal d t.core t.rows right;
+        tables = stands_for t right;
+        so = tt;
+      }
   moment s t (Reported r) h o = record {
     entry = None;
     grew = ap (λ (c : Core). c.book) o.0.core ∙ sym (append-nil s.core.book);
@@ -131,6 +142,8 @@ module _ (d : Deployment) (room : ℕ) where
   tells : (book : List Entry) (y : Response) (n : ℕ) (o : Outcome) → IsSo d book y → outcome_in y ≡ Some (n, o) → HasReply d book n o
   tells book (Answered share e x) n o s is = s n o is
   tells book WentBack n o s is = cc
+  tells book (WentOn k) n o s is = cc
+  tells book (BrokeOff e) n o s is = cc
   tells book (Reported (ReplyIs u (Some x))) n o s is = reply_tells book u n x o s is
   tells book (Reported (ReplyIs u None)) n o s is = cc
   tells book (Reported (RowsAre k)) n o s is = cc
@@ -139,31 +152,58 @@ module _ (d : Deployment) (room : ℕ) where
   tells book (Reported (SettledIs r)) n o s is = cc
   tells book (Reported (LineRefused x)) n o s is = cc
 
-  told_all : (ys : List Response) (fs more : List Action) (s t : State) (book : List Entry) → Right d s.core s.rows → Steps (IsStep d room) ys fs more s t → ((n : ℕ) (o : Outcome) → HasReply d t.core.book n o → HasReply d book n o) → TellOutcomes d book ys
-  told_all [] fs more s t book h x k = tt
-  told_all (y ∷ ys) fs more s t book h x k =
-      let after = (kept_step s x.0 y h x.2).right in
-      (λ n o is. k n o ((kept_steps ys x.1 more x.0 t after x.4).keeps n o (tells x.0.core.book y n o (moment s x.0 y h x.2).so is)), told_all ys x.1 more x.0 t book after x.4 k)
+  told_all : (ys : List Response) (s t : State) → Right d s.core s.rows → Leads (IsStep d room) ys s t → TellOutcomes d t.core.book ys
+  told_all [] s t h x = tt
+  told_all (y ∷ ys) s t h x =
+      let after = (kept_step s x.0 y h x.1).right in
+      (λ n o is. (kept_all ys x.0 t after x.2).keeps n o (tells x.0.core.book y n o (moment s x.0 y h x.1).so is), told_all ys x.0 t after x.2)
 
 -- ---- a session
 -- the responses, each with book and rows after its step
-abbrev pub booked : (d : Deployment) (room : ℕ) (ys : List Response) (fs more : List Action) (s t : State) → Steps (IsStep d room) ys fs more s t → List Booked
-booked d room [] fs more s t x = []
-booked d room (y ∷ ys) fs more s t x = booked_at y x.0 ∷ booked d room ys x.1 more x.0 t x.4
+abbrev pub booked : (d : Deployment) (room : ℕ) (ys : List Response) (s t : State) → Leads (IsStep d room) ys s t → List Booked
+booked d room [] s t x = []
+booked d room (y ∷ ys) s t x = booked_at y x.0 ∷ booked d room ys x.0 t x.2
 
-pub booked_back : (d : Deployment) (room : ℕ) (ys : List Response) (fs more : List Action) (s t : State) (x : Steps (IsStep d room) ys fs more s t) → responses_in (booked d room ys fs more s t x) ≡ ys
-booked_back d room [] fs more s t x = refl
-booked_back d room (y ∷ ys) fs more s t x = ap (λ z. y ∷ z) (booked_back d room ys x.1 more x.0 t x.4)
+pub booked_back : (d : Deployment) (room : ℕ) (ys : List Response) (s t : State) (x : Leads (IsStep d room) ys s t) → responses_in (booked d room ys s t x) ≡ ys
+booked_back d room [] s t x = refl
+booked_back d room (y ∷ ys) s t x = ap (λ z. y ∷ z) (booked_back d room ys x.0 t x.2)
 
-pub last_booked : (d : Deployment) (room : ℕ) (ys : List Response) (fs more : List Action) (s t : State) (x : Steps (IsStep d room) ys fs more s t) → last_book s.core.book (booked d room ys fs more s t x) ≡ t.core.book
-last_booked d room [] fs more s t x = ap (λ (z : State). z.core.book) (sym x.0)
-last_booked d room (y ∷ ys) fs more s t x = last_booked d room ys x.1 more x.0 t x.4
+last_booked : (d : Deployment) (room : ℕ) (ys : List Response) (s t : State) (x : Leads (IsStep d room) ys s t) → last_book s.core.book (booked d room ys s t x) ≡ t.core.book
+last_booked d room [] s t x = ap (λ (z : State). z.core.book) (sym x)
+last_booked d room (y ∷ ys) s t x = last_booked d room ys x.0 t x.2
 
-moments : (d : Deployment) (ys : List Response) (fs more : List Action) (s t : State) → Right d s.core s.rows → (x : Steps (IsStep d d.room) ys fs more s t) → Moments d s.core.book (booked d d.room ys fs more s t x)
-moments d [] fs more s t h x = tt
-moments d (y ∷ ys) fs more s t h x = (moment d d.room s x.0 y h x.2, moments d ys x.1 more x.0 t (kept_step d d.room s x.0 y h x.2).right x.4)
+moments : (d : Deployment) (ys : List Response) (s t : State) → Right d s.core s.rows → (x : Leads (IsStep d d.room) ys s t) → Moments d s.core.book (booked d d.room ys s t x)
+moments d [] s t h x = tt
+moments d (y ∷ ys) s t h x = (moment d d.room s x.0 y h x.1, moments d ys x.0 t (kept_step d d.room s x.0 y h x.1).right x.2)
 
-steps_to : (d : Deployment) (ys : List Response) (fs more : List Action) (s t : State) (x : Steps (IsStep d d.room) ys fs more s t) → StepsTo d (booked d d.room ys fs more s t x) fs more s t
+-- over no rows its steps are a run without crashes
+module _ (d : Deployment) (ys : List Response) (m : Rows) (now opened : ℕ) (t : State) (x : Leads (IsStep d d.room) ys (opened_at m now opened) t) (h : Right d (first_core (newest_of m) now) m) where
+  abbrev zs : List Booked
+  zs = booked d d.room ys (opened_at m now opened) t x
+
+  last_is : t.core.book ≡ last_book [] zs
+  last_is = sym (last_booked d d.room ys (opened_at m now opened) t x)
+
+  same_responses : ys ≡ responses_in zs
+  same_responses = sym (booked_back d d.room ys (opened_at m now opened) t x)
+
+  pub plain_run : IsPlainRun d t.rows zs
+  plain_run =
+      let k = kept_all d d.room ys (opened_at m now opened) t h x in
+      record {
+        moments = moments d ys (opened_at m now opened) t h x;
+        legal = subst (IsLegal d) last_is (right_legal d t.core t.rows k.right);
+        bound = ap starts_of (sym last_is) ∙ k.starts ∙ ap bound_in same_responses;
+        replies = subst (λ b. TellOutcomes d b (responses_in zs)) last_is (subst (TellOutcomes d t.core.book) same_responses (told_all d d.room ys (opened_at m now opened) t h x));
+        tables = subst (RowsStandFor d t.rows) last_is (stands_for d d.room t k.right);
+      }
+
+pub leads_to : (d : Deployment) (ys : List Response) (s t : State) (x : Leads (IsStep d d.room) ys s t) → LeadsTo d (booked d d.room ys s t x) s t
+leads_to d [] s t x = x
+leads_to d (y ∷ ys) s t x = (x.0, (x.1, refl, refl), leads_to d ys x.0 t x.2)
+
+steps_to : (d : Deployment) (ys : List Response) (fs more : List Action) (s t : State) (x : Steps (IsStep d d.room) ys fs more s t) → StepsTo d (booked d d.room ys s t (leads_so (IsStep d d.room) ys fs more s t x)) fs more s t
+unfolding leads_so
 steps_to d [] fs more s t x = x
 steps_to d (y ∷ ys) fs more s t x = (x.0, x.1, (x.2, refl, refl), x.3, steps_to d ys x.1 more x.0 t x.4)
 
@@ -173,16 +213,25 @@ is_to_settling budget c (Turn s i) (Answered ReplyAlone e x) left h = (ap is_tur
 is_to_settling budget c (Turn s i) (Answered Whole e x) left h = absurd h
 is_to_settling budget c (Turn s i) WentBack left h = absurd h
 is_to_settling budget c (Turn s i) (Reported r) left h = absurd h
+is_to_settling budget c (Turn s i) (WentOn k) left h = absurd h
+is_to_settling budget c (Turn s i) (BrokeOff None) left h = absurd h
+is_to_settling budget c (Turn s i) (BrokeOff (Some e)) left h = (ap is_turn h.0, _, h.1)
 is_to_settling budget c (Collect s) (Answered ReplyAlone e x) left h = (ap is_turn h.0, _, h.1)
+is_to_settling budget c (Collect s) (WentOn k) left h = (_, h)
+is_to_settling budget c (Collect s) (BrokeOff None) left h = absurd h
+is_to_settling budget c (Collect s) (BrokeOff (Some e)) left h = (ap is_turn h.0, _, h.1)
 is_to_settling budget c (Collect s) (Answered Whole e x) left h = absurd h
 is_to_settling budget c (Collect s) WentBack left h = absurd h
 is_to_settling budget c (Collect s) (Reported r) left h = absurd h
 is_to_settling budget c (Reset s) (Answered share e x) left h = absurd h
 is_to_settling budget c (Reset s) WentBack left h = (_, h)
+is_to_settling budget c (Reset s) (WentOn k) left h = absurd h
+is_to_settling budget c (Reset s) (BrokeOff o) left h = absurd h
 is_to_settling budget c (Reset s) (Reported r) left h = absurd h
 
 is_to : (a : Action) (c z : Core) (y : Response) (left : List Action) → Leaves a c z y left → IsTo a y left
 is_to (Carry e) c z y left h = h
+is_to (Call t f v) c z y left h = h
 is_to (Settle budget (Goes s)) c z y left h = is_to_settling budget z (next_of c s) y left h
 is_to (Settle budget (Over r)) c z y left h = h
 is_to (TellReply t) c z y left h = h
@@ -199,56 +248,30 @@ pub are_to : (d : Deployment) (room : ℕ) (ys : List Response) (fs more : List 
 are_to d room [] fs more s t x = x.1
 are_to d room (y ∷ ys) fs more s t x = (x.1, is_to_first fs s.core x.0.core y x.1 x.3, are_to d room ys x.1 more x.0 t x.4)
 
--- from the rows m, over which a host was opened, by these steps, and to u in the end
-module _ (d : Deployment) (actions more : List Action) (m : Rows) (opened : ℕ) (t u : State) (written rest : List ℕ) (begins : m ≡ map.empty → Right d (first_core (newest_of m) 0) m) (x : Went (IsStep d d.room) d actions more (opened_at m opened) t [] written rest) (why : Stop) (o : Stopped why d d.room more t u) where
-  abbrev s : State
-  s = opened_at m opened
+-- from the rows m, over which a host was opened, by these steps
+module _ (d : Deployment) (actions more : List Action) (m : Rows) (opened : ℕ) (t : State) (written rest : List ℕ) (begins : m ≡ map.empty → Right d (first_core (newest_of m) 0) m) (x : Went (IsStep d d.room) d actions more (opened_at m 0 opened) t [] written rest) where
+  abbrev leads : Leads (IsStep d d.room) x.responses (opened_at m 0 opened) t
+  leads = leads_so (IsStep d d.room) x.responses actions more (opened_at m 0 opened) t x.steps
 
-  abbrev ys : List Response
-  ys = x.responses
+  abbrev said_zs : List Booked
+  said_zs = booked d d.room x.responses (opened_at m 0 opened) t leads
 
-  abbrev zs : List Booked
-  zs = booked d d.room ys actions more s t x.steps
+  pub said_back : x.responses ≡ responses_in said_zs
+  said_back = sym (booked_back d d.room x.responses (opened_at m 0 opened) t leads)
 
-  pub same : ys ≡ responses_in zs
-  same = sym (booked_back d d.room ys actions more s t x.steps)
-
-  kept : Right d s.core m → Kept d s t (bound_in ys)
-  kept h = kept_steps d d.room ys actions more s t h x.steps
-
-  stopped : Right d s.core m → Kept d t u []
-  stopped h = kept_stop d d.room why more t u (kept h).right o
-
-  pub plain_run : Right d s.core m → IsPlainRun d u.rows zs u.core.book
-  plain_run h =
-      let k = kept h in
-      let l = stopped h in
-      record {
-        moments = moments d ys actions more s t h x.steps;
-        goes_on = (l.goes_on.0, ap (λ z. z ++ l.goes_on.0) (last_booked d d.room ys actions more s t x.steps) ∙ l.goes_on.1);
-        legal = right_legal d u.core u.rows l.right;
-        bound = l.starts ∙ append-nil (starts_of t.core.book) ∙ k.starts ∙ ap bound_in same;
-        replies = subst (λ z. TellOutcomes d u.core.book z) same (told_all d d.room ys actions more s t u.core.book h x.steps l.keeps);
-        tables = stands_for d d.room u l.right;
-      }
-
-  abbrev pub said : Session d actions more m u.rows written rest
+  abbrev pub said : Session d actions more m t.rows written rest
   said = record {
-    responses = zs;
-    actions_are = subst (λ z. AreTo z actions more) same (are_to d d.room ys actions more s t x.steps);
-    text = x.text ∙ ap (responses_text d) same;
-    book = u.core.book;
-    plain = λ none. plain_run (begins none);
+    responses = said_zs;
+    actions_are = subst (λ z. AreTo z actions more) said_back (are_to d d.room x.responses actions more (opened_at m 0 opened) t x.steps);
+    text = x.text ∙ ap (responses_text d) said_back;
+    plain = λ none. plain_run d x.responses m 0 opened t leads (begins none);
   }
 
-  pub hosted_by : (ThenTo : State → State → Type 0) (f : ℕ) → f ≤ opened → ThenTo t u → Hosted ThenTo d actions more zs u.core.book m u.rows f u.faults
-  hosted_by ThenTo f sooner ends = record {
+  pub hosted_by : (f : ℕ) → f ≤ opened → Hosted d actions more said_zs m t.rows f t.faults
+  hosted_by f sooner = record {
     opened = opened;
     sooner = sooner;
-    last = t;
-    steps = steps_to d ys actions more s t x.steps;
-    core = u.core;
-    ends = ends;
-    book_is = refl;
-    listing = λ none p is. listing_plain d u.core u.rows p (stopped (begins none)).right is;
+    core = t.core;
+    steps = steps_to d x.responses actions more (opened_at m 0 opened) t x.steps;
+    listing = λ none p is. listing_plain d t.core t.rows p (kept_all d d.room x.responses (opened_at m 0 opened) t (begins none) leads).right is;
   }

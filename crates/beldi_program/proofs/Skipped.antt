@@ -11,8 +11,8 @@ use Rattle.beldi_session.specs.Answer.{answer_text, entry_part, numbered, outcom
 use Rattle.beldi_schedule.specs.{declared.machine.Settled.Settled}
 use Rattle.beldi_session.specs.{Response.Whole, Response.book_head, Response.response_text, Response.unread_line, Settled.settled_text, Settled.wait_text}
 use Rattle.beldi_bank_lines.proofs.Unbroken.{text_flat}
-use Rattle.beldi_program.proofs.{Asked.EndsListed, Asked.IsOfEvents, Asked.IsQuiet, Asked.quiet_responses, Flat.AreFlat, Flat.IsFlat, Flat.decimal_flat, Flat.entry_flat, Flat.id_flat, Flat.joined, Flat.outcome_flat, Flat.owner_flat}
-use Rattle.beldi_program.proofs.Names.{Action, Answered, Bool, BookIs, Deployment, Entry, Event, List, None, Option, Outcome, ReplyAlone, Reported, Response, Seen, SettledIs, Some, TablesAre, WentBack, [], ap, append-nil, append_assoc, false, lines_of, refl, responses_text, sym, true, ℕ, ◌++◌, ◌∙◌, ◌∷◌, ◌≡◌}
+use Rattle.beldi_program.proofs.{Asked.EndsListed, Asked.IsOfEvents, Asked.IsQuiet, Flat.AreFlat, Flat.IsFlat, Flat.decimal_flat, Flat.entry_flat, Flat.id_flat, Flat.joined, Flat.outcome_flat, Flat.owner_flat}
+use Rattle.beldi_program.proofs.Names.{Action, Answered, Bool, BookIs, BrokeOff, Deployment, Entry, Event, List, None, Option, Outcome, ReplyAlone, Reported, Response, Seen, SettledIs, Some, TablesAre, WentBack, WentOn, [], ap, append-nil, append_assoc, false, lines_of, refl, responses_text, sym, true, ℕ, ◌++◌, ◌∙◌, ◌∷◌, ◌≡◌}
 
 -- ---- lines
 -- a text that begins with the rest of a line, ended, and goes on so
@@ -203,6 +203,8 @@ module _ (h : List ℕ) (d : Deployment) (names : AreFlat d) where
   response_passed (Answered Whole e x) o = (answer_told x).skipped
   response_passed (Answered ReplyAlone e x) o = alone_passed e x
   response_passed WentBack o = nothing (past (61 ∷ h))
+  response_passed (WentOn k) o = nothing (past (61 ∷ h))
+  response_passed (BrokeOff e) o = nothing (past (61 ∷ h))
   response_passed (Reported (SettledIs r)) o = settled_passed r
   response_passed (Reported r) o = absurd o
 
@@ -232,4 +234,4 @@ module _ (d : Deployment) where
   pub ends_so : (ys : List Response) (front : List Action) (e : EndsListed ys front) → AreFlat d → AllByRecursion IsQuiet front → past (codes "== tables") (lines_of (responses_text d ys)) ≡ lines_of (last_text e.tables e.book)
   ends_so ys front e names quiet =
       ap (λ z. past (codes "== tables") (lines_of (responses_text d z))) e.all
-      ∙ past_events (codes "= tables") d names e.before (lists e.tables e.book) (quiet_responses e.before front [] e.are_to quiet) ∙ below_tables e.tables e.book
+      ∙ past_events (codes "= tables") d names e.before (lists e.tables e.book) (e.events quiet) ∙ below_tables e.tables e.book

@@ -1,30 +1,29 @@
 -- How the program ends: the cause of each way of ending, and what it leaves of the source, the sink and the table.
-use Rattle.std.specs.Prelude.{◌≡◌, ◌⊎◌, ◌≤◌, ◌<◌, ◌+◌, ◌-◌, ◌^◌, ℕ, length, Bool, true, false, List, [], drop, Option, Some, None, Result, Ok, Err, codes}
+use Rattle.std.specs.Prelude.{◌≡◌, ◌⊎◌, ◌≤◌, ◌<◌, ◌+◌, ◌-◌, ◌^◌, ℕ, length, Bool, true, false, is_none, List, [], drop, Option, Some, None, Result, Ok, Err, codes}
 use Rattle.beldi_tree.specs.declared.deployment.Deployment.{Deployment}
 use Rattle.beldi_row.specs.Table.{Rows, TableState}
-use Rattle.beldi_outside.specs.{Memory.SinkState, Memory.new_sink, Outside.IsPrefixOf, Outside.Told, Outside.Rose, Outside.TookFront, Outside.max_source}
-use Rattle.beldi_command.specs.declared.command.Command.{Command, TheVariants.Run, TheVariants.Check, TheVariants.Gen}
+use Rattle.beldi_outside.specs.{Connection.Connections, Memory.SinkState, Memory.new_sink, Outside.IsPrefixOf, Outside.Told, Outside.Rose, Outside.TookFront, Outside.max_source, declared.transfer.ReadErr.ReadErr}
+use Rattle.beldi_command.specs.declared.command.Command.{Command, TheVariants.Run, TheVariants.Check, TheVariants.Serve, TheVariants.Gen}
 use Rattle.beldi_generator.specs.{Generated.generated, Summary.summary_text}
-use Rattle.beldi_session.specs.{declared.refusal.Refusal.Refusal, declared.source.Accepted.Accepted, declared.session.Stop.Stop, Refusal.refusal_text, Script.Action, Script.actions_in, Script.is_whole, Session.Writes, Source.Numbered, Source.script_of, Source.source_at, Check.check_at}
-use Rattle.beldi_program.specs.{declared.program.Ended.Ended, Hosted.HostedUntil, Hosted.HostedWhole, PlainRun.Session, PlainRun.last_book}
+use Rattle.beldi_session.specs.{declared.refusal.Refusal.Refusal, declared.source.Accepted.Accepted, declared.session.Stop.Stop, Refusal.refusal_text, Script.Action, Script.actions_in, Script.is_whole, Session.Writes, Source.Numbered, Source.first_line, Source.script_of, Source.source_at, Check.check_at}
+use Rattle.beldi_program.specs.{declared.program.Ended.Ended, Hosted.Hosted, PlainRun.Session, Service.ServedTo, Service.Service}
 
 abbrev pub usage : List ℕ
-usage = codes "usage: beldi run | check | gen SEED N\n"
+usage = codes "usage: beldi run | check | serve --port P --requests M | gen SEED N\n"
 
 -- ---- a session over a deployment, from the rows m to the rows n, with the text that was written: what was said, and how the host
 -- moved to it. The numbers f and g are the table's count of failures before and after.
--- all actions of the lines were done, no event broke off, and all text was written
+-- all actions of the lines were done, and all text was written
 pub record Whole (d : Deployment) (lines : List Numbered) (m n : Rows) (f g : ℕ) (written : List ℕ) : Type 0 where
   pub session : Session d (actions_in d lines) [] m n written []
-  pub all : session.book ≡ last_book [] session.responses
-  pub hosted : HostedWhole d (actions_in d lines) session.responses session.book m n f g
+  pub hosted : Hosted d (actions_in d lines) [] session.responses m n f g
 
 -- the first actions were done, but for `more`, and a front of the text was written; then it stopped
-pub record Cut (why : Stop) (d : Deployment) (lines : List Numbered) (m n : Rows) (f g : ℕ) (written : List ℕ) : Type 0 where
+pub record Cut (d : Deployment) (lines : List Numbered) (m n : Rows) (f g : ℕ) (written : List ℕ) : Type 0 where
   pub more : List Action
   pub rest : List ℕ
   pub session : Session d (actions_in d lines) more m n written rest
-  pub hosted : HostedUntil why d (actions_in d lines) more session.responses session.book m n f g
+  pub hosted : Hosted d (actions_in d lines) more session.responses m n f g
 
 -- ---- by how the program ended. A sink is seen by what it got and its faults ..
 module _ {K : Type 0} (held : K → Option (List ℕ)) (faults : K → ℕ) where
@@ -54,6 +53,11 @@ module _ {K : Type 0} (held : K → Option (List ℕ)) (faults : K → ℕ) wher
   SummedUp n text Ended.Refused k k' e = TextEnds text Ended.Refused k k' e
   SummedUp n text Ended.SinkFault k k' e = (e ≡ Ended.OutOfMemory) × (k' ≡ k)
   SummedUp n text end k k' e = (e ≡ end) × (k' ≡ k)
+
+abbrev pub unread_by : ReadErr → Ended
+unread_by ReadErr.OutOfMemory = Ended.OutOfMemory
+unread_by ReadErr.Failed = Ended.SourceFault
+unread_by ReadErr.TooLong = Ended.TooLong
 
 -- the commands that read a source
 abbrev pub reads : Command → Bool
@@ -85,8 +89,8 @@ module _ {K T : Type 0} (held : K → Option (List ℕ)) (faults : K → ℕ) (s
   abbrev pub SessionEnds : Deployment → List Numbered → K → K → T → T → Ended → Type 0
   SessionEnds d lines k k' t t' Ended.Done = (is_whole d lines ≡ true) × Ran (Whole d lines) k k' t t'
   SessionEnds d lines k k' t t' Ended.Refused = (is_whole d lines ≡ false) × Ran (Whole d lines) k k' t t'
-  SessionEnds d lines k k' t t' Ended.OutOfMemory = NothingDone k k' t t' ⊎ Ran (Cut Stop.OutOfMemory d lines) k k' t t'
-  SessionEnds d lines k k' t t' Ended.SinkFault = Rose (faults k) (faults k') × Ran (Cut Stop.SinkFault d lines) k k' t t'
+  SessionEnds d lines k k' t t' Ended.OutOfMemory = NothingDone k k' t t' ⊎ Ran (Cut d lines) k k' t t'
+  SessionEnds d lines k k' t t' Ended.SinkFault = Rose (faults k) (faults k') × Ran (Cut d lines) k k' t t'
   SessionEnds d lines k k' t t' Ended.TableFault = Rose (state t).faults (state t').faults × NothingDone k k' t t'
   SessionEnds d lines k k' t t' e = ⊥
 
@@ -95,9 +99,40 @@ module _ {K T : Type 0} (held : K → Option (List ℕ)) (faults : K → ℕ) (s
   SourceEnds bytes (Ok p) k k' t t' e = SessionEnds p.code (script_of bytes p) k k' t t' e
   SourceEnds bytes (Err x) k k' t t' e = (t' ≡ t) × TextEnds held faults (refusal_text x) Ended.Refused k k' e
 
+  -- connections are served over a deployment, from a link to another and from a clock on; the link refused only where `refused` is so
+  module _ {C : Type 0} (tells : C → ℕ → C → Type 0) (link link' : Option Connections) (clock : C) (refused : Type 0) where
+    abbrev pub ServiceRan : Deployment → ℕ → Ended → K → K → T → T → Type 0
+    ServiceRan d requests e k k' t t' = Ran (λ m n f g written. ServedTo d requests link' written (Service tells d m n f g link clock) e) k k' t t'
+
+    abbrev pub ServiceEnds : Deployment → ℕ → K → K → T → T → Ended → Type 0
+    ServiceEnds d requests k k' t t' Ended.Done = ServiceRan d requests Ended.Done k k' t t'
+    ServiceEnds d requests k k' t t' Ended.LinkRefused = refused × ServiceRan d requests Ended.LinkRefused k k' t t'
+    ServiceEnds d requests k k' t t' Ended.OutOfMemory = NothingDone k k' t t' ⊎ ServiceRan d requests Ended.OutOfMemory k k' t t'
+    ServiceEnds d requests k k' t t' Ended.SinkFault = Rose (faults k) (faults k') × ServiceRan d requests Ended.SinkFault k k' t t'
+    ServiceEnds d requests k k' t t' Ended.TableFault = Rose (state t).faults (state t').faults × NothingDone k k' t t'
+    ServiceEnds d requests k k' t t' e = ⊥
+
+    -- .. over a source: its deployment was read and keeps every rule, and no line of a script follows it; or it is refused
+    abbrev pub BareEnds : Accepted → ℕ → Option Refusal → K → K → T → T → Ended → Type 0
+    BareEnds p requests None k k' t t' e = ServiceEnds p.code requests k k' t t' e
+    BareEnds p requests (Some x) k k' t t' e = (t' ≡ t) × TextEnds held faults (refusal_text x) Ended.Refused k k' e
+
+    abbrev pub ServeEnds : List ℕ → ℕ → Result Accepted Refusal → K → K → T → T → Ended → Type 0
+    ServeEnds bytes requests (Ok p) k k' t t' e = BareEnds p requests (first_line (script_of bytes p)) k k' t t' e
+    ServeEnds bytes requests (Err x) k k' t t' e = (t' ≡ t) × TextEnds held faults (refusal_text x) Ended.Refused k k' e
+
+    abbrev pub Serving : List ℕ → ℕ → K → K → T → T → Ended → Type 0
+    Serving bytes requests k k' t t' e = ServeEnds bytes requests (source_at bytes) k k' t t' e
+
+-- what serving a source comes to
+abbrev pub ServingEnds : Type 0 → Type 0 → Type 1
+ServingEnds K T = List ℕ → ℕ → K → K → T → T → Ended → Type 0
+
+module _ {K T : Type 0} (held : K → Option (List ℕ)) (faults : K → ℕ) (state : T → TableState) (serving : ServingEnds K T) where
   -- by the command, once the source was read. To test it leaves the table as it was handed in.
   abbrev pub DoneBy : Command → List ℕ → K → K → T → T → Ended → Type 0
-  DoneBy Run bytes k k' t t' e = SourceEnds bytes (source_at bytes) k k' t t' e
+  DoneBy (Serve port requests) bytes k k' t t' e = serving bytes requests k k' t t' e
+  DoneBy Run bytes k k' t t' e = SourceEnds held faults state bytes (source_at bytes) k k' t t' e
   DoneBy Check bytes k k' t t' e = (t' ≡ t) × CheckEnds held faults (check_at bytes) k k' e
   DoneBy c bytes k k' t t' e = ⊥
 
@@ -113,10 +148,10 @@ module _ {K T : Type 0} (held : K → Option (List ℕ)) (faults : K → ℕ) (s
   GeneratedEnds seed n k k' t t' e = ((e ≡ Ended.OutOfMemory) × (k' ≡ k) × (t' ≡ t)) ⊎ Generated seed n k k' t t' e
 
 -- .. and a source by the bytes that it has left and its faults
-module _ {S K T : Type 0} (left : S → Option (List ℕ)) (source_faults : S → ℕ) (held : K → Option (List ℕ)) (faults : K → ℕ) (state : T → TableState) where
+module _ {S K T : Type 0} (left : S → Option (List ℕ)) (source_faults : S → ℕ) (held : K → Option (List ℕ)) (faults : K → ℕ) (state : T → TableState) (serving : ServingEnds K T) where
   -- the source was read: these are all of its bytes, and no more than it may have
   abbrev pub ReadEnds : Command → S → S → K → K → T → T → Ended → Type 0
-  ReadEnds c s s' k k' t t' e = (bytes : List ℕ) × (length bytes ≤ max_source) × Told (left s) (left s') (λ b c. (b ≡ bytes) × (c ≡ [])) × DoneBy held faults state c bytes k k' t t' e
+  ReadEnds c s s' k k' t t' e = (bytes : List ℕ) × (length bytes ≤ max_source) × Told (left s) (left s') (λ b c. (b ≡ bytes) × (c ≡ [])) × DoneBy held faults state serving c bytes k k' t t' e
 
   -- a command that reads the source: it is read, unless it failed, has more bytes than it may, of which just one more was taken, or
   -- memory ran out; then nothing is done or written
@@ -138,8 +173,8 @@ module _ {S K T : Type 0} (left : S → Option (List ℕ)) (source_faults : S �
   Ends None s s' k k' t t' e = (s' ≡ s) × (t' ≡ t) × TextEnds held faults usage Ended.Usage k k' e
 
 -- the program ended so
-pub record HasEnded {S K T : Type 0} (left : S → Option (List ℕ)) (source_faults : S → ℕ) (held : K → Option (List ℕ)) (faults : K → ℕ) (state : T → TableState) (words : Option Command) (s s' : S) (k k' : K) (t t' : T) (e : Ended) : Type 0 where
-  pub ends : Ends left source_faults held faults state words s s' k k' t t' e
+pub record HasEnded {S K T : Type 0} (left : S → Option (List ℕ)) (source_faults : S → ℕ) (held : K → Option (List ℕ)) (faults : K → ℕ) (state : T → TableState) (serving : ServingEnds K T) (words : Option Command) (s s' : S) (k k' : K) (t t' : T) (e : Ended) : Type 0 where
+  pub ends : Ends left source_faults held faults state serving words s s' k k' t t' e
 
 -- ---- the status
 abbrev pub status_of : Ended → ℕ
@@ -149,6 +184,7 @@ status_of Ended.Usage = 2
 status_of Ended.SourceFault = 3
 status_of Ended.SinkFault = 4
 status_of Ended.Refused = 5
+status_of Ended.LinkRefused = 6
 status_of Ended.TooLong = 7
 status_of Ended.TableFault = 8
 
@@ -172,6 +208,15 @@ abbrev pub is_whole_source : List ℕ → Result Accepted Refusal → Bool
 is_whole_source bytes (Err x) = false
 is_whole_source bytes (Ok p) = is_whole p.code (script_of bytes p)
 
+-- .. also where it is served: then no line of a script follows the deployment
+abbrev pub is_bare_source : List ℕ → Result Accepted Refusal → Bool
+is_bare_source bytes (Err x) = false
+is_bare_source bytes (Ok p) = is_none (first_line (script_of bytes p))
+
+abbrev pub is_whole_by : Command → List ℕ → Bool
+is_whole_by (Serve port requests) bytes = is_bare_source bytes (source_at bytes)
+is_whole_by c bytes = is_whole_source bytes (source_at bytes)
+
 -- only a source that is not refused is carried out whole, and only one that is refused is answered so; the words were right
 abbrev pub AsRead : Bool → Ended → Type 0
 AsRead whole Ended.Done = whole ≡ true
@@ -179,9 +224,23 @@ AsRead whole Ended.Refused = whole ≡ false
 AsRead whole Ended.Usage = ⊥
 AsRead whole e = Unit {0}
 
-abbrev pub SourceAsRead : Option (List ℕ) → Ended → Type 0
-SourceAsRead None e = Unit {0}
-SourceAsRead (Some b) e = AsRead (is_whole_source b (source_at b)) e
+abbrev pub SourceAsRead : Command → Option (List ℕ) → Ended → Type 0
+SourceAsRead c None e = Unit {0}
+SourceAsRead c (Some b) e = AsRead (is_whole_by c b) e
+
+-- by what the words ask for
+abbrev pub WordsAsRead : Option Command → Option (List ℕ) → Ended → Type 0
+WordsAsRead None o e = Unit {0}
+WordsAsRead (Some c) o e = SourceAsRead c o e
+
+abbrev pub is_whole_asked : Option Command → List ℕ → Bool
+is_whole_asked None bytes = false
+is_whole_asked (Some c) bytes = is_whole_by c bytes
+
+-- the words ask to serve
+abbrev pub serves : Option Command → Bool
+serves (Some (Serve port requests)) = true
+serves o = false
 
 -- an ending before the host was opened: by it the table is the one that was handed in, or has its rows, and the sink was
 -- not called

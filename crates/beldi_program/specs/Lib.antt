@@ -2,3 +2,5 @@ pub mod Balances
 pub mod Headline
 pub mod Hosted
 pub mod PlainRun
+pub mod Service
+pub mod Serves

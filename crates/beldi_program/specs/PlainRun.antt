@@ -1,5 +1,5 @@
 -- That a session is a run without crashes, of exactly the requests that were bound. Nothing here knows how the host moves.
-use Rattle.std.specs.Prelude.{◌≡◌, ◌&&◌, ℕ, Bool, false, List, [], ◌∷◌, ◌++◌, flat_map, map, Option, Some, None, option_to_list}
+use Rattle.std.specs.Prelude.{◌≡◌, ◌&&◌, ℕ, Bool, true, false, List, [], ◌∷◌, ◌++◌, flat_map, map, Option, Some, None, option_to_list}
 use Rattle.std.specs.FinMap as finite
 use Rattle.beldi_value.specs.declared.{value.Value.Value, outcome.Outcome.Outcome}
 use Rattle.beldi_tree.specs.declared.deployment.Deployment.{Deployment}
@@ -9,7 +9,7 @@ use Rattle.beldi_row.specs.Table.{Rows}
 use Rattle.beldi_step.specs.Told.{bound_of, entries_told, is_dropped, is_lost, told_outcome}
 use Rattle.beldi_known.specs.Stands.{Stands}
 use Rattle.beldi_host.specs.{Said.SaidOf, declared.survey.ReplySeen.TheVariants.Reply}
-use Rattle.beldi_session.specs.Response.{Report, ReplyIs, TablesAre, BookIs, Response, Answered, WentBack, Reported, IsTo, AtFirst, responses_text}
+use Rattle.beldi_session.specs.Response.{Report, ReplyIs, TablesAre, BookIs, Response, Answered, WentBack, WentOn, Reported, BrokeOff, IsTo, AtFirst, responses_text}
 use Rattle.beldi_session.specs.Script.{Action}
 
 -- ---- the moment after an action
@@ -18,9 +18,10 @@ abbrev pub entries_in : Response → List Entry
 entries_in (Answered share e x) = entries_told e x
 entries_in y = []
 
--- the answer of an act was lost
+-- the answer of an act was lost, or memory ran out in an event
 abbrev pub loses : Response → Bool
 loses (Answered share e x) = is_lost e && is_dropped x
+loses (BrokeOff o) = true
 loses y = false
 
 abbrev pub IsReportSo : Deployment → List Entry → Report → Type 0
@@ -33,6 +34,8 @@ IsReportSo d book r = Unit {0}
 abbrev pub IsSo : Deployment → List Entry → Response → Type 0
 IsSo d book (Answered share e x) = (t : ℕ) (o : Outcome) → told_outcome x ≡ Some (t, o) → HasReply d book t o
 IsSo d book WentBack = Unit {0}
+IsSo d book (WentOn k) = Unit {0}
+IsSo d book (BrokeOff o) = Unit {0}
 IsSo d book (Reported r) = IsReportSo d book r
 
 -- the rows stand for the run of the book
@@ -88,21 +91,16 @@ abbrev pub TellOutcomes : Deployment → List Entry → List Response → Type 0
 TellOutcomes d book [] = Unit {0}
 TellOutcomes d book (y ∷ ys) = ((t : ℕ) (o : Outcome) → outcome_in y ≡ Some (t, o) → HasReply d book t o) × TellOutcomes d book ys
 
-abbrev pub GoesOn : List Entry → List Entry → Type 0
-GoesOn before after = (more : List Entry) × (before ++ more ≡ after)
-
--- after each response the book is legal, what was said is so in its run, and the rows stand for it. The book at the end goes on
--- from the last moment's, where an event broke off out of memory. It is legal, so that each step of an instance acts once and in
--- its order, each transaction that committed is one entry, whole, and each that was aborted one that leaves no item changed
--- (`after` of `beldi_plain/specs/Entries`); it starts exactly the requests that were answered bound, in order; every outcome that
--- was told is its root's; and the rows stand for its run.
-pub record IsPlainRun (d : Deployment) (rows : Rows) (ys : List Booked) (book : List Entry) : Type 0 where
+-- after each response the book is legal, what was said is so in its run, and the rows stand for it. At the end it is legal, so that each
+-- step of an instance acts once and in its order, each transaction that committed is one entry, whole, and each that was aborted one
+-- that leaves no item changed (`after` of `beldi_plain/specs/Entries`); it starts exactly the requests that were answered bound, in
+-- order; every outcome that was told is its root's; and the rows stand for its run.
+pub record IsPlainRun (d : Deployment) (rows : Rows) (ys : List Booked) : Type 0 where
   pub moments : Moments d [] ys
-  pub goes_on : GoesOn (last_book [] ys) book
-  pub legal : IsLegal d book
-  pub bound : starts_of book ≡ bound_in (responses_in ys)
-  pub replies : TellOutcomes d book (responses_in ys)
-  pub tables : RowsStandFor d rows book
+  pub legal : IsLegal d (last_book [] ys)
+  pub bound : starts_of (last_book [] ys) ≡ bound_in (responses_in ys)
+  pub replies : TellOutcomes d (last_book [] ys) (responses_in ys)
+  pub tables : RowsStandFor d rows (last_book [] ys)
 
 -- ---- a session from the rows m to the rows n, with the text that was written
 -- each is a response to the first of the actions that are left before it, and `more` are left after them all
@@ -111,11 +109,9 @@ AreTo [] actions more = actions ≡ more
 AreTo (y ∷ ys) actions more = (left : List Action) × AtFirst (λ a front. IsTo a y front) actions left × AreTo ys left more
 
 -- the actions, but for `more`, got responses in order, one each, and a settling one for each of its events and one as it ended; after
--- each the book and the rows were such. The text is theirs, and a front of it was written; and there is the book at the end. Over no
--- rows this is a run without crashes.
+-- each the book and the rows were such. The text is theirs, and a front of it was written. Over no rows this is a run without crashes.
 pub record Session (d : Deployment) (actions more : List Action) (m n : Rows) (written rest : List ℕ) : Type 0 where
   pub responses : List Booked
   pub actions_are : AreTo (responses_in responses) actions more
   pub text : written ++ rest ≡ responses_text d (responses_in responses)
-  pub book : List Entry
-  pub plain : m ≡ finite.empty → IsPlainRun d n responses book
+  pub plain : m ≡ finite.empty → IsPlainRun d n responses

@@ -1,6 +1,6 @@
 -- Calls of the program one after another.
-use Rattle.beldi_session.proofs.Names.{Action, Bool, Core, Deployment, Does, DoesTo, Err, Flushes, IfOk, IsErrOf, IsStep, List, Ok, OnErr, Option, OutOfMemory, Result, Rose, Rows, Sight, SinkFault, State, Stop, TableState, Told, WentBy, [], add-one, ap, append-nil, append_assoc, arith, by_done, inl, refl, state_at, subst, suc, sym, times, told_map, told_same, told_then, true, zero, ℕ, ◌++◌, ◌+◌, ◌-◌, ◌<◌, ◌∙◌, ◌∷◌, ◌≡◌, ◌≤◌}
-use Rattle.beldi_session.proofs.Went.{fine, broken, unchanged, by_stop, went_nothing, by_then, by_before, by_flush}
+use Rattle.beldi_session.proofs.Names.{Action, Bool, Core, Deployment, Does, DoesTo, Err, Flushes, IfOk, IsErrOf, IsStep, List, Ok, OnErr, Option, OutOfMemory, Result, Rose, Rows, Sight, SinkFault, State, Stop, TableState, Told, WentBy, [], add-one, ap, append-nil, append_assoc, arith, by_done, refl, state_at, subst, suc, sym, times, told_map, told_same, told_then, true, zero, ℕ, ◌++◌, ◌+◌, ◌-◌, ◌<◌, ◌∙◌, ◌∷◌, ◌≡◌, ◌≤◌}
+use Rattle.beldi_session.proofs.Went.{fine, broken, by_stop, went_nothing, by_then, by_before, by_flush}
 
 -- what is said of the rows before and after a call
 abbrev Over : {X : Type 0} → List Action → List Action → Sight → Sight → List ℕ → Result X Stop → Rows → Rows → Type 0
@@ -95,7 +95,7 @@ pub does_none : {X : Type 0} (fs : List Action) (a : Sight) → Does fs a a (bro
 does_none {X} fs a = record {
   written = [];
   sink = told_same (λ h k. k ≡ h ++ []) a.held (λ h. sym (append-nil h));
-  went = told_same (Over fs [] a a [] (broken X OutOfMemory)) a.table.rows (λ m. by_stop a.code a.table.room X fs [] (state_at a m) (state_at a m) a.waiting a.waiting OutOfMemory (inl (unchanged (state_at a m))));
+  went = told_same (Over fs [] a a [] (broken X OutOfMemory)) a.table.rows (λ m. by_stop a.code a.table.room X fs [] (state_at a m) a.waiting a.waiting OutOfMemory);
   code = refl;
   room = refl;
   later = omega arith;

@@ -1,20 +1,47 @@
 -- The events of a settling lead on, and its promises follow from them.
 use Rattle.std.specs.Prelude.{IfSome}
-use Rattle.beldi_session.proofs.Names.{At, Core, Deployment, Err, Event, EventOn, Goes, IfOk, Next, None, Ok, Option, Over, Reset, Result, Rows, Seen, Some, Standing, State, Stepped, Stop, TableState, Tells, ap, begun, ic_heard, next_of, next_run, over_any_table, over_rows, refl, reset, subst, sym, tells_map, ℕ, ◌∙◌, ◌≡◌}
+use Rattle.beldi_session.proofs.Names.{At, Collect, Core, Deployment, Err, Event, EventOn, Goes, IfOk, Next, None, Ok, Option, Over, Result, Rows, Seen, Some, Standing, State, Stepped, Stop, TableState, Tells, Turn, ap, ic_heard, next_of, next_run, over_any_table, over_rows, refl, reset, subst, sym, tells_map, turn_heard, ℕ, ◌∙◌, ◌≡◌}
 use Rattle.std.proofs.Common.{◌≤◌}
 use Rattle.beldi_check.specs.Keeps.{KeepsRules}
-use Rattle.beldi_step.specs.Host.{last_moment}
-use Rattle.beldi_schedule.specs.{Settle.core_for, Settle.event_of, Settle.first_at, Settle.go_on, Settle.heard_of, Settles.Advances, Settles.Settles, Settles.goes, Settles.stands, declared.machine.Settled.Settled}
+use Rattle.beldi_row.specs.Key.{RowKey}
+use Rattle.beldi_step.specs.{Host.last_moment, Next.PassesNoOpen, Next.at_key}
+use Rattle.beldi_host.specs.Survey.{PassesToldOpen}
+use Rattle.beldi_schedule.specs.{Settle.core_for, Settle.event_of, Settle.first_at, Settle.go_on, Settle.heard_of, Settles.Advances, Settles.MaySkip, Settles.Settles, Settles.goes, Settles.skips, Settles.stands, declared.machine.Settled.Settled}
 use Rattle.beldi_upkeep.specs.{Checked.StartsAreOfIt, Upkeep.Upkeep}
 use Rattle.beldi_bound.specs.Ends.{Promises, SettlesAsPromised, Sound}
-use Rattle.beldi_session.specs.Settling.{Advanced, Heard, KeepsPromises, Led, state_with}
+use Rattle.beldi_session.specs.Settling.{Collected, Heard, KeepsPromises, Led, state_with}
+
+-- ---- one after another
+tells_then : {P Q R : Rows → Rows → Type 0} (x y z : Option Rows) → ((m n o : Rows) → P m n → Q n o → R m o) → Tells x y P → Tells y z Q → Tells x z R
+tells_then {P} {Q} {R} None y z f p q = subst (λ w. Tells w z Q) p q
+tells_then (Some m) None z f p q = absurd p
+tells_then (Some m) (Some n) None f p q = absurd q
+tells_then (Some m) (Some n) (Some o) f p q = f m n o p q
+
+tells_with : {P R : Rows → Rows → Type 0} {Q : Rows → Type 0} (x y : Option Rows) → ((m n : Rows) → Q m → P m n → R m n) → IfSome x Q → Tells x y P → Tells x y R
+tells_with None y f q p = p
+tells_with (Some m) None f q p = p
+tells_with (Some m) (Some n) f q p = f m n q p
+
+module _ {d : Deployment} {room budget : ℕ} where
+  settles_then : {x y z : Standing} {s t u : State} → Settles d room budget x s y t → Settles d room budget y t z u → Settles d room budget x s z u
+  settles_then (stands y t) h = h
+  settles_then {z = z} {u = u} (goes a s w v y t first rest) h = goes a s w v z u first (settles_then rest h)
+  settles_then {z = z} {u = u} (skips a s b q y t may rest) h = skips a s b q z u may (settles_then rest h)
+
+  -- one event
+  settles_once : {a : At} {z : Standing} {s u : State} → Advances d room budget a s u z → Settles d room budget (Goes a) s z u
+  settles_once {a} {z} {s} {u} h = goes a s z u z u h (stands z u)
 
 -- ---- one event
+abbrev Advanced : Deployment → ℕ → At → Core → Core → TableState → TableState → Standing → Type 0
+Advanced d budget at c z old new next = Tells old.rows new.rows (λ m n. Advances d old.room budget at (state_with c old m) (state_with z new n) next)
+
 module _ (d : Deployment) (budget : ℕ) (s : At) (n : Next) (c z : Core) (old new : TableState) (next : Standing) (x : Seen) where
   abbrev On : Next → Rows → Rows → Type 0
   On w m k = EventOn d old.room old.faults new.faults (event_of w) (core_for w c) m z k (Ok x)
 
-  pub advances_so : next_of c s ≡ n → Stepped d (event_of n) (core_for n c) z old new (Ok x) → next ≡ heard_of budget z n x → Advanced d budget s c z old new next
+  advances_so : next_of c s ≡ n → Stepped d (event_of n) (core_for n c) z old new (Ok x) → next ≡ heard_of budget z n x → Advanced d budget s c z old new next
   advances_so is step follows =
       tells_map {P = On n} {Q = λ m k. Advances d old.room budget s (state_with c old m) (state_with z new k) next} old.rows new.rows
       (λ m k h. record {
@@ -25,29 +52,39 @@ module _ (d : Deployment) (budget : ℕ) (s : At) (n : Next) (c z : Core) (old n
       }) (over_rows d (event_of n) (core_for n c) z old new (Ok x) step)
 
 module _ (d : Deployment) (budget : ℕ) (s : At) (c z : Core) (old new : TableState) where
-  pub if_heard : (n : Next) (r : Result Standing Stop) → next_of c s ≡ n → IfOk r (λ next. Heard d (event_of n) (λ k x. heard_of budget k n x) (core_for n c) z old new next) → IfOk r (λ next. Advanced d budget s c z old new next)
-  if_heard n (Ok next) is h = advances_so d budget s n c z old new next h.answer is h.step h.follows_so
-  if_heard n (Err w) is h = tt
+  -- a turn of a run
+  pub turn_led : (at : At) (i : ℕ) (r : Result Standing Stop) → next_of c s ≡ Turn at i → IfOk r (λ next. Heard d (Event.Turn i) (λ k x. turn_heard budget at i x) c z old new next) → IfOk r (λ next. Led d budget (Goes s) next c z old new)
+  turn_led at i (Ok next) is h =
+      tells_map {P = λ m n. Advances d old.room budget s (state_with c old m) (state_with z new n) next} {Q = λ m n. Settles d old.room budget (Goes s) (state_with c old m) next (state_with z new n)} old.rows new.rows
+      (λ m n. settles_once) (advances_so d budget s (Turn at i) c z old new next h.answer is h.step h.follows_so)
+  turn_led at i (Err w) is h = tt
 
-  -- after the intent collector was set before all rows
-  pub if_reset : (at to : At) (e : Deployment) (k : Core) (mid : TableState) (r : Result Standing Stop) → next_of c s ≡ Reset at → e ≡ d → k ≡ reset c → mid ≡ old → to ≡ begun at
-      → IfOk r (λ next. Heard e Event.Ic (λ j x. ic_heard budget (next_run j 0) to x) k z mid new next) → IfOk r (λ next. Advanced d budget s c z old new next)
-  if_reset at to e k mid r is code core table begins h =
-      let first = subst (λ w. IfOk r (λ next. Heard w Event.Ic (λ j x. ic_heard budget (next_run j 0) to x) k z mid new next)) code h in
-      let second = subst (λ w. IfOk r (λ next. Heard d Event.Ic (λ j x. ic_heard budget (next_run j 0) to x) w z mid new next)) core first in
-      let third = subst (λ w. IfOk r (λ next. Heard d Event.Ic (λ j x. ic_heard budget (next_run j 0) to x) (reset c) z w new next)) table second in
-      if_heard (Reset at) r is (subst (λ w. IfOk r (λ next. Heard d Event.Ic (λ j x. ic_heard budget (next_run j 0) w x) (reset c) z old new next)) begins third)
+  -- a turn of the intent collector, which was set past some rows
+  pub if_collected : (b : At) (k : RowKey) (r : Result Standing Stop) → ((m : Rows) (q : RowKey) → PassesNoOpen m k q → MaySkip c m (next_of c s) b q) → ((q : RowKey) → next_of (at_key q c) b ≡ Collect b)
+      → IfOk r (λ next. Collected d budget b (at_key k c) z old new next) → IfOk r (λ next. Led d budget (Goes s) next c z old new)
+  if_collected b k (Ok next) may is h =
+      tells_with {P = λ m n. Advances d old.room budget b (state_with (at_key h.cursor c) old m) (state_with z new n) next} {R = λ m n. Settles d old.room budget (Goes s) (state_with c old m) next (state_with z new n)} {Q = λ m. PassesNoOpen m k h.cursor}
+      old.rows new.rows (λ m n passes step. skips s (state_with c old m) b h.cursor next (state_with z new n) (may m h.cursor passes) (settles_once step)) h.passes
+      (advances_so d budget b (Collect b) (at_key h.cursor c) z old new next h.heard.answer (is h.cursor) h.heard.step h.heard.follows_so)
+  if_collected b k (Err w) may is h = tt
 
--- ---- one after another
-tells_then : {P Q R : Rows → Rows → Type 0} (x y z : Option Rows) → ((m n o : Rows) → P m n → Q n o → R m o) → Tells x y P → Tells y z Q → Tells x z R
-tells_then {P} {Q} {R} None y z f p q = subst (λ w. Tells w z Q) p q
-tells_then (Some m) None z f p q = absurd p
-tells_then (Some m) (Some n) None f p q = absurd q
-tells_then (Some m) (Some n) (Some o) f p q = f m n o p q
+-- .. where it was set before all rows first
+pub after_reset : (d e : Deployment) (budget : ℕ) (at : At) (c k z : Core) (old mid new : TableState) (r : Result Standing Stop) → e ≡ d → k ≡ reset c → mid ≡ old → IfOk r (λ next. Collected e budget at k z mid new next) → IfOk r (λ next. Collected d budget at (reset c) z old new next)
+after_reset d e budget at c k z old mid new r code core table h =
+    subst (λ w. IfOk r (λ next. Collected w budget at (reset c) z old new next)) code (subst (λ w. IfOk r (λ next. Collected e budget at w z old new next)) core (subst (λ w. IfOk r (λ next. Collected e budget at k z w new next)) table h))
 
-settles_on : {d : Deployment} {room budget : ℕ} {a : At} {y next : Standing} {s t u : State} → Settles d room budget y s (Goes a) t → Advances d room budget a t u next → Settles d room budget y s next u
-settles_on {d} {room} {budget} {a} {y} {next} {s} {t} {u} (stands z v) h = goes a s next u next u h (stands next u)
-settles_on {d} {room} {budget} {a} {y} {next} {s} {t} {u} (goes b v z w x k first rest) h = goes b v z w next u first (settles_on rest h)
+-- the intent collector was set past some rows, and an event of it answered
+pub collected_so : (d e : Deployment) (budget : ℕ) (at : At) (c k z : Core) (old mid new : TableState) (next : Standing) (q : RowKey) (x : Seen) → e ≡ d → k ≡ at_key q c → mid ≡ old → PassesToldOpen old.rows c.cursor q
+    → Stepped e Event.Ic k z mid new (Ok x) → next ≡ ic_heard budget (next_run z 0) at x → Collected d budget at c z old new next
+collected_so d e budget at c k z old mid new next q x code core table passes step follows = record {
+  cursor = q;
+  passes = passes;
+  heard = record {
+    answer = x;
+    step = subst (λ w. Stepped w Event.Ic (at_key q c) z old new (Ok x)) code (subst (λ w. Stepped e Event.Ic w z old new (Ok x)) core (subst (λ w. Stepped e Event.Ic k z w new (Ok x)) table step));
+    follows_so = follows;
+  };
+}
 
 module _ (d : Deployment) (budget : ℕ) (y : Standing) (c : Core) (old : TableState) where
   pub led_nowhere : Led d budget y y c c old old
@@ -57,10 +94,10 @@ module _ (d : Deployment) (budget : ℕ) (y : Standing) (c : Core) (old : TableS
       by_rows None = refl
       by_rows (Some m) = stands y (state_with c old m)
 
-  pub led_on : (a : At) (next : Standing) (b z : Core) (mid new : TableState) (e : Deployment) → e ≡ d → mid.room ≡ old.room → Led d budget y (Goes a) c b old mid → Advanced e budget a b z mid new next → Led d budget y next c z old new
+  pub led_on : (a : At) (next : Standing) (b z : Core) (mid new : TableState) (e : Deployment) → e ≡ d → mid.room ≡ old.room → Led d budget y (Goes a) c b old mid → Led e budget (Goes a) next b z mid new → Led d budget y next c z old new
   led_on a next b z mid new e same room h k =
-      tells_then {P = λ m n. Settles d old.room budget y (state_with c old m) (Goes a) (state_with b mid n)} {Q = λ m n. Advances e mid.room budget a (state_with b mid m) (state_with z new n) next} {R = λ m n. Settles d old.room budget y (state_with c old m) next (state_with z new n)}
-      old.rows mid.rows new.rows (λ m n o p q. settles_on p (subst (λ w. Advances w old.room budget a (state_with b mid n) (state_with z new o) next) same (subst (λ w. Advances e w budget a (state_with b mid n) (state_with z new o) next) room q))) h k
+      tells_then {P = λ m n. Settles d old.room budget y (state_with c old m) (Goes a) (state_with b mid n)} {Q = λ m n. Settles e mid.room budget (Goes a) (state_with b mid m) next (state_with z new n)} {R = λ m n. Settles d old.room budget y (state_with c old m) next (state_with z new n)}
+      old.rows mid.rows new.rows (λ m n o p q. settles_then p (subst (λ w. Settles w old.room budget (Goes a) (state_with b mid n) next (state_with z new o)) same (subst (λ w. Settles e w budget (Goes a) (state_with b mid n) next (state_with z new o)) room q))) h k
 
 -- ---- what is promised
 pub if_sound : (d : Deployment) (c : Core) → KeepsRules d.funcs → StartsAreOfIt d c.book → (told : Option Rows) → IfSome told (Upkeep d c) → IfSome told (λ m. Sound d c m)

@@ -9,9 +9,9 @@ pub use Rattle.beldi_step.{proofs.Steps.over_any_table, proofs.Steps.over_rows, 
 pub use Rattle.beldi_host.{proofs.Taken.was_taken, specs.Host.core_of, specs.Survey.Reads, specs.Survey.reply_seen, specs.declared.survey.OpenErr.OpenErr, specs.declared.survey.ReplySeen.ReplySeen}
 pub use Rattle.beldi_script.specs.{Cut.lines_of, declared.line.Line.Line}
 pub use Rattle.beldi_outside.{proofs.Told.told_map, proofs.Told.told_same, proofs.Told.told_then, specs.Outside.Told}
-pub use Rattle.beldi_session.specs.Response.{Answered, BookIs, LineRefused, ReplyAlone, ReplyIs, Report, Reported, Response, RowsAre, SettledIs, Share, TablesAre, WentBack, Whole, report_text, response_text, responses_text, tables_head, unread_line}
-pub use Rattle.beldi_session.specs.Script.{Action, Carry, CountRows, ListBook, ListTables, Refuse, Settle, TellReply, actions_in, actions_of, and_then, is_ok, is_whole, times, turn_of}
-pub use Rattle.beldi_session.specs.Session.{BrokeOff, Does, DoesTo, EventBroke, Flushes, Follows, IsReport, IsStep, Leaves, LeftBy, SettlingLeaves, Sight, Steps, Stopped, Unchanged, Went, WentBy, action_event, by_done, by_text, first_event, left_by, settling_event, sight, state_at}
+pub use Rattle.beldi_session.specs.Response.{Answered, BookIs, BrokeOff, LineRefused, ReplyAlone, ReplyIs, Report, Reported, Response, RowsAre, SettledIs, Share, TablesAre, WentBack, WentOn, Whole, report_text, response_text, responses_text, tables_head, unread_line}
+pub use Rattle.beldi_session.specs.Script.{Action, Call, Carry, CountRows, ListBook, ListTables, Refuse, Settle, TellReply, actions_in, actions_of, and_then, is_ok, is_whole, times, turn_of}
+pub use Rattle.beldi_session.specs.Session.{Does, DoesTo, Flushes, Follows, IsReport, IsStep, Leaves, LeftBy, SettlingLeaves, Sight, Steps, Unchanged, Went, WentBy, by_done, by_text, left_by, sight, state_at}
 pub use Rattle.beldi_schedule.specs.Settle.{HasTurns, WasTaken, begun, counts, ends_round, events_left, first_at, go_on, ic_heard, is_spent, is_waiting, next_of, parked, round_over, turn_heard, unless_spent}
 pub use Rattle.beldi_session.specs.Settled.{wait_text}
 pub use Rattle.beldi_schedule.specs.{declared.machine.At.At, declared.machine.Next.Next, declared.machine.Next.TheVariants.Collect, declared.machine.Next.TheVariants.Reset, declared.machine.Next.TheVariants.Turn, declared.machine.Settled.TheVariants.Spent, declared.machine.Standing.Standing, declared.machine.Standing.TheVariants.Goes, declared.machine.Standing.TheVariants.Over, Settles.State}

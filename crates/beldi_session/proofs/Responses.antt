@@ -1,6 +1,6 @@
 -- The responses of the host, and their text.
-use Rattle.beldi_session.proofs.Names.{Action, AllocError, Answered, Does, DoesTo, Err, Event, EventBroke, EventOn, IfOk, IsCount, IsErrOf, IsReport, Leaves, List, None, Ok, OnOk, OpenErr, Option, OutOfMemory, Reads, Report, Reported, Result, Rows, Seen, Share, Sight, SinkFault, Some, Stepped, Stop, Tells, Told, WentBy, [], action_event, ap, append_assoc, by_text, inl, inr, over_any_table, over_rows, refl, report_text, response_text, row_count, state_at, subst, sym, tables_head, tells_map, told_map, unread_line, ℕ, ◌++◌, ◌∙◌, ◌∷◌, ◌≡◌}
-use Rattle.beldi_session.proofs.{Went.broken, Went.by_one, Went.by_stop, Calls.Calm, Calls.made}
+use Rattle.beldi_session.proofs.Names.{Action, AllocError, Answered, BrokeOff, Does, DoesTo, Err, Event, EventOn, IfOk, IsCount, IsErrOf, IsReport, Leaves, List, None, Ok, OnOk, OpenErr, Option, OutOfMemory, Reads, Report, Reported, Result, Rows, Seen, Share, Sight, SinkFault, Some, Stepped, Stop, Tells, Told, WentBy, [], ap, append_assoc, by_text, over_any_table, over_rows, refl, report_text, response_text, row_count, state_at, tables_head, tells_map, told_map, unread_line, ℕ, ◌++◌, ◌∙◌, ◌∷◌, ◌≡◌}
+use Rattle.beldi_session.proofs.{Went.broken, Went.by_one, Calls.Calm, Calls.made}
 
 -- what a table tells is told
 pub told_tells : (rows rows' : Option Rows) (P : Rows → Rows → Type 0) → Tells rows rows' P → Told rows rows' P
@@ -39,11 +39,11 @@ module _ (a b : Sight) (calm : Calm a b) where
       over a b calm (by_text wrote) act [] (λ m n. (n ≡ m) × (OnOk wrote (b.waiting ≡ a.waiting ++ report_text a.code (y m)) × IsReport a.code (state_at a m) (state_at b n) (y m)))
       (λ m n o. by_one a.code a.table.room act [] [] (Reported (y m)) (state_at a m) (state_at b n) a.waiting b.waiting (by_text wrote) (is m) (record { core = core; rows = o.0; later = calm.later }, o.1.1) (text_by wrote _ o.1.0)) (no_fault wrote) t
 
-  -- nothing was reported
-  pub unreported : b.core ≡ a.core → (act : Action) → OverRows a b (λ m n. n ≡ m) → Does (act ∷ []) a b (broken (Unit {0}) OutOfMemory)
-  unreported core act t =
+  -- memory was short, and nothing was reported
+  pub unreported : b.core ≡ a.core → (act : Action) → Leaves act a.core b.core (BrokeOff None) (act ∷ []) → OverRows a b (λ m n. n ≡ m) → Does (act ∷ []) a b (broken (Unit {0}) OutOfMemory)
+  unreported core act is t =
       over a b calm (broken (Unit {0}) OutOfMemory) act [] (λ m n. n ≡ m)
-      (λ m n o. by_stop a.code a.table.room (Unit {0}) (act ∷ []) [] (state_at a m) (state_at b n) a.waiting b.waiting OutOfMemory (inl (record { core = core; rows = o; later = calm.later }))) (λ e. cc) t
+      (λ m n o. by_one a.code a.table.room act (act ∷ []) [] (BrokeOff None) (state_at a m) (state_at b n) a.waiting b.waiting (broken (Unit {0}) OutOfMemory) is (record { core = core; rows = o; later = calm.later }) tt) (λ e. cc) t
 
 -- an event is one step of the host
 module _ (a b : Sight) (held : b.held ≡ a.held) (faults : b.faults ≡ a.faults) (code : b.code ≡ a.code) (e : Event) (act : Action) (left : List Action) where
@@ -62,10 +62,10 @@ module _ (a b : Sight) (held : b.held ≡ a.held) (faults : b.faults ≡ a.fault
       (over_rows a.code e a.core b.core a.table b.table (Ok x) h)
 
   -- it broke off
-  pub event_broke : (X : Type 0) (w : AllocError) → action_event a.core act ≡ Some e → EventStep (Err w) → DoesTo (act ∷ []) left a b (broken X OutOfMemory)
-  event_broke X w is h =
+  pub event_broke : (X : Type 0) (w : AllocError) (front : List Action) → Leaves act a.core b.core (BrokeOff (Some e)) front → EventStep (Err w) → DoesTo (act ∷ []) left a b (broken X OutOfMemory)
+  event_broke X w front is h =
       over a b (calm (Err w) h) (broken X OutOfMemory) act left (EventFrom a b e (Err w))
-      (λ m n o. by_stop a.code a.table.room X (act ∷ []) left (state_at a m) (state_at b n) a.waiting b.waiting OutOfMemory (inr (subst (EventBroke a.code a.table.room (state_at a m) (state_at b n)) (sym is) (o, (calm (Err w) h).later)))) (λ e. cc)
+      (λ m n o. by_one a.code a.table.room act front left (BrokeOff (Some e)) (state_at a m) (state_at b n) a.waiting b.waiting (broken X OutOfMemory) is (o, (calm (Err w) h).later) tt) (λ e. cc)
       (over_rows a.code e a.core b.core a.table b.table (Err w) h)
 
 -- what the table told of its rows as they were read

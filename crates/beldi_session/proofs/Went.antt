@@ -1,5 +1,5 @@
 -- Actions that were done, one part after another.
-use Rattle.beldi_session.proofs.Names.{Action, BrokeOff, Core, Deployment, Err, Event, EventBroke, Follows, IsStep, Leaves, LeftBy, List, None, Ok, OnOk, Option, OutOfMemory, Response, Result, SinkFault, Some, State, Steps, Stop, Stopped, Unchanged, Went, WentBy, [], ap, append-nil, append_assoc, arith, first_event, flat_map-append, inl, inr, refl, response_text, responses_text, subst, sym, ℕ, ◌++◌, ◌∙◌, ◌∷◌, ◌≡◌}
+use Rattle.beldi_session.proofs.Names.{Action, Core, Deployment, Err, Follows, IsStep, Leaves, LeftBy, List, Ok, OnOk, Response, Result, State, Steps, Stop, Unchanged, Went, WentBy, [], ap, append-nil, append_assoc, arith, flat_map-append, refl, response_text, responses_text, subst, sym, ℕ, ◌++◌, ◌∙◌, ◌∷◌, ◌≡◌}
 
 abbrev pub Step : Type 1
 Step = State → State → Response → Type 0
@@ -19,11 +19,11 @@ follows_before : (bs actions : List Action) (c z : Core) (y : Response) (left : 
 follows_before bs [] c z y left h = absurd h
 follows_before bs (a ∷ more) c z y left h = (h.0, h.1, ap (λ k. k ++ bs) h.2 ∙ append_assoc h.0 more bs)
 
-steps_before : (P : Step) (bs : List Action) (ys : List Response) (actions more : List Action) (s t : State) → Steps P ys actions more s t → Steps P ys (actions ++ bs) (more ++ bs) s t
+pub steps_before : (P : Step) (bs : List Action) (ys : List Response) (actions more : List Action) (s t : State) → Steps P ys actions more s t → Steps P ys (actions ++ bs) (more ++ bs) s t
 steps_before P bs [] actions more s t x = (x.0, ap (λ k. k ++ bs) x.1)
 steps_before P bs (y ∷ ys) actions more s t x = (x.0, x.1 ++ bs, x.2, follows_before bs actions s.core x.0.core y x.1 x.3, steps_before P bs ys x.1 more x.0 t x.4)
 
-steps_then : (P : Step) (xs ys : List Response) (fs gs hs : List Action) (s t u : State) → Steps P xs fs gs s t → Steps P ys gs hs t u → Steps P (xs ++ ys) fs hs s u
+pub steps_then : (P : Step) (xs ys : List Response) (fs gs hs : List Action) (s t u : State) → Steps P xs fs gs s t → Steps P ys gs hs t u → Steps P (xs ++ ys) fs hs s u
 steps_then P [] ys fs gs hs s t u x y = subst (λ k. Steps P ys k hs s u) (sym x.1) (subst (λ z. Steps P ys gs hs z u) x.0 y)
 steps_then P (r ∷ xs) ys fs gs hs s t u x y = (x.0, x.1, x.2, x.3, steps_then P xs ys x.1 gs hs x.0 t u x.4 y)
 
@@ -45,40 +45,19 @@ went_then P d fs gs hs s t u p w q v rest x y =
 
 -- ---- by what a call answers
 module _ (d : Deployment) (room : ℕ) where
-  event_before : (bs more : List Action) (c : Core) (e : Event) → first_event c more ≡ Some e → first_event c (more ++ bs) ≡ Some e
-  event_before bs [] c e h = cc
-  event_before bs (a ∷ more) c e h = h
-
-  broke_by : (bs more : List Action) (s t : State) (o : Option Event) → first_event s.core more ≡ o → EventBroke d room s t o → EventBroke d room s t (first_event s.core (more ++ bs))
-  broke_by bs more s t None is h = absurd h
-  broke_by bs more s t (Some e) is h = subst (EventBroke d room s t) (sym (event_before bs more s.core e is)) h
-
-  broke_before : (why : Stop) (bs more : List Action) (s t : State) → BrokeOff why d room more s t → BrokeOff why d room (more ++ bs) s t
-  broke_before OutOfMemory bs more s t h = broke_by bs more s t (first_event s.core more) refl h
-  broke_before SinkFault bs more s t h = absurd h
-
-  stopped_before : (why : Stop) (bs more : List Action) (s t : State) → Stopped why d room more s t → Stopped why d room (more ++ bs) s t
-  stopped_before why bs more s t h = elim h [ inl x ↦ inl x | inr x ↦ inr (broke_before why bs more s t x) ]
-
   pub by_then : {X Y : Type 0} (fs gs hs : List Action) (s t u : State) (p w q v k : List ℕ) (x : X) (r : Result Y Stop) → WentBy d room fs gs s t p w q (fine x) → WentBy d room gs hs t u q v k r → WentBy d room fs hs s u p (w ++ v) k r
   by_then fs gs hs s t u p w q v k x (Ok y) a b = went_then (IsStep d room) d fs gs hs s t u p w q v k a b
-  by_then fs gs hs s t u p w q v k x (Err e) a b = (b.0, b.1, b.2, went_then (IsStep d room) d fs gs b.0 s t b.1 p w q v b.2 a b.3, b.4)
+  by_then fs gs hs s t u p w q v k x (Err e) a b = (b.0, b.1, went_then (IsStep d room) d fs gs b.0 s t u p w q v b.1 a b.2)
 
   -- with more to do after it
   pub by_before : {X : Type 0} (fs left bs : List Action) (s t : State) (p w q : List ℕ) (r : Result X Stop) → WentBy d room fs left s t p w q r → WentBy d room (fs ++ bs) (left ++ bs) s t p w q r
   by_before fs left bs s t p w q (Ok x) a = went_before bs a
-  by_before fs left bs s t p w q (Err e) a = (a.0 ++ bs, a.1, a.2, went_before bs a.3, stopped_before e bs a.0 a.1 t a.4)
+  by_before fs left bs s t p w q (Err e) a = (a.0 ++ bs, a.1, went_before bs a.2)
 
   -- what waits was written, or a front of it
   pub by_flush : {X : Type 0} (s t : State) (p w q : List ℕ) (r : Result X Stop) → t ≡ s → LeftBy p w q r → WentBy d room [] [] s t p w q r
   by_flush s t p w q (Ok x) same h = record { responses = []; steps = (same, refl); text = h ∙ sym (append-nil p) }
-  by_flush s t p w q (Err e) same h = (
-    [],
-    s,
-    h.0,
-    record { responses = []; steps = (refl, refl); text = h.1 ∙ sym (append-nil p) },
-    inl (subst (λ z. Unchanged s z) (sym same) (unchanged s)),
-  )
+  by_flush s t p w q (Err e) same h = ([], h.0, record { responses = []; steps = (same, refl); text = h.1 ∙ sym (append-nil p) })
 
   -- one response was made
   one : (a : Action) (front : List Action) (y : Response) (s t : State) (p : List ℕ) → Leaves a s.core t.core y front → IsStep d room s t y → Went (IsStep d room) d (a ∷ []) front s t p [] (p ++ response_text d y)
@@ -86,8 +65,8 @@ module _ (d : Deployment) (room : ℕ) where
 
   pub by_one : {X : Type 0} (a : Action) (front left : List Action) (y : Response) (s t : State) (p q : List ℕ) (r : Result X Stop) → Leaves a s.core t.core y front → IsStep d room s t y → OnOk r ((left ≡ front) × (q ≡ p ++ response_text d y)) → WentBy d room (a ∷ []) left s t p [] q r
   by_one a front left y s t p q (Ok x) is o h = subst (λ z. Went (IsStep d room) d (a ∷ []) z s t p [] q) (sym h.0) (subst (λ z. Went (IsStep d room) d (a ∷ []) front s t p [] z) (sym h.1) (one a front y s t p is o))
-  by_one a front left y s t p q (Err e) is o h = (front, t, p ++ response_text d y, one a front y s t p is o, inl (unchanged t))
+  by_one a front left y s t p q (Err e) is o h = (front, p ++ response_text d y, one a front y s t p is o)
 
   -- none was
-  pub by_stop : (X : Type 0) (fs left : List Action) (s t : State) (p q : List ℕ) (e : Stop) → Stopped e d room fs s t → WentBy d room fs left s t p [] q (broken X e)
-  by_stop X fs left s t p q e h = (fs, s, p, went_nothing (IsStep d room) d fs s p, h)
+  pub by_stop : (X : Type 0) (fs left : List Action) (s : State) (p q : List ℕ) (e : Stop) → WentBy d room fs left s s p [] q (broken X e)
+  by_stop X fs left s p q e = (fs, p, went_nothing (IsStep d room) d fs s p)

@@ -1,10 +1,11 @@
 -- What the program says of each action of a script, and its text.
-use Rattle.std.specs.Prelude.{◌≡◌, ℕ, Bool, true, false, List, [], ◌∷◌, ◌++◌, flat_map, Option, Some, None, codes}
+use Rattle.std.specs.Prelude.{◌≡◌, ℕ, Bool, true, false, List, [], ◌∷◌, ◌++◌, flat_map, Option, Some, None, codes, if◌then◌else◌}
 use Rattle.beldi_tree.specs.declared.deployment.Deployment.{Deployment}
+use Rattle.beldi_row.specs.Key.{RowKey}
 use Rattle.beldi_step.specs.declared.event.{Event.Event, Seen.Seen}
 use Rattle.beldi_host.specs.declared.survey.ReplySeen.{ReplySeen}
-use Rattle.beldi_session.specs.Script.{Action, Carry, Settle, TellReply, CountRows, ListTables, ListBook, Refuse}
-use Rattle.beldi_schedule.specs.{declared.machine.Settled.Settled, declared.machine.Standing.Standing, declared.machine.Standing.TheVariants.Goes, declared.machine.Standing.TheVariants.Over}
+use Rattle.beldi_session.specs.Script.{Action, Carry, Call, Settle, TellReply, CountRows, ListTables, ListBook, Refuse}
+use Rattle.beldi_schedule.specs.{Settle.first_at, Settle.go_on, declared.machine.Settled.Settled, declared.machine.Standing.Standing, declared.machine.Standing.TheVariants.Goes, declared.machine.Standing.TheVariants.Over}
 use Rattle.beldi_session.specs.{declared.refusal.Refusal.Refusal, Answer.answer_text, Answer.numbered, Answer.outcome_line, Answer.reply_told, Answer.ticket_line, Refusal.refusal_text, Settled.settled_text}
 
 -- what is said without an event: what a ticket's run gave; how many rows there are; the lines of a listing of the tables, or of
@@ -22,11 +23,14 @@ pub data Share : Type 0 where
   Whole : Share
   ReplyAlone : Share
 
--- how an event was answered; a settling set the intent collector before all rows; or a report
+-- how an event was answered; a settling set the intent collector before all rows, or to a key, past rows that are of no open intent; a
+-- report; or memory was short: in an event, or as something was to be told
 pub data Response : Type 0 where
   Answered : Share → Event → Seen → Response
   WentBack : Response
+  WentOn : RowKey → Response
   Reported : Report → Response
+  BrokeOff : Option Event → Response
 
 -- ---- the actions that a response leaves to do, in place of the one that it is to
 -- the events of a settling
@@ -39,16 +43,36 @@ is_turn e = false
 abbrev pub IsToSettling : ℕ → Response → List Action → Type 0
 IsToSettling budget (Answered ReplyAlone e x) left = (is_turn e ≡ true) × (s : Standing) × (left ≡ Settle budget s ∷ [])
 IsToSettling budget WentBack left = (s : Standing) × (left ≡ Settle budget s ∷ [])
+IsToSettling budget (WentOn k) left = (s : Standing) × (left ≡ Settle budget s ∷ [])
+IsToSettling budget (BrokeOff (Some e)) left = (is_turn e ≡ true) × (s : Standing) × (left ≡ Settle budget s ∷ [])
 IsToSettling budget y left = ⊥
 
--- this is a response to the action, and leaves these
+-- a call goes on where its intent is bound, or was: the host settles, and the reply is told
+abbrev pub goes_on : Seen → Bool
+goes_on (Seen.Bound t i) = true
+goes_on (Seen.Running t) = true
+goes_on x = false
+
+-- the turns that a call is given at most
+abbrev pub patience : ℕ
+patience = 10000
+
+abbrev pub after_request : ℕ → Seen → List Action
+after_request t x = if goes_on x then Settle patience (go_on patience first_at) ∷ TellReply t ∷ [] else []
+
+-- this is a response to the action, and leaves these; what broke off leaves the action
 abbrev pub IsTo : Action → Response → List Action → Type 0
 IsTo (Carry e) (Answered Whole f x) left = (f ≡ e) × (left ≡ [])
+IsTo (Carry e) (BrokeOff (Some f)) left = (f ≡ e) × (left ≡ Carry e ∷ [])
+IsTo (Call t f v) (Answered Whole e x) left = (e ≡ Event.Request t f v) × (left ≡ after_request t x)
+IsTo (Call t f v) (BrokeOff (Some e)) left = (e ≡ Event.Request t f v) × (left ≡ Call t f v ∷ [])
 IsTo (Settle budget (Goes s)) y left = IsToSettling budget y left
 IsTo (Settle budget (Over r)) (Reported (SettledIs q)) left = (q ≡ r) × (left ≡ [])
 IsTo (TellReply t) (Reported (ReplyIs u x)) left = (u ≡ t) × (left ≡ [])
+IsTo (TellReply t) (BrokeOff None) left = left ≡ TellReply t ∷ []
 IsTo CountRows (Reported (RowsAre n)) left = left ≡ []
 IsTo ListTables (Reported (TablesAre lines)) left = left ≡ []
+IsTo ListTables (BrokeOff None) left = left ≡ ListTables ∷ []
 IsTo ListBook (Reported (BookIs lines)) left = left ≡ []
 IsTo (Refuse x) (Reported (LineRefused y)) left = (y ≡ x) × (left ≡ [])
 IsTo a y left = ⊥
@@ -91,6 +115,8 @@ response_text d (Answered Whole e x) = answer_text d x
 response_text d (Answered ReplyAlone Event.Ic x) = []
 response_text d (Answered ReplyAlone e x) = reply_told x
 response_text d WentBack = []
+response_text d (WentOn k) = []
+response_text d (BrokeOff o) = []
 response_text d (Reported r) = report_text d r
 
 -- the text of all responses, one after another

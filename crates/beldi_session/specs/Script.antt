@@ -1,15 +1,17 @@
 -- What a script has the program do, line by line.
 use Rattle.std.specs.Prelude.{ℕ, zero, suc, Bool, true, false, ◌&&◌, List, [], ◌∷◌, ◌++◌, Result, Ok, Err}
+use Rattle.beldi_value.specs.declared.value.Value.{Value}
 use Rattle.beldi_tree.specs.declared.deployment.Deployment.{Deployment}
 use Rattle.beldi_step.specs.declared.event.Event.{Event}
 use Rattle.beldi_script.specs.declared.line.Line.{Line}
 use Rattle.beldi_schedule.specs.{declared.machine.Standing.Standing, Settle.first_at, Settle.go_on}
 use Rattle.beldi_session.specs.{declared.refusal.Refusal.Refusal, declared.session.Taker.Taker, Source.Numbered, Source.said_at}
 
--- carry out an event; go on with a settling, within a budget, from where it stands; tell what a ticket's run gave, how many rows there
--- are, the tables, or the book; refuse a line
+-- carry out an event; call a function with a ticket, and see what comes of it; go on with a settling, within a budget, from where it
+-- stands; tell what a ticket's run gave, how many rows there are, the tables, or the book; refuse a line. No line calls.
 pub data Action : Type 0 where
   Carry : Event → Action
+  Call : ℕ → ℕ → Value → Action
   Settle : ℕ → Standing → Action
   TellReply : ℕ → Action
   CountRows : Action

@@ -1,15 +1,15 @@
 -- A session: the actions of a script one after another, the responses, and the text that was written.
-use Rattle.std.specs.Prelude.{◌≡◌, ◌⊎◌, ◌≤◌, ℕ, Bool, false, List, [], ◌∷◌, ◌++◌, Option, Some, None, Result, Ok, Err, IsErrOf}
+use Rattle.std.specs.Prelude.{◌≡◌, ◌≤◌, ℕ, Bool, false, List, [], ◌∷◌, ◌++◌, Option, Some, None, Result, Ok, Err, IsErrOf}
 use Rattle.std.specs.declared.alloc.AllocError.{AllocError}
 use Rattle.beldi_tree.specs.declared.deployment.Deployment.{Deployment}
 use Rattle.beldi_book.specs.Text.{book_text}
 use Rattle.beldi_row.specs.{declared.table.Table.Ghosts, Table.Rows, Table.TableState, Table.Rose, Table.row_count}
-use Rattle.beldi_step.specs.{declared.event.Event.Event, Host.Core, Host.EventOn, Next.next_run, Next.reset, Tables.tables_text}
+use Rattle.beldi_step.specs.{declared.event.Event.Event, Host.Core, Host.EventOn, Next.PassesNoOpen, Next.at_key, Next.next_run, Next.reset, Tables.tables_text}
 use Rattle.beldi_host.specs.{declared.host.Host.Host, Host.core_of, Survey.reply_seen, Survey.is_unknown}
 use Rattle.beldi_outside.specs.Outside.{Told, IsPrefixOf}
-use Rattle.beldi_session.specs.Response.{Report, ReplyIs, RowsAre, TablesAre, BookIs, SettledIs, LineRefused, ReplyAlone, Response, Answered, WentBack, Reported, IsTo, AtFirst, responses_text}
+use Rattle.beldi_session.specs.Response.{Report, ReplyIs, RowsAre, TablesAre, BookIs, SettledIs, LineRefused, ReplyAlone, Response, Answered, WentBack, WentOn, Reported, BrokeOff, IsTo, AtFirst, responses_text}
 use Rattle.beldi_schedule.specs.{declared.machine.Next.Next, declared.machine.Next.TheVariants.Turn, declared.machine.Next.TheVariants.Collect, declared.machine.Next.TheVariants.Reset, declared.machine.Standing.Standing, declared.machine.Standing.TheVariants.Goes, Settle.begun, Settle.ic_heard, Settle.next_of, Settle.turn_heard, Settles.State}
-use Rattle.beldi_session.specs.{declared.session.Stop.Stop, declared.session.Stop.TheVariants.OutOfMemory, declared.session.Stop.TheVariants.SinkFault, Script.Action, Script.Carry, Script.Settle}
+use Rattle.beldi_session.specs.{declared.session.Stop.Stop, declared.session.Stop.TheVariants.OutOfMemory, declared.session.Stop.TheVariants.SinkFault, Script.Action, Script.Settle}
 
 -- ---- one step
 -- the host and the rows are as they were
@@ -29,18 +29,30 @@ IsReport d s t (BookIs lines) = lines ≡ book_text d s.core.book
 IsReport d s t (SettledIs r) = Unit {0}
 IsReport d s t (LineRefused x) = Unit {0}
 
--- this is the response of an action that leads from s to t: an event is one step of the host, and a report changes nothing
+-- this is the response of an action that leads from s to t: an event is one step of the host, also one that is out of memory, and a report
+-- changes nothing
 abbrev pub IsStep : Deployment → ℕ → State → State → Response → Type 0
 IsStep d room s t (Answered share e x) = EventOn d room s.faults t.faults e s.core s.rows t.core t.rows (Ok x) × (s.faults ≤ t.faults)
 IsStep d room s t WentBack = t ≡ record s { core = reset s.core }
+IsStep d room s t (WentOn k) = PassesNoOpen s.rows s.core.cursor k × (t ≡ record s { core = at_key k s.core })
+IsStep d room s t (BrokeOff None) = Unchanged s t
+IsStep d room s t (BrokeOff (Some e)) = EventOn d room s.faults t.faults e s.core s.rows t.core t.rows (Err (record {})) × (s.faults ≤ t.faults)
 IsStep d room s t (Reported r) = Unchanged s t × IsReport d s t r
 
 -- ---- one step after another
+-- the responses lead from s to t
+abbrev pub Leads : (State → State → Response → Type 0) → List Response → State → State → Type 0
+Leads Step [] s t = t ≡ s
+Leads Step (y ∷ ys) s t = (u : State) × Step s u y × Leads Step ys u t
+
 -- what a settling leaves, by what it does next: its core after that is c
 abbrev pub SettlingLeaves : ℕ → Core → Next → Response → List Action → Type 0
 SettlingLeaves budget c (Turn s i) (Answered ReplyAlone e x) left = (e ≡ Event.Turn i) × (left ≡ Settle budget (turn_heard budget s i x) ∷ [])
 SettlingLeaves budget c (Collect s) (Answered ReplyAlone e x) left = (e ≡ Event.Ic) × (left ≡ Settle budget (ic_heard budget (next_run c 0) s x) ∷ [])
 SettlingLeaves budget c (Reset s) WentBack left = left ≡ Settle budget (Goes (begun s)) ∷ []
+SettlingLeaves budget c (Collect s) (WentOn k) left = left ≡ Settle budget (Goes s) ∷ []
+SettlingLeaves budget c (Turn s i) (BrokeOff (Some e)) left = (e ≡ Event.Turn i) × (left ≡ Settle budget (Goes s) ∷ [])
+SettlingLeaves budget c (Collect s) (BrokeOff (Some e)) left = (e ≡ Event.Ic) × (left ≡ Settle budget (Goes s) ∷ [])
 SettlingLeaves budget c n y left = ⊥
 
 -- this is a response to the action, from the core c to the core z, and leaves these
@@ -52,7 +64,7 @@ Leaves a c z y left = IsTo a y left
 abbrev pub Follows : List Action → Core → Core → Response → List Action → Type 0
 Follows actions c z y left = AtFirst (λ a front. Leaves a c z y front) actions left
 
--- the responses lead from s to t, and leave these of the actions to do
+-- .. and leave these of the actions to do
 abbrev pub Steps : (State → State → Response → Type 0) → List Response → List Action → List Action → State → State → Type 0
 Steps Step [] actions more s t = (t ≡ s) × (actions ≡ more)
 Steps Step (y ∷ ys) actions more s t = (u : State) × (left : List Action) × Step s u y × Follows actions s.core u.core y left × Steps Step ys left more u t
@@ -64,41 +76,10 @@ pub record Went (Step : State → State → Response → Type 0) (d : Deployment
   pub steps : Steps Step responses actions more s t
   pub text : written ++ rest ≡ waited ++ responses_text d responses
 
--- the event of a settling that comes next
-abbrev pub settling_event : Next → Option Event
-settling_event (Turn s i) = Some (Event.Turn i)
-settling_event (Collect s) = Some Event.Ic
-settling_event (Reset s) = None
-
--- .. of an action
-abbrev pub action_event : Core → Action → Option Event
-action_event c (Carry e) = Some e
-action_event c (Settle budget (Goes s)) = settling_event (next_of c s)
-action_event c a = None
-
--- .. of some actions
-abbrev pub first_event : Core → List Action → Option Event
-first_event c [] = None
-first_event c (a ∷ more) = action_event c a
-
--- the event was out of memory
-abbrev pub EventBroke : Deployment → ℕ → State → State → Option Event → Type 0
-EventBroke d room s t None = ⊥
-EventBroke d room s t (Some e) = EventOn d room s.faults t.faults e s.core s.rows t.core t.rows (Err (record {})) × (s.faults ≤ t.faults)
-
--- the next event broke off, out of memory
-abbrev pub BrokeOff : Stop → Deployment → ℕ → List Action → State → State → Type 0
-BrokeOff OutOfMemory d room more s t = EventBroke d room s t (first_event s.core more)
-BrokeOff SinkFault d room more s t = ⊥
-
--- nothing more happened, or the next event broke off
-abbrev pub Stopped : Stop → Deployment → ℕ → List Action → State → State → Type 0
-Stopped why d room more s t = Unchanged s t ⊎ BrokeOff why d room more s t
-
--- by what a call answers: the actions were done, but for `left`, and what is not written waits; or it stopped
+-- by what a call answers: the actions were done, but for `left`, and what is not written waits; or it stopped before some
 abbrev pub WentBy : {X : Type 0} → Deployment → ℕ → List Action → List Action → State → State → List ℕ → List ℕ → List ℕ → Result X Stop → Type 0
 WentBy d room actions left s t waited written waits (Ok x) = Went (IsStep d room) d actions left s t waited written waits
-WentBy d room actions left s t waited written waits (Err why) = (more : List Action) × (u : State) × (rest : List ℕ) × Went (IsStep d room) d actions more s u waited written rest × Stopped why d room more u t
+WentBy d room actions left s t waited written waits (Err why) = (more : List Action) × (rest : List ℕ) × Went (IsStep d room) d actions more s t waited written rest
 
 -- ---- calls of the program
 -- a sink got this text, where it tells what it got

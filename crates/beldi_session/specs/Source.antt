@@ -2,7 +2,8 @@
 use Rattle.std.specs.Prelude.{◌≡◌, ℕ, ◌+◌, ◌-◌, ◌^◌, min, Bool, true, false, List, [], ◌∷◌, drop, Option, Some, None, Result, Ok, Err, if◌then◌else◌}
 use Rattle.beldi_tree.specs.declared.deployment.Deployment.{Deployment}
 use Rattle.beldi_check.specs.Rules.{Offence, first_offence}
-use Rattle.beldi_script.specs.{Cut.lines_of, Line.line_at, declared.line.Line.Line, declared.line.ScriptErr.ScriptErr}
+use Rattle.std.specs.List.{list_all}
+use Rattle.beldi_script.specs.{Cut.lines_of, Line.line_at, Words.is_space, declared.line.Line.Line, declared.line.ScriptErr.ScriptErr}
 use Rattle.beldi_syntax.specs.{Deployments.parsed_at, declared.reading.Parsed.Parsed, declared.refusal.SyntaxErr.SyntaxErr, declared.refusal.What.What}
 use Rattle.beldi_session.specs.declared.{source.Accepted.Accepted, refusal.Cause.Cause, refusal.Refusal.Refusal, refusal.SourceErr.SourceErr, refusal.SourceErr.TheVariants.OutOfMemory, refusal.SourceErr.TheVariants.Refused}
 
@@ -74,6 +75,12 @@ said_by n (Err e) = Err (refusal_at (cause_of e) n)
 -- what a line says, or its refusal
 abbrev pub said_at : Deployment → Numbered → Result Line Refusal
 said_at d l = said_by l.0 (line_at d l.1)
+
+-- ---- a source that is to have no script
+-- the refusal of the first line that has more than spaces and tabs
+abbrev pub first_line : List Numbered → Option Refusal
+first_line [] = None
+first_line (l ∷ ls) = if list_all is_space l.1 then first_line ls else Some (refusal_at Cause.BadLine l.0)
 
 -- ---- reading
 -- read as this, and refused exactly where that is refused

@@ -3,25 +3,29 @@
 //! `beldi_script`), the checks of a deployment (`beldi_check`), the table that a host is over (`beldi_row`) and what is outside
 //! (`beldi_outside`).
 //! Its definitions: `specs/Source` (what a source says: its refusal, or a deployment and numbered lines), `specs/Refusal`
-//! (the text of a refusal), `specs/Check` (what is said of a source that is tested), `specs/Settle` (what settling does next, as a
-//! machine over the events of a host), `specs/Script` (what a script has the program do), `specs/Answer` and `specs/Response` (what
-//! is said of it, and the text) and `specs/Session` (steps one after another, and what was written).
+//! (the text of a refusal), `specs/Check` (what is said of a source that is tested), `specs/Script` (what a script has the program do, and
+//! a client: its actions), `specs/Answer`, `specs/Settled` and `specs/Response` (what is said of it, and the text), `specs/Session` (steps
+//! one after another, and what was written) and `specs/Settling` (the events of a settling, and its promises).
 //!
 //! Proved:
 //! - `read_source` gives the deployment and where its script begins, or the first refusal (`ReadsAs`), and `check_source` what is said of
 //!   a source that is tested (`check_by`).
 //! - `run_script` carries out what the lines say, line by line, up to the first that is refused or to where it stops (`Does`): the text
 //!   that was written and waits is that of the steps that were done, and the host and its table are those that the last step left.
-//! - A line `settle` is carried out as just the events of that machine (`Leaves`), each a step of the host as those of other lines; it
-//!   comes to its end, since each event that it goes on after was taken.
+//! - An event that is out of memory is a response too, and leaves its action to do (`BrokeOff`): its step is that of the definition, in which
+//!   the act may have been made.
+//! - A line `settle` is carried out as just the events of the machine of `beldi_schedule` (`Leaves`), each a step of the host as those of other
+//!   lines; before a turn of the intent collector that is set past rows of no open intent alone, where the table tells them (`WentOn`). It
+//!   comes to its end, since each event that it goes on after was taken; and it keeps the promises of `beldi_bound` (`promises`).
+//! - A script is to be empty where a source is served: `find_line` gives the refusal of its first line that is not (`first_line`).
 //! - `write_refusal` writes the line of a refusal, with its number in the source and its cause (`refusal_text`).
 //!
 //! Files:
 //! - Code (`src/`): `source` what a source says, and one that is not refused; `refusal` why it is refused; `session` a
-//!   script's lines, from a line to the host's calls; `settle` one line that is many events; `check` a source that is tested;
+//!   script's lines, from a line to the host's calls; `settling` one line that is many events; `check` a source that is tested;
 //!   `answer` the text of an answer; `output` text on its way.
 //! - Lemmas (`proofs/`): `Went` actions that were done, `Calls` calls one after another; `Responses` what the host answers;
-//!   `Settling` an event of a settling; `Lines`, `Refusals`.
+//!   `SettleEvents` an event of a settling, `Led` that they lead on, and its promises; `Lines`, `Refusals`.
 #![tactic(auto)]
 
 mod answer;
@@ -34,6 +38,6 @@ mod source;
 
 pub use check::check_source;
 pub use refusal::{Cause, Refusal, SourceErr, write_refusal};
-pub use session::{Stop, Taker, run_script};
+pub use session::{Stop, Taker, run_script, write_listings};
 pub use settling::settle;
-pub use source::{Accepted, read_source, script_at};
+pub use source::{Accepted, find_line, read_source, script_at};

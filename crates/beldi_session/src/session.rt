@@ -283,6 +283,22 @@ fn do_listings<K: Sink, T: Table>(
     }
 }
 
+/// Lists the tables and then the book, and writes all text.
+pub fn write_listings<K: Sink, T: Table>(
+    alloc: Global,
+    host: &mut Host<T>,
+    sink: &mut K,
+    waiting: &mut Str,
+) -> Result<(), Stop>
+    ensures does { Does (ListTables ∷ ListBook ∷ []) (sight host.old waiting.old (K.held sink.old) (K.faults sink.old)) (sight host.new waiting.new (K.held sink.new) (K.faults sink.new)) result }
+    ensures empty { OnOk result (waiting.new ≡ []) }
+{
+    match do_listings(alloc, host, sink, waiting) {
+        Ok(_) => flush(sink, waiting),
+        Err(stop) => Err(stop),
+    }
+}
+
 /// Carries out a script, the first line of which has this number in the source, and writes all text. `false`: a line is
 /// refused; its refusal is written, and the lines after it are not read.
 pub fn run_script<K: Sink, T: Table>(

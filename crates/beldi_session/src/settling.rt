@@ -2,15 +2,14 @@
 ghost use Rattle.std.specs.Prelude.{◌≡◌, ◌<◌, ◌++◌, ◌∷◌, [], ℕ, List, Option, IfOk, OnOk, flat_map};
 ghost use Rattle.beldi_host.specs.Host.{core_of};
 ghost use Rattle.beldi_host.specs.Right.{IsRight};
-ghost use Rattle.beldi_step.specs.Next.{next_run};
 ghost use Rattle.beldi_step.specs.declared.event.Event.TheVariants as event;
-ghost use Rattle.beldi_schedule.specs.Settle.{HasTurns, WasTaken, first_at, go_on, ic_heard, next_of, restless, turn_heard, turns_in};
+ghost use Rattle.beldi_schedule.specs.Settle.{HasTurns, WasTaken, first_at, go_on, next_of, restless, turn_heard, turns_in};
 ghost use Rattle.beldi_schedule.specs.declared.machine.Next.TheVariants.{Turn, Collect};
 ghost use Rattle.beldi_schedule.specs.declared.machine.Standing.TheVariants.{Goes, Over};
 ghost use Rattle.beldi_upkeep.specs.Checked.{StartsAreOfIt};
 ghost use Rattle.beldi_session.specs.Script.{Action, Settle};
 ghost use Rattle.beldi_session.specs.Session.{Does, DoesTo, left_by, sight};
-ghost use Rattle.beldi_session.specs.Settling.{Advanced, Heard, KeepsPromises};
+ghost use Rattle.beldi_session.specs.Settling.{Collected, Heard, KeepsPromises, Led};
 ghost use Rattle.beldi_session.specs.Settled.{settled_text, wait_text};
 
 use crate::answer::{write_answer, write_numbered, write_reply_told};
@@ -85,14 +84,15 @@ fn give_turn<T: Table>(
     }
 }
 
-// Gives the intent collector a turn.
+// Sets the intent collector past rows that are of no open intent, and gives it a turn.
 fn collect<T: Table>(host: &mut Host<T>, budget: u64, at: At) -> Result<Standing, Stop>
     requires { at.turns < budget }
     ensures does { (s : At) (text : List ℕ) (held : Option (List ℕ)) (faults : ℕ) → next_of (core_of host.old) s ≡ Collect at → DoesTo (Settle budget (Goes s) ∷ []) (left_by budget result) (sight host.old text held faults) (sight host.new text held faults) result }
     ensures turns { IfOk result (λ next. HasTurns budget next) }
     ensures taken { IfOk result (λ next. WasTaken (core_of host.old) (core_of host.new) next) }
-    ensures heard { IfOk result (λ next. Heard host.old.code event.Ic (λ c x. ic_heard budget (next_run c 0) at x) (core_of host.old) (core_of host.new) (T.state host.old.table) (T.state host.new.table) next) }
+    ensures collected { IfOk result (λ next. Collected host.old.code budget at (core_of host.old) (core_of host.new) (T.state host.old.table) (T.state host.new.table) next) }
 {
+    host.ic_skip();
     match host.event(Event::Ic) {
         Ok(seen) => {
             let next = ic_heard(budget, at, &seen, host.next_run(0));
@@ -103,7 +103,7 @@ fn collect<T: Table>(host: &mut Host<T>, budget: u64, at: At) -> Result<Standing
     }
 }
 
-// One event.
+// One event, and what is done before it.
 fn advance<T: Table>(
     alloc: Global,
     host: &mut Host<T>,
@@ -115,7 +115,7 @@ fn advance<T: Table>(
     ensures does { (held : Option (List ℕ)) (faults : ℕ) → DoesTo (Settle budget (Goes at) ∷ []) (left_by budget result) (sight host.old out.old held faults) (sight host.new out.new held faults) result }
     ensures turns { IfOk result (λ next. HasTurns budget next) }
     ensures taken { IfOk result (λ next. WasTaken (core_of host.old) (core_of host.new) next) }
-    ensures advanced { IfOk result (λ next. Advanced host.old.code budget at (core_of host.old) (core_of host.new) (T.state host.old.table) (T.state host.new.table) next) }
+    ensures led { IfOk result (λ next. Led host.old.code budget (Goes at) next (core_of host.old) (core_of host.new) (T.state host.old.table) (T.state host.new.table)) }
 {
     match next_of(host, at) {
         Next::Turn(at, run) => give_turn(alloc, host, out, budget, at, run),

@@ -1,11 +1,14 @@
 // What a source says: a deployment and the lines of a script, or why it is refused.
 ghost use Rattle.std.specs.Prelude.{◌≡◌, drop};
-ghost use Rattle.beldi_session.specs.Source.{ReadsAs, accepted, accepted_of, is_built, refusal_at, refusal_in, said_at, source_at};
+ghost use Rattle.std.specs.List.{list_all};
+ghost use Rattle.beldi_script.specs.Cut.{lines_of};
+ghost use Rattle.beldi_script.specs.Words.{is_space};
+ghost use Rattle.beldi_session.specs.Source.{ReadsAs, accepted, accepted_of, first_line, is_built, numbered, refusal_at, refusal_in, said_at, source_at};
 ghost use Rattle.beldi_session.specs.declared.refusal.SourceErr.TheVariants.{Refused};
 
 use crate::refusal::{Cause, Refusal, SourceErr};
 use beldi_check::{CheckErr, Checked, check};
-use beldi_script::{Line, ScriptErr, read_line};
+use beldi_script::{Line, ScriptErr, cut_line, read_line};
 use beldi_syntax::{Parsed, SyntaxErr, read_deployment};
 use std::alloc::Global;
 
@@ -90,4 +93,31 @@ pub fn read_said(alloc: Global, code: &Checked, number: u32, line: &[u8]) -> Res
         }
         Err(ScriptErr::BadValue) => Err(refused(number, Cause::BadValue)),
     }
+}
+
+// The line has nothing but spaces and tabs.
+fn is_empty(line: &[u8]) -> bool
+    ensures { result ≡ list_all is_space line.now }
+{
+    line.iter().all(|byte| *byte == b' ' || *byte == b'\t')
+}
+
+/// The refusal of a script that is to be empty, whose first line has this number: at its first line that is not.
+pub fn find_line(first: u32, script: &[u8]) -> Option<Refusal>
+    ensures { result ≡ first_line (numbered first (lines_of script.now)) }
+{
+    let mut number = first;
+    let mut rest = script;
+    while !rest.is_empty() {
+        let (line, more) = cut_line(rest);
+        if !is_empty(line) {
+            return Some(Refusal {
+                line: number,
+                cause: Cause::BadLine,
+            });
+        }
+        number = number.saturating_add(1);
+        rest = more;
+    }
+    None
 }

@@ -18,4 +18,4 @@ returns-in-Ok g c = λ held faults.
 pub returns-in-Err : goal.returns-in-Err
 returns-in-Err g c = λ held faults.
     let e = c.in-Err.ensures in
-    event_broke (sight c.args.host.now c.args.out.now held faults) (sight c.event.new.self c.args.out.now held faults) refl refl e.code c.args.event (Carry c.args.event) [] (Unit {0}) c.in-Err.field-0 refl e.step
+    event_broke (sight c.args.host.now c.args.out.now held faults) (sight c.event.new.self c.args.out.now held faults) refl refl e.code c.args.event (Carry c.args.event) [] (Unit {0}) c.in-Err.field-0 (Carry c.args.event ∷ []) (refl, refl) e.step

@@ -34,10 +34,10 @@ returns-in-Err-OutOfMemory g c = λ held faults.
     let e = c.in-Err-OutOfMemory.ensures in
     let a = sight c.args.host.now c.args.out.now held faults in
     let b = sight c.tables.new.self c.tables.new.out held faults in
-    unreported a b (record { held = refl; faults = refl; code = e.code; room = e.reads.room; later = e.reads.later }) e.core ListTables (read_rows a b (λ m u. c.tables.new.out ≡ c.push_text.new.self ++ tables_text c.args.host.now.code m) (Err c.in-Err-OutOfMemory.field-0) e.reads)
+    unreported a b (record { held = refl; faults = refl; code = e.code; room = e.reads.room; later = e.reads.later }) e.core ListTables refl (read_rows a b (λ m u. c.tables.new.out ≡ c.push_text.new.self ++ tables_text c.args.host.now.code m) (Err c.in-Err-OutOfMemory.field-0) e.reads)
 
 pub returns-in-Err : goal.returns-in-Err
 returns-in-Err g c = λ held faults.
     let a = sight c.args.host.now c.args.out.now held faults in
     let b = sight c.args.host.now c.push_text.new.self held faults in
-    unreported a b (record { held = refl; faults = refl; code = refl; room = refl; later = omega arith }) refl ListTables (tells_still a.table.rows)
+    unreported a b (record { held = refl; faults = refl; code = refl; room = refl; later = omega arith }) refl ListTables refl (tells_still a.table.rows)

@@ -35,4 +35,4 @@ returns-in-Err-OutOfMemory g c = λ held faults.
     let e = c.in-Err-OutOfMemory.ensures in
     let a = sight c.args.host.now c.args.out.now held faults in
     let b = sight c.reply.new.self c.args.out.now held faults in
-    unreported a b (record { held = refl; faults = refl; code = e.code; room = e.reads.room; later = e.reads.later }) e.core (TellReply c.args.ticket) (read_rows a b (λ (m : Rows) (x : ReplySeen). x ≡ reply_seen a.core.newest c.args.ticket m) (Err c.in-Err-OutOfMemory.field-0) e.reads)
+    unreported a b (record { held = refl; faults = refl; code = e.code; room = e.reads.room; later = e.reads.later }) e.core (TellReply c.args.ticket) refl (read_rows a b (λ (m : Rows) (x : ReplySeen). x ≡ reply_seen a.core.newest c.args.ticket m) (Err c.in-Err-OutOfMemory.field-0) e.reads)

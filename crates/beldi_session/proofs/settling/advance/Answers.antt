@@ -1,37 +1,49 @@
-use Rattle.beldi_session.proofs.Names.{Collect, Goes, Turn, Settle, [], ap, begun, core_of, refl, sight, sym, ◌∙◌, ◌∷◌}
-use Rattle.beldi_session.proofs.{Calls.does_on, Led.if_heard, Led.if_reset, SettleEvents.went_back}
+use Rattle.beldi_row.specs.Key.{least_key}
+use Rattle.beldi_step.specs.Next.{at_key}
+use Rattle.beldi_schedule.specs.Settles.{MaySkip}
+use Rattle.beldi_session.proofs.Names.{Goes, Settle, [], ap, core_of, refl, sight, subst, sym, ◌∙◌, ◌∷◌}
+use Rattle.beldi_session.proofs.{Calls.does_on, Led.after_reset, Led.if_collected, Led.turn_led, SettleEvents.begun_collects, SettleEvents.collects_so, SettleEvents.went_back}
 use Rattle.beldi_session.proofs.settling.advance.Goals as goal
 
 pub returns-in-Reset-clause-does : goal.returns-in-Reset-clause-does
 returns-in-Reset-clause-does g c = λ held faults.
     let t = g.T.Table in
     let out = c.args.out.now in
-    let at = c.in-Reset.at in
     let e = c.ic_reset.ensures in
-    does_on {gs = Settle c.args.budget (Goes (begun at)) ∷ []}
-    (went_back c.args.budget (sight c.args.host.now out held faults) (sight c.ic_reset.new.self out held faults) refl refl e.code e.core (ap t.state e.table) refl c.args.at at (sym c.in-Reset.ensures.next))
-    (c.collect-in-Reset.ensures.does (begun at) out held faults (ap Collect (sym c.begun.ensures)))
+    let begins = c.begun.ensures in
+    let b = c.begun.result in
+    does_on {gs = Settle c.args.budget (Goes b) ∷ []}
+    (went_back c.args.budget (sight c.args.host.now out held faults) (sight c.ic_reset.new.self out held faults) refl refl e.code (ap t.state e.table) refl c.args.at b c.in-Reset.at (sym c.next_of.ensures.next ∙ c.in-Reset.is) begins e.core)
+    (c.collect-in-Reset.ensures.does b out held faults (begun_collects (core_of c.ic_reset.new.self) b c.in-Reset.at begins))
 
-pub returns-in-Turn-clause-advanced : goal.returns-in-Turn-clause-advanced
-returns-in-Turn-clause-advanced g c =
+pub returns-in-Turn-clause-led : goal.returns-in-Turn-clause-led
+returns-in-Turn-clause-led g c =
     let t = g.T.Table in
     let old = c.args.host.now in
     let new = c.give_turn.new.host in
-    if_heard old.code c.args.budget c.args.at (core_of old) (core_of new) (t.state old.table) (t.state new.table) (Turn c.in-Turn.at c.in-Turn.run') c.give_turn.result (sym c.next_of.ensures.next ∙ c.in-Turn.is) c.give_turn.ensures.heard
+    let is = sym c.next_of.ensures.next ∙ c.in-Turn.is in
+    turn_led old.code c.args.budget c.args.at (core_of old) (core_of new) (t.state old.table) (t.state new.table) c.in-Turn.at c.in-Turn.run' c.give_turn.result is c.give_turn.ensures.heard
 
-pub returns-in-Collect-clause-advanced : goal.returns-in-Collect-clause-advanced
-returns-in-Collect-clause-advanced g c =
+pub returns-in-Collect-clause-led : goal.returns-in-Collect-clause-led
+returns-in-Collect-clause-led g c =
     let t = g.T.Table in
     let old = c.args.host.now in
     let new = c.collect.new.host in
-    if_heard old.code c.args.budget c.args.at (core_of old) (core_of new) (t.state old.table) (t.state new.table) (Collect c.in-Collect.at) c.collect.result (sym c.next_of.ensures.next ∙ c.in-Collect.is) c.collect.ensures.heard
+    let at = c.in-Collect.at in
+    let is = sym c.next_of.ensures.next ∙ c.in-Collect.is in
+    if_collected old.code c.args.budget c.args.at (core_of old) (core_of new) (t.state old.table) (t.state new.table) at (core_of old).cursor c.collect.result
+    (λ m q h. subst (λ n. MaySkip (core_of old) m n at q) (sym is) (refl, h)) (λ q. collects_so (core_of old) c.args.at at q is) c.collect.ensures.collected
 
-pub returns-in-Reset-clause-advanced : goal.returns-in-Reset-clause-advanced
-returns-in-Reset-clause-advanced g c =
+pub returns-in-Reset-clause-led : goal.returns-in-Reset-clause-led
+returns-in-Reset-clause-led g c =
     let t = g.T.Table in
     let old = c.args.host.now in
     let back = c.ic_reset.new.self in
     let new = c.collect-in-Reset.new.host in
     let e = c.ic_reset.ensures in
-    if_reset old.code c.args.budget c.args.at (core_of old) (core_of new) (t.state old.table) (t.state new.table) c.in-Reset.at c.begun.result back.code (core_of back) (t.state back.table) c.collect-in-Reset.result
-    (sym c.next_of.ensures.next ∙ c.in-Reset.is) e.code e.core (ap t.state e.table) c.begun.ensures c.collect-in-Reset.ensures.heard
+    let begins = c.begun.ensures in
+    let b = c.begun.result in
+    let is = sym c.next_of.ensures.next ∙ c.in-Reset.is in
+    if_collected old.code c.args.budget c.args.at (core_of old) (core_of new) (t.state old.table) (t.state new.table) b least_key c.collect-in-Reset.result
+    (λ m q h. subst (λ n. MaySkip (core_of old) m n b q) (sym is) (begins, h)) (λ q. begun_collects (at_key q (core_of old)) b c.in-Reset.at begins)
+    (after_reset old.code back.code c.args.budget b (core_of old) (core_of back) (core_of new) (t.state old.table) (t.state back.table) (t.state new.table) c.collect-in-Reset.result e.code e.core (ap t.state e.table) c.collect-in-Reset.ensures.collected)

@@ -1,4 +1,4 @@
-use Rattle.beldi_session.proofs.Names.{Err, Ok, OutOfMemory, Turn, core_of, refl, sight, turn_heard, was_taken, Event}
+use Rattle.beldi_session.proofs.Names.{Err, Event, Goes, Ok, OutOfMemory, Settle, Turn, [], core_of, refl, sight, turn_heard, was_taken, ◌∷◌}
 use Rattle.beldi_session.proofs.SettleEvents.{turn_taken, settling_answered, settling_broke}
 use Rattle.beldi_session.proofs.settling.give_turn.Goals as goal
 
@@ -35,7 +35,7 @@ returns-in-Err-write_reply_told-clause-does g c = λ s held faults is.
 pub returns-in-Err-clause-does : goal.returns-in-Err-clause-does
 returns-in-Err-clause-does g c = λ s held faults is.
     let e = c.in-Err.ensures in
-    settling_broke c.args.budget (sight c.args.host.now c.args.out.now held faults) (sight c.event.new.self c.args.out.now held faults) refl refl e.code (Event.Turn c.args.run) s (Turn c.args.at c.args.run) is c.in-Err.field-0 refl e.step
+    settling_broke c.args.budget (sight c.args.host.now c.args.out.now held faults) (sight c.event.new.self c.args.out.now held faults) refl refl e.code (Event.Turn c.args.run) s (Turn c.args.at c.args.run) is c.in-Err.field-0 (Settle c.args.budget (Goes c.args.at) ∷ []) (refl, refl) e.step
 
 pub returns-in-Ok-turn_heard-clause-heard : goal.returns-in-Ok-turn_heard-clause-heard
 returns-in-Ok-turn_heard-clause-heard g c = record { answer = c.in-Ok.seen; step = c.in-Ok.ensures.step; follows_so = c.in-Ok-turn_heard.ensures.heard }

@@ -24,7 +24,7 @@ loop-standing-preserved g c = record {
       let did = c.loop-standing.invariant.did None 0 in
       let here = c.loop-standing.host in
       led_on c.args.host.now.code c.args.budget (go_on c.args.budget first_at) (core_of c.args.host.now) (t.state c.args.host.now.table) c.in-Goes.at c.in-Ok.next (core_of here) (core_of c.advance.new.host) (t.state here.table) (t.state c.advance.new.host.table)
-      here.code did.code did.room (rw c.in-Goes.is at c.loop-standing.invariant.led) c.in-Ok.ensures.advanced;
+      here.code did.code did.room (rw c.in-Goes.is at c.loop-standing.invariant.led) c.in-Ok.ensures.led;
 }
 
 pub returns-in-Err-clause-does : goal.returns-in-Err-clause-does

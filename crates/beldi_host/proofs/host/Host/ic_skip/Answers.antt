@@ -1,0 +1,5 @@
+use Rattle.beldi_host.proofs.{Names.core_of, Right.moved_cursor}
+use Rattle.beldi_host.proofs.host.Host.ic_skip.Goals as goal
+
+pub returns-in-Some-clause-right : goal.returns-in-Some-clause-right
+returns-in-Some-clause-right g c = let h = c.args.self.now in moved_cursor h.code (core_of h) c.replace.new.dest (g.T.Table.state h.table).rows

@@ -1,0 +1,3 @@
+mod Coming
+pub mod Leading
+mod Serving

@@ -1,0 +1,211 @@
+// The desk over a host.
+ghost use Rattle.std.specs.Prelude.{◌≡◌, ◌∷◌, [], true, false, Some};
+ghost use Rattle.beldi_schedule.specs.Settle.{first_at, go_on};
+ghost use Rattle.beldi_session.specs.Response.{after_request, goes_on as goes_on_after, patience};
+ghost use Rattle.beldi_step.specs.declared.event.Event.TheVariants as event;
+ghost use Rattle.beldi_host.specs.Host.{core_of};
+ghost use Rattle.beldi_session.specs.Script.{Carry, Settle, TellReply};
+ghost use Rattle.beldi_gateway.specs.declared.response.Response.TheVariants.{Call as Called};
+ghost use Rattle.beldi_serve.specs.Desk.{AnswersTo, Comes, Passed, is_replied, reply_said, request_said, ticket_said};
+
+use beldi_gateway::{CallSaid, Desk, TicketSaid};
+use beldi_host::{Host, OpenErr, ReplySeen};
+use beldi_row::Table;
+use beldi_session::{Stop, settle};
+use beldi_step::{Event, Seen};
+use beldi_value::{Str, Value};
+use std::alloc::{AllocError, Global};
+
+/// The turns that one call is given at most.
+pub const PATIENCE: u64 = 10_000;
+
+/// Answers the questions of requests by the events of a host. What a settling tells beside it is written down and dropped.
+#[derive(Drop)]
+pub struct HostDesk<T: Table> {
+    alloc: Global,
+    host: Host<T>,
+    told: Str,
+}
+
+// What is said of a ticket that was asked for.
+fn ticket_said(seen: &Seen) -> TicketSaid
+    ensures { result ≡ ticket_said seen.now }
+{
+    match seen {
+        Seen::Issued(ticket) => TicketSaid::Issued(*ticket),
+        Seen::NoTicket => TicketSaid::NoTicket,
+        Seen::Full { .. } => TicketSaid::Full,
+        Seen::Spent => TicketSaid::Spent,
+        _ => TicketSaid::Fault,
+    }
+}
+
+// What is said of a request that goes on no further.
+fn request_said(seen: Seen) -> CallSaid
+    ensures { result ≡ request_said seen }
+{
+    match seen {
+        Seen::Replied { ticket: _, outcome } => CallSaid::Reply(outcome),
+        other => {
+            let said = refusal_said(&other);
+            drop(other);
+            said
+        }
+    }
+}
+
+// What is said of a request that was not answered with an outcome.
+fn refusal_said(seen: &Seen) -> CallSaid
+    ensures { is_replied seen.now ≡ false → result ≡ request_said seen.now }
+{
+    match seen {
+        Seen::Other { .. } => CallSaid::Other,
+        Seen::Gone(_) => CallSaid::Gone,
+        Seen::Unknown(_) => CallSaid::Unknown,
+        Seen::Crowded => CallSaid::Crowded,
+        Seen::Spent => CallSaid::Spent,
+        _ => CallSaid::Fault,
+    }
+}
+
+// What is said of a reply as it stands.
+fn reply_said(seen: ReplySeen) -> CallSaid
+    ensures { result ≡ reply_said (Some seen) }
+{
+    match seen {
+        ReplySeen::Unknown => CallSaid::Unknown,
+        ReplySeen::Gone => CallSaid::Gone,
+        ReplySeen::Waiting => CallSaid::Running,
+        ReplySeen::Reply(outcome) => CallSaid::Reply(outcome),
+    }
+}
+
+// The host goes on with what was requested.
+fn goes_on(seen: &Seen) -> bool
+    ensures { result ≡ goes_on_after seen.now }
+{
+    match seen {
+        Seen::Bound { .. } | Seen::Running(_) => true,
+        _ => false,
+    }
+}
+
+// The reply of a ticket as its row has it.
+fn look<T: Table>(host: &mut Host<T>, ticket: u32) -> CallSaid
+    ensures { Comes (AnswersTo (TellReply ticket ∷ []) (Called result)) host.old host.new }
+{
+    match host.reply(ticket) {
+        Ok(seen) => reply_said(seen),
+        Err(OpenErr::Failed) => CallSaid::Fault,
+        Err(OpenErr::OutOfMemory) => CallSaid::NoMemory,
+    }
+}
+
+impl<T: Table> HostDesk<T> {
+    /// A desk over this host.
+    pub fn new(alloc: Global, host: Host<T>) -> HostDesk<T>
+        ensures { result.host ≡ host }
+    {
+        HostDesk {
+            alloc,
+            host,
+            told: Str::new(alloc),
+        }
+    }
+
+    /// Gives the host back.
+    pub fn into_host(self) -> Host<T>
+        ensures { result ≡ self.host }
+    {
+        let HostDesk {
+            alloc: _,
+            host,
+            told,
+        } = self;
+        drop(told);
+        host
+    }
+
+    /// The moment of its host, in ticks.
+    pub fn now(&self) -> u64
+        ensures { result ≡ (core_of self.entry.now.host).now }
+    {
+        self.host.now()
+    }
+
+    /// So many ticks pass.
+    pub fn pass(&mut self, by: u64) -> Result<(), AllocError>
+        ensures { Comes (Passed (Carry (event.Tick by) ∷ []) result) self.old.host self.new.host }
+    {
+        match self.host.event(Event::Tick(by)) {
+            Ok(seen) => {
+                drop(seen);
+                Ok(())
+            }
+            Err(why) => Err(why),
+        }
+    }
+
+    // The host goes on as far as it may, and then the ticket's reply is looked at.
+    fn go_on(&mut self, ticket: u32) -> CallSaid
+        ensures { Comes (AnswersTo (Settle patience (go_on patience first_at) ∷ TellReply ticket ∷ []) (Called result)) self.old.host self.new.host }
+    {
+        let settled = settle(self.alloc, &mut self.host, &mut self.told, PATIENCE);
+        self.told.clear();
+        match settled {
+            Ok(settled) => {
+                drop(settled);
+                look(&mut self.host, ticket)
+            }
+            Err(_) => CallSaid::NoMemory,
+        }
+    }
+
+    // What follows a request that was answered so.
+    fn follow(&mut self, ticket: u32, seen: Seen) -> CallSaid
+        ensures goes { goes_on_after seen ≡ true → Comes (AnswersTo (after_request ticket seen) (Called result)) self.old.host self.new.host }
+        ensures ends { goes_on_after seen ≡ false → (self.new.host ≡ self.old.host) × (result ≡ request_said seen) }
+    {
+        if goes_on(&seen) {
+            drop(seen);
+            self.go_on(ticket)
+        } else {
+            request_said(seen)
+        }
+    }
+}
+
+impl<T: Table> Desk for HostDesk<T> {
+    ghost use Rattle.beldi_check.specs.Rules.{number_of};
+    ghost use Rattle.beldi_serve.specs.Desk.{Says};
+
+    ghost funcs = { λ d name. number_of d.host.code.funcs name };
+
+    ghost keeps = { λ d q x e. Comes (Says q x) d.host e.host };
+
+    fn func(&self, name: &[u8]) -> Option<u16> {
+        self.host.code().func(name)
+    }
+
+    fn ticket(&mut self) -> TicketSaid {
+        match self.host.event(Event::Ticket) {
+            Ok(seen) => {
+                let said = ticket_said(&seen);
+                drop(seen);
+                said
+            }
+            Err(_) => TicketSaid::NoMemory,
+        }
+    }
+
+    fn call(&mut self, ticket: u32, func: u16, args: Value) -> CallSaid {
+        match self.host.event(Event::Request { ticket, func, args }) {
+            Ok(seen) => self.follow(ticket, seen),
+            Err(_) => CallSaid::NoMemory,
+        }
+    }
+
+    fn reply(&mut self, ticket: u32) -> CallSaid {
+        look(&mut self.host, ticket)
+    }
+}
