@@ -93,6 +93,13 @@ impl Log {
         }
     }
 
+    /// The entries, the oldest first.
+    pub fn as_slice(&self) -> &[(Place, Note)]
+        ensures { result.now ≡ self.now }
+    {
+        self.entries.as_slice()
+    }
+
     /// Puts an entry at the end. Out of memory, the log is as before.
     pub fn push(&mut self, place: Place, note: Note) -> Result<(), AllocError>
         ensures ok { OnOk result (self.new ≡ self.old ++ (place, note) ∷ []) }
