@@ -1,0 +1,16 @@
+use Rattle.std.specs.Prelude.{IsUtf8}
+use Rattle.beldi_bytes.specs.Coding.{Any}
+use Rattle.beldi_bytes.specs.KeyBytes.{two, four, tx_bytes, text_bytes, kind_bytes, IsKind}
+use Rattle.beldi_bytes.proofs.Exact.{two_exact, tx_exact, text_exact}
+use Rattle.beldi_bytes.proofs.Tagged.{shadow_in}
+use Rattle.beldi_bytes.proofs.Refused.{refused, behind}
+use Rattle.beldi_bytes.proofs.key_in.read_shadow.Goals as goal
+
+pub returns-in-Err-two : goal.returns-in-Err-two
+returns-in-Err-two c = refused two Any kind_bytes IsKind _ _ c.in-Err-two.why c.in-Err-two.ensures (λ x s i e. let d = shadow_in _ x s i e in (d.1, text_bytes d.2 (four d.3 s), tt, behind tx_bytes tx_exact _ _ _ _ _ c.in-Ok.ensures.0 (d.6)))
+
+pub returns-in-Err-read_text : goal.returns-in-Err-read_text
+returns-in-Err-read_text c = refused text_bytes IsUtf8 kind_bytes IsKind _ _ c.in-Err-read_text.why c.in-Err-read_text.ensures (λ x s i e. let d = shadow_in _ x s i e in (d.2, four d.3 s, d.5, behind two two_exact _ _ _ _ _ c.in-Ok-two.ensures.0 (behind tx_bytes tx_exact _ _ _ _ _ c.in-Ok.ensures.0 (d.6))))
+
+pub returns-in-Err-four : goal.returns-in-Err-four
+returns-in-Err-four c = refused four Any kind_bytes IsKind _ _ c.in-Err-four.why c.in-Err-four.ensures (λ x s i e. let d = shadow_in _ x s i e in (d.3, s, tt, behind text_bytes text_exact _ _ _ _ _ c.in-Ok-read_text.ensures.0 (behind two two_exact _ _ _ _ _ c.in-Ok-two.ensures.0 (behind tx_bytes tx_exact _ _ _ _ _ c.in-Ok.ensures.0 (d.6)))))

@@ -1,0 +1,4 @@
+pub mod Coding
+pub mod KeyBytes
+pub mod Reading
+pub mod RowBytes
