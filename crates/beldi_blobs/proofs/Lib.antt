@@ -1,0 +1,11 @@
+pub mod Understood
+pub mod Lists
+pub mod Operators
+pub mod Matches
+pub mod Leaves
+pub mod Finding
+pub mod Changes
+pub mod Putting
+pub mod Making
+pub mod Called
+pub mod Answered
