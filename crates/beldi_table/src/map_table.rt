@@ -34,8 +34,8 @@ fn counted(n: usize) -> u32
     if n < 0xffff_ffff { n as u32 } else { u32::MAX }
 }
 
-// The one room of the list, or 0.
-pub(crate) fn room_in(rooms: &[u32]) -> u32
+/// The one room of the list, or 0.
+pub fn room_in(rooms: &[u32]) -> u32
     ensures { result ≡ room_of rooms.now }
 {
     match rooms.first() {

@@ -21,8 +21,8 @@ pub(crate) fn switches(act: &Act) -> bool
     matches!(act, Act::Bind { .. } | Act::End { .. } | Act::Stamp)
 }
 
-// Whether a row of this kind is that of an open intent.
-pub(crate) fn is_open(kind: &Kind, row: &Row) -> bool
+/// Whether a row of this kind is that of an open intent.
+pub fn is_open(kind: &Kind, row: &Row) -> bool
     ensures { result ≡ is_open kind.now row.now }
 {
     match (kind, row) {
@@ -33,14 +33,9 @@ pub(crate) fn is_open(kind: &Kind, row: &Row) -> bool
     }
 }
 
-// Puts a copy of the key there, where it is wanted, and tells whether there was the memory; else all is as before.
+/// Puts a copy of the key there, where it is wanted, and tells whether there was the memory; else all is as before.
 #[inline(always)]
-pub(crate) fn note_if(
-    keys: &mut BTreeSet<RowKey>,
-    alloc: Global,
-    key: &RowKey,
-    wanted: bool,
-) -> bool
+pub fn note_if(keys: &mut BTreeSet<RowKey>, alloc: Global, key: &RowKey, wanted: bool) -> bool
     ensures { Noted wanted key.now keys.old keys.new result }
 {
     !wanted || note(keys, alloc, key)
@@ -61,8 +56,8 @@ fn note(keys: &mut BTreeSet<RowKey>, alloc: Global, key: &RowKey) -> bool
     }
 }
 
-// Takes the key away, where it is not wanted.
-pub(crate) fn forget_if(keys: &mut BTreeSet<RowKey>, key: &RowKey, unwanted: bool)
+/// Takes the key away, where it is not wanted.
+pub fn forget_if(keys: &mut BTreeSet<RowKey>, key: &RowKey, unwanted: bool)
     ensures { Sets key.now (λ b. not unwanted && b) keys.old keys.new }
 {
     if unwanted {

@@ -1,0 +1,147 @@
+-- Acts that leave the row that they find, by what they say.
+use Rattle.std.specs.FinMap as map
+use Rattle.std.specs.Prelude.{IfSome}
+use Rattle.std.proofs.Common.{◌≡◌, ℕ, Bool, true, false, Option, None, Some, Ok, slice_get, refl, subst, ap, sym, ◌∙◌, if◌then◌else◌}
+use Rattle.beldi_value.specs.declared.{value.Value.Value, outcome.Outcome.Outcome, place.Place.Place, place.Owner.Owner}
+use Rattle.beldi_row.{specs.Key.RowKey, specs.KeyOrder.key_total, specs.KeyOrder.key_exact, specs.Table.Rows, specs.Table.Tells, specs.declared.row.Row.Row, specs.declared.row.Body.Body, specs.declared.row.IntentRow.IntentRow, specs.declared.row.InvokeRow.InvokeRow, specs.declared.row.Cell.Cell, specs.declared.notes.Note.Note, specs.declared.act.Act.Act, specs.declared.act.Change.Change, specs.declared.table.TableErr.TableErr, proofs.Rows.same_set}
+use Rattle.beldi_row.specs.Act.{Tell, bound, did, tested, died, Changes, on, on_intent, on_invoke, on_cell, said_by, intent_tell, cell_tell, other_tell, ended_tell, held_tell, noted_tell, bind_to, end_with, stamp_with, call_back_to, register_to, held_or, next_or, noted_or, owned_or, waits_for, owns, at_tail, other_owner}
+use Rattle.beldi_row.specs.Log.{note_at, note_of}
+use Rattle.beldi_sqltable.{specs.Kept.leaves, specs.Store.settled, specs.RowTable.ChangedOn, proofs.Carrying.changed, proofs.Carrying.told_changed}
+
+-- what says that a row was changed
+abbrev sets : Tell → Bool
+sets bound = true
+sets did = true
+sets (tested b) = true
+sets (died a) = true
+sets t = false
+
+-- ---- a change that leaves the row says nothing else
+of_intent : (f : IntentRow → Tell) (r : Option Row) → ((i : IntentRow) → sets (f i) ≡ false) → sets (intent_tell f r) ≡ false
+of_intent f (Some (Row.Intent i)) h = h i
+of_intent f r h = refl
+
+of_cell : (f : Cell → Tell) (r : Option Row) → ((c : Cell) → sets (f c) ≡ false) → sets (cell_tell f r) ≡ false
+of_cell f (Some (Row.Cell c)) h = h c
+of_cell f r h = refl
+
+of_other : (b : Option Body) → sets (other_tell b) ≡ false
+of_other None = refl
+of_other (Some b) = refl
+
+of_ended : (o : Option Outcome) → sets (ended_tell o) ≡ false
+of_ended None = refl
+of_ended (Some o) = refl
+
+of_held : (o : Option Owner) → sets (held_tell o) ≡ false
+of_held None = refl
+of_held (Some o) = refl
+
+of_noted : (n : Option Note) → sets (noted_tell n) ≡ false
+of_noted None = refl
+of_noted (Some n) = refl
+
+says_none : (c : Change) (r : Option Row) → leaves c ≡ true → sets (said_by c r) ≡ false
+says_none Change.Bound r h = cc
+says_none Change.Did r h = cc
+says_none (Change.Tested b) r h = cc
+says_none Change.Died r h = cc
+says_none Change.Row None h = refl
+says_none Change.Row (Some r) h = refl
+says_none Change.Other r h = of_intent (λ i. other_tell i.body) r (λ i. of_other i.body)
+says_none Change.Ended r h = of_intent (λ i. ended_tell i.outcome) r (λ i. of_ended i.outcome)
+says_none Change.Kept (Some (Row.ReadLog v)) h = refl
+says_none Change.Kept r h = refl
+says_none (Change.Noted n) r h = of_cell (λ c. noted_tell (note_of (slice_get c.log n))) r (λ c. of_noted (note_of (slice_get c.log n)))
+says_none Change.Held r h = of_cell (λ c. held_tell c.owner) r (λ c. of_held c.owner)
+says_none c r h = refl
+
+-- ---- what does not say that it changed a row leaves it
+abbrev Leaves : {A : Type 0} → A → A × Tell → Type 0
+Leaves x r = sets r.1 ≡ false → r.0 ≡ x
+
+in_intent : (f : IntentRow → IntentRow × Tell) (t : Tell) (r : Row) → ((i : IntentRow) → Leaves i (f i)) → Leaves r (on_intent f t r)
+in_intent f t (Row.Intent i) h = λ q. ap Row.Intent (h i q)
+in_intent f t r h = λ q. refl
+
+in_invoke : (f : InvokeRow → InvokeRow × Tell) (t : Tell) (r : Row) → ((i : InvokeRow) → Leaves i (f i)) → Leaves r (on_invoke f t r)
+in_invoke f t (Row.Invoke i) h = λ q. ap Row.Invoke (h i q)
+in_invoke f t r h = λ q. refl
+
+in_cell : (f : Cell → Cell × Tell) (t : Tell) (r : Row) → ((c : Cell) → Leaves c (f c)) → Leaves r (on_cell f t r)
+in_cell f t (Row.Cell c) h = λ q. ap Row.Cell (h c q)
+in_cell f t r h = λ q. refl
+
+binds : (f : ℕ) (a : Value) (i : IntentRow) (b : Option Body) → Leaves i (bind_to f a i b)
+binds f a i None = λ q. cc
+binds f a i (Some b) = λ q. refl
+
+ends : (o : Outcome) (s : Bool) (now : ℕ) (i : IntentRow) (p : Option Outcome) → Leaves i (end_with o s now i p)
+ends o s now i None = λ q. cc
+ends o s now i (Some p) = λ q. refl
+
+stamps : (now : ℕ) (i : IntentRow) (f : Option ℕ) → Leaves i (stamp_with now i f)
+stamps now i None = λ q. cc
+stamps now i (Some f) = λ q. refl
+
+calls_back : (o : Outcome) (i : InvokeRow) (p : Option Outcome) → Leaves i (call_back_to o i p)
+calls_back o i None = λ q. cc
+calls_back o i (Some p) = λ q. refl
+
+registers : (i : InvokeRow) (b : Bool) → Leaves i (register_to i b)
+registers i false = λ q. cc
+registers i true = λ q. refl
+
+if_held : (c : Cell) (o : Option Owner) (r : Cell × Tell) → Leaves c r → Leaves c (held_or c o r)
+if_held c None r h = h
+if_held c (Some o) r h = λ q. refl
+
+if_next : (c : Cell) (n : Option ℕ) (r : Cell × Tell) → Leaves c r → Leaves c (next_or c n r)
+if_next c None r h = h
+if_next c (Some n) r h = λ q. refl
+
+if_noted : (c : Cell) (n : Option Note) (r : Cell × Tell) → Leaves c r → Leaves c (noted_or c n r)
+if_noted c None r h = h
+if_noted c (Some n) r h = λ q. refl
+
+in_tail : (p : Place) (c : Cell) (r : Cell × Tell) → Leaves c r → Leaves c (at_tail p c r)
+in_tail p c r h = if_noted c (note_at c.log p) (next_or c c.next r) (if_next c c.next r h)
+
+waits : (b : Bool) (c d : Cell) (s t : Tell) → sets t ≡ true → Leaves c (if b then (c, s) else (d, t))
+waits true c d s t h = λ q. refl
+waits false c d s t h = λ q. let clash : true ≡ false = sym h ∙ q in cc
+
+if_owned_by : (p : Place) (w : Owner) (c : Cell) (o : Option Owner) (r : Cell × Tell) → Leaves c r → Leaves c (owned_or p w c o r)
+if_owned_by p w c None r h = h
+if_owned_by p w c (Some o) r h = waits (waits_for w o) c _ _ _ refl
+
+if_own : (b : Bool) (c : Cell) (t : Tell) (r : Cell × Tell) → Leaves c r → Leaves c (if b then r else (c, t))
+if_own true c t r h = h
+if_own false c t r h = λ q. refl
+
+act_leaves : (a : Act) (now : ℕ) (r : Row) → Leaves r (on a now r)
+act_leaves (Act.Bind f v) now r = in_intent (λ i. bind_to f v i i.body) _ r (λ i. binds f v i i.body)
+act_leaves (Act.End o s) now r = in_intent (λ i. end_with o s now i i.outcome) _ r (λ i. ends o s now i i.outcome)
+act_leaves Act.Stamp now r = in_intent (λ i. stamp_with now i i.finish) _ r (λ i. stamps now i i.finish)
+act_leaves (Act.CallBack o) now r = in_invoke (λ i. call_back_to o i i.result) _ r (λ i. calls_back o i i.result)
+act_leaves Act.NoteRegistered now r = in_invoke (λ i. register_to i i.registered) _ r (λ i. registers i i.registered)
+act_leaves (Act.WriteCell p w v) now r = in_cell _ _ r (λ c. in_tail p c _ (if_held c (other_owner w c.owner) _ (λ q. cc)))
+act_leaves (Act.CondCell p w k o v) now r = in_cell _ _ r (λ c. in_tail p c _ (if_held c (other_owner w c.owner) _ (λ q. cc)))
+act_leaves (Act.LockCell p w s) now r = in_cell _ _ r (λ c. in_tail p c _ (if_owned_by p w c (other_owner w c.owner) _ (λ q. cc)))
+act_leaves (Act.FreeCell p w v) now r = in_cell _ _ r (λ c. in_tail p c _ (if_own (owns w c.owner) c _ _ (λ q. cc)))
+act_leaves a now r = λ q. refl
+
+-- the row is there, and was left
+pub told_left : (a : Act) (now : ℕ) (k : RowKey) (room : ℕ) (told : Option Rows) (r s : Row) (c : Change) → IfSome told (λ m. map.get m k ≡ Some r) → Changes a now r s (Ok c) → leaves c ≡ true → Tells told told (ChangedOn a now k room (Some s) (Ok c))
+told_left a now k room None r s c here done leave = refl
+told_left a now k room (Some m) r s c here done leave =
+    let same : s ≡ r = ap (λ p. p.0) done ∙ act_leaves a now r (ap (λ p. sets p.1) (sym done) ∙ says_none c (Some s) leave) in
+    subst (λ n. ChangedOn a now k room (Some s) (Ok c) m n) (ap (map.insert m k) same ∙ same_set key_total key_exact m k r here) (changed a now k room m r s c here done)
+
+-- the row is there, and was written where it was changed
+pub told_settled : (a : Act) (now : ℕ) (k : RowKey) (room : ℕ) (told after : Option Rows) (r s : Row) (c : Change) → IfSome told (λ m. map.get m k ≡ Some r) → after ≡ settled {E = TableErr} (leaves c) k s (Ok tt) told → Changes a now r s (Ok c)
+    → Tells told after (ChangedOn a now k room (Some s) (Ok c))
+told_settled a now k room told after r s c here is done = (elim (leaves c) as (λ b. leaves c ≡ b → after ≡ settled {E = TableErr} b k s (Ok tt) told → Tells told after (ChangedOn a now k room (Some s) (Ok c))) [
+  | true ↦ λ e same. subst (λ o. Tells told o (ChangedOn a now k room (Some s) (Ok c))) (sym same) (told_left a now k room told r s c here done e)
+  | false ↦ λ e wrote. told_changed a now k room told after r s c here wrote done
+]) refl is
