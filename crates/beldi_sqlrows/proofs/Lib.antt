@@ -1,0 +1,2 @@
+mod Late
+mod Rows
