@@ -22,5 +22,5 @@ pub use Rattle.beldi_known.specs.{Matches.has_ended, Rows.BodyMatches, Rows.Inte
 pub use Rattle.beldi_laws.{proofs.Events.after_event, proofs.Events.right_legal, proofs.Listing.listing_plain, proofs.Moves.seen_by, proofs.Moves.with_runs, proofs.OneAnswer.answers_stay, proofs.OneAnswer.one_answer, proofs.Outside.outcome_known, proofs.Standing.right_stands, proofs.Standing.same_run, specs.Laws.is_gone, specs.OneAnswer.AnswersStay, specs.OneAnswer.OneAnswerPerStep, specs.Right.Right}
 pub use Rattle.beldi_upkeep.{proofs.Together.begins_upkept, proofs.Together.keeps_upkeep, specs.Upkeep.Upkeep}
 pub use Rattle.beldi_core.{proofs.Plans.no_memory, proofs.Plans.query_asked, proofs.Truths.first, proofs.Truths.less, proofs.Truths.second, proofs.Truths.test_true, specs.Parts.core_in}
-pub use Rattle.beldi_host.specs.Survey.{IsNewest, NewestAt, Past, Reads, cell_seen, greatest, is_unknown, last_rank, line_after, newest_of, next_key_of, next_line_of, next_seen_of, outcome_seen, reply_seen, row_seen, seen_at, seen_of, told_row}
+pub use Rattle.beldi_host.specs.Survey.{IsHighWater, IsNewest, NewestAt, Past, Reads, cell_seen, greatest, is_unknown, last_rank, latest, latest_of, line_after, newest_of, next_mark_of, opened_core, rest, row_moment, next_line_of, next_seen_of, outcome_seen, reply_seen, row_seen, seen_at, seen_of, told_row}
 pub use Rattle.beldi_host.specs.{Host.core_of, Right.EndsLate, Right.HasNoRows, Right.RowsStandFor, Said.SaidOf, declared.survey.OpenErr.OpenErr, declared.survey.OpenErr.TheVariants.Failed, declared.survey.OpenErr.TheVariants.OutOfMemory, declared.survey.Owned.Owned, declared.survey.ReplySeen.ReplySeen, declared.survey.ReplySeen.TheVariants.Unknown}

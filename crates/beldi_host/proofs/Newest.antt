@@ -1,6 +1,6 @@
 -- The greatest ticket of the keys of a map.
 use borrow.Author.Tests.{ltb-true}
-use Rattle.beldi_host.proofs.Names.{Bool, IsNewest, IsSome, List, NewestAt, None, Option, Row, RowKey, Rows, Some, Tells, [], ap, arith, cond, false, find, get-entries, greatest, inl, inr, is_eq, key_cmp, key_same, key_ticket, key_total, ltb-false, max, nat_lt, newest_of, refl, subst, sym, tied_itself, true, ℕ, ◌<◌, ◌∙◌, ◌∷◌, ◌≡◌, ◌≤◌, ◌⊎◌}
+use Rattle.beldi_host.proofs.Names.{Bool, IsHighWater, IsNewest, IsSome, List, NewestAt, None, Option, Row, RowKey, Rows, Some, Tells, [], ap, arith, cond, false, find, get-entries, greatest, inl, inr, is_eq, key_cmp, key_same, key_ticket, key_total, ltb-false, max, nat_lt, newest_of, refl, subst, sym, tied_itself, true, ℕ, ◌<◌, ◌∙◌, ◌∷◌, ◌≡◌, ◌≤◌, ◌⊎◌}
 use Rattle.beldi_host.proofs.Names.map
 
 not_some : false ≡ true → ⊥
@@ -44,7 +44,7 @@ newest_is m t is = subst (IsNewest m) (sym is) (record {
   ]);
 })
 
-pub newest_at : (t : ℕ) (before after : Option Rows) → Tells before after (λ m n. (n ≡ m) × (t ≡ newest_of m)) → NewestAt before t
-newest_at t None after h = tt
-newest_at t (Some m) None h = absurd h
-newest_at t (Some m) (Some n) h = newest_is m t h.1
+pub newest_at : (t u : ℕ) (before after : Option Rows) → Tells before after (λ m n. (n ≡ m) × IsHighWater m t u) → NewestAt before t
+newest_at t u None after h = tt
+newest_at t u (Some m) None h = absurd h
+newest_at t u (Some m) (Some n) h = newest_is m t h.1.newest

@@ -1,6 +1,6 @@
 -- Why the calls of a host keep it and its rows right, and what they tell of the run of the book.
 use Rattle.beldi_row.specs.declared.row.Row.TheVariants.{Intent}
-use Rattle.beldi_host.proofs.Names.{AllocError, AnswersStay, Body, BodyMatches, Bool, Core, Deployment, EndsLate, Err, Event, EventOn, HasNoReply, HasNoRows, IfOk, IfSome, IntentMatches, IsLegal, IsSome, List, None, Ok, OnOk, OneAnswerPerStep, OpenErr, Option, Outcome, PlainState, Reads, ReplySeen, Result, Right, Row, RowKey, Rows, RowsStandFor, SaidOf, Seen, Some, Stands, Stepped, TableState, Tells, Unknown, Upkeep, [], after_event, answers_stay, ap, arith, begins_upkept, expires, false, first_core, greatest, has_ended, if◌then◌else◌, is_gone, is_some, is_unknown, keeps_upkeep, key_cmp, len-empty, len-entries, listing_of, listing_plain, nat_le, nat_lt, nat_tests, newest_of, nil_from_length, one_answer, outcome_known, outcome_of, outcome_seen, over_rows, refl, reply_of, reply_seen, right_legal, right_stands, root_key, root_of, row_seen, run_of, same_run, seen_by, subst, sym, tables_text, tells_map, true, with_runs, ℕ, ◌&&◌, ◌++◌, ◌∙◌, ◌≡◌}
+use Rattle.beldi_host.proofs.Names.{AllocError, AnswersStay, Body, BodyMatches, Bool, Core, Deployment, EndsLate, Err, Event, EventOn, HasNoReply, HasNoRows, IfOk, IsHighWater, IfSome, IntentMatches, IsLegal, IsSome, List, None, Ok, OnOk, OneAnswerPerStep, OpenErr, Option, Outcome, PlainState, Reads, ReplySeen, Result, Right, Row, RowKey, Rows, RowsStandFor, SaidOf, Seen, Some, Stands, Stepped, TableState, Tells, Unknown, Upkeep, [], after_event, answers_stay, ap, arith, begins_upkept, expires, false, first_core, greatest, has_ended, if◌then◌else◌, is_gone, is_some, is_unknown, keeps_upkeep, key_cmp, len-empty, latest_of, len-entries, listing_of, max, opened_core, listing_plain, nat_le, nat_lt, nat_tests, nil_from_length, one_answer, outcome_known, outcome_of, outcome_seen, over_rows, refl, reply_of, reply_seen, right_legal, right_stands, root_key, root_of, row_seen, run_of, same_run, seen_by, subst, sym, tables_text, tells_map, true, with_runs, ℕ, ◌&&◌, ◌++◌, ◌∙◌, ◌≡◌}
 use Rattle.beldi_host.proofs.Names.map
 
 -- ---- what is told
@@ -63,15 +63,19 @@ module _ (d : Deployment) (e : Event) (c b : Core) (old new : TableState) (x : R
 no_entries : map.entries (map.empty {X = Row} {R = key_cmp}) ≡ []
 no_entries = nil_from_length (map.entries (map.empty {X = Row} {R = key_cmp})) (sym (len-entries (map.empty {X = Row} {R = key_cmp})) ∙ len-empty key_cmp Row)
 
-begins_kept : (d : Deployment) (now : ℕ) (m : Rows) → m ≡ map.empty → Upkeep d (first_core (newest_of m) now) m
-begins_kept d now m none = subst (λ (y : Rows). Upkeep d (first_core (newest_of y) now) y) (sym none) (subst (λ (k : ℕ). Upkeep d (first_core k now) map.empty) (sym (ap greatest no_entries)) (begins_upkept d now))
+begins_kept : (d : Deployment) (now : ℕ) (m : Rows) → m ≡ map.empty → Upkeep d (opened_core m now) m
+begins_kept d now m none = subst (λ (y : Rows). Upkeep d (opened_core y now) y) (sym none) (subst (λ (k : ℕ). Upkeep d (first_core k (max now (latest_of map.empty))) map.empty) (sym (ap greatest no_entries)) (begins_upkept d (max now (latest_of map.empty))))
 
-pub begins_right : (d : Deployment) (now : ℕ) (m : Rows) → m ≡ map.empty → Right d (first_core (newest_of m) now) m
+pub begins_right : (d : Deployment) (now : ℕ) (m : Rows) → m ≡ map.empty → Right d (opened_core m now) m
 begins_right d now m none = (begins_kept d now m none).right
 
-pub opened : (d : Deployment) (c : Core) (now : ℕ) (before after : Option Rows) → c ≡ first_core c.newest now → Tells before after (λ m n. (n ≡ m) × (c.newest ≡ newest_of m)) → HasNoRows before → IfSome after (Upkeep d c)
-opened d c now before after core = tells_so {R = λ m n. (n ≡ m) × (c.newest ≡ newest_of m)} (λ o u. HasNoRows o → IfSome u (Upkeep d c)) (λ h. tt)
-    (λ m n t none. subst (Upkeep d c) (sym t.0) (subst (λ (z : Core). Upkeep d z m) (sym (core ∙ ap (λ k. first_core k now) t.1)) (begins_kept d now m none))) before after
+-- by what was found in the rows
+pub opened_rows : (c : Core) (t u now : ℕ) (before after : Option Rows) → c ≡ first_core t (max now u) → Tells before after (λ m n. (n ≡ m) × IsHighWater m t u) → Tells before after (λ m n. (n ≡ m) × (c ≡ opened_core m now))
+opened_rows c t u now before after core = tells_map {P = λ m n. (n ≡ m) × IsHighWater m t u} {Q = λ m n. (n ≡ m) × (c ≡ opened_core m now)} before after (λ m n h. (h.0, core ∙ (λ i. first_core (h.1.newest i) (max now (h.1.latest i)))))
+
+pub opened : (d : Deployment) (c : Core) (now : ℕ) (before after : Option Rows) → Tells before after (λ m n. (n ≡ m) × (c ≡ opened_core m now)) → HasNoRows before → IfSome after (Upkeep d c)
+opened d c now before after = tells_so {R = λ m n. (n ≡ m) × (c ≡ opened_core m now)} (λ o u. HasNoRows o → IfSome u (Upkeep d c)) (λ h. tt)
+    (λ m n t none. subst (Upkeep d c) (sym t.0) (subst (λ (z : Core). Upkeep d z m) (sym t.1) (begins_kept d now m none))) before after
 
 -- ---- the listing
 pub listed : (d : Deployment) (c : Core) (text longer : List ℕ) (old new : TableState) (x : Result (Unit {0}) OpenErr) → Reads (λ m u. longer ≡ text ++ tables_text d m) old new x

@@ -1,15 +1,10 @@
 -- Reading all rows, one after another.
 use Rattle.std.specs.Prelude.{Result}
-use Rattle.beldi_host.proofs.Names.{Cell, Data, Deployment, Err, Failed, Greater, IfOk, Intent, Invoke, IsErrOf, Kind, Less, List, Lockset, None, Ok, OpenErr, Option, Ordering, Owned, Owner, ReadLog, Reads, Rose, Row, RowKey, Rows, Shadow, Some, T, TableState, Tells, Value, [], ap, append-nil, append_assoc, arith, below_all, cell_seen, false, first, first_above, flat_map, greatest, if◌then◌else◌, is_committed, is_lt, is_sorted, key_cmp, key_ticket, key_total, kind_cmp, least_key, less, line_after, line_at, max, nat_cmp, nat_cmp_is, newest_of, next_key_of, next_line_of, next_row, next_seen_of, ordering_reverse, ordering_then, owned_value, refl, row_line, same_rows, second, seen_at, seen_of, shown_under, subst, suc, sym, tables_text, tells_map, test_true, ticket_of, tied_itself, true, value_in, value_line, zero, ℕ, ◌++◌, ◌∙◌, ◌∷◌, ◌≡◌, ◌≤◌}
+use Rattle.beldi_host.proofs.Names.{Cell, Data, Deployment, Err, Failed, Greater, IfOk, Intent, Invoke, IsErrOf, Kind, Less, List, Lockset, None, Ok, OpenErr, Option, Ordering, Owned, Owner, ReadLog, Reads, Rose, Row, RowKey, Rows, Shadow, Some, T, TableState, Tells, Value, [], ap, append-nil, append_assoc, arith, below_all, cell_seen, false, first, first_above, flat_map, greatest, if◌then◌else◌, is_committed, is_lt, is_sorted, key_cmp, key_ticket, key_total, kind_cmp, least_key, less, line_after, line_at, max, nat_cmp, nat_cmp_is, newest_of, latest, latest_of, next_mark_of, next_line_of, next_row, IsHighWater, rest, row_moment, next_seen_of, ordering_reverse, ordering_then, owned_value, refl, row_line, same_rows, second, seen_at, seen_of, shown_under, subst, suc, sym, tables_text, tells_map, test_true, ticket_of, tied_itself, true, value_in, value_line, zero, ℕ, ◌++◌, ◌∙◌, ◌∷◌, ◌≡◌, ◌≤◌}
 use Rattle.beldi_host.proofs.Names.map
 
 abbrev Entry : Type 0
 Entry = RowKey × Row
-
--- the entries from the first one past a key
-abbrev pub rest : RowKey → List (RowKey × Row) → List (RowKey × Row)
-rest k [] = []
-rest k (e ∷ es) = if is_lt (key_cmp k e.0) then e ∷ es else rest k es
 
 same_some : (x y : Entry) → Some x ≡ Some y → x ≡ y
 same_some x y h = cc
@@ -91,33 +86,48 @@ skipped_lines d m (e ∷ es) = (elim (is_lt (key_cmp least_key e.0)) as (λ b. i
   | false ↦ λ h. skipped_lines d m es ∙ ap (λ t. t ++ flat_map (row_line d m) es) (sym (no_line_at d m e.0.home e.0.kind e.1 (at_home e.0 h)))
 ]) refl
 
--- ---- the tickets, and the lines, found so far
+-- ---- the tickets, the moments and the lines found so far
 abbrev pub Newest : ℕ → RowKey → Rows → Type 0
 Newest t k m = max t (greatest (rest k (map.entries m))) ≡ newest_of m
 
-pub newest_first : (m : Rows) → Newest 0 least_key m
-newest_first m = let same : greatest (rest least_key (map.entries m)) ≡ greatest (map.entries m) = skipped_tickets (map.entries m) in omega (arith, same)
+abbrev pub Latest : ℕ → RowKey → Rows → Type 0
+Latest t k m = max t (latest (rest k (map.entries m))) ≡ latest_of m
 
-key_there : (l : RowKey) (o : Option Entry) → Some l ≡ next_key_of o → (e : Entry) × (o ≡ Some e) × (e.0 ≡ l)
-key_there l None h = cc
-key_there l (Some e) h = (e, refl, cc)
+abbrev pub Marks : ℕ → ℕ → RowKey → Rows → Type 0
+Marks t u k m = Newest t k m × Latest u k m
 
-no_key : (o : Option Entry) → None ≡ next_key_of o → o ≡ None
-no_key None h = refl
-no_key (Some e) h = cc
+pub marks_first : (m : Rows) → Marks 0 0 least_key m
+marks_first m = let same : greatest (rest least_key (map.entries m)) ≡ greatest (map.entries m) = skipped_tickets (map.entries m) in (omega (arith, same), omega arith)
 
-pub newest_next : (t u : ℕ) (k l : RowKey) (m : Rows) → u ≡ max t (key_ticket l) → Newest t k m → Some l ≡ next_key_of (next_row m k) → Newest u l m
-newest_next t u k l m is h next =
-    let e = key_there l (next_row m k) next in
+mark_there : (l : RowKey) (u : ℕ) (o : Option Entry) → Some (l, u) ≡ next_mark_of o → (e : Entry) × (o ≡ Some e) × (e.0 ≡ l) × (row_moment e.1 ≡ u)
+mark_there l u None h = cc
+mark_there l u (Some e) h =
+    let same : (l, u) ≡ (e.0, row_moment e.1) = same_mark (l, u) (e.0, row_moment e.1) h in
+    (e, refl, sym (ap (λ (x : RowKey × ℕ). x.0) same), sym (ap (λ (x : RowKey × ℕ). x.1) same))
+  where
+    same_mark : (x y : RowKey × ℕ) → Some x ≡ Some y → x ≡ y
+    same_mark x y h = cc
+
+no_mark : (o : Option Entry) → None ≡ next_mark_of o → o ≡ None
+no_mark None h = refl
+no_mark (Some e) h = cc
+
+pub marks_next : (t u v w x : ℕ) (k l : RowKey) (m : Rows) → t ≡ max u (key_ticket l) → v ≡ max w x → Marks u w k m → Some (l, x) ≡ next_mark_of (next_row m k) → Marks t v l m
+marks_next t u v w x k l m is was h next =
+    let e = mark_there l x (next_row m k) next in
     let left = at_next m k e.0 e.1 in
-    let found : max t (max (key_ticket e.0.0) (greatest (rest e.0.0 (map.entries m)))) ≡ newest_of m = ap (λ es. max t (greatest es)) (sym left) ∙ h in
-    let key : max t (max (key_ticket l) (greatest (rest l (map.entries m)))) ≡ newest_of m = subst (λ (q : RowKey). max t (max (key_ticket q) (greatest (rest q (map.entries m)))) ≡ newest_of m) e.2 found in
-    omega (arith, is, key)
+    let tickets : max u (max (key_ticket e.0.0) (greatest (rest e.0.0 (map.entries m)))) ≡ newest_of m = ap (λ es. max u (greatest es)) (sym left) ∙ h.0 in
+    let ticket : max u (max (key_ticket l) (greatest (rest l (map.entries m)))) ≡ newest_of m = subst (λ (q : RowKey). max u (max (key_ticket q) (greatest (rest q (map.entries m)))) ≡ newest_of m) e.2 tickets in
+    let moments : max w (max (row_moment e.0.1) (latest (rest e.0.0 (map.entries m)))) ≡ latest_of m = ap (λ es. max w (latest es)) (sym left) ∙ h.1 in
+    let moment : max w (max x (latest (rest l (map.entries m)))) ≡ latest_of m = subst (λ (q : RowKey). max w (max x (latest (rest q (map.entries m)))) ≡ latest_of m) e.2 (subst (λ (z : ℕ). max w (max z (latest (rest e.0.0 (map.entries m)))) ≡ latest_of m) e.3 moments) in
+    (omega (arith, is, ticket), omega (arith, was, moment))
 
-pub newest_last : (t : ℕ) (k : RowKey) (m : Rows) → Newest t k m → None ≡ next_key_of (next_row m k) → t ≡ newest_of m
-newest_last t k m h next =
-    let all : max t 0 ≡ newest_of m = ap (λ es. max t (greatest es)) (sym (at_end m k (no_key (next_row m k) next))) ∙ h in
-    omega (arith, all)
+pub marks_last : (t u : ℕ) (k : RowKey) (m : Rows) → Marks t u k m → None ≡ next_mark_of (next_row m k) → IsHighWater m t u
+marks_last t u k m h next =
+    let end = at_end m k (no_mark (next_row m k) next) in
+    let tickets : max t 0 ≡ newest_of m = ap (λ es. max t (greatest es)) (sym end) ∙ h.0 in
+    let moments : max u 0 ≡ latest_of m = ap (λ es. max u (latest es)) (sym end) ∙ h.1 in
+    record { newest = omega (arith, tickets); latest = omega (arith, moments) }
 
 -- ---- the line of a row, in two steps
 cell_whole : (d : Deployment) (m : Rows) (text : List ℕ) (f t : ℕ) (k : List ℕ) (o : Option Owner) (v : Value) → line_after d m f (Data t k 0) (cell_seen d text f t k o v) ≡ text ++ value_line d f t k (shown_under m f t k o v)

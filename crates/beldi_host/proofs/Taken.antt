@@ -1,5 +1,5 @@
 -- Each event that is not answered as spent is taken: it counts, once.
-use Rattle.beldi_host.proofs.Names.{AllocError, Binding, Bool, Core, Crash, Deployment, Err, Event, Followed, Found, Ic, IntentId, Lost, None, Ok, Option, Plan, Request, Restart, Result, Run, Seen, Some, StepBy, Stepped, TableErr, TableState, Tick, Ticket, Told, Turn, TurnSays, Value, Wait, after_turn, ap, asks, at_once, bind_asks, binding_of, callee_of, collect_next, collect_says, count_changes, counted, crash_plan, ended_run, false, has_run, heard, if◌then◌else◌, in_time, is_added, is_crowded, issue_asks, last_moment, ltb-true, may_start, most_events, nat_lt, new_run, plan, plan_of, refl, refused, request_next, run_asks, run_next, run_plan, run_told, says_of, started, subst, ticket_next, true, turned_core, unheard_next, with_run, ℕ, ◌+◌, ◌-◌, ◌<◌, ◌==◌, ◌^◌, ◌||◌, ◌∙◌, ◌≡◌}
+use Rattle.beldi_host.proofs.Names.{AllocError, Binding, Bool, Core, Crash, Deployment, Err, Event, Followed, Found, Ic, IntentId, Lost, None, Ok, Option, Plan, Request, Restart, Result, Run, Seen, Some, StepBy, Stepped, TableErr, TableState, Tick, Ticket, Told, Turn, TurnSays, Value, Wait, after_turn, ap, asks, at_once, bind_asks, binding_of, callee_of, collect_next, collect_says, count_changes, counted, crash_plan, ended_run, false, has_run, heard, if◌then◌else◌, is_added, is_crowded, issue_asks, last_moment, ltb-true, may_start, most_events, nat_lt, new_run, plan_of, refl, refused, request_next, run_asks, run_next, run_plan, run_told, says_of, started, ticket_next, true, turned_core, unheard_next, with_run, ℕ, ◌+◌, ◌-◌, ◌<◌, ◌==◌, ◌^◌, ◌||◌, ◌∙◌, ◌≡◌}
 use Rattle.beldi_host.proofs.Names.map
 
 -- ---- what follows of an event counts none

@@ -1,16 +1,16 @@
 -- What the calls of a host keep. Where the table does not tell its rows, nothing is said.
-use Rattle.std.specs.Prelude.{◌≡◌, ℕ, ◌++◌, List, IsSome, IfSome, Option, Some, None, ◌<◌, Result, Ok}
+use Rattle.std.specs.Prelude.{◌≡◌, ℕ, ◌++◌, List, IsSome, IfSome, Option, Some, ◌<◌, Result, Ok}
 use Rattle.std.specs.declared.alloc.AllocError.{AllocError}
 use Rattle.std.specs.FinMap as map
 use Rattle.beldi_tree.specs.declared.deployment.Deployment.{Deployment}
 use Rattle.beldi_book.specs.declared.entry.Entry.{Entry}
-use Rattle.beldi_plain.specs.{Plain.PlainState, Plain.reply_of, Legal.IsLegal, Legal.run_of, Listing.listing_of, Replies.HasReply}
+use Rattle.beldi_plain.specs.{Plain.PlainState, Legal.IsLegal, Legal.run_of, Listing.listing_of}
 use Rattle.beldi_row.specs.{declared.table.Table.Ghosts, Table.Rows, Table.TableState, Table.Tells}
 use Rattle.beldi_step.specs.{declared.event.Event.Event, declared.event.Seen.Seen, declared.event.Seen.TheVariants.Expired, declared.run.Run.Run, Host.Core, Host.most_events, Host.ended_run, Host.counted, Laws.run_of_event}
 use Rattle.beldi_known.specs.Stands.{Stands}
 use Rattle.beldi_laws.specs.OneAnswer.{OneAnswerPerStep, AnswersStay}
 use Rattle.beldi_upkeep.specs.Upkeep.{Upkeep}
-use Rattle.beldi_host.specs.{declared.host.Host.Host, declared.survey.ReplySeen.ReplySeen, declared.survey.ReplySeen.TheVariants.Unknown, declared.survey.ReplySeen.TheVariants.Gone, declared.survey.ReplySeen.TheVariants.Waiting, declared.survey.ReplySeen.TheVariants.Reply, Host.core_of, Said.SaidOf}
+use Rattle.beldi_host.specs.{declared.host.Host.Host, declared.survey.ReplySeen.ReplySeen, Host.core_of, Said.SaidOf}
 
 -- an event of a live run that is past its deadline leaves the table, and ends the run
 abbrev pub EndsLate : Event → Core → Core → TableState → TableState → Result Seen AllocError → Type 0

@@ -1,13 +1,14 @@
 -- Calls that read the rows of a table, one after another, and change none.
-use Rattle.std.specs.Prelude.{◌≡◌, ◌⊎◌, ℕ, zero, ◌≤◌, ◌==◌, ◌||◌, max, IsSome, IfSome, nat_lt, Bool, true, false, ◌++◌, List, [], ◌∷◌, Option, Some, None, Result, IfOk, OnOk, IsErrOf, if◌then◌else◌}
+use Rattle.std.specs.Prelude.{◌≡◌, ◌⊎◌, ℕ, zero, ◌≤◌, ◌==◌, ◌||◌, max, IsSome, IfSome, nat_le, nat_lt, Bool, true, false, ◌++◌, List, [], ◌∷◌, Option, Some, None, Result, IfOk, OnOk, IsErrOf, if◌then◌else◌}
 use Rattle.std.specs.Ordering.{is_lt}
 use Rattle.std.specs.FinMap as map
 use Rattle.beldi_value.specs.declared.{outcome.Outcome.Outcome, place.Owner.Owner, place.Owner.TheVariants.Tx, value.Value.Value}
 use Rattle.beldi_tree.specs.declared.deployment.Deployment.{Deployment}
-use Rattle.beldi_row.specs.{Key.RowKey, Key.key_cmp, Key.key_ticket, Key.rank_of, declared.key.Kind.Kind, declared.key.Kind.TheVariants.Data, declared.key.Kind.TheVariants.Shadow, declared.key.Kind.TheVariants.Lockset, declared.row.Row.Row, declared.row.Row.TheVariants.Intent, declared.row.Row.TheVariants.Cell, Act.Tell, Act.here, Table.Rows, Table.TableState, Table.Tells, Table.Rose}
+use Rattle.beldi_row.specs.{Key.RowKey, Key.key_cmp, Key.key_ticket, Key.least_key, Key.rank_of, declared.key.Kind.Kind, declared.key.Kind.TheVariants.Data, declared.key.Kind.TheVariants.Shadow, declared.key.Kind.TheVariants.Lockset, declared.row.Row.Row, declared.row.Row.TheVariants.Intent, declared.row.Row.TheVariants.Cell, Act.Tell, Act.here, Table.Rows, Table.TableState, Table.Tells, Table.Rose}
 use Rattle.beldi_daal.specs.Cell.{shadow_key}
 use Rattle.beldi_intent.specs.Intent.{root_key}
-use Rattle.beldi_step.specs.{Host.Core, Host.first_core, Next.PassesNoOpen, Tables.row_line, Tables.value_line, Tables.decision_key, Tables.owned_value}
+use Rattle.beldi_step.specs.{Host.Core, Host.first_core, Host.last_moment, Next.PassesNoOpen, Tables.row_line, Tables.value_line, Tables.decision_key, Tables.owned_value}
+use Rattle.beldi_host.specs.declared.high_water.HighWater.{HighWater}
 use Rattle.beldi_host.specs.declared.survey.{OpenErr.OpenErr, Owned.Owned, OpenErr.TheVariants.Failed, ReplySeen.ReplySeen, ReplySeen.TheVariants.Unknown, ReplySeen.TheVariants.Gone, ReplySeen.TheVariants.Waiting, ReplySeen.TheVariants.Reply}
 
 -- the rows are as before, and an answer is right of them
@@ -30,9 +31,42 @@ pub record IsNewest (m : Rows) (t : ℕ) : Type 0 where
   pub none_above : (k : RowKey) → IsSome (map.get m k) → key_ticket k ≤ t
   pub named : (t ≡ 0) ⊎ ((k : RowKey) × IsSome (map.get m k) × (key_ticket k ≡ t))
 
-abbrev pub next_key_of : Option (RowKey × Row) → Option RowKey
-next_key_of None = None
-next_key_of (Some e) = Some e.0
+-- a moment counts where it is at most the last one of a host
+abbrev pub timely : ℕ → ℕ
+timely t = if nat_le t last_moment then t else 0
+
+abbrev pub timely_in : Option ℕ → ℕ
+timely_in None = 0
+timely_in (Some t) = timely t
+
+-- the greatest moment that a row has, 0 where it has none
+abbrev pub row_moment : Row → ℕ
+row_moment (Intent i) = max (timely i.issued) (timely_in i.finish)
+row_moment (Cell c) = timely_in c.dangled
+row_moment r = 0
+
+-- the entries from the first one past a key
+abbrev pub rest : RowKey → List (RowKey × Row) → List (RowKey × Row)
+rest k [] = []
+rest k (e ∷ es) = if is_lt (key_cmp k e.0) then e ∷ es else rest k es
+
+abbrev pub latest : List (RowKey × Row) → ℕ
+latest [] = 0
+latest (e ∷ es) = max (row_moment e.1) (latest es)
+
+-- the greatest moment of the rows, 0 where there is none; the least key is no row's
+abbrev pub latest_of : Rows → ℕ
+latest_of m = latest (rest least_key (map.entries m))
+
+-- the greatest ticket and the greatest moment of the rows
+pub record IsHighWater (m : Rows) (ticket moment : ℕ) : Type 0 where
+  pub newest : ticket ≡ newest_of m
+  pub latest : moment ≡ latest_of m
+
+-- the next row's key, and its greatest moment
+abbrev pub next_mark_of : Option (RowKey × Row) → Option (RowKey × ℕ)
+next_mark_of None = None
+next_mark_of (Some e) = Some (e.0, row_moment e.1)
 
 -- ---- the line of a row, in two steps: where no transaction owns its item, and where one does
 -- by the owner and the row's own value: the text with its line; of an item that a transaction owns, what its line wants instead
@@ -79,16 +113,21 @@ pub record Past (k j : RowKey) : Type 0 where
   pub no_item : (e : RowKey) → is_lt (key_cmp k e) ≡ true → is_lt (key_cmp j e) ≡ false → rank_of e.kind ≡ 3 → ⊥
 
 -- a table is made ready for a host: its room is set
-pub record Prepared (wanted : ℕ) (old new : TableState) (result : Result ℕ OpenErr) : Type 0 where
-  pub rows : Tells old.rows new.rows (λ m n. (n ≡ m) × IfOk result (λ x. x ≡ newest_of m))
+pub record Prepared (wanted : ℕ) (old new : TableState) (result : Result HighWater OpenErr) : Type 0 where
+  pub rows : Tells old.rows new.rows (λ m n. (n ≡ m) × IfOk result (λ w. IsHighWater m w.ticket w.moment))
   pub later : old.faults ≤ new.faults
   pub failed : IsErrOf result Failed → Rose old.faults new.faults
   pub room : OnOk result (new.room ≡ wanted)
 
+-- the core of a host that is opened over rows at a moment: nothing has happened to it
+abbrev pub opened_core : Rows → ℕ → Core
+opened_core m now = first_core (newest_of m) (max now (latest_of m))
+
 -- a host that was opened: nothing has happened to it
 pub record Opened (code kept : Deployment) (now : ℕ) (old new : TableState) (c : Core) : Type 0 where
-  pub rows : Tells old.rows new.rows (λ m n. (n ≡ m) × (c.newest ≡ newest_of m))
-  pub core : c ≡ first_core c.newest now
+  pub rows : Tells old.rows new.rows (λ m n. (n ≡ m) × (c ≡ opened_core m now))
+  pub core : c ≡ first_core c.newest c.now
+  pub later_moment : now ≤ c.now
   pub code_kept : kept ≡ code
   pub room_set : new.room ≡ code.room
   pub later : old.faults ≤ new.faults

@@ -36,8 +36,9 @@ impl<T: Table> Host<T> {
     ghost use Rattle.beldi_laws.specs.Laws.{is_gone};
     ghost use Rattle.beldi_host.specs.Right.{EndsLate, IsRight, HasLegalBook, AnswersAreKept, HasRows, ListsRun, TellsRun, HasNoRows, RowsStandFor};
 
-    /// Opens a host over a table whose rows it keeps: sets the table's room, and reads all keys to find the newest
-    /// ticket. `now` is the moment, in ticks. Where it refuses, it gives the table back.
+    /// Opens a host over a table whose rows it keeps: sets the table's room, and reads all rows to find the newest ticket and
+    /// the greatest moment, so that it goes on where an earlier session ended. Its moment, in ticks, is that one, or `now` where
+    /// this is later. Where it refuses, it gives the table back.
     pub fn open(
         alloc: Global,
         code: Checked,
@@ -51,14 +52,14 @@ impl<T: Table> Host<T> {
         ensures right { IfOk result (λ h. HasNoRows (T.state table).rows → IsRight h) }
     {
         match prepare(alloc, code.code().room, &mut table) {
-            Ok(newest) => Ok(Host {
+            Ok(left) => Ok(Host {
                 code,
                 core: HostCore {
                     alloc,
-                    newest,
+                    newest: left.ticket,
                     runs: Runs::new(alloc),
                     book: Book::new(alloc),
-                    now,
+                    now: now.max(left.moment),
                     cursor: RowKey::least(alloc),
                     taken: 0,
                 },

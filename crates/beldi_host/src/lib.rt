@@ -38,6 +38,7 @@
 //!   `Openings` where the intent collector may go on; `Right` what follows from the laws; `Taken` that an event counts once.
 #![tactic(auto)]
 
+mod high_water;
 mod host;
 mod laws;
 mod survey;

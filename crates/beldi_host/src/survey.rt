@@ -1,5 +1,5 @@
 // Calls that read the rows of a table and change none.
-ghost use Rattle.std.specs.Prelude.{◌≡◌, ◌≢◌, ◌++◌, IfOk, IfSome, OnOk};
+ghost use Rattle.std.specs.Prelude.{◌≡◌, ◌≢◌, ◌≤◌, ◌^◌, ◌++◌, IfOk, IfSome, OnOk};
 ghost use Rattle.std.specs.FinMap as map;
 ghost use Rattle.beldi_row.specs.Act.{tell_of};
 ghost use Rattle.beldi_row.specs.Key.{rank_of};
@@ -7,9 +7,10 @@ ghost use Rattle.beldi_row.specs.Table.{next_row, AtMostOne};
 ghost use Rattle.beldi_intent.specs.Intent.{root_key as root_key_of};
 ghost use Rattle.beldi_daal.specs.Cell.{shadow_key as shadow_key_of};
 ghost use Rattle.beldi_step.specs.Tables.{tables_text, decision_key as decision_key_of, is_committed as is_commit, value_in, owned_value as shown_value};
-ghost use Rattle.beldi_host.specs.Survey.{PassesToldOpen, Reads, Prepared, newest_of, next_key_of, next_seen_of, next_line_of, seen_of, key_line, line_after, last_rank, Past, row_seen, told_row};
+ghost use Rattle.beldi_host.specs.Survey.{PassesToldOpen, Reads, Prepared, IsHighWater, timely, timely_in, row_moment, next_mark_of, next_seen_of, next_line_of, seen_of, key_line, line_after, last_rank, Past, row_seen, told_row};
 ghost use Rattle.beldi_host.specs.declared.survey.ReplySeen.TheVariants.{Unknown};
 
+use crate::high_water::HighWater;
 use beldi_book::write_item;
 use beldi_daal::shadow_key;
 use beldi_intent::root_key;
@@ -65,33 +66,71 @@ impl From<AllocError> for OpenErr {
     }
 }
 
-// The key of the row after a key.
-fn next_key<T: Table>(
+// The last moment of a host, in ticks. A later one in a row is no host's, and does not count.
+const LAST_MOMENT: u64 = 1 << 62;
+
+fn timely(moment: u64) -> u64
+    ensures is { result ≡ timely moment }
+    ensures early { result ≤ 2 ^ 62 }
+{
+    if moment <= LAST_MOMENT { moment } else { 0 }
+}
+
+fn timely_in(moment: &Option<u64>) -> u64
+    ensures is { result ≡ timely_in moment.now }
+    ensures early { result ≤ 2 ^ 62 }
+{
+    match moment {
+        None => 0,
+        Some(moment) => timely(*moment),
+    }
+}
+
+// The greatest moment of a row, or 0.
+fn row_moment(row: &Row) -> u64
+    ensures is { result ≡ row_moment row.now }
+    ensures early { result ≤ 2 ^ 62 }
+{
+    match row {
+        Row::Intent(intent) => timely(intent.issued).max(timely_in(&intent.finish)),
+        Row::Cell(cell) => timely_in(&cell.dangled),
+        Row::ReadLog(_) | Row::Invoke(_) | Row::Lockset => 0,
+    }
+}
+
+// The key of the row after a key, and that row's greatest moment.
+fn next_mark<T: Table>(
     alloc: Global,
     table: &mut T,
     after: RowKey,
-) -> Result<Option<RowKey>, OpenErr>
-    ensures { Reads (λ m k. k ≡ next_key_of (next_row m after)) (T.state table.old) (T.state table.new) result }
+) -> Result<Option<(RowKey, u64)>, OpenErr>
+    ensures reads { Reads (λ m k. k ≡ next_mark_of (next_row m after)) (T.state table.old) (T.state table.new) result }
+    ensures early { IfOk result (λ k. IfSome k (λ mark. mark.1 ≤ 2 ^ 62)) }
 {
     let found = or_drop!(table.next(&after); after);
     drop(after);
     match found {
         None => Ok(None),
-        Some((key, _)) => Ok(Some(key.copy(alloc)?)),
+        Some((key, row)) => {
+            let moment = row_moment(row);
+            Ok(Some((key.copy(alloc)?, moment)))
+        }
     }
 }
 
-// The greatest ticket that a key names, or 0.
-fn find_newest<T: Table>(alloc: Global, table: &mut T) -> Result<u32, OpenErr>
-    ensures { Reads (λ m t. t ≡ newest_of m) (T.state table.old) (T.state table.new) result }
+// The high-water marks of the rows, of which each is read once.
+fn find_high_water<T: Table>(alloc: Global, table: &mut T) -> Result<HighWater, OpenErr>
+    ensures { Reads (λ m w. IsHighWater m w.ticket w.moment) (T.state table.old) (T.state table.new) result }
 {
-    let mut newest = 0u32;
+    let mut ticket = 0u32;
+    let mut moment = 0u64;
     let mut at = RowKey::least(alloc);
     for _ in 0..u64::MAX {
-        match next_key(alloc, table, at) {
-            Ok(None) => return Ok(newest),
-            Ok(Some(key)) => {
-                newest = newest.max(key.ticket());
+        match next_mark(alloc, table, at) {
+            Ok(None) => return Ok(HighWater { ticket, moment }),
+            Ok(Some((key, later))) => {
+                ticket = ticket.max(key.ticket());
+                moment = moment.max(later);
                 at = key;
             }
             Err(why) => return Err(why),
@@ -126,12 +165,12 @@ fn root_in(alloc: Global, home: u16, ticket: u32) -> RowKey {
     RowKey::new(home, Kind::Intent(IntentId::root(alloc, ticket)))
 }
 
-/// Makes a table ready for a host: sets its room, and finds the greatest ticket that a key names, or 0.
-pub fn prepare<T: Table>(alloc: Global, room: u32, table: &mut T) -> Result<u32, OpenErr>
+/// Makes a table ready for a host: sets its room, and finds what earlier sessions left.
+pub fn prepare<T: Table>(alloc: Global, room: u32, table: &mut T) -> Result<HighWater, OpenErr>
     ensures { Prepared room (T.state table.old) (T.state table.new) result }
 {
     match table.ready(&[room]) {
-        Ok(()) => find_newest(alloc, table),
+        Ok(()) => find_high_water(alloc, table),
         Err(why) => Err(OpenErr::from(why)),
     }
 }
