@@ -1,0 +1,7 @@
+pub mod After
+pub mod Books
+pub mod Newest
+pub mod RaisedEvents
+pub mod RaisedRuns
+pub mod RaisedTurns
+pub mod Reopened

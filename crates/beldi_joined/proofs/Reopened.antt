@@ -1,0 +1,71 @@
+-- A host that was opened again, over the rows that an earlier one left.
+use Rattle.std.specs.Prelude.{ℕ, ◌≡◌, ◌≤◌, List, [], false, is_some, IsTrue, Some, refl}
+use Rattle.std.specs.{FinMap.get-empty, FinMap.len-empty, Ordering.nat_cmp}
+use Rattle.std.specs.FinMap as map
+use Rattle.std.proofs.Common.{arith, subst, sym, ◌∙◌}
+use Rattle.beldi_tree.specs.declared.deployment.Deployment.{Deployment}
+use Rattle.beldi_book.specs.{declared.entry.Entry.Entry, Order.count_changes}
+use Rattle.beldi_row.specs.{Key.RowKey, Table.Rows}
+use Rattle.beldi_step.specs.{Host.Core, Host.first_core, Host.most_runs, Next.at_key, declared.run.Run.Run}
+use Rattle.beldi_laws.specs.Right.{Right, RunAt}
+use Rattle.beldi_laws.proofs.Moves.{with_runs}
+use Rattle.beldi_upkeep.specs.Upkeep.{Upkeep}
+use Rattle.beldi_host.specs.Survey.{newest_of}
+use Rattle.beldi_joined.specs.Joined.{behind, joined, reopened}
+use Rattle.beldi_joined.proofs.{Books.joined_nothing, Books.nothing_joined, Newest.newest_named, RaisedRuns.empty_raised, RaisedRuns.none_raised}
+
+not_there : IsTrue false → ⊥
+not_there e = cc
+
+no_run : (n : ℕ) (r : Run) → map.get (map.empty {X = Run} {R = nat_cmp}) n ≡ Some r → ⊥
+no_run n r is = let clash = sym (get-empty nat_cmp n) ∙ is in cc
+
+-- no run is live, and nothing else is other than before
+pub reopened_right : (d : Deployment) (c : Core) (m : Rows) (now : ℕ) → Right d c m → Right d (reopened c.newest c.book now) m
+reopened_right d c m now h = with_runs h (reopened c.newest c.book now) refl refl (record {
+  numbers = λ n e. absurd (not_there (subst (λ o. IsTrue (is_some o)) (get-empty nat_cmp n) e));
+  few = subst (λ n. n ≤ most_runs) (sym (len-empty nat_cmp Run)) (omega arith);
+  runs = λ n. subst (λ o. RunAt d m h.plain c.book h.known o) (sym (get-empty nat_cmp n)) tt;
+})
+
+-- .. nor of what every event keeps beside it
+pub reopened_upkept : (d : Deployment) (c : Core) (m : Rows) (now : ℕ) → Upkeep d c m → Upkeep d (reopened c.newest c.book now) m
+reopened_upkept d c m now u = record {
+  right = reopened_right d c m now u.right;
+  seats = u.seats;
+  owe = record { each = λ n r g is. absurd (no_run n r is) };
+  past = u.past;
+  passes = record { each = λ n r g is. absurd (no_run n r is) };
+  near = record { soon = λ n r is. absurd (no_run n r is); near = λ n r i home is. absurd (no_run n r is) };
+  free = u.free;
+  started = u.started;
+}
+
+-- a host that nothing has happened to, behind the book of the sessions before it
+pub opened_behind : (base : List Entry) (newest now : ℕ) → behind base (first_core newest now) ≡ reopened newest base now
+opened_behind base newest now = λ i. record (first_core newest now) { book = joined_nothing base i; runs = empty_raised (count_changes base) i }
+
+-- so it is right over the rows that an earlier one left: its newest ticket is the one that they name
+pub opens_right : (d : Deployment) (c : Core) (m : Rows) (now : ℕ) → Right d c m → Right d (behind c.book (first_core (newest_of m) now)) m
+opens_right d c m now h = subst (λ z. Right d z m) (sym (opened_behind c.book (newest_of m) now)) (subst (λ n. Right d (reopened n c.book now) m) (sym (newest_named d c m h)) (reopened_right d c m now h))
+
+pub opens_upkept : (d : Deployment) (c : Core) (m : Rows) (now : ℕ) → Upkeep d c m → Upkeep d (behind c.book (first_core (newest_of m) now)) m
+opens_upkept d c m now u = subst (λ z. Upkeep d z m) (sym (opened_behind c.book (newest_of m) now)) (subst (λ n. Upkeep d (reopened n c.book now) m) (sym (newest_named d c m u.right)) (reopened_upkept d c m now u))
+
+-- .. and over those that a session left which was itself behind others
+pub opens_again : (d : Deployment) (base : List Entry) (c : Core) (m : Rows) (now : ℕ) → Right d (behind base c) m → Right d (behind (joined base c.book) (first_core (newest_of m) now)) m
+opens_again d base c m now h = opens_right d (behind base c) m now h
+
+-- behind no session a core is as it was: so it is with the first session
+pub behind_nothing : (c : Core) → behind [] c ≡ c
+behind_nothing c = λ i. record c { book = nothing_joined c.book i; runs = none_raised c.runs i }
+
+pub first_upkept : (d : Deployment) (c : Core) (m : Rows) → Upkeep d c m → Upkeep d (behind [] c) m
+first_upkept d c m u = subst (λ z. Upkeep d z m) (sym (behind_nothing c)) u
+
+pub first_right : (d : Deployment) (c : Core) (m : Rows) → Right d c m → Right d (behind [] c) m
+first_right d c m h = subst (λ z. Right d z m) (sym (behind_nothing c)) h
+
+-- where the intent collector stands is nothing that a longer book changes
+pub cursor_behind : (base : List Entry) (k : RowKey) (c : Core) → behind base (at_key k c) ≡ at_key k (behind base c)
+cursor_behind base k c = refl

@@ -1,0 +1,26 @@
+//! Sessions one after another over the same rows. It has no code.
+//! A host that is opened over the rows of an earlier session knows nothing of that session's book: its own begins empty. Its definitions
+//! (`specs/Joined`): the book that both sessions make together (`joined`), a core that has that book (`behind`), and one that was opened
+//! with the book of the sessions before it (`reopened`). A read counts the changes that it has seen from the beginning of its own
+//! session's book; behind a longer book it has seen those of that one too (`raised`).
+//!
+//! Proved (`specs/Laws`):
+//! - Where a host and its rows are right, a host of the same book that is opened over these rows is right, at any moment
+//!   (`a_reopened_host_is_right`), and has what every event keeps beside (`a_reopened_host_is_upkept`).
+//! - Its newest ticket is the greatest that a key of a row names (`the_newest_ticket_is_in_the_rows`).
+//! - What an event does, it does behind a longer book as well (`a_step_over_a_longer_book`): the same becomes of the rows, and the answer
+//!   differs at most in how many changes a read had seen.
+//!
+//! Files:
+//! - Code (`src/`): `laws` one function a law, with no body.
+//! - Lemmas (`proofs/`): `Books` books of sessions one after another; `RaisedRuns` live runs behind a longer book, `RaisedTurns` their
+//!   turns, `RaisedEvents` events; `Newest` the tickets that keys name; `Reopened` a host that was opened again; `After` what a host has
+//!   that is right behind the book of earlier sessions, and what an event leaves of it.
+#![tactic(auto)]
+
+mod laws;
+
+pub use laws::{
+    a_reopened_host_is_right, a_reopened_host_is_upkept, a_step_over_a_longer_book,
+    the_newest_ticket_is_in_the_rows,
+};
