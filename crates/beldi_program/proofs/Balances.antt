@@ -11,7 +11,7 @@ use Rattle.beldi_generator.specs.Summary.{totals_text}
 use Rattle.beldi_bank.{proofs.Runs.transfers_keep, specs.Bank.IsTransfer, specs.Bank.bank_code, specs.Laws.AreTransfers, specs.Laws.Balanced}
 use Rattle.beldi_bank_lines.proofs.Totals.{are_listed}
 use Rattle.beldi_bank_text.{proofs.Actions.generated_is_the_bank, proofs.Actions.generated_is_work, specs.Text.AreWork, specs.Text.IsWork, specs.Text.bank_source}
-use Rattle.beldi_program.specs.{Balances.IsBalanced, Balances.ToldBalanced, Balances.totals_in, Headline.Ran}
+use Rattle.beldi_program.specs.{PlainRun.alone, Balances.IsBalanced, Balances.ToldBalanced, Balances.totals_in, Headline.Ran}
 use Rattle.beldi_program.proofs.{Asked.AskSo, Asked.AsksSo, Asked.BoundSo, Asked.IsQuiet, Asked.asked_then, Asked.bound_of_actions, Asked.listings, Ends.same_end, Flat.names_flat, Listed.ends_told, Skipped.last_text}
 use Rattle.beldi_program.proofs.Names.map
 use Rattle.beldi_program.proofs.Names.{Action, Bool, Carry, Check, Command, Ended, Ends, Entry, Event, Gen, GeneratedEnds, HasEnded, IsReportSo, List, None, Numbered, Option, Rows, Run, Serve, ServingEnds, Session, Settle, SinkState, Some, SourceEnds, SummedUp, TableState, TablesAre, Told, Value, Whole, [], actions_in, ap, arith, bound_in, false, generated, inl, inr, kept, kept_faults, last_book, length, lines_of, new_sink, refl, responses_in, same_Some, script_of, source_at, status_of, subst, sym, true, ℕ, ◌++◌, ◌-◌, ◌^◌, ◌∙◌, ◌∷◌, ◌≡◌, ◌≤◌}
@@ -39,7 +39,7 @@ ask_transfers (a ∷ front) h =
     ((one.0, others.0), (one.1, others.1))
 
 -- what is told of the items, by the run of the book at the end
-totals_told : (book : List Entry) (p : PlainState) → run_of bank_code book ≡ Some p → Balanced p → (tables : Option (List ℕ)) (text : List ℕ) → IsReportSo bank_code book (TablesAre tables) → IsBalanced (totals_text (lines_of (last_text tables text)))
+totals_told : (book : List Entry) (p : PlainState) → run_of bank_code book ≡ Some p → Balanced p → (tables : Option (List ℕ)) (text : List ℕ) → IsReportSo bank_code alone book (TablesAre tables) → IsBalanced (totals_text (lines_of (last_text tables text)))
 totals_told book p run even None text items = inl (ap totals_text (cut_some (codes "dropped\n" ++ (codes "== book\n" ++ text)) (codes "== book\n" ++ text) refl))
 totals_told book p run even (Some listing) text items =
     let l = are_listed p even in

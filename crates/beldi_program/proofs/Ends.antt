@@ -1,6 +1,6 @@
 -- How the program ends.
 use Rattle.std.specs.Prelude.{IfOk}
-use Rattle.beldi_program.proofs.Names.{Accepted, AsRead, BareEnds, Bool, ByStatus, Check, CheckEnds, Command, CommandEnds, Connections, Core, Cut, Deployment, Does, DoneBy, Ended, Ends, Err, Failed, Gen, GeneratedEnds, HasEnded, IsErrOf, IsPrefixOf, Line, List, LongOn, None, NothingDone, Numbered, Ok, OnOk, OpenErr, Opened, Option, OutOfMemory, ReadAllOn, ReadEnds, Refusal, Refused, Result, Right, Rose, Rows, Run, ServeEnds, ServiceEnds, Serving, ServingEnds, SessionEnds, Sight, SinkFault, SinkState, Some, Serve, SourceAsRead, SourceCommandEnds, SourceEnds, State, Stop, SummedUp, TableState, TextEnds, Told, TookFront, Untouched, Vec, WentBy, Whole, WordsAsRead, Writes, WroteOn, [], actions_in, ap, arith, begins_right, check_at, check_by, counted, counted_on, end_of, false, false≢true, fine, first_core, first_line, generated, inl, inr, is_bare_source, is_none, is_ok, is_whole, is_whole_asked, is_whole_by, is_whole_source, kept, kept_faults, length, max_source, new_sink, newest_of, opened_at, reads_source, refl, refusal_text, said_at, script_of, source_at, state_at, status_of, subst, subst₂, suc, summary_text, sym, tested, told_map, told_same, told_tells, told_then, true, usage, with_line, zero, ℕ, ◌&&◌, ◌+◌, ◌-◌, ◌^◌, ◌∙◌, ◌∷◌, ◌≡◌, ◌≤◌, ◌⊎◌}
+use Rattle.beldi_program.proofs.Names.{Accepted, AsRead, BareEnds, Bool, ByStatus, Check, CheckEnds, Command, CommandEnds, Connections, Core, Cut, Deployment, Does, DoneBy, Ended, Ends, Err, Failed, Gen, GeneratedEnds, HasEnded, IsErrOf, IsPrefixOf, Line, List, LongOn, None, NothingDone, Numbered, Ok, OnOk, OpenErr, Opened, Option, OutOfMemory, ReadAllOn, ReadEnds, Refusal, Refused, Result, Rose, Rows, Run, ServeEnds, ServiceEnds, Serving, ServingEnds, SessionEnds, Sight, SinkFault, SinkState, Some, Serve, SourceAsRead, SourceCommandEnds, SourceEnds, State, Stop, SummedUp, TableState, TextEnds, Told, TookFront, Untouched, Vec, WentBy, Whole, WordsAsRead, Writes, WroteOn, [], actions_in, ap, arith, check_at, check_by, counted, counted_on, end_of, false, false≢true, fine, first_line, generated, inl, inr, is_bare_source, is_none, is_ok, is_whole, is_whole_asked, is_whole_by, is_whole_source, kept, kept_faults, length, max_source, new_sink, opened_at, opened_core, reads_source, refl, refusal_text, said_at, script_of, source_at, state_at, status_of, subst, subst₂, suc, summary_text, sym, tested, told_map, told_same, told_tells, told_then, true, usage, with_line, zero, ℕ, ◌&&◌, ◌+◌, ◌-◌, ◌^◌, ◌∙◌, ◌∷◌, ◌≡◌, ◌≤◌, ◌⊎◌}
 use Rattle.beldi_program.proofs.PlainRuns.{hosted_by, said}
 use Rattle.beldi_program.proofs.Names.map
 
@@ -16,9 +16,6 @@ SessionBy (Ok x) d lines m n f g w = Whole d lines m n f g w
 SessionBy (Err why) d lines m n f g w = Cut d lines m n f g w
 
 module _ (d : Deployment) (lines : List Numbered) (m n : Rows) (f opened g : ℕ) (sooner : f ≤ opened) (core : Core) (w q : List ℕ) where
-  begins : m ≡ map.empty → Right d (first_core (newest_of m) 0) m
-  begins none = begins_right d 0 m none
-
   -- where it ends
   abbrev at_end : State
   at_end = record { core = core; rows = n; faults = g }
@@ -27,14 +24,14 @@ module _ (d : Deployment) (lines : List Numbered) (m n : Rows) (f opened g : ℕ
   session (Ok x) none h =
       let k = subst (λ z. WentBy d d.room (actions_in d lines) [] (opened_at m 0 opened) at_end [] w z (fine x)) none h in
       record {
-        session = said d (actions_in d lines) [] m opened at_end w [] begins k;
-        hosted = hosted_by d (actions_in d lines) [] m opened at_end w [] begins k f sooner;
+        session = said d (actions_in d lines) [] m opened at_end w [] k;
+        hosted = hosted_by d (actions_in d lines) [] m opened at_end w [] k f sooner;
       }
   session (Err why) none h = record {
     more = h.0;
     rest = h.1;
-    session = said d (actions_in d lines) h.0 m opened at_end w h.1 begins h.2;
-    hosted = hosted_by d (actions_in d lines) h.0 m opened at_end w h.1 begins h.2 f sooner;
+    session = said d (actions_in d lines) h.0 m opened at_end w h.1 h.2;
+    hosted = hosted_by d (actions_in d lines) h.0 m opened at_end w h.1 h.2 f sooner;
   }
 
 -- a host that was opened over a table, and the script that it carried out
@@ -43,14 +40,14 @@ pub hosted : {X : Type 0} (d : Deployment) (t : TableState) (a b : Sight) (lines
 hosted d t a b lines r o none end x = (
   x.written,
   x.sink,
-  told_then {P = λ m n. (n ≡ m) × (a.core.newest ≡ newest_of m)} {Q = λ m n. WentBy a.code a.table.room (actions_in a.code lines) [] (state_at a m) (state_at b n) a.waiting x.written b.waiting r} {R = λ m n. SessionBy r d lines m n t.faults b.table.faults x.written} t.rows a.table.rows b.table.rows
-      (λ m n j v w. session d lines m j t.faults a.table.faults b.table.faults o.later b.core x.written b.waiting r end (begun m n j v w)) (told_tells t.rows a.table.rows (λ m n. (n ≡ m) × (a.core.newest ≡ newest_of m)) o.rows) x.went,
+  told_then {P = λ m n. (n ≡ m) × (a.core ≡ opened_core m 0)} {Q = λ m n. WentBy a.code a.table.room (actions_in a.code lines) [] (state_at a m) (state_at b n) a.waiting x.written b.waiting r} {R = λ m n. SessionBy r d lines m n t.faults b.table.faults x.written} t.rows a.table.rows b.table.rows
+      (λ m n j v w. session d lines m j t.faults a.table.faults b.table.faults o.later b.core x.written b.waiting r end (begun m n j v w)) (told_tells t.rows a.table.rows (λ m n. (n ≡ m) × (a.core ≡ opened_core m 0)) o.rows) x.went,
 )
   where
-    begun : (m n j : Rows) → (n ≡ m) × (a.core.newest ≡ newest_of m) → WentBy a.code a.table.room (actions_in a.code lines) [] (state_at a n) (state_at b j) a.waiting x.written b.waiting r → WentBy d d.room (actions_in d lines) [] (opened_at m 0 a.table.faults) (state_at b j) [] x.written b.waiting r
+    begun : (m n j : Rows) → (n ≡ m) × (a.core ≡ opened_core m 0) → WentBy a.code a.table.room (actions_in a.code lines) [] (state_at a n) (state_at b j) a.waiting x.written b.waiting r → WentBy d d.room (actions_in d lines) [] (opened_at m 0 a.table.faults) (state_at b j) [] x.written b.waiting r
     begun m n j v w =
         subst (λ (p : List ℕ). WentBy d d.room (actions_in d lines) [] (opened_at m 0 a.table.faults) (state_at b j) p x.written b.waiting r) none
-        (subst (λ (c : Core). WentBy d d.room (actions_in d lines) [] (record { core = c; rows = m; faults = a.table.faults }) (state_at b j) a.waiting x.written b.waiting r) (o.core ∙ ap (λ z. first_core z 0) v.1)
+        (subst (λ (c : Core). WentBy d d.room (actions_in d lines) [] (record { core = c; rows = m; faults = a.table.faults }) (state_at b j) a.waiting x.written b.waiting r) v.1
         (subst (λ (k : Rows). WentBy d d.room (actions_in d lines) [] (record { core = a.core; rows = k; faults = a.table.faults }) (state_at b j) a.waiting x.written b.waiting r) v.0
         (subst (λ (z : ℕ). WentBy d z (actions_in d lines) [] (state_at a n) (state_at b j) a.waiting x.written b.waiting r) o.room_set
         (subst (λ (z : Deployment). WentBy z a.table.room (actions_in z lines) [] (state_at a n) (state_at b j) a.waiting x.written b.waiting r) o.code_kept w))))

@@ -3,14 +3,14 @@ use Rattle.std.specs.Prelude.{codes}
 use Rattle.std.specs.List.{AllByRecursion}
 use Rattle.std.proofs.Common.{drop}
 use Rattle.beldi_generator.specs.Summary.{past}
-use Rattle.beldi_program.specs.PlainRun.{Moments, entries_in, loses}
+use Rattle.beldi_program.specs.PlainRun.{Moments, alone, entries_in, loses}
 use Rattle.beldi_program.proofs.Names.map
 use Rattle.beldi_program.proofs.{Asked.IsQuiet, Asked.last_two, Asked.listings, Flat.AreFlat, Skipped.ends_so, Skipped.last_text, Skipped.lists}
 use Rattle.beldi_program.proofs.Names.{Action, AreTo, BookIs, Booked, Deployment, Entry, IsReportSo, IsSo, List, Moment, Numbered, Option, Reported, Response, Rows, Session, TablesAre, [], actions_in, ap, append-nil, false, last_book, lines_of, refl, responses_in, responses_text, subst, sym, ℕ, ◌++◌, ◌∙◌, ◌∷◌, ◌≡◌}
 
 -- a listing of the tables tells the items of the run of the book at the end, where the table did not fail
 abbrev pub TellLast : Deployment → List Entry → List Booked → Option (List ℕ) → Type 0
-TellLast d before ys tables = IsReportSo d (last_book before ys) (TablesAre tables)
+TellLast d before ys tables = IsReportSo d alone (last_book before ys) (TablesAre tables)
 
 abbrev first_or : Response → List Response → Response
 first_or y [] = y
@@ -18,18 +18,18 @@ first_or y (z ∷ zs) = z
 
 module _ (d : Deployment) (tables : Option (List ℕ)) (book : List ℕ) where
   -- a listing leaves the book
-  same_book : (before : List Entry) (y : Booked) (r : Response) → Moment d before y → y.response ≡ r → loses r ≡ false → entries_in r ≡ [] → y.book ≡ before
+  same_book : (before : List Entry) (y : Booked) (r : Response) → Moment d alone before y → y.response ≡ r → loses r ≡ false → entries_in r ≡ [] → y.book ≡ before
   same_book before y r h is kept none = h.grew ∙ ap (λ z. before ++ z) (h.told (ap loses is ∙ kept) ∙ ap entries_in is ∙ none) ∙ append-nil before
 
-  at_end : (y : Booked) (ys : List Booked) (before : List Entry) → y.response ≡ Reported (TablesAre tables) → responses_in ys ≡ Reported (BookIs book) ∷ [] → Moment d before y → Moments d y.book ys → TellLast d before (y ∷ ys) tables
+  at_end : (y : Booked) (ys : List Booked) (before : List Entry) → y.response ≡ Reported (TablesAre tables) → responses_in ys ≡ Reported (BookIs book) ∷ [] → Moment d alone before y → Moments d alone y.book ys → TellLast d before (y ∷ ys) tables
   at_end y [] before is later h hs = cc
   at_end y (z ∷ []) before is later h hs =
       let last = ap (first_or z.response) later in
       let same = same_book y.book z (Reported (BookIs book)) hs.0 last refl refl in
-      subst (λ b. IsReportSo d b (TablesAre tables)) (sym same) (subst (IsSo d y.book) is h.so)
+      subst (λ b. IsReportSo d alone b (TablesAre tables)) (sym same) (subst (IsSo d alone y.book) is h.so)
   at_end y (z ∷ x ∷ zs) before is later h hs = let more = ap (drop 1) later in cc
 
-  tell_last : (ys : List Booked) (before : List Entry) (front : List Response) → responses_in ys ≡ front ++ lists tables book → Moments d before ys → TellLast d before ys tables
+  tell_last : (ys : List Booked) (before : List Entry) (front : List Response) → responses_in ys ≡ front ++ lists tables book → Moments d alone before ys → TellLast d before ys tables
   tell_last [] before [] is h = cc
   tell_last [] before (x ∷ front) is h = cc
   tell_last (y ∷ ys) before [] is h = at_end y ys before (ap (first_or y.response) is) (ap (drop 1) is) h.0 h.1

@@ -5,8 +5,8 @@ use Rattle.beldi_session.specs.Response.{responses_text}
 use Rattle.beldi_serve.specs.{Desk.state_of, Service.Exchange, Service.Same, Service.Served, Service.ServedAll, Service.ServesBy, Service.Serving as Served_by, Service.World, Service.lines_from, Service.moment_of, Service.responses_of, Service.sight as serve_sight, Service.tick_to, declared.connections.ServeErr.ServeErr}
 use Rattle.beldi_serve.proofs.Leading.{leads_so, leads_then}
 use Rattle.beldi_program.specs.{Serves.Lists, Serves.ServesHost, Service.Course, Service.ServedTo, Service.Service, Service.is_service_end, Service.listed_end, Service.served_end}
-use Rattle.beldi_program.proofs.Names.{Connections, Core, Deployment, Does, Ended, Err, IsErrOf, IsStep, Leads, List, ListBook, ListTables, Ok, OnOk, Option, Opened, Response, Result, Rose, Rows, ServiceEnds, State, Stop, Told, WentBy, Writes, [], ap, append-nil, append_assoc, arith, begins_right, false≢true, first_core, inl, inr, newest_of, opened_at, refl, sight, subst, sym, told_map, true, told_same, told_tells, told_then, ℕ, ◌++◌, ◌∙◌, ◌∷◌, ◌≡◌, ◌≤◌}
-use Rattle.beldi_program.proofs.PlainRuns.{are_to, booked, booked_back, leads_to, plain_run}
+use Rattle.beldi_program.proofs.Names.{Connections, Core, Deployment, Does, Ended, Err, IsErrOf, IsStep, Leads, List, ListBook, ListTables, Ok, OnOk, Opened, Option, Response, Result, Rose, Rows, ServiceEnds, State, Stop, Told, WentBy, Writes, [], ap, append-nil, append_assoc, arith, false≢true, inl, inr, opened_at, opened_core, refl, sight, subst, sym, told_map, told_same, told_tells, told_then, true, ℕ, ◌++◌, ◌∙◌, ◌∷◌, ◌≡◌, ◌≤◌}
+use Rattle.beldi_program.proofs.PlainRuns.{are_to, booked, booked_back, joined_run, leads_to, plain_run}
 
 abbrev pub not_all : ServeErr → Result (Unit {0}) ServeErr
 not_all why = Err why
@@ -210,18 +210,19 @@ module _ {K T : Type 0} {G : Ghosts T} {C : Type 0} (held : K → Option (List �
         booked = booked d d.room (responses_of xs ++ ys) s e all;
         are = booked_back d d.room (responses_of xs ++ ys) s e all;
         steps = leads_to d (responses_of xs ++ ys) s e all;
-        plain = λ none. plain_run d (responses_of xs ++ ys) m (moment_of moment) (G.state host.table).faults e all (begins_right d (moment_of moment) m none);
+        plain = plain_run d (responses_of xs ++ ys) m (moment_of moment) (G.state host.table).faults e all;
+        joins = joined_run d (responses_of xs ++ ys) m (moment_of moment) (G.state host.table).faults e all;
       }
 
-  opened_so : (m k : Rows) → (k ≡ m) × ((core_of host).newest ≡ newest_of m) → state_of host k ≡ opened_at m (moment_of moment) (G.state host.table).faults
-  opened_so m k v = λ j. record { core = (o.core ∙ ap (λ z. first_core z (moment_of moment)) v.1) j; rows = v.0 j; faults = (G.state host.table).faults }
+  opened_so : (m k : Rows) → (k ≡ m) × (core_of host ≡ opened_core m (moment_of moment)) → state_of host k ≡ opened_at m (moment_of moment) (G.state host.table).faults
+  opened_so m k v = λ j. record { core = v.1 j; rows = v.0 j; faults = (G.state host.table).faults }
 
   ran : (k k' : K) (t' : T) (e : Ended) → ServesHost held faults tells host requests l l' c refused k k' t' e
       → (w : List ℕ) × Writes (held k) (held k') w × Told (G.state t).rows (G.state t').rows (λ m n. ServedTo d requests l' w (Service tells d m n (G.state t).faults (G.state t').faults l c0) e)
   ran k k' t' e x = (
     x.written,
     x.sink,
-    told_then {P = λ m n. (n ≡ m) × ((core_of host).newest ≡ newest_of m)}
+    told_then {P = λ m n. (n ≡ m) × (core_of host ≡ opened_core m (moment_of moment))}
         {Q = λ m n. (core : Core) × ServedTo host.code requests l' x.written (λ xs ys last. Course tells host.code (G.state host.table).room l c xs ys last (state_of host m) (record { core = core; rows = n; faults = (G.state t').faults })) e}
         {R = λ m n. ServedTo d requests l' x.written (Service tells d m n (G.state t).faults (G.state t').faults l c0) e}
         (G.state t).rows (G.state host.table).rows (G.state t').rows
@@ -230,7 +231,7 @@ module _ {K T : Type 0} {G : Ghosts T} {C : Type 0} (held : K → Option (List �
         (subst (λ (s : State). ServedTo d requests l' x.written (λ xs ys last. Course tells d d.room l c xs ys last s (record { core = w.0; rows = n; faults = (G.state t').faults })) e) (opened_so m k v)
         (subst (λ (z : ℕ). ServedTo d requests l' x.written (λ xs ys last. Course tells d z l c xs ys last (state_of host k) (record { core = w.0; rows = n; faults = (G.state t').faults })) e) o.room_set
         (subst (λ (z : Deployment). ServedTo z requests l' x.written (λ xs ys last. Course tells z (G.state host.table).room l c xs ys last (state_of host k) (record { core = w.0; rows = n; faults = (G.state t').faults })) e) o.code_kept w.1))))
-        (told_tells (G.state t).rows (G.state host.table).rows (λ m n. (n ≡ m) × ((core_of host).newest ≡ newest_of m)) o.rows) x.went,
+        (told_tells (G.state t).rows (G.state host.table).rows (λ m n. (n ≡ m) × (core_of host ≡ opened_core m (moment_of moment))) o.rows) x.went,
   )
 
   pub service_ends : (k k' : K) (t' : T) (e : Ended) → ServesHost held faults tells host requests l l' c refused k k' t' e → ServiceEnds held faults G.state tells l l' c0 refused d requests k k' t t' e

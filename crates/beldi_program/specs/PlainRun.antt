@@ -24,20 +24,6 @@ loses (Answered share e x) = is_lost e && is_dropped x
 loses (BrokeOff o) = true
 loses y = false
 
-abbrev pub IsReportSo : Deployment → List Entry → Report → Type 0
-IsReportSo d book (ReplyIs t (Some x)) = SaidOf d book t x
-IsReportSo d book (TablesAre (Some lines)) = (p : PlainState) → run_of d book ≡ Some p → lines ≡ listing_of d p
-IsReportSo d book (BookIs lines) = lines ≡ book_text d book
-IsReportSo d book r = Unit {0}
-
--- what a response says is so in the run of the book
-abbrev pub IsSo : Deployment → List Entry → Response → Type 0
-IsSo d book (Answered share e x) = (t : ℕ) (o : Outcome) → told_outcome x ≡ Some (t, o) → HasReply d book t o
-IsSo d book WentBack = Unit {0}
-IsSo d book (WentOn k) = Unit {0}
-IsSo d book (BrokeOff o) = Unit {0}
-IsSo d book (Reported r) = IsReportSo d book r
-
 -- the rows stand for the run of the book
 abbrev pub RowsStandFor : Deployment → Rows → List Entry → Type 0
 RowsStandFor d rows book = (p : PlainState) → run_of d book ≡ Some p → Stands d rows p
@@ -48,20 +34,40 @@ pub record Booked : Type 0 where
   pub book : List Entry
   pub rows : Rows
 
--- the book got at most one entry, the one that the response tells, unless the answer was lost; it is legal; what is said is so
--- in its run; and the rows stand for that run
-pub record Moment (d : Deployment) (before : List Entry) (y : Booked) : Type 0 where
-  pub entry : Option Entry
-  pub grew : y.book ≡ before ++ option_to_list entry
-  pub told : loses y.response ≡ false → option_to_list entry ≡ entries_in y.response
-  pub legal : IsLegal d y.book
-  pub so : IsSo d y.book y.response
-  pub tables : RowsStandFor d y.rows y.book
+-- the history of a session that is the first over its rows: its own book
+abbrev pub alone : List Entry → List Entry
+alone book = book
 
--- from a book on, each of these is a moment after the one before
-abbrev pub Moments : Deployment → List Entry → List Booked → Type 0
-Moments d before [] = Unit {0}
-Moments d before (y ∷ ys) = Moment d before y × Moments d y.book ys
+-- by the history that the session's book is the last part of
+module _ (d : Deployment) (history : List Entry → List Entry) where
+  abbrev pub IsReportSo : List Entry → Report → Type 0
+  IsReportSo book (ReplyIs t (Some x)) = SaidOf d (history book) t x
+  IsReportSo book (TablesAre (Some lines)) = (p : PlainState) → run_of d (history book) ≡ Some p → lines ≡ listing_of d p
+  IsReportSo book (BookIs lines) = lines ≡ book_text d book
+  IsReportSo book r = Unit {0}
+
+  -- what a response says is so in the run of the history
+  abbrev pub IsSo : List Entry → Response → Type 0
+  IsSo book (Answered share e x) = (t : ℕ) (o : Outcome) → told_outcome x ≡ Some (t, o) → HasReply d (history book) t o
+  IsSo book WentBack = Unit {0}
+  IsSo book (WentOn k) = Unit {0}
+  IsSo book (BrokeOff o) = Unit {0}
+  IsSo book (Reported r) = IsReportSo book r
+
+  -- the book got at most one entry, the one that the response tells, unless the answer was lost; the history is legal; what is said is so
+  -- in its run; and the rows stand for that run
+  pub record Moment (before : List Entry) (y : Booked) : Type 0 where
+    pub entry : Option Entry
+    pub grew : y.book ≡ before ++ option_to_list entry
+    pub told : loses y.response ≡ false → option_to_list entry ≡ entries_in y.response
+    pub legal : IsLegal d (history y.book)
+    pub so : IsSo y.book y.response
+    pub tables : RowsStandFor d y.rows (history y.book)
+
+  -- from a book on, each of these is a moment after the one before
+  abbrev pub Moments : List Entry → List Booked → Type 0
+  Moments before [] = Unit {0}
+  Moments before (y ∷ ys) = Moment before y × Moments y.book ys
 
 -- the book after the last of them
 abbrev pub last_book : List Entry → List Booked → List Entry
@@ -91,16 +97,16 @@ abbrev pub TellOutcomes : Deployment → List Entry → List Response → Type 0
 TellOutcomes d book [] = Unit {0}
 TellOutcomes d book (y ∷ ys) = ((t : ℕ) (o : Outcome) → outcome_in y ≡ Some (t, o) → HasReply d book t o) × TellOutcomes d book ys
 
--- after each response the book is legal, what was said is so in its run, and the rows stand for it. At the end it is legal, so that each
--- step of an instance acts once and in its order, each transaction that committed is one entry, whole, and each that was aborted one
--- that leaves no item changed (`after` of `beldi_plain/specs/Entries`); it starts exactly the requests that were answered bound, in
--- order; every outcome that was told is its root's; and the rows stand for its run.
-pub record IsPlainRun (d : Deployment) (rows : Rows) (ys : List Booked) : Type 0 where
-  pub moments : Moments d [] ys
-  pub legal : IsLegal d (last_book [] ys)
+-- after each response the history is legal, what was said is so in its run, and the rows stand for it. At the end it is legal, so that
+-- each step of an instance acts once and in its order, each transaction that committed is one entry, whole, and each that was aborted
+-- one that leaves no item changed (`after` of `beldi_plain/specs/Entries`); the book starts exactly the requests that were answered
+-- bound, in order; every outcome that was told is its root's; and the rows stand for the history's run.
+pub record IsPlainRun (d : Deployment) (history : List Entry → List Entry) (rows : Rows) (ys : List Booked) : Type 0 where
+  pub moments : Moments d history [] ys
+  pub legal : IsLegal d (history (last_book [] ys))
   pub bound : starts_of (last_book [] ys) ≡ bound_in (responses_in ys)
-  pub replies : TellOutcomes d (last_book [] ys) (responses_in ys)
-  pub tables : RowsStandFor d rows (last_book [] ys)
+  pub replies : TellOutcomes d (history (last_book [] ys)) (responses_in ys)
+  pub tables : RowsStandFor d rows (history (last_book [] ys))
 
 -- ---- a session from the rows m to the rows n, with the text that was written
 -- each is a response to the first of the actions that are left before it, and `more` are left after them all
@@ -114,4 +120,4 @@ pub record Session (d : Deployment) (actions more : List Action) (m n : Rows) (w
   pub responses : List Booked
   pub actions_are : AreTo (responses_in responses) actions more
   pub text : written ++ rest ≡ responses_text d (responses_in responses)
-  pub plain : m ≡ finite.empty → IsPlainRun d n responses
+  pub plain : m ≡ finite.empty → IsPlainRun d alone n responses

@@ -2,13 +2,15 @@
 use Rattle.std.specs.Prelude.{◌≡◌, ◌≤◌, ◌<◌, ◌⊎◌, ℕ, Bool, true, false, length, List, [], ◌∷◌, ◌++◌, Option, Result, Ok, Err}
 use Rattle.std.specs.FinMap as map
 use Rattle.beldi_tree.specs.declared.deployment.Deployment.{Deployment}
+use Rattle.beldi_book.specs.declared.entry.Entry.{Entry}
 use Rattle.beldi_row.specs.Table.{Rows}
 use Rattle.beldi_step.specs.Host.{Core}
+use Rattle.beldi_joined.specs.Joined.{joined}
 use Rattle.beldi_outside.specs.{Connection.Connections, Outside.IsPrefixOf}
 use Rattle.beldi_schedule.specs.Settles.{State}
 use Rattle.beldi_session.specs.{Response.Response, Response.responses_text, Script.ListTables, Script.ListBook, Session.IsStep, Session.Leads, declared.session.Stop.Stop}
 use Rattle.beldi_serve.specs.{Service.Exchange, Service.Same, Service.ServedAll, Service.World, Service.lines_from, Service.moment_of, Service.responses_of, declared.connections.ServeErr.ServeErr}
-use Rattle.beldi_program.specs.{Hosted.LeadsTo, Hosted.opened_at, PlainRun.AreTo, PlainRun.Booked, PlainRun.IsPlainRun, PlainRun.responses_in, declared.program.Ended.Ended}
+use Rattle.beldi_program.specs.{Hosted.LeadsTo, Hosted.Left, Hosted.opened_at, PlainRun.AreTo, PlainRun.Booked, PlainRun.IsPlainRun, PlainRun.alone, PlainRun.responses_in, declared.program.Ended.Ended}
 
 -- ---- by the ending: the connections that were served, the host's responses after the last of them, and the text
 module _ {C : Type 0} (d : Deployment) (requests : ℕ) (link' : Option Connections) (written : List ℕ) (Went : List Exchange → List Response → World C → Type 0) where
@@ -31,7 +33,7 @@ module _ {C : Type 0} (tells : C → ℕ → C → Type 0) (d : Deployment) (roo
 
 -- a service over the rows m, with the rows n in the end, from this link and this clock on. The host was opened at the clock's first moment.
 -- The numbers f and g are the table's count of failures before and after, and `opened` is the count once the host was open. Over no rows
--- it is a run without crashes.
+-- it is a run without crashes, and over rows that sessions left it is one with these.
 pub record Service {C : Type 0} (tells : C → ℕ → C → Type 0) (d : Deployment) (m n : Rows) (f g : ℕ) (link : Option Connections) (clock : C) (xs : List Exchange) (ys : List Response) (last : World C) : Type 0 where
   pub moment : ℕ
   pub opening : C
@@ -43,7 +45,8 @@ pub record Service {C : Type 0} (tells : C → ℕ → C → Type 0) (d : Deploy
   pub booked : List Booked
   pub are : responses_in booked ≡ responses_of xs ++ ys
   pub steps : LeadsTo d booked (opened_at m (moment_of moment) opened) (record { core = core; rows = n; faults = g })
-  pub plain : m ≡ map.empty → IsPlainRun d n booked
+  pub plain : m ≡ map.empty → IsPlainRun d alone n booked
+  pub joins : (base : List Entry) → Left d base m → IsPlainRun d (joined base) n booked
 
 -- ---- how it ends, by what a call answers
 abbrev pub served_end : ServeErr → Ended
