@@ -1,6 +1,9 @@
 use beldi_outside::{ClosedLink, Link, MemClock, MemLink, MemSink, MemSource};
 use beldi_program::top;
-use beldi_table::FailingTable;
+use beldi_row::Table;
+use beldi_sqlrows::MemoryRows;
+use beldi_sqltable::RowTable;
+use beldi_table::{FailingTable, MapTable};
 use beldi_value::{Str, or_drop};
 use std::alloc::Global;
 use std::test::Fail;
@@ -601,5 +604,74 @@ fn script_is_refused(alloc: Global) -> Result<bool, Fail> {
 fn a_script_is_not_served(rt: HostRuntime) -> Result<(), Fail> {
     let alloc = rt.alloc();
     assert!(rt; script_is_refused(alloc)?);
+    Ok(())
+}
+
+// A session that ends before its request has returned, and one that is opened over its rows.
+const BEGUN: (&[u8], &[u8]) = (
+    b"life 100;\nfunction f(x) { table t; write t[\"k\"] = x; return x; }\nscript\nticket\nrequest 1 f 7\nturn 1 4\n",
+    b"ticket 1\nbound 1 run 1\nacted\nacted\nacted\nacted step 1\n== tables\nf t \"k\" 7\n== book\nstart 1 f 7\nstep 1\n",
+);
+
+const ENDED: (&[u8], &[u8]) = (
+    b"life 100;\nfunction f(x) { table t; write t[\"k\"] = x; return x; }\nscript\nsettle 100\n",
+    b"reply 1 value 7\nsettled 4\n== tables\nf t \"k\" 7\n== book\nstep 1\n",
+);
+
+// A third one issues another ticket, and tells what the first two did.
+const TOLD: (&[u8], &[u8]) = (
+    b"life 100;\nfunction f(x) { table t; write t[\"k\"] = x; return x; }\nscript\nticket\nreply 1\nrequest 1 f 7\n",
+    b"ticket 2\nreply 1 value 7\nended 1 value 7\n== tables\nf t \"k\" 7\n== book\n",
+);
+
+// One session over a table that is handed on, and whether it wrote what is wanted.
+fn session<T: Table + Drop>(
+    alloc: Global,
+    table: T,
+    wanted: (&[u8], &[u8]),
+) -> Result<(bool, T), Fail> {
+    let words = or_drop!(words_of(alloc, &["run"]); table);
+    let bytes = or_drop!(Vec::from_slice(alloc, wanted.0); table, words);
+    let mut source = MemSource::new(bytes, Vec::new(alloc));
+    let mut sink = MemSink::new(alloc, Vec::new(alloc));
+    let mut link = ClosedLink::new();
+    let mut clock = MemClock::new(Vec::new(alloc));
+    let (status, table) = top(
+        alloc,
+        words.as_slice(),
+        &mut source,
+        &mut sink,
+        table,
+        &mut link,
+        &mut clock,
+    );
+    drop(words);
+    drop(source);
+    drop(clock);
+    let is_wanted = status == 0 && sink.as_slice() == wanted.1;
+    drop(sink);
+    Ok((is_wanted, table))
+}
+
+// Whether three sessions over this table, one after another, write what they should.
+fn goes_on<T: Table + Drop>(alloc: Global, table: T) -> Result<bool, Fail> {
+    let (begun, table) = session(alloc, table, BEGUN)?;
+    let (ended, table) = session(alloc, table, ENDED)?;
+    let (told, table) = session(alloc, table, TOLD)?;
+    drop(table);
+    Ok(begun && ended && told)
+}
+
+#[test]
+fn sessions_go_on_over_a_table_that_is_handed_on(rt: HostRuntime) -> Result<(), Fail> {
+    let alloc = rt.alloc();
+    assert!(rt; goes_on(alloc, MapTable::new(alloc))?);
+    Ok(())
+}
+
+#[test]
+fn sessions_go_on_over_a_database_in_memory(rt: HostRuntime) -> Result<(), Fail> {
+    let alloc = rt.alloc();
+    assert!(rt; goes_on(alloc, RowTable::new(alloc, MemoryRows::new(alloc)))?);
     Ok(())
 }

@@ -9,7 +9,7 @@ use Rattle.beldi_session.specs.{declared.refusal.Refusal.Refusal, declared.sourc
 use Rattle.beldi_program.specs.{declared.program.Ended.Ended, Hosted.Hosted, PlainRun.Session, Service.ServedTo, Service.Service}
 
 abbrev pub usage : List ℕ
-usage = codes "usage: beldi run | check | serve --port P --requests M | gen SEED N\n"
+usage = codes "usage: beldi [--db PATH] run | check | serve --port P --requests M | gen SEED N\n"
 
 -- ---- a session over a deployment, from the rows m to the rows n, with the text that was written: what was said, and how the host
 -- moved to it. The numbers f and g are the table's count of failures before and after.

@@ -134,7 +134,7 @@ fn refuse_words<K: Sink>(sink: &mut K) -> Ended
 {
     match write_all(
         sink,
-        b"usage: beldi run | check | serve --port P --requests M | gen SEED N\n",
+        b"usage: beldi [--db PATH] run | check | serve --port P --requests M | gen SEED N\n",
     ) {
         Ok(()) => Ended::Usage,
         Err(_) => Ended::SinkFault,
