@@ -5,7 +5,8 @@ use Rattle.beldi_value.specs.declared.{id.IntentId.IntentId, place.Owner.Owner, 
 use Rattle.beldi_lang.specs.declared.effect.Effect.{Effect}
 use Rattle.beldi_row.specs.{Act.act, Act.added, Act.kept, Act.noted, Act.other_owner, Key.RowKey, Log.note_at, Table.Rows, declared.act.Act.Act, declared.notes.Note.Note, declared.row.Row.Row}
 use Rattle.beldi_walk.specs.{Query.Told, Query.rows_after, Query.said, Query.told_by, declared.query.Query.Query}
-use Rattle.beldi_daal.specs.{Cell.cell_key, Cell.op_act, Cell.shadow_key, Cell.write_goes, Content.SoundAt, Content.content_in, declared.cell.CellOp.CellOp, declared.cell.WriteAt.TheVariants.Make, declared.cell.WriteAt.TheVariants.Try}
+use Rattle.beldi_chain.specs.Content.{SoundAt, content_in}
+use Rattle.beldi_daal.specs.{Cell.cell_key, Cell.op_act, Cell.shadow_key, Cell.write_goes, declared.cell.CellOp.CellOp, declared.cell.WriteAt.TheVariants.Make, declared.cell.WriteAt.TheVariants.Try}
 use Rattle.beldi_readlog.specs.ReadLog.{given_of}
 use Rattle.beldi_lock.specs.{Lock.asks_at, Lock.lock_goes, Lock.lockset_key, declared.lock.LockAt.LockAt}
 use Rattle.beldi_txn.specs.{Tx.given_goes, Tx.head_goes, Tx.head_made, Tx.is_operation, Tx.item_goes, Tx.keep_goes, Tx.lock_leads, Tx.locked_goes, Tx.note_goes, Tx.shadow_read, Tx.tx_asks, Tx.tx_goes, Tx.write_leads, declared.end.Visit.Visit, declared.tx.TxAt.TxAt}

@@ -5,7 +5,8 @@ use Rattle.beldi_value.specs.{Id.age_of, Passes.passes, declared.id.IntentId.Int
 use Rattle.beldi_row.{proofs.Gets.got, proofs.Gets.key_self, specs.Key.RowKey, specs.Log.note_at, specs.Table.Rows, specs.declared.act.Act.Act, specs.declared.notes.Note.Note, specs.declared.row.Cell.Cell, specs.declared.row.Row.Row}
 use Rattle.beldi_row.specs.Act.{Tell, act, added, cond_to, did, died, entered, given_or, held, if_owned, no_row, not_owner, noted, other_owner, owned_or, owns, present, tested, unless_held, waits_for}
 use Rattle.beldi_walk.{proofs.Promises.at_each, specs.Query.rows_after, specs.Query.said, specs.declared.query.Query.Query}
-use Rattle.beldi_daal.specs.{Cell.cell_goes, Cell.got_or_held, Cell.in_the_way, Cell.op_act, Cell.read_goes, Content.SoundAt, Content.content_in, declared.cell.CellOp.CellOp, declared.cell.ReadGoes.ReadGoes, declared.cell.WriteAt.WriteAt, declared.cell.WriteAt.TheVariants.Make, declared.cell.WriteAt.TheVariants.Try}
+use Rattle.beldi_chain.specs.Content.{SoundAt, content_in}
+use Rattle.beldi_daal.specs.{Cell.cell_goes, Cell.got_or_held, Cell.in_the_way, Cell.op_act, Cell.read_goes, declared.cell.CellOp.CellOp, declared.cell.ReadGoes.ReadGoes, declared.cell.WriteAt.WriteAt, declared.cell.WriteAt.TheVariants.Make, declared.cell.WriteAt.TheVariants.Try}
 use Rattle.beldi_upkeep.proofs.Still.{held_says, if_says, tail_says}
 use Rattle.beldi_bound.specs.Visits.{put_left}
 

@@ -5,7 +5,8 @@ use Rattle.beldi_value.specs.{Id.has_callees, declared.id.IntentId.IntentId, dec
 use Rattle.beldi_lang.specs.declared.effect.{Answer.Answer, Effect.Effect}
 use Rattle.beldi_row.specs.{Act.act, Act.register_to, Table.Rows, declared.act.Act.Act, declared.notes.Note.Note, declared.row.Row.Row}
 use Rattle.beldi_walk.specs.{Query.rows_after, Query.said, Query.told_by}
-use Rattle.beldi_daal.specs.{Cell.cell_key, Cell.done_note, Cell.write_asks, Cell.write_goes, Content.SoundAt, declared.cell.CellOp.CellOp, declared.cell.WriteAt.WriteAt, declared.cell.WriteAt.TheVariants.Make, declared.cell.WriteAt.TheVariants.Try}
+use Rattle.beldi_chain.specs.Content.{SoundAt}
+use Rattle.beldi_daal.specs.{Cell.cell_key, Cell.done_note, Cell.write_asks, Cell.write_goes, declared.cell.CellOp.CellOp, declared.cell.WriteAt.WriteAt, declared.cell.WriteAt.TheVariants.Make, declared.cell.WriteAt.TheVariants.Try}
 use Rattle.beldi_readlog.specs.ReadLog.{given_of}
 use Rattle.beldi_invokelog.specs.{InvokeLog.back_of, InvokeLog.call_in, InvokeLog.invoke_key, InvokeLog.invoked_of, InvokeLog.registered_asks, InvokeLog.result_of, declared.invoke_log.Back.Back}
 use Rattle.beldi_intent.specs.Intent.{is_did, look_asks}

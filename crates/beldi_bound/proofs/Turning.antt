@@ -8,7 +8,8 @@ use Rattle.beldi_book.specs.Order.{count_changes}
 use Rattle.beldi_plain.specs.{Item.Item, Operation.op_of}
 use Rattle.beldi_row.specs.{Log.note_at, Table.Rows, declared.notes.Note.Note}
 use Rattle.beldi_walk.specs.Query.{rows_after}
-use Rattle.beldi_daal.specs.{Cell.cell_key, Content.content_in, declared.cell.WriteAt.WriteAt}
+use Rattle.beldi_chain.{specs.Chain.chain, specs.Content.content_in, proofs.OneRow.one_content}
+use Rattle.beldi_daal.specs.declared.cell.WriteAt.{WriteAt}
 use Rattle.beldi_invokelog.specs.InvokeLog.{call_in}
 use Rattle.beldi_txn.specs.declared.{end.Visit.Visit, tx.TxAt.TxAt}
 use Rattle.beldi_txn.specs.TxTurn.{Fits}
@@ -44,11 +45,11 @@ module _ (d : Deployment) (c : Core) (m : Rows) (r : Run) (g : Begun) (h : Right
       let side = shadow_key (tx_of r.id r.func o) x in
       let p = place_of r.id g.machine.steps in
       record {
-        item = h.rows.keys (head_key x);
-        shadow = h.rows.keys side;
+        item = (h.rows.chains x).head;
+        shadow = (h.rows.asides (tx_of r.id r.func o) x).head;
         unowned = free side refl;
-        lock = of_lock (note_at (content_in (map.get m (head_key x))).notes p) (λ w there. own w (notes_are_own d c m r g x w h b (ap works_on is ∙ works) there));
-        write = of_write e (note_at (content_in (map.get m side)).notes p) (λ w there. ap (λ z. is_shadow_note z w) (sym is) ∙ shadow_notes_are_own d c m r g (tx_of r.id r.func o) x w h b there);
+        lock = of_lock (note_at (content_in (map.get m (head_key x))).notes p) (λ w there. own w (notes_are_own d c m r g x w h b (ap works_on is ∙ works) (ap (λ z. note_at z.notes p) (one_content (chain m (head_key x)) (h.rows.chains x)) ∙ there)));
+        write = of_write e (note_at (content_in (map.get m side)).notes p) (λ w there. ap (λ z. is_shadow_note z w) (sym is) ∙ shadow_notes_are_own d c m r g (tx_of r.id r.func o) x w h b (ap (λ z. note_at z.notes p) (one_content (chain m side) (h.rows.asides (tx_of r.id r.func o) x)) ∙ there));
         fits = fits;
       }
     where
@@ -56,10 +57,10 @@ module _ (d : Deployment) (c : Core) (m : Rows) (r : Run) (g : Begun) (h : Right
       own w its = ap (λ z. is_own_note z g.machine.effect w) (sym in_it) ∙ its
 
   by_write : (e : Effect) (w : WriteAt) → is_some (op_of e) ≡ true → Needs m r.id r.func g.caller None g.machine.steps e (Stage.Write w)
-  by_write (Effect.Write t x v) w is = h.rows.keys (cell_key r.func t x)
-  by_write (Effect.CondWrite t x u z v) w is = h.rows.keys (cell_key r.func t x)
-  by_write (Effect.Lock t x) w is = h.rows.keys (cell_key r.func t x)
-  by_write (Effect.Unlock t x) w is = h.rows.keys (cell_key r.func t x)
+  by_write (Effect.Write t x v) w is = (h.rows.chains (record { func = r.func; table = t; key = x })).head
+  by_write (Effect.CondWrite t x u z v) w is = (h.rows.chains (record { func = r.func; table = t; key = x })).head
+  by_write (Effect.Lock t x) w is = (h.rows.chains (record { func = r.func; table = t; key = x })).head
+  by_write (Effect.Unlock t x) w is = (h.rows.chains (record { func = r.func; table = t; key = x })).head
   by_write e w is = cc
 
   by_tx : (e : Effect) (o : RunTx) (a : TxAt) → g.machine.effect ≡ e → g.tx ≡ Some o → Fits e a → Needs m r.id r.func g.caller (Some o) g.machine.steps e (Stage.Tx a)
@@ -70,7 +71,7 @@ module _ (d : Deployment) (c : Core) (m : Rows) (r : Run) (g : Begun) (h : Right
 
   by_stage : (s : Stage) (e : Effect) (o : Option RunTx) → is_end s ≡ false → g.machine.effect ≡ e → g.tx ≡ o → AtStage m h.plain c.book k s e o → Needs m r.id r.func g.caller o g.machine.steps e s
   by_stage Stage.Ask (Effect.Read t x) None apart is in_it here = tt
-  by_stage Stage.Walk (Effect.Read t x) None apart is in_it here = h.rows.keys (cell_key r.func t x)
+  by_stage Stage.Walk (Effect.Read t x) None apart is in_it here = (h.rows.chains (record { func = r.func; table = t; key = x })).head
   by_stage (Stage.Keep v seen) (Effect.Read t x) None apart is in_it here = tt
   by_stage (Stage.Write w) e None apart is in_it here = by_write e w here
   by_stage (Stage.Tx a) e (Some o) apart is in_it here = by_tx e o a is in_it here.0

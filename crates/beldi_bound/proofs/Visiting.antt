@@ -11,7 +11,8 @@ use Rattle.beldi_lang.specs.declared.effect.Effect.{Effect}
 use Rattle.beldi_row.specs.{Act.act, Act.did, Act.kept_tell, Act.next_or, Act.not_owner, Act.noted_or, Act.owns, Key.RowKey, Key.key_cmp, KeyOrder.key_total, Log.note_at, Table.IsNext, Table.Rows, Table.next_row, declared.act.Act.Act, declared.key.Kind.Kind, declared.notes.Note.Note, declared.row.Cell.Cell, declared.row.Row.Row}
 use Rattle.beldi_row.proofs.{Least.next_row_least, Unchanged.looked}
 use Rattle.beldi_walk.specs.{Query.rows_after, Query.said, Query.told_by, declared.query.Query.Query}
-use Rattle.beldi_daal.specs.{Cell.cell_key, Cell.shadow_key, Cell.write_asks, Cell.write_goes, Content.SoundAt, declared.cell.CellOp.CellOp, declared.cell.ReadGoes.ReadGoes, declared.cell.WriteAt.WriteAt, declared.cell.WriteAt.TheVariants.Try, declared.cell.WriteAt.TheVariants.Make, declared.cell.WriteGoes.WriteGoes}
+use Rattle.beldi_chain.specs.Content.{SoundAt}
+use Rattle.beldi_daal.specs.{Cell.cell_key, Cell.shadow_key, Cell.write_asks, Cell.write_goes, declared.cell.CellOp.CellOp, declared.cell.ReadGoes.ReadGoes, declared.cell.WriteAt.WriteAt, declared.cell.WriteAt.TheVariants.Try, declared.cell.WriteAt.TheVariants.Make, declared.cell.WriteGoes.WriteGoes}
 use Rattle.beldi_lock.specs.{Lock.lockset_key, Lockset.item_after, Lockset.lockset_after}
 use Rattle.beldi_lock.proofs.Last.{split_front}
 use Rattle.beldi_txn.specs.End.{at_calls, back_from, call_goes, calls_after, calls_goes, counts, decide_goes, end_goes, first_visit, free_first, free_place, freed_goes, last_goes, moved, next_goes, value_goes, visit_asks, visited_by}
@@ -398,9 +399,9 @@ module _ (t : TxId) (end : ℕ) (commit : Bool) (e : Rows) where
         let p = visited_by t cs in let k = invokes_after p.1 p.0 (calls_after t cs af) in calls_fall m keys cs v.member af i u v.from (next_row m k) (next_row_least m k) (call_after p.1 p.0 (next_row m k)) refl
     turn_falls cs af i u EndAt.Next past v keys =
         let p = visited_by t cs in let k = lockset_after p.1 p.0 t.begin i in locks_fall m keys cs v.member af i u (next_row m k) (next_row_least m k) (item_after p.1 p.0 t.begin (next_row m k)) refl
-    turn_falls cs af (Some j) u EndAt.Shadow past v keys = shadow_falls now m cs af j u (v.sound (visited_by t cs).1 j).1
+    turn_falls cs af (Some j) u EndAt.Shadow past v keys = shadow_falls now m cs af j u (v.sound (visited_by t cs).1 j).1.head
     turn_falls cs af None u EndAt.Shadow past v keys = let none = v.item in cc
-    turn_falls cs af (Some j) u (EndAt.Free w) past v keys = frees_fall now m cs af j u (Owner.Tx t) (free_place t end cs) w (v.sound (visited_by t cs).1 j).0
+    turn_falls cs af (Some j) u (EndAt.Free w) past v keys = frees_fall now m cs af j u (Owner.Tx t) (free_place t end cs) w (v.sound (visited_by t cs).1 j).0.head
     turn_falls cs af None u (EndAt.Free w) past v keys = let none = v.item in cc
     turn_falls cs af i u EndAt.Stamp past v keys = stamp_falls m (after (at cs af i u EndAt.Stamp)) cs af i u v.begins
 

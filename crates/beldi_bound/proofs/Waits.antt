@@ -11,7 +11,8 @@ use Rattle.beldi_book.specs.Order.{count_changes}
 use Rattle.beldi_plain.specs.{Item.Item, Operation.OnItem, Operation.item_in, Operation.op_of}
 use Rattle.beldi_row.specs.{Act.Tell, Act.act, Act.at_tail, Act.died, Act.cond_to, Act.did, Act.entered, Act.given_or, Act.held, Act.held_or, Act.if_owned, Act.next_or, Act.noted_or, Act.not_owner, Act.other_owner, Act.owned_or, Act.owns, Act.unless_held, Act.waits_for, Log.note_at, Log.owner_eq, Table.Rows, declared.act.Act.Act, declared.notes.Note.Note, declared.row.Cell.Cell, declared.row.Row.Row}
 use Rattle.beldi_walk.specs.Query.{Told, said, told_by}
-use Rattle.beldi_daal.specs.{Cell.cell_goes, Cell.cell_key, Cell.done_note, Cell.got_or_held, Cell.op_act, Cell.read_goes, Cell.write_asks, Cell.write_goes, Content.SoundAt, Content.content_in, declared.cell.CellOp.CellOp, declared.cell.WriteAt.WriteAt, declared.cell.WriteAt.TheVariants.Make, declared.cell.WriteAt.TheVariants.Try, declared.cell.WriteGoes.WriteGoes}
+use Rattle.beldi_chain.{specs.Chain.chain, specs.Content.SoundAt, specs.Content.content_in, proofs.OneRow.one_content}
+use Rattle.beldi_daal.specs.{Cell.cell_goes, Cell.cell_key, Cell.done_note, Cell.got_or_held, Cell.op_act, Cell.read_goes, Cell.write_asks, Cell.write_goes, declared.cell.CellOp.CellOp, declared.cell.WriteAt.WriteAt, declared.cell.WriteAt.TheVariants.Make, declared.cell.WriteAt.TheVariants.Try, declared.cell.WriteGoes.WriteGoes}
 use Rattle.beldi_lock.specs.{Lock.item_goes, declared.lock.LockAt.LockAt}
 use Rattle.beldi_invokelog.specs.{InvokeLog.call_in, InvokeLog.invoke_key, InvokeLog.result_in, InvokeLog.result_of, InvokeLog.back_of, declared.invoke_log.Back.Back}
 use Rattle.beldi_readlog.specs.ReadLog.{given_in, given_of, log_key}
@@ -235,6 +236,10 @@ module _ (d : Deployment) (c : Core) (m : Rows) (r : Run) (g : Begun) (h : Right
   abbrev told_here : Stage → Effect → Option RunTx → Told
   told_here s e o = told_by (stage_asks r.id r.func g.caller o step e s) c.now m
 
+  -- an item's row says what its chain holds
+  row_holds : (x : Item) → content_of m x ≡ content_in (map.get m (head_key x))
+  row_holds x = one_content (chain m (head_key x)) (h.rows.chains x)
+
   -- ---- outside a transaction
   held_so : (s : Stage) (e : Effect) (x : Item) (t : Option TxId) (u : Owner) → (content_of m x).owner ≡ Some u → ((v : TxId) → t ≡ Some v → is_older v.intent (age_of u) ≡ true) → ((f : ℕ) (v : Value) → e ≡ Effect.Call f v → ⊥) → w ≡ Wait.Held u
       → (held_answer m r.id r.func step t e ≡ None) ⊎ ((s ≡ Stage.Walk) × (is_some (map.get m (log_key r.func place)) ≡ true)) → Stopped m r.id r.func step t e s w
@@ -243,8 +248,8 @@ module _ (d : Deployment) (c : Core) (m : Rows) (r : Run) (g : Begun) (h : Right
   walk_stops : (t : ℕ) (key : List ℕ) → walk_says (count_changes c.book) (read_goes (Some (Owner.Intent r.id)) (said (act Act.Look c.now (map.get m (head_key (item t key)))).1)) ≡ Says.Waits w → StoppedAt Stage.Walk (Effect.Read t key) None
   walk_stops t key is =
       let x = item t key in
-      let u = walk_held (count_changes c.book) c.now r.id (map.get m (head_key x)) w (h.rows.keys (head_key x)) is in
-      held_so Stage.Walk (Effect.Read t key) x None u.0 u.1 (λ v e. cc) (λ f v call. no_read call) u.2
+      let u = walk_held (count_changes c.book) c.now r.id (map.get m (head_key x)) w (h.rows.chains x).head is in
+      held_so Stage.Walk (Effect.Read t key) x None u.0 (ap (λ z. z.owner) (row_holds x) ∙ u.1) (λ v e. cc) (λ f v call. no_read call) u.2
       (by_option (map.get m (log_key r.func place)) (λ e. inl (ap (λ z. option_map Answer.Value (option_map given_in z)) e)) (λ z e. inr (refl, ap is_some e)))
 
   noted_none : (e : Effect) (u : OnItem) → op_of e ≡ Some u → note_at (content_of m (item_in r.func u)).notes place ≡ None → held_answer m r.id r.func step None e ≡ None
@@ -261,8 +266,8 @@ module _ (d : Deployment) (c : Core) (m : Rows) (r : Run) (g : Begun) (h : Right
       by_at is =
           let x = item_in r.func u in
           let z = write_waits e (write_goes (done_note (cell_of u.does)) (told_by (write_asks (cell_key r.func u.table u.key) place (Owner.Intent r.id) (cell_of u.does) at) c.now m)) w is in
-          let b = put_held m place (Owner.Intent r.id) c.now r.func u.table u.key (cell_of u.does) at z.0 (h.rows.keys (head_key x)) z.1 in
-          held_so (Stage.Write at) e x None z.0 b.owner (λ v e. cc) (λ f v call. no_some (sym (ap op_of call) ∙ so)) z.2 (inl (noted_none e u so b.note))
+          let b = put_held m place (Owner.Intent r.id) c.now r.func u.table u.key (cell_of u.does) at z.0 (h.rows.chains x).head z.1 in
+          held_so (Stage.Write at) e x None z.0 (ap (λ z. z.owner) (row_holds x) ∙ b.owner) (λ v e. cc) (λ f v call. no_some (sym (ap op_of call) ∙ so)) z.2 (inl (noted_none e u so (ap (λ z. note_at z.notes place) (row_holds x) ∙ b.note)))
 
   -- ---- inside one
   module _ (o : RunTx) where
@@ -281,8 +286,8 @@ module _ (d : Deployment) (c : Core) (m : Rows) (r : Run) (g : Begun) (h : Right
         let x = item t key in
         let goes = write_goes Note.Got (told_by (write_asks (cell_key r.func t key) place (Owner.Tx own) CellOp.Lock at) c.now m) in
         let z = tx_waits (TxAt.Lock (LockAt.Item at)) (lock_leads place e (item_goes at goes)) w is in
-        let b = put_held m place (Owner.Tx own) c.now r.func t key CellOp.Lock at z.0 (h.rows.keys (head_key x)) (lock_held place e at goes z.0 z.1) in
-        held_so (Stage.Tx (TxAt.Lock (LockAt.Item at))) e x (Some own) z.0 b.owner (λ v e. subst (λ (y : TxId). is_older y.intent (age_of z.0) ≡ true) (same_some e) (b.waits refl)) (λ f v call. no_some (sym (ap item_of call) ∙ so)) z.2 (inl (note_none e t key so b.note))
+        let b = put_held m place (Owner.Tx own) c.now r.func t key CellOp.Lock at z.0 (h.rows.chains x).head (lock_held place e at goes z.0 z.1) in
+        held_so (Stage.Tx (TxAt.Lock (LockAt.Item at))) e x (Some own) z.0 (ap (λ z. z.owner) (row_holds x) ∙ b.owner) (λ v e. subst (λ (y : TxId). is_older y.intent (age_of z.0) ≡ true) (same_some e) (b.waits refl)) (λ f v call. no_some (sym (ap item_of call) ∙ so)) z.2 (inl (note_none e t key so (ap (λ z. note_at z.notes place) (row_holds x) ∙ b.note)))
 
     abbrev InTx : Effect → TxAt → Type 0
     InTx e a = tx_says a (tx_goes place (begin_of o) e a (told_by (tx_asks r.func place own e a) c.now m)) ≡ Says.Waits w → StoppedAt (Stage.Tx a) e (Some o)

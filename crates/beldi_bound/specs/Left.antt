@@ -5,7 +5,8 @@ use Rattle.beldi_value.specs.{Id.has_callees, declared.id.IntentId.IntentId, dec
 use Rattle.beldi_lang.specs.declared.effect.Effect.{Effect}
 use Rattle.beldi_row.specs.{Log.note_at, Table.Rows, declared.notes.Note.Note, declared.row.Row.Row}
 use Rattle.beldi_walk.specs.Query.{rows_after, told_by}
-use Rattle.beldi_daal.specs.{Cell.cell_key, Cell.shadow_key, Content.SoundAt, Content.content_in, declared.cell.WriteAt.TheVariants.Try}
+use Rattle.beldi_chain.specs.Content.{SoundAt, content_in}
+use Rattle.beldi_daal.specs.{Cell.cell_key, Cell.shadow_key, declared.cell.WriteAt.TheVariants.Try}
 use Rattle.beldi_lock.specs.declared.lock.LockAt.{LockAt}
 use Rattle.beldi_invokelog.specs.InvokeLog.{invoke_key, call_at}
 use Rattle.beldi_txn.specs.{End.first_visit, TxTurn.Fits, declared.end.EndAt.EndAt, declared.end.Visit.Visit, declared.tx.TxAt.TxAt}

@@ -1,3 +1,2 @@
 pub mod Bars
 pub mod Logged
-pub mod Stays

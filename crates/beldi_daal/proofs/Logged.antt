@@ -1,13 +1,15 @@
 -- A chain is a logged cell.
 use Rattle.std.specs.FinMap as map
+use Rattle.std.specs.Ordering.{is_eq}
 use Rattle.std.proofs.Common.{◌≡◌, ℕ, Bool, true, false, cond, if◌then◌else◌, Option, None, Some, Ok, Err, refl, ap, sym, ◌∙◌, subst}
 use Rattle.beldi_value.specs.{declared.id.IntentId.IntentId, declared.place.Owner.Owner, Id.age_of, Id.is_older, declared.place.Place.Place, declared.place.TxId.TxId, Passes.passes, declared.value.Value.TheVariants.Null}
 use Rattle.beldi_row.specs.Act.{Tell, act, did, held, died, not_owner, tested, other_owner, owns, noted_or, next_or, held_or, owned_or, at_tail, unless_held, if_owned, entered}
-use Rattle.beldi_row.{specs.declared.notes.Note.Note, specs.declared.notes.Note.TheVariants.Died, specs.declared.row.Cell.Cell, specs.declared.row.Row.Row, specs.declared.act.Act.Act, specs.declared.act.Act.TheVariants.Look, specs.declared.act.Act.TheVariants.MakeCell, specs.declared.table.TableErr.TableErr, specs.declared.table.TableErr.TheVariants.OutOfMemory, specs.declared.table.TableErr.TheVariants.Failed, specs.declared.table.TableErr.TheVariants.Full, specs.Log.note_at, specs.Table.Rows, specs.Table.after_act, proofs.Gets.got, proofs.Gets.key_self, proofs.Logs.note_here, proofs.Logs.once_pushed, proofs.Tells.tells_map}
+use Rattle.beldi_row.{specs.declared.notes.Note.Note, specs.declared.notes.Note.TheVariants.Died, specs.declared.row.Cell.Cell, specs.declared.row.Row.Row, specs.declared.act.Act.Act, specs.declared.act.Act.TheVariants.Look, specs.declared.act.Act.TheVariants.MakeCell, specs.declared.table.TableErr.TableErr, specs.declared.table.TableErr.TheVariants.OutOfMemory, specs.declared.table.TableErr.TheVariants.Failed, specs.declared.table.TableErr.TheVariants.Full, specs.Key.RowKey, specs.Key.key_cmp, specs.Log.note_at, specs.Table.Rows, specs.Table.after_act, proofs.Gets.got, proofs.Gets.key_self, proofs.Logs.note_here, proofs.Logs.once_pushed, proofs.Tells.tells_map}
+use Rattle.beldi_chain.{specs.Chain.IsHead, specs.Chain.Sound, specs.Chain.chain, specs.Chain.content, specs.Content.SoundAt, specs.Content.content_in, proofs.Heads.alone_by, proofs.Heads.head_content, proofs.Heads.head_sound, proofs.Heads.sound_after}
 use Rattle.beldi_walk.{specs.Query.Told, specs.Query.said, specs.Query.rows_after, specs.Query.told_by, specs.Query.CameOn, proofs.Looks.look_stands, proofs.Looks.never_full}
 use Rattle.beldi_daal.specs.Cell.{op_act, done_note, write_asks, write_goes, cell_goes, got_or_held, in_the_way}
 use Rattle.beldi_daal.specs.Logged.{note_after, value_after, owner_after, waited, died_of, dies, held_by, unless_owned, barred, done_to, died_at, DidAs, Logs, LoggedTurn, WritesAreLogged, ReadsContent, ReadTurn, ReadsAreContents}
-use Rattle.beldi_daal.specs.{declared.cell.CellOp.CellOp, declared.cell.CellOp.TheVariants.Write, declared.cell.CellOp.TheVariants.Cond, declared.cell.CellOp.TheVariants.Lock, declared.cell.CellOp.TheVariants.Free, declared.cell.WriteAt.WriteAt, declared.cell.WriteAt.TheVariants.Try, declared.cell.WriteAt.TheVariants.Make, declared.walk.WriteWalk.WriteWalk, declared.read_walk.ReadSays.ReadSays, declared.read_walk.ReadWalk.ReadWalk, Content.content_in, Content.SoundAt, ReadWalk.read_key, ReadWalk.read_asks, ReadWalk.read_says, ReadWalk.read_so, Walk.walk_key, Walk.walk_asks, Walk.walk_says, Walk.walk_so, declared.cell.WriteGoes.WriteGoes}
+use Rattle.beldi_daal.specs.{declared.cell.CellOp.CellOp, declared.cell.CellOp.TheVariants.Write, declared.cell.CellOp.TheVariants.Cond, declared.cell.CellOp.TheVariants.Lock, declared.cell.CellOp.TheVariants.Free, declared.cell.WriteAt.WriteAt, declared.cell.WriteAt.TheVariants.Try, declared.cell.WriteAt.TheVariants.Make, declared.walk.WriteWalk.WriteWalk, declared.read_walk.ReadSays.ReadSays, declared.read_walk.ReadWalk.ReadWalk, declared.walk.Item.Item, ReadWalk.read_key, ReadWalk.read_asks, ReadWalk.read_says, ReadWalk.read_so, Walk.first_key, Walk.walk_key, Walk.walk_asks, Walk.walk_says, Walk.walk_so, declared.cell.WriteGoes.WriteGoes}
 
 -- what an act left of the row, and what it told, is right of what stood there
 abbrev Fits : Place → Owner → CellOp → Option Row → Option Row × Tell → Type 0
@@ -121,26 +123,39 @@ module _ (p : Place) (who : Owner) (now : ℕ) where
   tried op (Some (Row.Cell c)) h = on_cell op c h
   tried op (Some r) h = absurd h
 
-module _ (w : WriteWalk) (m n : Rows) (sound : SoundAt (map.get m (walk_key w))) where
+-- the key of a walk is that of a first row
+pub first_head : (home : ℕ) (item : Item) → IsHead (first_key home item)
+first_head home (Item.Plain t k) = record { first = refl; numbered = λ n. refl }
+first_head home (Item.Shadow x t k) = record { first = refl; numbered = λ n. refl }
+
+module _ (w : WriteWalk) (m n : Rows) (sound : Sound (chain m (walk_key w))) where
   by_act : (a : Act) (now : ℕ) → n ≡ after_act a now (walk_key w) m → Fits w.place w.who w.op (map.get m (walk_key w)) (act a now (map.get m (walk_key w)))
       → LoggedTurn w m n (walk_so (write_goes (done_note w.op) (said (act a now (map.get m (walk_key w))).1)))
   by_act a now is fits =
       let k = walk_key w in
       let z = act a now (map.get m k) in
+      let head = first_head w.home w.item in
       let here : map.get n k ≡ z.0 = ap (λ l. map.get l k) is ∙ got m k k z.0 ∙ ap (λ b. cond b z.0 (map.get m k)) (key_self k) in
+      let same : (q : RowKey) → is_eq (key_cmp q k) ≡ false → map.get n q ≡ map.get m q = λ q apart. ap (λ l. map.get l q) is ∙ got m k q z.0 ∙ ap (λ b. cond b z.0 (map.get m q)) apart in
+      let after : Sound (chain n k) = sound_after m n k head same sound (subst SoundAt (sym here) fits.1) in
+      let says = walk_so (write_goes (done_note w.op) (said z.1)) in
       record {
-        others = λ q apart. ap (λ l. map.get l q) is ∙ got m k q z.0 ∙ ap (λ b. cond b z.0 (map.get m q)) apart;
-        logs = subst (λ r. Logs w.place w.who w.op (walk_so (write_goes (done_note w.op) (said z.1))) (content_in (map.get m k)) (content_in r)) (sym here) fits.0;
-        sound = subst SoundAt (sym here) fits.1;
+        others = alone_by m n k head.first same;
+        logs = subst (λ c. Logs w.place w.who w.op says c (content (chain n k))) (sym (head_content m k head sound))
+            (subst (Logs w.place w.who w.op says (content_in (map.get m k))) (sym (head_content n k head after ∙ ap content_in here)) fits.0);
+        sound = after;
       }
+
+  fits_now : SoundAt (map.get m (walk_key w))
+  fits_now = head_sound m (walk_key w) (first_head w.home w.item) sound
 
   pub by_op : (at : WriteAt) (now : ℕ) → n ≡ rows_after (write_asks (walk_key w) w.place w.who w.op at) now m
       → LoggedTurn w m n (walk_so (write_goes (done_note w.op) (told_by (write_asks (walk_key w) w.place w.who w.op at) now m)))
-  by_op Try now is = by_act (op_act w.place w.who w.op) now is (tried w.place w.who now w.op (map.get m (walk_key w)) sound)
-  by_op Make now is = by_act (MakeCell Null None) now is (made w.place w.who w.op now (map.get m (walk_key w)) sound)
+  by_op Try now is = by_act (op_act w.place w.who w.op) now is (tried w.place w.who now w.op (map.get m (walk_key w)) fits_now)
+  by_op Make now is = by_act (MakeCell Null None) now is (made w.place w.who w.op now (map.get m (walk_key w)) fits_now)
 
 pub writes_are_logged : WritesAreLogged
-writes_are_logged w x now old new s (Ok t, h, c) = tells_map {P = λ m n. CameOn (walk_asks w) now old.room (Ok t) m n} {Q = λ m n. SoundAt (map.get m (walk_key w)) → LoggedTurn w m n s} old.rows new.rows
+writes_are_logged w x now old new s (Ok t, h, c) = tells_map {P = λ m n. CameOn (walk_asks w) now old.room (Ok t) m n} {Q = λ m n. Sound (chain m (walk_key w)) → LoggedTurn w m n s} old.rows new.rows
     (λ m n p sound. subst (LoggedTurn w m n) (sym (h.1 ∙ ap (walk_says w) p.1)) (by_op w m n sound w.at now p.0)) c.rows
 writes_are_logged w x now old new s (Err v, h, c) = absurd h
 
@@ -159,9 +174,14 @@ module _ (w : ReadWalk) where
   by_row now (Some (Row.Cell c)) h = by_last c c.next refl h.0
   by_row now (Some r) h = absurd h
 
+  pub by_chain : (now : ℕ) (m : Rows) → Sound (chain m (read_key w)) → ReadsContent w.who (read_says w (said (act Look now (map.get m (read_key w))).1)) (content (chain m (read_key w)))
+  by_chain now m sound = let head = first_head w.home w.item in
+      subst (ReadsContent w.who (read_says w (said (act Look now (map.get m (read_key w))).1))) (sym (head_content m (read_key w) head sound))
+      (by_row now (map.get m (read_key w)) (head_sound m (read_key w) head sound))
+
   module _ (now room : ℕ) (m n : Rows) where
     read : (s : ReadSays) (t : Told) → s ≡ read_says w t → CameOn (read_asks w) now room (Ok t) m n → ReadTurn w m n (Ok s)
-    read s t is h = (look_stands (read_key w) now room m n (Ok t) h, λ sound. subst (λ y. ReadsContent w.who y (content_in (map.get m (read_key w)))) (sym (is ∙ ap (read_says w) h.1)) (by_row now (map.get m (read_key w)) sound))
+    read s t is h = (look_stands (read_key w) now room m n (Ok t) h, λ sound. subst (λ y. ReadsContent w.who y (content (chain m (read_key w)))) (sym (is ∙ ap (read_says w) h.1)) (by_chain now m sound))
 
     -- it was out of memory after the Look, or there was none
     lost : (e : TableErr) (t : Told) → e ≡ OutOfMemory → CameOn (read_asks w) now room (Ok t) m n → ReadTurn w m n (Err e)

@@ -1,12 +1,11 @@
 -- A chain is a logged cell: a turn of a walk leaves the content of every item as it is, but for its own operation, which has
 -- one effect at its place, however many walks there are for it.
 use Rattle.std.specs.Prelude.{◌≡◌, ℕ, Bool, true, false, if◌then◌else◌, [], ◌∷◌, ◌++◌, Option, Some, None, Result, Ok, Err}
-use Rattle.std.specs.Ordering.{is_eq}
-use Rattle.std.specs.FinMap as map
 use Rattle.beldi_value.specs.{declared.id.IntentId.IntentId, declared.place.Owner.Owner, Id.age_of, Id.is_older, declared.place.Place.Place, declared.value.Value.Value, Passes.passes}
-use Rattle.beldi_row.specs.{declared.act.Act.Act, declared.notes.Note.Note, Act.act, Act.other_owner, Act.owns, Act.given_or, Key.RowKey, Key.key_cmp, declared.row.Row.Row, Log.note_at, declared.table.TableErr.TableErr, declared.table.TableErr.TheVariants.OutOfMemory, declared.table.TableErr.TheVariants.Failed, declared.table.TableErr.TheVariants.Full, Table.Rows, Table.TableState, Table.Tells}
+use Rattle.beldi_row.specs.{declared.notes.Note.Note, Act.other_owner, Act.owns, Act.given_or, Log.note_at, declared.table.TableErr.TableErr, declared.table.TableErr.TheVariants.OutOfMemory, declared.table.TableErr.TheVariants.Failed, declared.table.TableErr.TheVariants.Full, Table.Rows, Table.TableState, Table.Tells}
 use Rattle.beldi_walk.specs.Walk.{Turned}
-use Rattle.beldi_daal.specs.{declared.cell.CellOp.CellOp, declared.cell.CellOp.TheVariants.Write, declared.cell.CellOp.TheVariants.Cond, declared.cell.CellOp.TheVariants.Lock, declared.cell.CellOp.TheVariants.Free, declared.walk.WriteSays.WriteSays, declared.walk.WriteSays.TheVariants.Going, declared.walk.WriteSays.TheVariants.Done, declared.walk.WriteSays.TheVariants.NotOwner, declared.walk.WriteSays.TheVariants.Held, declared.walk.WriteSays.TheVariants.Worn, declared.walk.WriteWalk.WriteWalk, declared.read_walk.ReadWalk.ReadWalk, declared.read_walk.ReadSays.ReadSays, Content.Content, Content.content_in, Content.SoundAt, Cell.in_the_way, ReadWalk.read_key, ReadWalk.read_asks, ReadWalk.read_next, ReadWalk.read_says, Walk.walk_key, Walk.walk_asks, Walk.walk_next, Walk.walk_says}
+use Rattle.beldi_chain.specs.{Chain.ChangedAlone, Chain.Sound, Chain.chain, Chain.content, Content.Content, Content.content_in}
+use Rattle.beldi_daal.specs.{declared.cell.CellOp.CellOp, declared.cell.CellOp.TheVariants.Write, declared.cell.CellOp.TheVariants.Cond, declared.cell.CellOp.TheVariants.Lock, declared.cell.CellOp.TheVariants.Free, declared.walk.WriteSays.WriteSays, declared.walk.WriteSays.TheVariants.Going, declared.walk.WriteSays.TheVariants.Done, declared.walk.WriteSays.TheVariants.NotOwner, declared.walk.WriteSays.TheVariants.Held, declared.walk.WriteSays.TheVariants.Worn, declared.walk.WriteWalk.WriteWalk, declared.read_walk.ReadWalk.ReadWalk, declared.read_walk.ReadSays.ReadSays, Cell.in_the_way, ReadWalk.read_key, ReadWalk.read_asks, ReadWalk.read_next, ReadWalk.read_says, Walk.walk_key, Walk.walk_asks, Walk.walk_next, Walk.walk_says}
 
 -- ---- the walk of a write
 -- what an operation makes of the value, and of the owner, where this one asks; and the note that it leaves, by the value that
@@ -98,20 +97,15 @@ Logs p who op Worn c d = ⊥
 
 -- what a turn of a walk leaves, where its item's chain is sound
 pub record LoggedTurn (w : WriteWalk) (m n : Rows) (s : WriteSays) : Type 0 where
-  -- all other rows are as before
-  pub others : (k : RowKey) → is_eq (key_cmp k (walk_key w)) ≡ false → map.get n k ≡ map.get m k
-  pub logs : Logs w.place w.who w.op s (content_in (map.get m (walk_key w))) (content_in (map.get n (walk_key w)))
-  pub sound : SoundAt (map.get n (walk_key w))
+  -- the rows of all other items are as before
+  pub others : ChangedAlone (walk_key w) m n
+  pub logs : Logs w.place w.who w.op s (content (chain m (walk_key w))) (content (chain n (walk_key w)))
+  pub sound : Sound (chain n (walk_key w))
 
 -- for every turn that says something, over every table that tells its rows
 abbrev pub WritesAreLogged : Type 0
 WritesAreLogged = (w x : WriteWalk) (now : ℕ) (old new : TableState) (s : WriteSays) → Turned (walk_asks w) now (walk_next w) (walk_says w) w x old new (Ok s)
-    → Tells old.rows new.rows (λ m n. SoundAt (map.get m (walk_key w)) → LoggedTurn w m n s)
-
--- ---- whatever comes
--- no act takes away the note that a place has on a row of an item
-abbrev pub NotesStay : Type 0
-NotesStay = (a : Act) (now : ℕ) (r : Option Row) (p : Place) (n : Note) → note_at (content_in r).notes p ≡ Some n → note_at (content_in (act a now r).0).notes p ≡ Some n
+    → Tells old.rows new.rows (λ m n. Sound (chain m (walk_key w)) → LoggedTurn w m n s)
 
 -- ---- the walk of a read
 -- what it says is so of the content: the value, none where the item has no row; or the owner that is in the way
@@ -123,7 +117,7 @@ ReadsContent who ReadSays.Going c = ⊥
 
 -- the rows are as before, and a Look adds none, so it is never refused as Full; what is said is so where the chain is sound
 abbrev pub ReadTurn : ReadWalk → Rows → Rows → Result ReadSays TableErr → Type 0
-ReadTurn w m n (Ok s) = (n ≡ m) × (SoundAt (map.get m (read_key w)) → ReadsContent w.who s (content_in (map.get m (read_key w))))
+ReadTurn w m n (Ok s) = (n ≡ m) × (Sound (chain m (read_key w)) → ReadsContent w.who s (content (chain m (read_key w))))
 ReadTurn w m n (Err OutOfMemory) = n ≡ m
 ReadTurn w m n (Err Failed) = n ≡ m
 ReadTurn w m n (Err (Full live most)) = ⊥

@@ -1,17 +1,11 @@
 // The laws of the walks.
-ghost use Rattle.beldi_daal.specs.Logged.{WritesAreLogged, NotesStay, ReadsAreContents};
+ghost use Rattle.beldi_daal.specs.Logged.{WritesAreLogged, ReadsAreContents};
 
 /// A turn of the walk of an operation leaves every item as it is, but for that operation. `Done` says that the place has its
 /// note, and `first` that this turn made it: so a place has one effect, however many walks there are for it. `Held` and
 /// `NotOwner` say what bars the operation.
 pub fn a_chain_is_a_logged_cell()
     ensures { WritesAreLogged }
-{}
-
-/// No act, whoever makes it, takes away the note that a place has on a row: so what the first walk for a place was told, every
-/// later one is told: a place that got a lock is told so again, though the lock was given back since.
-pub fn a_note_stays()
-    ensures { NotesStay }
 {}
 
 /// What the walk of a read says is what its item holds: its value, or the owner that is in the way.

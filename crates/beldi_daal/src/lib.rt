@@ -1,7 +1,8 @@
-//! The walks over the rows of an item, and their parts, which runs share. It stands on `beldi_row` and `beldi_walk`.
+//! The walks over the rows of an item, and their parts, which runs share. It stands on `beldi_walk` and
+//! `beldi_chain`.
 //! Their definitions: `specs/Cell` (what is asked of the rows of an item, and what follows from what is told), `specs/Walk`
-//! (the walk of a write), `specs/ReadWalk` (the walk of a read), `specs/Content` (what the rows of an item hold) and
-//! `specs/Logged` (that turns leave it as it is, but for one effect a place).
+//! (the walk of a write), `specs/ReadWalk` (the walk of a read) and `specs/Logged` (that turns leave the content of each chain as it
+//! is, but for one effect a place).
 //!
 //! Proved:
 //! - The parts say what the definitions say: what a write asks, and where a write and a read go after they were told
@@ -14,14 +15,13 @@
 //!   operation sets the value, sets it where it passes a test, takes the lock, or gives it back; a transaction that asks for the
 //!   lock dies of another owner that is not younger, and its death is kept. Where it is done the walk tells
 //!   the note that is kept at the place, and whether this turn made it; where it is not, since another owns the item, or who
-//!   gives the lock back does not, it tells that (`a_chain_is_a_logged_cell`). No act takes away the note of a place, so every
-//!   later walk for it is told the same (`a_note_stays`). A read's walk changes nothing, is never refused as `Full`, and says
+//!   gives the lock back does not, it tells that (`a_chain_is_a_logged_cell`). A read's walk changes nothing, is never refused as `Full`, and says
 //!   the content's value, or the owner that is in the way (`a_read_gives_the_content`).
 //!
 //! Files:
 //! - Code (`src/`): `cell` the operations on an item, what they ask of its rows, and what follows, for walks and runs; `walk`
 //!   the walk of an operation; `read_walk` that of a read; `laws`.
-//! - Lemmas (`proofs/`): `Logged`; `Stays` that notes stay; `Bars` the owner in the way.
+//! - Lemmas (`proofs/`): `Logged`; `Bars` the owner in the way.
 #![tactic(auto)]
 
 mod cell;
@@ -32,6 +32,6 @@ mod walk;
 pub use cell::{
     CellOp, ReadGoes, WriteAt, WriteGoes, cell_key, read_told, shadow_key, write_query, write_told,
 };
-pub use laws::{a_chain_is_a_logged_cell, a_note_stays, a_read_gives_the_content};
+pub use laws::{a_chain_is_a_logged_cell, a_read_gives_the_content};
 pub use read_walk::{ReadSays, ReadWalk};
 pub use walk::{Item, WriteSays, WriteWalk};

@@ -1,9 +1,9 @@
 -- Each act inside an open transaction, among all others: what shadows show is kept, and what is known stays beside the plain state.
 use Rattle.beldi_plain.specs.Piece.{is_owner}
-use Rattle.beldi_known.proofs.Names.{AllGot, AllShow, Answer, Bool, CallsGo, Cause, DeathsGo, Deployment, Effect, FirstRowsGo, Goes, Got, Instance, IntentId, IsAnswer, IsFront, IsIn, IsSound, Item, Items, Known, Line, List, LockedOut, Move, None, OnItem, OpenTx, Option, Outcome, PlainState, ReadsGo, Rel, ReturnsGo, Row, RowKey, Rows, RowsGo, Sane, ShadowShows, Shadows, Shows, Some, TestsGo, Tx, TxId, Txs, Value, WritesGo, aborted, and_right, answer_by, answer_inside, answer_of, ap, at_once, begins, callee_in, callee_of, calls_at, child_of, child_same, cond, content_in, did, effect_of, elsewhere, end_of, ended, ended_by, eq_by_cmp_equiv, equal, false, false_from_ne_true, fell, got_before, got_by, has_callees, head_key, id_cmp, id_total, if◌then◌else◌, inl, inr, is_aborted, is_edge, is_eq, is_item, is_on, is_some, is_writing, item_cmp, item_in, item_of, item_total, items_after, items_by, length, log_key, made_set, moved, new_member, none_by, not_own, not_owner, op_of, or_null, or_old, or_own, or_right, passes, place_of, plain, plain_set, refl, same_some, set_row, sets, shadow_key, shadow_of, subst, sym, test_on, tested, tied_itself, touched, true, tx_begun, tx_by, tx_end, tx_now, txs_after, txs_by, value_at, value_in, write, write_on, writes_on, writing_at, ℕ, ◌&&◌, ◌∙◌, ◌≡◌, ◌⊎◌}
+use Rattle.beldi_known.proofs.Names.{AllGot, AllShow, Answer, Bool, CallsGo, Cause, ChangedAlone, DeathsGo, Deployment, Effect, FirstRowsGo, Goes, Got, Instance, IntentId, IsAnswer, IsFront, IsIn, IsSound, Item, Items, Known, Line, List, LockedOut, Move, None, OnItem, OpenTx, Outcome, PlainState, ReadsGo, Rel, ReturnsGo, Row, Rows, RowsGo, SameShadows, Sane, ShadowShows, Shadows, Shows, Some, TestsGo, Tx, TxId, Txs, Value, WritesGo, aborted, and_right, answer_by, answer_inside, answer_of, ap, at_once, begins, callee_in, callee_of, calls_at, child_of, child_same, cond, did, effect_of, elsewhere, end_of, ended, ended_by, eq_by_cmp_equiv, equal, false, false_from_ne_true, fell, got_before, got_by, has_callees, id_cmp, id_total, if◌then◌else◌, inl, inr, is_aborted, is_edge, is_eq, is_item, is_on, is_some, is_writing, item_cmp, item_in, item_of, item_total, items_after, items_by, length, log_key, made_set, moved, new_member, none_by, not_own, not_owner, op_of, or_null, or_old, or_own, or_right, passes, place_of, plain, plain_set, refl, same_some, set_row, sets, shadow_chain, shadow_key, shadow_of, shadow_row, subst, sym, tail, tail_value, test_on, tested, tied_itself, touched, true, tx_begun, tx_by, tx_end, tx_now, txs_after, txs_by, value_at, value_in, write, write_on, writes_on, writing_at, ℕ, ◌&&◌, ◌∙◌, ◌≡◌, ◌⊎◌}
 use Rattle.beldi_known.proofs.Lines.{alone, alone_callee, called_in, front_in_tx, front_is, in_tx, known_line, member_is, owner_outside, set_cases, owner_alone}
 use Rattle.beldi_known.proofs.Shadows.{more_writes, writing_more, of_row, there_value, others_rows, row_set, got_answered, got_passed, got_still, got_set, shadows_rows}
-use Rattle.beldi_known.proofs.{Acts.is_shadow, Answers.true_false, AtOnce.origin_stays, Frame.at_once_same, Frame.moved_one, FrameAt.known_set, Callers.caller_in, Callers.waits_for, Lists.elsewhere as row_elsewhere, Locks.tx_self, Owns.not_ended, Owns.seen, Owns.unwritten, Steps.GoesOn, Steps.goes_answered, Steps.goes_called, Steps.goes_returned, Told.write_parts, Told.test_parts, Behind.death_of, Cases.by_cases, Operations.kept_or}
+use Rattle.beldi_known.proofs.{Acts.aside_apart, Acts.is_shadow, Acts.kind_off, Acts.other_shadows, Acts.same_shadow, Answers.true_false, AtOnce.origin_stays, Frame.at_once_same, Frame.moved_one, FrameAt.known_set, Callers.caller_in, Callers.waits_for, Locks.tx_self, Owns.not_ended, Owns.seen, Owns.unwritten, Steps.GoesOn, Steps.goes_answered, Steps.goes_called, Steps.goes_returned, Told.write_parts, Told.test_parts, Behind.death_of, Cases.by_cases, Operations.kept_or}
 use Rattle.beldi_known.proofs.Names.map
 use Rattle.beldi_known.proofs.Names.operation
 
@@ -63,13 +63,13 @@ module _ (d : Deployment) (m : Rows) (p : PlainState) (known : Known) (locked : 
 
   -- ---- all of them
   module _ (after : Known) (n : Rows) (unlocked : IntentId → Bool) (ch : Changed d p known after o q) (locks : Others d p o (λ u. (i : IntentId) → IsIn u i → locked i ≡ true → unlocked i ≡ true))
-      (rows_stay : (u : TxId) (x : Item) → (u ≡ tx_begun o q → ⊥) → map.get n (shadow_key u x) ≡ map.get m (shadow_key u x)) where
+      (rows_stay : (u : TxId) (x : Item) → (u ≡ tx_begun o q → ⊥) → shadow_chain n u x ≡ shadow_chain m u x) where
     other_shows : (j : IntentId) (y : Instance) → map.get p.made j ≡ Some y → begins d y ≡ true → (o ≡ j → ⊥) → Shows d n p after unlocked j y
     other_shows j y there c apart = record {
       tx = record { moves = s.tx.moves; going = s.tx.going; leads = s.tx.leads; whole = λ i is_in. ch.others j y there c apart i is_in ∙ s.tx.whole i is_in };
-      shadows = λ x. more_writes (is_writing d locked x s.tx.going) (is_writing d unlocked x s.tx.going) (map.get n (shadow_key (tx_begun j y) x)) (value_at s.tx.going.state x)
+      shadows = λ x. more_writes (is_writing d locked x s.tx.going) (is_writing d unlocked x s.tx.going) (shadow_row n (tx_begun j y) x) (value_at s.tx.going.state x)
           (writing_more d locked unlocked x s.tx.going.front (map.get s.tx.going.state.made s.tx.going.front) (locks j y there c apart s.tx.going.front (front_in_tx d p known h.plain_sane j y there c s.tx)))
-          (subst (λ w. ShadowShows (is_writing d locked x s.tx.going) w (value_at s.tx.going.state x)) (sym (rows_stay (tx_begun j y) x (λ same. apart (ap (λ (t : TxId). t.intent) (sym same))))) (s.shadows x));
+          (subst (λ w. ShadowShows (is_writing d locked x s.tx.going) (tail w) (value_at s.tx.going.state x)) (sym (rows_stay (tx_begun j y) x (λ same. apart (ap (λ (t : TxId). t.intent) (sym same))))) (s.shadows x));
     }
       where
         s : Shows d m p known locked j y
@@ -93,11 +93,11 @@ module _ (d : Deployment) (m : Rows) (p : PlainState) (known : Known) (locked : 
             (λ e. subst (λ i. map.get p.made i ≡ Some y → Shows d n p after unlocked i y) (equal o j e) (λ g. subst (λ z. Shows d n p after unlocked o z) (same_some (sym made ∙ g)) own) there)
             (λ e. other_shows j y there c (λ same. true_false (sym (ap is_eq (tied_itself id_total o)) ∙ ap (λ z. is_eq (id_cmp o z)) same ∙ e)))
 
-    own_shows : (front : IntentId) (items : Items) → GoesOn d p after o q front items → ((x : Item) → ShadowShows false (map.get n (shadow_key (tx_begun o q) x)) (or_null (map.get items x))) → Shows d n p after unlocked o q
+    own_shows : (front : IntentId) (items : Items) → GoesOn d p after o q front items → ((x : Item) → ShadowShows false (shadow_row n (tx_begun o q) x) (or_null (map.get items x))) → Shows d n p after unlocked o q
     own_shows front items g shows = record {
       tx = g.tx;
-      shadows = λ x. more_writes false (is_writing d unlocked x g.tx.going) (map.get n (shadow_key (tx_begun o q) x)) (value_at g.tx.going.state x) (λ e. cc)
-          (subst (λ z. ShadowShows false (map.get n (shadow_key (tx_begun o q) x)) (or_null (map.get z x))) (sym g.items_are) (shows x));
+      shadows = λ x. more_writes false (is_writing d unlocked x g.tx.going) (shadow_row n (tx_begun o q) x) (value_at g.tx.going.state x) (λ e. cc)
+          (subst (λ z. ShadowShows false (shadow_row n (tx_begun o q) x) (or_null (map.get z x))) (sym g.items_are) (shows x));
     }
 
   -- ---- who can step
@@ -112,10 +112,10 @@ module _ (d : Deployment) (m : Rows) (p : PlainState) (known : Known) (locked : 
     writing_is x = (λ i. writing_at d locked x (front i) (map.get tx.going.state.made (front i))) ∙ ap (writing_at d locked x id) (sym (tx.whole id id_in) ∙ is)
 
     -- where it writes not, the shadow shows
-    settled : (x : Item) → (locked id && writes_on x k.func (effect_of d k)) ≡ false → ShadowShows false (map.get m (shadow_key (tx_begun o q) x)) (value_at tx.going.state x)
-    settled x off = subst (λ b. ShadowShows b (map.get m (shadow_key (tx_begun o q) x)) (value_at tx.going.state x)) (writing_is x ∙ off) (mine.shadows x)
+    settled : (x : Item) → (locked id && writes_on x k.func (effect_of d k)) ≡ false → ShadowShows false (shadow_row m (tx_begun o q) x) (value_at tx.going.state x)
+    settled x off = subst (λ b. ShadowShows b (shadow_row m (tx_begun o q) x) (value_at tx.going.state x)) (writing_is x ∙ off) (mine.shadows x)
 
-    sees : (x : Item) → (locked id && writes_on x k.func (effect_of d k)) ≡ false → value_in (map.get m (shadow_key (tx_begun o q) x)) (value_at p x) ≡ value_at tx.going.state x
+    sees : (x : Item) → (locked id && writes_on x k.func (effect_of d k)) ≡ false → value_in (shadow_row m (tx_begun o q) x) (value_at p x) ≡ value_at tx.going.state x
     sees x off = seen d p known h.sane h.plain_sane o q made b tx locked x m h.matches (mine.shadows x) (writing_is x ∙ off)
 
     -- an answer: to no Begin, no End and no call
@@ -136,8 +136,8 @@ module _ (d : Deployment) (m : Rows) (p : PlainState) (known : Known) (locked : 
       locks_of : Others d p o (λ u. (i : IntentId) → IsIn u i → locked i ≡ true → unlocked i ≡ true)
       locks_of j y there c apart i is_in l = out.others i (false_from_ne_true (is_eq (id_cmp i id)) (λ e. out_of id k id_in is j y there c apart (subst (IsIn (tx_begun j y)) (equal i id e) is_in))) ∙ l
 
-      answered_goes : (n : Rows) (a : Answer) (items : Items) → is_edge (effect_of d k) ≡ false → (locked id ≡ true → is_aborted a ≡ false) → ((u : TxId) (x : Item) → (u ≡ tx_begun o q → ⊥) → map.get n (shadow_key u x) ≡ map.get m (shadow_key u x))
-          → AllGot d n known locked → GoesOn d p (map.insert known id (moved d id k a)) o q id items → ((x : Item) → ShadowShows false (map.get n (shadow_key (tx_begun o q) x)) (or_null (map.get items x))) → Goes d n p (map.insert known id (moved d id k a)) unlocked
+      answered_goes : (n : Rows) (a : Answer) (items : Items) → is_edge (effect_of d k) ≡ false → (locked id ≡ true → is_aborted a ≡ false) → ((u : TxId) (x : Item) → (u ≡ tx_begun o q → ⊥) → shadow_chain n u x ≡ shadow_chain m u x)
+          → AllGot d n known locked → GoesOn d p (map.insert known id (moved d id k a)) o q id items → ((x : Item) → ShadowShows false (shadow_row n (tx_begun o q) x) (or_null (map.get items x))) → Goes d n p (map.insert known id (moved d id k a)) unlocked
       answered_goes n a items edge lives rows_stay got g shows =
           let after = map.insert known id (moved d id k a) in
           let ch = changed_answer known a is edge in
@@ -175,7 +175,7 @@ module _ (d : Deployment) (m : Rows) (p : PlainState) (known : Known) (locked : 
   abbrev going : Items
   going = (tx d m p known locked h o q made b).going.state.items
 
-  shown : (z : Item) → (locked id && writes_on z k.func (effect_of d k)) ≡ false → ShadowShows false (map.get m (shadow_key (tx_begun o q) z)) (value_at (tx d m p known locked h o q made b).going.state z)
+  shown : (z : Item) → (locked id && writes_on z k.func (effect_of d k)) ≡ false → ShadowShows false (shadow_row m (tx_begun o q) z) (value_at (tx d m p known locked h o q made b).going.state z)
   shown z off = settled d m p known locked h o q made b id k f.made f.inside none free z off
 
   -- a lock that is ahead got its item
@@ -186,131 +186,117 @@ module _ (d : Deployment) (m : Rows) (p : PlainState) (known : Known) (locked : 
   }
 
   -- rows that are no shadows
-  module _ (key : RowKey) (row : Option Row) (kind : is_shadow key.kind ≡ false) where
-    abbrev set_other : Rows
-    set_other = set_row m key row
-
-    others_stay : (u : TxId) (z : Item) → map.get (set_row m key row) (shadow_key u z) ≡ map.get m (shadow_key u z)
-    others_stay u z = row_elsewhere m key row is_shadow (shadow_key u z) refl kind
-
-    got_stays : AllGot d (set_row m key row) known locked
-    got_stays = got_still d m set_other known known locked locked h.shadows.got (λ u z there. sym (ap is_some (others_stay u z)) ∙ there) (λ u z j e. e)
+  module _ (n : Rows) (others_stay : SameShadows m n) where
+    got_stays : AllGot d n known locked
+    got_stays = got_still d m n known known locked locked h.shadows.got (λ u z there. sym (ap (λ r. is_some (tail r)) (others_stay u z)) ∙ there) (λ u z j e. e)
 
     module _ (unlocked : IntentId → Bool) (out : LockedOut locked unlocked id) where
-      read_goes : (v : Value) → effect_of d k ≡ Effect.Read t y → value_in (map.get m (shadow_key (tx_begun o q) (item_of k t y))) (value_at p (item_of k t y)) ≡ v → Goes d (set_row m key row) p (map.insert known id (moved d id k (Answer.Value v))) unlocked
+      read_goes : (v : Value) → effect_of d k ≡ Effect.Read t y → value_in (shadow_row m (tx_begun o q) (item_of k t y)) (value_at p (item_of k t y)) ≡ v → Goes d n p (map.insert known id (moved d id k (Answer.Value v))) unlocked
       read_goes v wants is =
           let off = λ (z : Item). ap (λ e. locked id && writes_on z k.func e) wants ∙ and_right (locked id) false refl in
           let seen = sym (sees d m p known locked h o q made b id k f.made f.inside none free x (off x)) ∙ is in
-          answered_goes d m p known locked h o q made b id k f.made f.inside none free unlocked out set_other (Answer.Value v) (items_by going k (effect_of d k) plain) apart.0 (λ l. refl) (λ u z other. others_stay u z) got_stays
+          answered_goes d m p known locked h o q made b id k f.made f.inside none free unlocked out n (Answer.Value v) (items_by going k (effect_of d k) plain) apart.0 (λ l. refl) (λ u z other. others_stay u z) got_stays
           (goes_on d m p known locked h o q made b id k f.made f.inside none free (Answer.Value v) plain (ap (answer_inside going k.func) wants ∙ ap (λ w. Some (Answer.Value w)) seen))
-          (λ z. subst (λ e. ShadowShows false (map.get set_other (shadow_key s z)) (or_null (map.get (items_by going k e plain) z))) (sym wants)
-          (subst (λ r. ShadowShows false r (or_null (map.get going z))) (sym (others_stay s z)) (shown z (off z))))
+          (λ z. subst (λ e. ShadowShows false (shadow_row n s z) (or_null (map.get (items_by going k e plain) z))) (sym wants)
+          (subst (λ r. ShadowShows false (tail r) (or_null (map.get going z))) (sym (others_stay s z)) (shown z (off z))))
 
-      death_goes : (c : Cause) → locked id ≡ false → IsAnswer (place_of id (length k.answers)) (Some (tx_begun o q)) (effect_of d k) (Answer.Aborted c) → Goes d (set_row m key row) p (map.insert known id (moved d id k (Answer.Aborted c))) unlocked
+      death_goes : (c : Cause) → locked id ≡ false → IsAnswer (place_of id (length k.answers)) (Some (tx_begun o q)) (effect_of d k) (Answer.Aborted c) → Goes d n p (map.insert known id (moved d id k (Answer.Aborted c))) unlocked
       death_goes c was fits =
           let w = death_of (place_of id (length k.answers)) (tx_begun o q) (effect_of d k) c (ap is_some f.touch) fits in
-          answered_goes d m p known locked h o q made b id k f.made f.inside none free unlocked out set_other (Answer.Aborted c) going apart.0 (λ l. absurd (true_false (sym l ∙ was))) (λ u z other. others_stay u z) got_stays
+          answered_goes d m p known locked h o q made b id k f.made f.inside none free unlocked out n (Answer.Aborted c) going apart.0 (λ l. absurd (true_false (sym l ∙ was))) (λ u z other. others_stay u z) got_stays
           (goes_on d m p known locked h o q made b id k f.made f.inside none free (Answer.Aborted c) (fell (Some w.holder))
           (ap (λ z. if z then Some (aborted id k (Some w.holder)) else None) (ap is_some f.touch) ∙ ap (λ z. Some (Answer.Aborted z)) (sym w.cause)))
-          (λ z. subst (λ r. ShadowShows false r (or_null (map.get going z))) (sym (others_stay s z)) (shown z (ap (λ u. u && writes_on z k.func (effect_of d k)) was)))
+          (λ z. subst (λ r. ShadowShows false (tail r) (or_null (map.get going z))) (sym (others_stay s z)) (shown z (ap (λ u. u && writes_on z k.func (effect_of d k)) was)))
 
-  -- a row of its shadow
-  module _ (row : Option Row) where
-    abbrev set_own : Rows
-    set_own = set_row m (shadow_key s x) row
+  -- the rows of its shadow
+  module _ (n : Rows) (own_changed : ChangedAlone (shadow_key (tx_begun o q) (item_of k t y)) m n) where
+    got_own : locked id ≡ true → AllGot d n known locked
+    got_own was = got_set d m known locked h.shadows.got s x n own_changed (front_got was)
 
-    got_own : locked id ≡ true → AllGot d (set_row m (shadow_key (tx_begun o q) (item_of k t y)) row) known locked
-    got_own was = got_set d m known locked h.shadows.got s x row (front_got was)
-
-    first_row : locked id ≡ true → map.get m (shadow_key (tx_begun o q) (item_of k t y)) ≡ None → ((writes_on (item_of k t y) k.func (effect_of d k) ≡ true) ⊎ ((content_in row).value ≡ value_at p (item_of k t y)))
-        → Shadows d (set_row m (shadow_key (tx_begun o q) (item_of k t y)) row) p known locked
+    first_row : locked id ≡ true → shadow_row m (tx_begun o q) (item_of k t y) ≡ None → ((writes_on (item_of k t y) k.func (effect_of d k) ≡ true) ⊎ ((shadow_of n (tx_begun o q) (item_of k t y)).value ≡ value_at p (item_of k t y)))
+        → Shadows d n p known locked
     first_row was bare by =
         let one = tx d m p known locked h o q made b in
         let shows = (mine d m p known locked h o q made b).shadows in
-        (all_goes d m p known locked h o q made b known set_own locked (changed_none d p known o q) (λ j y there c apart i is_in l. l) (λ u z other. others_rows m s x row u z other)
+        (all_goes d m p known locked h o q made b known n locked (changed_none d p known o q) (λ j y there c apart i is_in l. l) (λ u z other. others_rows m n s x own_changed u z other)
         (record {
           tx = one;
-          shadows = row_set m s x row (λ z r. ShadowShows (is_writing d locked z one.going) r (value_at one.going.state z))
-              (of_row (is_writing d locked x one.going) row (value_at one.going.state x) (elim by [
+          shadows = row_set m n s x own_changed (λ z r. ShadowShows (is_writing d locked z one.going) r (value_at one.going.state z))
+              (of_row (is_writing d locked x one.going) (shadow_row n s x) (value_at one.going.state x) (elim by [
                 | inl e ↦ inl (writing_is d m p known locked h o q made b id k f.made f.inside none free x ∙ (λ i. was i && e i))
-                | inr e ↦ inr (e ∙ sym (unwritten d p known h.sane h.plain_sane o q made b one locked x m h.matches bare))
+                | inr e ↦ inr (sym (tail_value (shadow_chain n s x)) ∙ e ∙ sym (unwritten d p known h.sane h.plain_sane o q made b one locked x m h.matches bare))
               ])) (λ z other. shows z);
         }) (got_own was)).shadows
 
     module _ (unlocked : IntentId → Bool) (out : LockedOut locked unlocked id) (was : locked id ≡ true) where
       -- an operation on it, by the value that it leaves
       set_goes : (w : OnItem) (a : Answer) → x ≡ item_in k.func w → op_of (effect_of d k) ≡ Some w → answer_inside going k.func (effect_of d k) ≡ Some a → is_aborted a ≡ false
-          → (content_in row).value ≡ or_old (sets w.does (or_null (map.get going (item_in k.func w)))) (or_null (map.get going (item_in k.func w))) → ((z : Item) → is_eq (item_cmp x z) ≡ false → writes_on z k.func (effect_of d k) ≡ false)
-          → Goes d (set_row m (shadow_key (tx_begun o q) (item_of k t y)) row) p (map.insert known id (moved d id k a)) unlocked
+          → (shadow_of n (tx_begun o q) (item_of k t y)).value ≡ or_old (sets w.does (or_null (map.get going (item_in k.func w)))) (or_null (map.get going (item_in k.func w))) → ((z : Item) → is_eq (item_cmp x z) ≡ false → writes_on z k.func (effect_of d k) ≡ false)
+          → Goes d n p (map.insert known id (moved d id k a)) unlocked
       set_goes w a same op gives lives leaves off =
           let after = items_by going k (effect_of d k) plain in
           let there : after ≡ items_after going k.func (Some w) = ap (items_after going k.func) op in
           let value = λ (z : Item). ap (λ i. or_null (map.get i z)) there ∙ plain_set going (item_in k.func w) z (sets w.does (or_null (map.get going (item_in k.func w)))) in
-          answered_goes d m p known locked h o q made b id k f.made f.inside none free unlocked out set_own a after apart.0 (λ l. lives) (λ u z other. others_rows m s x row u z other) (got_own was)
+          answered_goes d m p known locked h o q made b id k f.made f.inside none free unlocked out n a after apart.0 (λ l. lives) (λ u z other. others_rows m n s x own_changed u z other) (got_own was)
           (goes_on d m p known locked h o q made b id k f.made f.inside none free a plain gives)
-          (row_set m s x row (λ z r. ShadowShows false r (or_null (map.get after z)))
-          (of_row false row (or_null (map.get after x)) (inr (leaves ∙ sym (value x
+          (row_set m n s x own_changed (λ z r. ShadowShows false r (or_null (map.get after z)))
+          (of_row false (shadow_row n s x) (or_null (map.get after x)) (inr (sym (tail_value (shadow_chain n s x)) ∙ leaves ∙ sym (value x
           ∙ ap (λ c. cond c (or_old (sets w.does (or_null (map.get going (item_in k.func w)))) (or_null (map.get going (item_in k.func w)))) (or_null (map.get going x))) (ap (λ z. is_eq (item_cmp x z)) (sym same) ∙ ap is_eq (tied_itself item_total x))))))
-          (λ z other. subst (ShadowShows false (map.get m (shadow_key s z))) (sym (value z ∙ ap (λ c. cond c (or_old (sets w.does (or_null (map.get going (item_in k.func w)))) (or_null (map.get going (item_in k.func w)))) (or_null (map.get going z)))
+          (λ z other. subst (ShadowShows false (shadow_row m s z)) (sym (value z ∙ ap (λ c. cond c (or_old (sets w.does (or_null (map.get going (item_in k.func w)))) (or_null (map.get going (item_in k.func w)))) (or_null (map.get going z)))
           (ap (λ i. is_eq (item_cmp z i)) (sym same) ∙ (eq_by_cmp_equiv item_total).symm z x ∙ other))) (shown z (ap (λ u. locked id && u) (off z other) ∙ and_right (locked id) false refl))))
 
-      write_goes : (v : Value) → effect_of d k ≡ Effect.Write t y v → write_on (place_of id (length k.answers)) (Tx (tx_begun o q)) v (shadow_of m (tx_begun o q) (item_of k t y)) ≡ (content_in row, did)
-          → Goes d (set_row m (shadow_key (tx_begun o q) (item_of k t y)) row) p (map.insert known id (moved d id k Answer.Done)) unlocked
+      write_goes : (v : Value) → effect_of d k ≡ Effect.Write t y v → write_on (place_of id (length k.answers)) (Tx (tx_begun o q)) v (shadow_of m (tx_begun o q) (item_of k t y)) ≡ (shadow_of n (tx_begun o q) (item_of k t y), did)
+          → Goes d n p (map.insert known id (moved d id k Answer.Done)) unlocked
       write_goes v wants acts = set_goes (record { table = t; key = y; does = write v }) Answer.Done refl (ap op_of wants) (ap (answer_inside going k.func) wants) refl
-          (ap (λ c. c.value) (write_parts (place_of id (length k.answers)) (Tx s) v (shadow_of m s x) (content_in row) acts).1) (λ z other. ap (writes_on z k.func) wants ∙ other)
+          (ap (λ c. c.value) (write_parts (place_of id (length k.answers)) (Tx s) v (shadow_of m s x) (shadow_of n s x) acts).1) (λ z other. ap (writes_on z k.func) wants ∙ other)
 
-      test_goes : (u : Rel) (w v : Value) (c : Bool) → effect_of d k ≡ Effect.CondWrite t y u w v → is_some (map.get m (shadow_key (tx_begun o q) (item_of k t y))) ≡ true
-          → test_on (place_of id (length k.answers)) (Tx (tx_begun o q)) u w v (shadow_of m (tx_begun o q) (item_of k t y)) ≡ (content_in row, tested c) → Goes d (set_row m (shadow_key (tx_begun o q) (item_of k t y)) row) p (map.insert known id (moved d id k (Answer.Value (Value.Bool c)))) unlocked
+      test_goes : (u : Rel) (w v : Value) (c : Bool) → effect_of d k ≡ Effect.CondWrite t y u w v → is_some (shadow_row m (tx_begun o q) (item_of k t y)) ≡ true
+          → test_on (place_of id (length k.answers)) (Tx (tx_begun o q)) u w v (shadow_of m (tx_begun o q) (item_of k t y)) ≡ (shadow_of n (tx_begun o q) (item_of k t y), tested c) → Goes d n p (map.insert known id (moved d id k (Answer.Value (Value.Bool c)))) unlocked
       test_goes u w v c wants there acts =
-          let parts = test_parts (place_of id (length k.answers)) (Tx s) u w v (shadow_of m s x) (content_in row) c acts in
+          let parts = test_parts (place_of id (length k.answers)) (Tx s) u w v (shadow_of m s x) (shadow_of n s x) c acts in
           let off = λ (z : Item). ap (λ e. writes_on z k.func e) wants in
-          let seen : (shadow_of m s x).value ≡ or_null (map.get going x) = there_value (map.get m (shadow_key s x)) (or_null (map.get going x)) (shown x (ap (λ e. locked id && e) (off x) ∙ and_right (locked id) false refl)) there in
+          let seen : (shadow_of m s x).value ≡ or_null (map.get going x) = tail_value (shadow_chain m s x) ∙ there_value (shadow_row m s x) (or_null (map.get going x)) (shown x (ap (λ e. locked id && e) (off x) ∙ and_right (locked id) false refl)) there in
           set_goes (record { table = t; key = y; does = operation.cond u w v }) (Answer.Value (Value.Bool c)) refl (ap op_of wants)
           (ap (answer_inside going k.func) wants ∙ ap (λ z. Some (Answer.Value (Value.Bool (passes z u w)))) (sym seen) ∙ ap (λ z. Some (Answer.Value (Value.Bool z))) parts.2) refl
           (ap (λ c. c.value) parts.1 ∙ sym (kept_or (passes (shadow_of m s x).value u w) v (shadow_of m s x).value) ∙ ap (λ z. or_old (if passes z u w then Some v else None) z) seen) (λ z other. off z)
 
 -- ---- the laws
 pub reads_go : ReadsGo
-reads_go d m p known locked after id k s t y v h f out wants is =
-    read_goes d m p known locked h.sound s.intent h.owner h.made h.begun id k t y (subst (λ z. IsFront d known id k z t y) h.is f) (log_key k.func (place_of id (length k.answers))) (Some (Row.ReadLog v)) refl after out v wants
-    (ap (λ z. value_in (map.get m (shadow_key z (item_of k t y))) (value_at p (item_of k t y))) (sym h.is) ∙ is)
+reads_go d m p known locked after id k s t y v h f out wants is = let key = log_key k.func (place_of id (length k.answers)) in let row = Some (Row.ReadLog v) in
+    read_goes d m p known locked h.sound s.intent h.owner h.made h.begun id k t y (subst (λ z. IsFront d known id k z t y) h.is f) (set_row m key row) (λ u z. aside_apart m key row u z (kind_off is_shadow same_shadow (shadow_key u z) key refl refl)) after out v wants
+    (ap (λ z. value_in (shadow_row m z (item_of k t y)) (value_at p (item_of k t y))) (sym h.is) ∙ is)
 
 pub deaths_go : DeathsGo
-deaths_go d m p known locked after id k s t y r c h f out was fits =
-    death_goes d m p known locked h.sound s.intent h.owner h.made h.begun id k t y (subst (λ z. IsFront d known id k z t y) h.is f) (head_key (item_of k t y)) r refl after out c was
+deaths_go d m p known locked after id k s t y n c h f out changed was fits =
+    death_goes d m p known locked h.sound s.intent h.owner h.made h.begun id k t y (subst (λ z. IsFront d known id k z t y) h.is f) n (other_shadows m n (item_of k t y) changed) after out c was
     (subst (λ z. IsAnswer (place_of id (length k.answers)) (Some z) (effect_of d k) (Answer.Aborted c)) h.is fits)
 
 pub writes_go : WritesGo
-writes_go d m p known locked after id k s t y v r h f out was wants acts =
-    let x = item_of k t y in
-    subst (λ z. Goes d (set_row m (shadow_key z x) r) p (map.insert known id (moved d id k Answer.Done)) after) (sym h.is)
-    (write_goes d m p known locked h.sound s.intent h.owner h.made h.begun id k t y (subst (λ z. IsFront d known id k z t y) h.is f) r after out was v wants
-    (subst (λ z. write_on (place_of id (length k.answers)) (Tx z) v (shadow_of m z x) ≡ (content_in r, did)) h.is acts))
+writes_go d m p known locked after id k s t y v n h f out changed was wants acts = let x = item_of k t y in
+    write_goes d m p known locked h.sound s.intent h.owner h.made h.begun id k t y (subst (λ z. IsFront d known id k z t y) h.is f) n (subst (λ z. ChangedAlone (shadow_key z x) m n) h.is changed) after out was v wants
+    (subst (λ z. write_on (place_of id (length k.answers)) (Tx z) v (shadow_of m z x) ≡ (shadow_of n z x, did)) h.is acts)
 
 pub tests_go : TestsGo
-tests_go d m p known locked after id k s t y u w v c r h f out was wants there acts =
-    let x = item_of k t y in
-    subst (λ z. Goes d (set_row m (shadow_key z x) r) p (map.insert known id (moved d id k (Answer.Value (Value.Bool c)))) after) (sym h.is)
-    (test_goes d m p known locked h.sound s.intent h.owner h.made h.begun id k t y (subst (λ z. IsFront d known id k z t y) h.is f) r after out was u w v c wants
-    (ap (λ z. is_some (map.get m (shadow_key z x))) (sym h.is) ∙ there) (subst (λ z. test_on (place_of id (length k.answers)) (Tx z) u w v (shadow_of m z x) ≡ (content_in r, tested c)) h.is acts))
+tests_go d m p known locked after id k s t y u w v c n h f out changed was wants there acts = let x = item_of k t y in
+    test_goes d m p known locked h.sound s.intent h.owner h.made h.begun id k t y (subst (λ z. IsFront d known id k z t y) h.is f) n (subst (λ z. ChangedAlone (shadow_key z x) m n) h.is changed) after out was u w v c wants
+    (ap (λ z. is_some (shadow_row m z x)) (sym h.is) ∙ there) (subst (λ z. test_on (place_of id (length k.answers)) (Tx z) u w v (shadow_of m z x) ≡ (shadow_of n z x, tested c)) h.is acts)
 
 pub first_rows_go : FirstRowsGo
-first_rows_go d m p known locked id k s t y r h f was bare by =
-    let x = item_of k t y in
-    subst (λ z. Shadows d (set_row m (shadow_key z x) r) p known locked) (sym h.is)
-    (first_row d m p known locked h.sound s.intent h.owner h.made h.begun id k t y (subst (λ z. IsFront d known id k z t y) h.is f) r was (ap (λ z. map.get m (shadow_key z x)) (sym h.is) ∙ bare) by)
+first_rows_go d m p known locked id k s t y n h f was changed bare by = let x = item_of k t y in
+    first_row d m p known locked h.sound s.intent h.owner h.made h.begun id k t y (subst (λ z. IsFront d known id k z t y) h.is f) n (subst (λ z. ChangedAlone (shadow_key z x) m n) h.is changed) was
+    (ap (λ z. shadow_row m z x) (sym h.is) ∙ bare) (subst (λ z. (writes_on x k.func (effect_of d k) ≡ true) ⊎ ((shadow_of n z x).value ≡ value_at p x)) h.is by)
 
 pub rows_go : RowsGo
 rows_go = shadows_rows
 
 -- ---- calls
 module _ (d : Deployment) (m n : Rows) (p : PlainState) (known : Known) (locked : IntentId → Bool) (h : IsSound d m p known locked) (o : IntentId) (q : Instance) (made : map.get p.made o ≡ Some q) (b : begins d q ≡ true)
-    (rows_stay : (u : TxId) (x : Item) → map.get n (shadow_key u x) ≡ map.get m (shadow_key u x)) where
+    (rows_stay : SameShadows m n) where
   abbrev own_tx : OpenTx d p known o q
   own_tx = tx d m p known locked h o q made b
 
-  there_still : (u : TxId) (x : Item) → is_some (map.get n (shadow_key u x)) ≡ true → is_some (map.get m (shadow_key u x)) ≡ true
-  there_still u x there = sym (ap is_some (rows_stay u x)) ∙ there
+  there_still : (u : TxId) (x : Item) → is_some (shadow_row n u x) ≡ true → is_some (shadow_row m u x) ≡ true
+  there_still u x there = sym (ap (λ r. is_some (tail r)) (rows_stay u x)) ∙ there
 
   -- a callee is made
   call_goes : (id : IntentId) (k : Instance) (f : ℕ) (v : Value) → map.get known id ≡ Some k → tx_now d id k ≡ Some (tx_begun o q) → effect_of d k ≡ Effect.Call f v → has_callees id ≡ true → map.get known (callee_of id k) ≡ None
@@ -332,7 +318,7 @@ module _ (d : Deployment) (m n : Rows) (p : PlainState) (known : Known) (locked 
       (λ i. (at_once_same d c new).ends i ∙ ap (ended_by d i) (sym gone)) (inr (origin_stays d c new).1) in
       all_goes d m p known locked h o q made b after n locked ch (λ j y there e apart i is_in l. l) (λ u x other. rows_stay u x)
       (own_shows d m p known locked h o q made b after n locked ch (λ j y there e apart i is_in l. l) (λ u x other. rows_stay u x) c own_tx.going.state.items g
-      (λ x. subst (λ r. ShadowShows false r (value_at own_tx.going.state x)) (sym (rows_stay (tx_begun o q) x)) (settled d m p known locked h o q made b id k is inside none free x (ap (λ e. locked id && writes_on x k.func e) call ∙ and_right (locked id) false refl))))
+      (λ x. subst (λ r. ShadowShows false (tail r) (value_at own_tx.going.state x)) (sym (rows_stay (tx_begun o q) x)) (settled d m p known locked h o q made b id k is inside none free x (ap (λ e. locked id && writes_on x k.func e) call ∙ and_right (locked id) false refl))))
       (got_still d m n known after locked locked h.shadows.got there_still (λ u x j. known_set known c z (λ j w. got_by d u x j (locked j) (map.get known j) ≡ true → got_by d u x j (locked j) w ≡ true)
       (λ e. let clash = sym e ∙ ap (got_by d u x c (locked c)) gone in cc) (λ j other e. e) j))
 
@@ -366,7 +352,7 @@ module _ (d : Deployment) (m n : Rows) (p : PlainState) (known : Known) (locked 
       (role_of d m p known locked h o q made b id i back owner_in is (moved_one d id i (answer_of u)).within)) in
       all_goes d m p known locked h o q made b after n locked ch (λ j y there e apart i is_in l. l) (λ u x other. rows_stay u x)
       (own_shows d m p known locked h o q made b after n locked ch (λ j y there e apart i is_in l. l) (λ u x other. rows_stay u x) id own_tx.going.state.items g
-      (λ x. subst (λ r. ShadowShows false r (value_at own_tx.going.state x)) (sym (rows_stay t x)) (settled d m p known locked h o q made b e j called inside none free x (ap (λ y. locked e && writes_on x j.func y) returns ∙ and_right (locked e) false refl))))
+      (λ x. subst (λ r. ShadowShows false (tail r) (value_at own_tx.going.state x)) (sym (rows_stay t x)) (settled d m p known locked h o q made b e j called inside none free x (ap (λ y. locked e && writes_on x j.func y) returns ∙ and_right (locked e) false refl))))
       (got_still d m n known after locked locked h.shadows.got there_still (λ s x y had.
       known_set f id back (λ y w. got_by d s x y (locked y) (map.get f y) ≡ true → got_by d s x y (locked y) w ≡ true)
       (λ g. got_passed d s x id i (answer_of u) (locked id) (ap touched call) (sym (ap (got_by d s x id (locked id)) there) ∙ g)) (λ y other g. g) y

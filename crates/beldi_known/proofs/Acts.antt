@@ -1,7 +1,7 @@
--- What the acts at the front leave: rows that match.
-use Rattle.beldi_known.proofs.Names.{Answer, AnswersOne, Bool, CellMatches, Content, Deployment, Instance, IntentId, Item, ItemMatches, Kind, Known, List, LockedOut, Matches, None, Note, Option, Place, Row, RowKey, RowMatches, Rows, ShadowMatches, Some, Tx, TxId, TxsMatch, Value, [], and_from, and_parts, ap, asks_lock, begins_at, cond, content_in, content_of, effect_of, eq_by_cmp_equiv, eqb-true, false, false_from_ne_true, head_key, id_cmp, id_same, is_aborted, is_eq, is_item, item_cmp, item_same, item_total, key_cmp, key_same, key_self, length, lock_in, lockset_key, log_key, note_at, other_owner, owed_read, place_of, refl, row_added, row_got, set_row, shadow_by, shadow_key, shadow_of, subst, sym, tied_itself, touched, true, tx_eq, tx_now, txs_after, with_note, ℕ, ◌&&◌, ◌++◌, ◌==◌, ◌∙◌, ◌∷◌, ◌≡◌}
+-- What the acts at the front leave: rows that match, and chains that are as before.
+use Rattle.beldi_known.proofs.Names.{Answer, AnswersOne, Bool, ChangedAlone, Content, Deployment, Instance, IntentId, IsHead, IsSoundChain, Item, ItemMatches, Kind, Known, List, LockedOut, Matches, None, Note, Option, Place, Row, RowKey, RowMatches, Rows, SameShadows, ShadowMatches, Some, Sound, Tx, TxId, TxsMatch, Value, [], and_parts, ap, asks_lock, at_row, begins_at, chain, chain_off, chain_other, content, content_of, effect_of, eq_by_cmp_equiv, eqb-true, false, false_from_ne_true, head_key, id_cmp, id_same, is_aborted, is_eq, is_item, is_row_of, item_cmp, item_same, item_total, key_cmp, key_same, key_self, kind_at, length, lock_in, lockset_key, log_key, note_at, other_owner, owed_read, place_of, refl, row_added, set_row, shadow_by, shadow_chain, shadow_key, shadow_of, subst, sym, touched, true, tx_eq, tx_now, txs_after, with_note, ℕ, ◌&&◌, ◌++◌, ◌==◌, ◌∙◌, ◌∷◌, ◌≡◌}
 use Rattle.beldi_known.proofs.Fronts.{read_elsewhere, row_by, locksets_answered, items_answered, txs_answered, item_died, item_kept, txs_died, shadow_kept, shadow_noted}
-use Rattle.beldi_known.proofs.{Answers.true_false, Rows.head_order, Rows.keys_at, Rows.keys_set, Rows.set_here, Rows.set_others, FrameAt.read_none, FrameAt.read_here, Locks.lock_taken, Locks.lock_kept, Locks.txs_taken, Locks.txs_kept, Locks.tx_same, Locks.tx_self, Cases.by_cases}
+use Rattle.beldi_known.proofs.{Answers.true_false, Rows.head_order, Rows.keys_set, Rows.set_others, FrameAt.read_none, FrameAt.read_here, Locks.lock_taken, Locks.lock_kept, Locks.txs_taken, Locks.txs_kept, Locks.tx_same, Cases.by_cases}
 use Rattle.beldi_known.proofs.Names.map
 
 -- ---- keys of two kinds are apart: by a test that tells the kinds, and no order
@@ -16,34 +16,75 @@ abbrev pub is_shadow : Kind → Bool
 is_shadow (Kind.Shadow s t k n) = true
 is_shadow k = false
 
-module _ (m : Rows) (k : RowKey) (v : Option Row) where
-  pub content_apart : (x : Item) → is_eq (key_cmp (head_key x) k) ≡ false → content_of (set_row m k v) x ≡ content_of m x
-  content_apart x h = ap content_in (row_got m k (head_key x) v ∙ ap (λ b. cond b v (map.get m (head_key x))) h)
-
-  pub shadow_apart : (t : TxId) (x : Item) → is_eq (key_cmp (shadow_key t x) k) ≡ false → shadow_of (set_row m k v) t x ≡ shadow_of m t x
-  shadow_apart t x h = ap content_in (row_got m k (shadow_key t x) v ∙ ap (λ b. cond b v (map.get m (shadow_key t x))) h)
-
-pub content_here : (m : Rows) (v : Option Row) (x : Item) → content_of (set_row m (head_key x) v) x ≡ content_in v
-content_here m v x = ap content_in (row_got m (head_key x) (head_key x) v ∙ ap (λ b. cond b v (map.get m (head_key x))) (key_self (head_key x)))
-
-pub shadow_here : (m : Rows) (v : Option Row) (t : TxId) (x : Item) → shadow_of (set_row m (shadow_key t x) v) t x ≡ content_in v
-shadow_here m v t x = ap content_in (row_got m (shadow_key t x) (shadow_key t x) v ∙ ap (λ b. cond b v (map.get m (shadow_key t x))) (key_self (shadow_key t x)))
-
--- ---- rows that match, after one was set that is no cell's
 abbrev pub is_cell : Kind → Bool
 is_cell (Kind.Data t k n) = true
 is_cell (Kind.Shadow s t k n) = true
 is_cell k = false
 
+-- .. and no row of an item is one of another kind, where the test is of no row's number
+pub kind_off : (f : Kind → Bool) → ((k : Kind) → f (kind_at k 0) ≡ f k) → (k l : RowKey) → f k.kind ≡ true → f l.kind ≡ false → is_row_of k l ≡ false
+kind_off f same k l h g = false_from_ne_true (is_row_of k l) (λ e. true_false (sym h ∙ ap (λ (z : RowKey). f z.kind) (sym (key_same (at_row l 0) k e)) ∙ same l.kind ∙ g))
+
+pub same_data : (k : Kind) → is_data (kind_at k 0) ≡ is_data k
+same_data (Kind.Data t k n) = refl
+same_data (Kind.Shadow s t k n) = refl
+same_data (Kind.Intent i) = refl
+same_data (Kind.ReadLog a) = refl
+same_data (Kind.Invoke a) = refl
+same_data (Kind.Lockset i b t k) = refl
+
+pub same_shadow : (k : Kind) → is_shadow (kind_at k 0) ≡ is_shadow k
+same_shadow (Kind.Data t k n) = refl
+same_shadow (Kind.Shadow s t k n) = refl
+same_shadow (Kind.Intent i) = refl
+same_shadow (Kind.ReadLog a) = refl
+same_shadow (Kind.Invoke a) = refl
+same_shadow (Kind.Lockset i b t k) = refl
+
+pub same_cell : (k : Kind) → is_cell (kind_at k 0) ≡ is_cell k
+same_cell (Kind.Data t k n) = refl
+same_cell (Kind.Shadow s t k n) = refl
+same_cell (Kind.Intent i) = refl
+same_cell (Kind.ReadLog a) = refl
+same_cell (Kind.Invoke a) = refl
+same_cell (Kind.Lockset i b t k) = refl
+
+pub item_head : (x : Item) → IsHead (head_key x)
+item_head x = record { first = refl; numbered = λ n. refl }
+
+pub aside_head : (t : TxId) (x : Item) → IsHead (shadow_key t x)
+aside_head t x = record { first = refl; numbered = λ n. refl }
+
+-- ---- chains, after one row was set
+module _ (m : Rows) (k : RowKey) (v : Option Row) where
+  pub item_apart : (x : Item) → is_row_of (head_key x) k ≡ false → chain (set_row m k v) (head_key x) ≡ chain m (head_key x)
+  item_apart x off = chain_off m (set_row m k v) k (head_key x) (set_others m k v) (item_head x) off
+
+  pub content_apart : (x : Item) → is_row_of (head_key x) k ≡ false → content_of (set_row m k v) x ≡ content_of m x
+  content_apart x off = ap content (item_apart x off)
+
+  pub aside_apart : (t : TxId) (x : Item) → is_row_of (shadow_key t x) k ≡ false → shadow_chain (set_row m k v) t x ≡ shadow_chain m t x
+  aside_apart t x off = chain_off m (set_row m k v) k (shadow_key t x) (set_others m k v) (aside_head t x) off
+
+-- ---- rows that match, after one was set that is no cell's
 module _ (d : Deployment) (known : Known) (locked : IntentId → Bool) (m : Rows) where
   pub log_set : (k : RowKey) (v : Option Row) → is_cell k.kind ≡ false → RowMatches d known k.home k.kind v → ((l : RowKey) → is_eq (key_cmp l k) ≡ false → RowMatches d known l.home l.kind (map.get m l))
+      → ((x : Item) → IsSoundChain m x) → ((t : TxId) (x : Item) → Sound (shadow_chain m t x))
       → ((x : Item) → ItemMatches d known locked x (content_of m x)) → ((t : TxId) (x : Item) → ShadowMatches d known t x (shadow_of m t x)) → ((x : Item) → TxsMatch d known locked x (content_of m x).owner) → Matches d (set_row m k v) known locked
-  log_set k v kind here others items shadows txs = record {
+  log_set k v kind here others chains asides items shadows txs = record {
     keys = keys_set m k v (λ l z. RowMatches d known l.home l.kind z) here others;
-    items = λ x. subst (ItemMatches d known locked x) (sym (content_apart m k v x (kinds_apart is_cell (head_key x) k refl kind))) (items x);
-    shadows = λ t x. subst (ShadowMatches d known t x) (sym (shadow_apart m k v t x (kinds_apart is_cell (shadow_key t x) k refl kind))) (shadows t x);
-    txs = λ x. subst (λ (c : Content). TxsMatch d known locked x c.owner) (sym (content_apart m k v x (kinds_apart is_cell (head_key x) k refl kind))) (txs x);
+    chains = λ x. subst Sound (sym (item_as x)) (chains x);
+    asides = λ t x. subst Sound (sym (aside_as t x)) (asides t x);
+    items = λ x. subst (λ z. ItemMatches d known locked x (content z)) (sym (item_as x)) (items x);
+    shadows = λ t x. subst (λ z. ShadowMatches d known t x (content z)) (sym (aside_as t x)) (shadows t x);
+    txs = λ x. subst (λ z. TxsMatch d known locked x (content z).owner) (sym (item_as x)) (txs x);
   }
+    where
+      item_as : (x : Item) → chain (set_row m k v) (head_key x) ≡ chain m (head_key x)
+      item_as x = item_apart m k v x (kind_off is_cell same_cell (head_key x) k refl kind)
+
+      aside_as : (t : TxId) (x : Item) → shadow_chain (set_row m k v) t x ≡ shadow_chain m t x
+      aside_as t x = aside_apart m k v t x (kind_off is_cell same_cell (shadow_key t x) k refl kind)
 
 -- a fact on every item, after the row of one was set
 pub by_item : (item x : Item) (P : Item → Type 0) → P item → (is_eq (item_cmp item x) ≡ false → P x) → P x
@@ -55,23 +96,19 @@ by_item item x P here other = elim (is_eq (item_cmp item x)) as (λ b. is_eq (it
 pub turned : (x y : Item) → is_eq (item_cmp x y) ≡ false → is_eq (key_cmp (head_key y) (head_key x)) ≡ false
 turned x y h = ap is_eq (head_order y x) ∙ (eq_by_cmp_equiv item_total).symm y x ∙ h
 
-module _ (d : Deployment) (known : Known) (locked : IntentId → Bool) (m : Rows) where
-  -- .. that is an item's
-  pub head_at : (n : Rows) (x : Item) (c : Content) → ((l : RowKey) → is_eq (key_cmp l (head_key x)) ≡ false → map.get n l ≡ map.get m l) → content_of n x ≡ c → CellMatches 0 (map.get n (head_key x)) → ((l : RowKey) → RowMatches d known l.home l.kind (map.get m l))
-      → ItemMatches d known locked x c → ((y : Item) → is_eq (item_cmp x y) ≡ false → ItemMatches d known locked y (content_of m y)) → ((t : TxId) (y : Item) → ShadowMatches d known t y (shadow_of m t y))
-      → TxsMatch d known locked x c.owner → ((y : Item) → is_eq (item_cmp x y) ≡ false → TxsMatch d known locked y (content_of m y).owner) → Matches d n known locked
-  head_at n x c apart here fits keys own items shadows own_txs txs = record {
-    keys = keys_at m n (head_key x) (λ l z. RowMatches d known l.home l.kind z) apart fits (λ l other. keys l);
-    items = λ y. by_item x y (λ y. ItemMatches d known locked y (content_of n y)) (subst (ItemMatches d known locked x) (sym here) own)
-        (λ other. subst (ItemMatches d known locked y) (ap content_in (sym (apart (head_key y) (turned x y other)))) (items y other));
-    shadows = λ t y. subst (ShadowMatches d known t y) (ap content_in (sym (apart (shadow_key t y) (kinds_apart is_shadow (shadow_key t y) (head_key x) refl refl)))) (shadows t y);
-    txs = λ y. by_item x y (λ y. TxsMatch d known locked y (content_of n y).owner) (subst (λ (z : Content). TxsMatch d known locked x z.owner) (sym here) own_txs)
-        (λ other. subst (λ r. TxsMatch d known locked y (content_in r).owner) (sym (apart (head_key y) (turned x y other))) (txs y other));
-  }
+-- ---- the rows of one item changed, and no others
+module _ (m n : Rows) (x : Item) (alone : ChangedAlone (head_key x) m n) where
+  pub other_item : (y : Item) → is_eq (item_cmp x y) ≡ false → chain n (head_key y) ≡ chain m (head_key y)
+  other_item y apart = chain_other m n (head_key x) (head_key y) alone (item_head y) (turned x y apart)
 
-  pub head_set : (x : Item) (v : Option Row) (c : Content) → content_in v ≡ c → CellMatches 0 v → ((l : RowKey) → RowMatches d known l.home l.kind (map.get m l)) → ItemMatches d known locked x c → ((y : Item) → is_eq (item_cmp x y) ≡ false → ItemMatches d known locked y (content_of m y))
-      → ((t : TxId) (y : Item) → ShadowMatches d known t y (shadow_of m t y)) → TxsMatch d known locked x c.owner → ((y : Item) → is_eq (item_cmp x y) ≡ false → TxsMatch d known locked y (content_of m y).owner) → Matches d (set_row m (head_key x) v) known locked
-  head_set x v c same fits = head_at (set_row m (head_key x) v) x c (set_others m (head_key x) v) (content_here m v x ∙ same) (subst (CellMatches 0) (sym (set_here m (head_key x) v)) fits)
+  pub other_shadows : SameShadows m n
+  other_shadows t y = chain_other m n (head_key x) (shadow_key t y) alone (aside_head t y) (kinds_apart is_shadow (shadow_key t y) (head_key x) refl refl)
+
+  pub other_key : (l : RowKey) → is_data l.kind ≡ false → map.get n l ≡ map.get m l
+  other_key l off = alone l (kind_off is_data same_data (head_key x) l refl off)
+
+  pub chains_alone : IsSoundChain n x → ((y : Item) → IsSoundChain m y) → (y : Item) → IsSoundChain n y
+  chains_alone sound chains y = by_item x y (λ z. IsSoundChain n z) sound (λ apart. subst Sound (sym (other_item y apart)) (chains y))
 
 -- shadows with one key are one
 abbrev tx_of : Kind → TxId
@@ -85,6 +122,67 @@ item_at home k = record { func = home; table = 0; key = [] }
 pub shadow_same : (s t : TxId) (x y : Item) → shadow_key s x ≡ shadow_key t y → (s ≡ t) × (x ≡ y)
 shadow_same s t x y h = (ap (λ (k : RowKey). tx_of k.kind) h, ap (λ (k : RowKey). item_at k.home k.kind) h)
 
+-- .. or those of one shadow
+module _ (m n : Rows) (s : TxId) (x : Item) (alone : ChangedAlone (shadow_key s x) m n) where
+  pub item_aside : (y : Item) → chain n (head_key y) ≡ chain m (head_key y)
+  item_aside y = chain_other m n (shadow_key s x) (head_key y) alone (item_head y) (kinds_apart is_data (head_key y) (shadow_key s x) refl refl)
+
+  pub aside_key : (l : RowKey) → is_shadow l.kind ≡ false → map.get n l ≡ map.get m l
+  aside_key l off = alone l (kind_off is_shadow same_shadow (shadow_key s x) l refl off)
+
+  pub other_aside : (t : TxId) (y : Item) → is_eq (key_cmp (shadow_key t y) (shadow_key s x)) ≡ false → shadow_chain n t y ≡ shadow_chain m t y
+  other_aside t y off = chain_other m n (shadow_key s x) (shadow_key t y) alone (aside_head t y) off
+
+  -- a fact on every shadow
+  pub by_aside : (P : TxId → Item → Type 0) → P s x → ((t : TxId) (y : Item) → is_eq (key_cmp (shadow_key t y) (shadow_key s x)) ≡ false → P t y) → (t : TxId) (y : Item) → P t y
+  by_aside P here other t y = by_cases (is_eq (key_cmp (shadow_key t y) (shadow_key s x)))
+      (λ e. let p = shadow_same t s y x (key_same (shadow_key t y) (shadow_key s x) e) in subst (λ z. P z y) (sym p.0) (subst (P s) (sym p.1) here)) (other t y)
+
+  pub asides_alone : Sound (shadow_chain n s x) → ((t : TxId) (y : Item) → Sound (shadow_chain m t y)) → (t : TxId) (y : Item) → Sound (shadow_chain n t y)
+  asides_alone sound asides = by_aside (λ t y. Sound (shadow_chain n t y)) sound (λ t y off. subst Sound (sym (other_aside t y off)) (asides t y))
+
+-- ---- rows that match, where those of one item or of one shadow changed
+module _ (d : Deployment) (known : Known) where
+  -- all others do
+  row_kept : (home : ℕ) (k : Kind) (r z : Option Row) → (is_cell k ≡ false → z ≡ r) → RowMatches d known home k r → RowMatches d known home k z
+  row_kept home (Kind.Data t k n) r z same h = tt
+  row_kept home (Kind.Shadow s t k n) r z same h = tt
+  row_kept home (Kind.Intent i) r z same h = subst (RowMatches d known home (Kind.Intent i)) (sym (same refl)) h
+  row_kept home (Kind.ReadLog a) r z same h = subst (RowMatches d known home (Kind.ReadLog a)) (sym (same refl)) h
+  row_kept home (Kind.Invoke a) r z same h = subst (RowMatches d known home (Kind.Invoke a)) (sym (same refl)) h
+  row_kept home (Kind.Lockset i b t k) r z same h = subst (RowMatches d known home (Kind.Lockset i b t k)) (sym (same refl)) h
+
+  pub keys_alone : (m n : Rows) (head : RowKey) → is_cell head.kind ≡ true → ChangedAlone head m n → ((l : RowKey) → RowMatches d known l.home l.kind (map.get m l)) → (l : RowKey) → RowMatches d known l.home l.kind (map.get n l)
+  keys_alone m n head kind alone h l = row_kept l.home l.kind (map.get m l) (map.get n l) (λ off. alone l (kind_off is_cell same_cell head l kind off)) (h l)
+
+module _ (d : Deployment) (known : Known) (locked : IntentId → Bool) (m : Rows) where
+  -- .. those of an item
+  pub head_at : (n : Rows) (x : Item) (c : Content) → ChangedAlone (head_key x) m n → content_of n x ≡ c → IsSoundChain n x → ((l : RowKey) → RowMatches d known l.home l.kind (map.get m l)) → ((y : Item) → IsSoundChain m y) → ((t : TxId) (y : Item) → Sound (shadow_chain m t y))
+      → ItemMatches d known locked x c → ((y : Item) → is_eq (item_cmp x y) ≡ false → ItemMatches d known locked y (content_of m y)) → ((t : TxId) (y : Item) → ShadowMatches d known t y (shadow_of m t y))
+      → TxsMatch d known locked x c.owner → ((y : Item) → is_eq (item_cmp x y) ≡ false → TxsMatch d known locked y (content_of m y).owner) → Matches d n known locked
+  head_at n x c alone here sound keys chains asides own items shadows own_txs txs = record {
+    keys = keys_alone d known m n (head_key x) refl alone keys;
+    chains = chains_alone m n x alone sound chains;
+    asides = λ t y. subst Sound (sym (other_shadows m n x alone t y)) (asides t y);
+    items = λ y. by_item x y (λ y. ItemMatches d known locked y (content_of n y)) (subst (ItemMatches d known locked x) (sym here) own)
+        (λ other. subst (λ z. ItemMatches d known locked y (content z)) (sym (other_item m n x alone y other)) (items y other));
+    shadows = λ t y. subst (λ z. ShadowMatches d known t y (content z)) (sym (other_shadows m n x alone t y)) (shadows t y);
+    txs = λ y. by_item x y (λ y. TxsMatch d known locked y (content_of n y).owner) (subst (λ (z : Content). TxsMatch d known locked x z.owner) (sym here) own_txs)
+        (λ other. subst (λ z. TxsMatch d known locked y (content z).owner) (sym (other_item m n x alone y other)) (txs y other));
+  }
+
+  -- .. and those of a shadow
+  pub shadow_at : (n : Rows) (s : TxId) (x : Item) → ChangedAlone (shadow_key s x) m n → Sound (shadow_chain n s x) → ((l : RowKey) → RowMatches d known l.home l.kind (map.get m l)) → ((y : Item) → IsSoundChain m y) → ((t : TxId) (y : Item) → Sound (shadow_chain m t y))
+      → ((y : Item) → ItemMatches d known locked y (content_of m y)) → ((t : TxId) (y : Item) → ShadowMatches d known t y (shadow_of n t y)) → ((y : Item) → TxsMatch d known locked y (content_of m y).owner) → Matches d n known locked
+  shadow_at n s x alone sound keys chains asides items shadows txs = record {
+    keys = keys_alone d known m n (shadow_key s x) refl alone keys;
+    chains = λ y. subst Sound (sym (item_aside m n s x alone y)) (chains y);
+    asides = asides_alone m n s x alone sound asides;
+    items = λ y. subst (λ z. ItemMatches d known locked y (content z)) (sym (item_aside m n s x alone y)) (items y);
+    shadows = shadows;
+    txs = λ y. subst (λ z. TxsMatch d known locked y (content z).owner) (sym (item_aside m n s x alone y)) (txs y);
+  }
+
 -- ---- LockCell Did
 module _ (d : Deployment) (known : Known) (locked : IntentId → Bool) (id : IntentId) (q : Instance) (is : map.get known id ≡ Some q) (unlocked : locked id ≡ false)
     (s : TxId) (inside : tx_now d id q ≡ Some s) (o : ℕ × List ℕ) (touch : touched (effect_of d q) ≡ Some o) where
@@ -94,10 +192,10 @@ module _ (d : Deployment) (known : Known) (locked : IntentId → Bool) (id : Int
   abbrev place : Place
   place = place_of id (length q.answers)
 
-  pub lock_did : (m : Rows) (v : Option Row) → CellMatches 0 v → note_at (content_of m item).notes place ≡ None → other_owner (Tx s) (content_of m item).owner ≡ None
-      → content_in v ≡ record { value = (content_of m item).value; owner = Some (Tx s); notes = (content_of m item).notes ++ (place, Note.Got) ∷ [] }
-      → Matches d m known locked → Matches d (set_row m (head_key item) v) known (lock_in locked id)
-  lock_did m v fits none free same h = head_set d known (lock_in locked id) m item v _ same fits h.keys (lock_taken d known locked id q is unlocked s inside o touch (content_of m item) none free (h.items item))
+  pub lock_did : (m n : Rows) → ChangedAlone (head_key item) m n → IsSoundChain n item → note_at (content_of m item).notes place ≡ None → other_owner (Tx s) (content_of m item).owner ≡ None
+      → content_of n item ≡ record { value = (content_of m item).value; owner = Some (Tx s); notes = (content_of m item).notes ++ (place, Note.Got) ∷ [] }
+      → Matches d m known locked → Matches d n known (lock_in locked id)
+  lock_did m n alone sound none free same h = head_at d known (lock_in locked id) m n item _ alone same sound h.keys h.chains h.asides (lock_taken d known locked id q is unlocked s inside o touch (content_of m item) none free (h.items item))
       (λ x other. lock_kept d known locked id q is unlocked s inside o touch x (content_of m x) other (h.items x)) h.shadows
       (txs_taken d known locked id q is unlocked s inside o touch (content_of m item) none free (h.txs item)) (λ x other. txs_kept d known locked id q is unlocked s inside o touch x (content_of m x).owner other (h.txs x))
 
@@ -131,34 +229,30 @@ module _ (d : Deployment) (known : Known) (locked unlocked : IntentId → Bool) 
       → ((t : TxId) (x : Item) → shadow_by t x q.func (tx_now d id q) (effect_of d q) a ≡ None) → Matches d (set_row m (log_key q.func here) (Some (Row.ReadLog v))) after unlocked
   read_answered v added was lives no_note = let k = log_key q.func here in
       log_set d after unlocked m k (Some (Row.ReadLog v)) refl (subst (λ z. z ≡ Some v) (sym (read_here d known id q r a is one (length q.answers) v added)) refl)
-      (λ l other. row_answered l (λ b kind. read_elsewhere d known locked unlocked id q r a is one out (length q.answers) v added l.home b (subst (λ (z : Kind). is_eq (key_cmp (record { home = l.home; kind = z }) k) ≡ false) kind other)) (h.keys l))
+      (λ l other. row_answered l (λ b kind. read_elsewhere d known locked unlocked id q r a is one out (length q.answers) v added l.home b (subst (λ (z : Kind). is_eq (key_cmp (record { home = l.home; kind = z }) k) ≡ false) kind other)) (h.keys l)) h.chains h.asides
       (λ x. items_answered d known locked unlocked id q r a is one out s inside o touch was lives x (content_of m x) (h.items x)) (λ t x. shadow_kept d known locked unlocked id q r a is one out t x (shadow_of m t x) (no_note t x) (h.shadows t x))
       (λ x. txs_answered d known locked unlocked id q r a is one out s inside o touch was lives x (content_of m x).owner (h.txs x))
 
   -- WriteCell Did, CondCell Tested, of the shadow: a write is answered, its lock being ahead
-  pub write_answered : (v : Option Row) (w : Note) → CellMatches 0 v → row_added (length q.answers) (txs_after d q q.answers).begun (effect_of d q) a ≡ None → locked id ≡ true → is_aborted a ≡ false
+  pub write_answered : (n : Rows) (w : Note) → ChangedAlone (shadow_key s own) m n → Sound (shadow_chain n s own) → row_added (length q.answers) (txs_after d q q.answers).begun (effect_of d q) a ≡ None → locked id ≡ true → is_aborted a ≡ false
       → shadow_by s own q.func (tx_now d id q) (effect_of d q) a ≡ Some w → ((t : TxId) (x : Item) → (tx_eq t s && is_eq (item_cmp own x)) ≡ false → shadow_by t x q.func (tx_now d id q) (effect_of d q) a ≡ None)
-      → note_at (shadow_of m s own).notes here ≡ None → (u : Value) → content_in v ≡ record { value = u; owner = (shadow_of m s own).owner; notes = (shadow_of m s own).notes ++ (here, w) ∷ [] }
-      → Matches d (set_row m (shadow_key s own) v) after unlocked
-  write_answered v w fits added was lives noted apart none u same = let k = shadow_key s own in record {
-    keys = keys_set m k v (λ l z. RowMatches d after l.home l.kind z) fits (λ l other. row_answered l (λ b kind. read_none d known id q r a is one added l.home b) (h.keys l));
-    items = λ x. subst (ItemMatches d after unlocked x) (sym (content_apart m k v x (kinds_apart is_data (head_key x) k refl refl))) (items_answered d known locked unlocked id q r a is one out s inside o touch was lives x (content_of m x) (h.items x));
-    shadows = λ t x. by_cases (tx_eq t s && is_eq (item_cmp own x)) (λ e. let f = and_parts (tx_eq t s) (is_eq (item_cmp own x)) e in
-        subst (λ z. ShadowMatches d after z x (shadow_of (set_row m (shadow_key s own) v) z x)) (sym (tx_same t s f.0)) (subst (λ y. ShadowMatches d after s y (shadow_of (set_row m (shadow_key s own) v) s y)) (item_same own x f.1)
-        (subst (ShadowMatches d after s own) (sym (shadow_here m v s own ∙ same)) (shadow_noted d known locked unlocked id q r a is one out s own (shadow_of m s own) w u noted none (h.shadows s own))))) (elsewhere t x);
-    txs = λ x. subst (λ (c : Content). TxsMatch d after unlocked x c.owner) (sym (content_apart m k v x (kinds_apart is_data (head_key x) k refl refl))) (txs_answered d known locked unlocked id q r a is one out s inside o touch was lives x (content_of m x).owner (h.txs x));
-  }
+      → note_at (shadow_of m s own).notes here ≡ None → (u : Value) → shadow_of n s own ≡ record { value = u; owner = (shadow_of m s own).owner; notes = (shadow_of m s own).notes ++ (here, w) ∷ [] }
+      → Matches d n after unlocked
+  write_answered n w alone sound added was lives noted apart none u same = shadow_at d after unlocked m n s own alone sound (λ l. row_answered l (λ b kind. read_none d known id q r a is one added l.home b) (h.keys l)) h.chains h.asides
+      (λ x. items_answered d known locked unlocked id q r a is one out s inside o touch was lives x (content_of m x) (h.items x))
+      (by_aside m n s own alone (λ t x. ShadowMatches d after t x (shadow_of n t x)) (subst (ShadowMatches d after s own) (sym same) (shadow_noted d known locked unlocked id q r a is one out s own (shadow_of m s own) w u noted none (h.shadows s own)))
+      (λ t x off. subst (λ z. ShadowMatches d after t x (content z)) (sym (other_aside m n s own alone t x off)) (shadow_kept d known locked unlocked id q r a is one out t x (shadow_of m t x) (apart t x (away t x off)) (h.shadows t x))))
+      (λ x. txs_answered d known locked unlocked id q r a is one out s inside o touch was lives x (content_of m x).owner (h.txs x))
     where
-      elsewhere : (t : TxId) (x : Item) → (tx_eq t s && is_eq (item_cmp own x)) ≡ false → ShadowMatches d after t x (shadow_of (set_row m (shadow_key s own) v) t x)
-      elsewhere t x g = subst (ShadowMatches d after t x) (sym (shadow_apart m (shadow_key s own) v t x (false_from_ne_true (is_eq (key_cmp (shadow_key t x) (shadow_key s own))) (λ e. let p = shadow_same t s x own (key_same (shadow_key t x) (shadow_key s own) e) in
-          true_false (sym (and_from (tx_eq t s) (is_eq (item_cmp own x)) (ap (λ z. tx_eq z s) p.0 ∙ tx_self s) (ap (λ z. is_eq (item_cmp own z)) p.1 ∙ ap is_eq (tied_itself item_total own))) ∙ g)))))
-          (shadow_kept d known locked unlocked id q r a is one out t x (shadow_of m t x) (apart t x g) (h.shadows t x))
+      away : (t : TxId) (x : Item) → is_eq (key_cmp (shadow_key t x) (shadow_key s own)) ≡ false → (tx_eq t s && is_eq (item_cmp own x)) ≡ false
+      away t x off = false_from_ne_true (tx_eq t s && is_eq (item_cmp own x)) (λ e. let f = and_parts (tx_eq t s) (is_eq (item_cmp own x)) e in
+          true_false (sym ((λ i. is_eq (key_cmp (shadow_key (tx_same t s f.0 i) (sym (item_same own x f.1) i)) (shadow_key s own))) ∙ key_self (shadow_key s own)) ∙ off))
 
   -- LockCell Died
-  pub lock_died : (v : Option Row) (holder : IntentId) → CellMatches 0 v → row_added (length q.answers) (txs_after d q q.answers).begun (effect_of d q) a ≡ None → a ≡ Answer.Aborted (record { place = here; holder = Some holder }) → locked id ≡ false
-      → ((t : TxId) (x : Item) → shadow_by t x q.func (tx_now d id q) (effect_of d q) a ≡ None) → note_at (content_of m own).notes here ≡ None → content_in v ≡ with_note (content_of m own) here (Note.Died holder)
-      → Matches d (set_row m (head_key own) v) after unlocked
-  lock_died v holder fits added dies was no_note none same = head_set d after unlocked m own v _ same fits (λ l. row_answered l (λ b kind. read_none d known id q r a is one added l.home b) (h.keys l))
+  pub lock_died : (n : Rows) (holder : IntentId) → ChangedAlone (head_key own) m n → IsSoundChain n own → row_added (length q.answers) (txs_after d q q.answers).begun (effect_of d q) a ≡ None → a ≡ Answer.Aborted (record { place = here; holder = Some holder }) → locked id ≡ false
+      → ((t : TxId) (x : Item) → shadow_by t x q.func (tx_now d id q) (effect_of d q) a ≡ None) → note_at (content_of m own).notes here ≡ None → content_of n own ≡ with_note (content_of m own) here (Note.Died holder)
+      → Matches d n after unlocked
+  lock_died n holder alone sound added dies was no_note none same = head_at d after unlocked m n own _ alone same sound (λ l. row_answered l (λ b kind. read_none d known id q r a is one added l.home b) (h.keys l)) h.chains h.asides
       (item_died d known locked unlocked id q r a is one out s inside o touch holder dies was (content_of m own) none (h.items own)) (λ x other. item_kept d known locked unlocked id q r a is one out s inside o touch holder dies was x (content_of m x) other (h.items x))
       (λ t x. shadow_kept d known locked unlocked id q r a is one out t x (shadow_of m t x) (no_note t x) (h.shadows t x)) (txs_died d known locked unlocked id q r a is one out s inside o touch holder dies was own (content_of m own).owner (h.txs own))
       (λ x other. txs_died d known locked unlocked id q r a is one out s inside o touch holder dies was x (content_of m x).owner (h.txs x))

@@ -1,6 +1,6 @@
 -- A transaction that got an item, or that somebody was called in, was begun: its owner is known, and went past its Begin. One of who can
 -- step is open still, so its decision is not there.
-use Rattle.beldi_known.proofs.Names.{Bool, Deployment, Got, Instance, IntentId, Item, Known, Matches, None, Rows, Sane, Some, Tx, TxId, Value, ap, arith, decision_key, effect_of, false, got_by, if◌then◌else◌, is_begin, is_committed, listed_under, log_key, place_of, shadow_key, subst, sym, true, tx_now, value_in, ◌∙◌, ◌≡◌}
+use Rattle.beldi_known.proofs.Names.{Bool, Deployment, Got, Instance, IntentId, Item, Known, Matches, None, Rows, Sane, Some, Tx, TxId, Value, ap, arith, decision_key, effect_of, false, got_by, if◌then◌else◌, is_begin, is_committed, listed_under, log_key, place_of, shadow_row, subst, sym, true, tx_now, value_in, ◌∙◌, ◌≡◌}
 use Rattle.beldi_known.proofs.{AtFront.no_decision, Callers.all_called, Callers.begun_before, Participants.open_owner, ReadLists.IsBegun, ReadLists.got_since, ReadLists.member_tx, Answers.true_false, Cases.by_option}
 use Rattle.beldi_known.proofs.Names.map
 
@@ -29,4 +29,4 @@ module _ (d : Deployment) (known : Known) (h : Sane d known) where
 
     -- so an item that it owns, or gets, is listed with the value of its own row
     pub listed_open : (x : Item) (v : Value) → listed_under m x (Some (Tx t)) v ≡ v
-    listed_open x v = ap (λ r. if is_committed r then value_in (map.get m (shadow_key t x)) v else v) undecided
+    listed_open x v = ap (λ r. if is_committed r then value_in (shadow_row m t x) v else v) undecided

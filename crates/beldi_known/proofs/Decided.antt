@@ -1,9 +1,9 @@
 -- The decision of an open transaction is its entry in the plain state, and all items are listed as that leaves them.
-use Rattle.beldi_known.proofs.Names.{AbortsAreTries, AllPlain, AllShow, AllSound, Answer, AtEnd, Bool, Cause, Commits, CommitsArePieces, Content, Deployment, FallsSo, FellAt, Goes, Going, HoldersInsideAreMade, InLine, Instance, IntentId, IsAbort, IsBelow, IsCommit, IsIn, IsKept, IsSound, Item, Kind, Known, LeadsTo, List, LogMatches, Matches, Move, None, Older, OpenTx, Option, Owner, Place, PlainState, ReleasesList, Row, Rows, Runs, ShadowShows, Shows, Some, TouchedIn, Tx, TxId, Txs, Value, [], after_sane, answered, ap, arith, at_once, begins, content_in, content_of, decision_by, decision_key, effect_of, end_of, ended_by, eq-eqb, eqb-true, false, false_from_ne_true, fell, gives, goes_on, head_key, here, id_cmp, id_total, if◌then◌else◌, inl, inr, is_at, is_committed, is_eq, is_holder, is_older, is_some, is_there, is_writing, key_same, last_answer, length, length-append, line_opened, listed, listed_under, log_key, opened, others, owed_read, owed_value, pieces_are_moves, place_of, places_come_once, read_at, refl, row_at, same_some, set_row, shadow_key, slice_get, stands_there, stays, subst, sym, tied_itself, true, tx_after, tx_at, tx_begun, tx_eq, txs_after, txs_by, txs_pushed, value_at, value_in, value_or, with_instance, writes_on, writing_at, ℕ, ◌&&◌, ◌++◌, ◌==◌, ◌∙◌, ◌∷◌, ◌≡◌, ◌≤◌, ◌⊎◌, Effect, Entry}
-use Rattle.beldi_known.proofs.Acts.{by_item, content_apart, content_here, kinds_apart, is_data, is_shadow, turned}
+use Rattle.beldi_known.proofs.Names.{AbortsAreTries, AllPlain, AllShow, AllSound, Answer, AtEnd, Bool, Cause, Commits, CommitsArePieces, Content, Deployment, Effect, Entry, FallsSo, FellAt, Goes, Going, HoldersInsideAreMade, InLine, Instance, IntentId, IsAbort, IsBelow, IsCommit, IsIn, IsKept, IsSound, Item, Kind, Known, LeadsTo, List, LogMatches, Matches, Move, None, Older, OpenTx, Option, Owner, Place, PlainState, ReleasesList, Row, Rows, Runs, SameShadows, ShadowShows, Shows, Some, TouchedIn, Tx, TxId, Txs, Value, [], after_sane, answered, ap, arith, at_once, begins, content, content_of, decision_by, decision_key, effect_of, end_of, ended_by, eq-eqb, eqb-true, false, false_from_ne_true, fell, gives, goes_on, head_key, here, id_cmp, id_total, if◌then◌else◌, inl, inr, is_at, is_committed, is_eq, is_holder, is_older, is_some, is_there, is_writing, key_same, last_answer, length, length-append, line_opened, listed, listed_under, log_key, opened, others, owed_read, owed_value, pieces_are_moves, place_of, places_come_once, read_at, refl, row_at, same_some, set_row, shadow_chain, shadow_key, shadow_row, slice_get, stands_there, stays, subst, sym, tail, tied_itself, true, tx_after, tx_at, tx_begun, tx_eq, txs_after, txs_by, txs_pushed, value_at, value_in, value_or, with_instance, writes_on, writing_at, ℕ, ◌&&◌, ◌++◌, ◌==◌, ◌∙◌, ◌∷◌, ◌≡◌, ◌≤◌, ◌⊎◌}
+use Rattle.beldi_known.proofs.Acts.{aside_apart, by_item, content_apart, is_data, is_shadow, kind_off, other_item, other_key, other_shadows, same_data, same_shadow}
 use Rattle.beldi_known.proofs.Outsides.{at_once_opens, at_once_stays, below_apart, fresh_next, goes_one, got_next, known_none_after, plain_none_after, set_next, shows_beside}
 use Rattle.beldi_known.proofs.Owns.{fall, got_owned, older, own, seen, touched_owned, unowned_kept}
-use Rattle.beldi_known.proofs.{Answers.true_false, Answers.take_front, Answers.get_next, AtFront.no_decision, Falls.Fell, Falls.cause_of, Falls.later_is, Frame.moved_one, FrameAt.known_set, Callers.called_below, Lines.OwnerNow, Lines.front_is, Lines.member, Lines.outside, Lists.elsewhere, Lists.lists_same, Lists.is_log as is_row_log, Lists.lists_owned, Members.in_or_out, NoTx.IsOutside, NoTx.begins_parts, Unaborted.owner_lives, Rows.set_here, Rows.set_others, Cases.by_cases, Locks.tx_same, Locks.tx_self}
+use Rattle.beldi_known.proofs.{Answers.true_false, Answers.take_front, Answers.get_next, AtFront.no_decision, Falls.Fell, Falls.cause_of, Falls.later_is, Frame.moved_one, FrameAt.known_set, Callers.called_below, Lines.OwnerNow, Lines.front_is, Lines.member, Lines.outside, Lists.lists_same, Lists.lists_owned, Members.in_or_out, NoTx.IsOutside, NoTx.begins_parts, Unaborted.owner_lives, Rows.set_here, Rows.set_others, Cases.by_cases, Locks.tx_same, Locks.tx_self}
 use Rattle.beldi_known.proofs.Names.laws
 use Rattle.beldi_known.proofs.Names.map
 use Rattle.beldi_known.proofs.Names.plain
@@ -29,17 +29,17 @@ module _ (m : Rows) (s : TxId) (undecided : map.get m (decision_key s) ≡ None)
 
   -- of an item that it owns, by its decision; and of others as before
   abbrev Lists : Item → Type 0
-  Lists x = (((content_of m x).owner ≡ Some (Tx s)) × (listed decided x ≡ (if c then value_in (map.get m (shadow_key s x)) (listed m x) else listed m x)))
+  Lists x = (((content_of m x).owner ≡ Some (Tx s)) × (listed decided x ≡ (if c then value_in (shadow_row m s x) (listed m x) else listed m x)))
       ⊎ (((content_of m x).owner ≡ Some (Tx s) → ⊥) × (listed decided x ≡ listed m x))
 
   pub decision_lists : (x : Item) → Lists x
   decision_lists x = by_owner (content_of m x).owner refl
     where
       same : content_of decided x ≡ content_of m x
-      same = content_apart m (decision_key s) (Some (Row.ReadLog (Value.Bool c))) x (kinds_apart is_data (head_key x) (decision_key s) refl refl)
+      same = content_apart m (decision_key s) (Some (Row.ReadLog (Value.Bool c))) x (kind_off is_data same_data (head_key x) (decision_key s) refl refl)
 
-      shadow : (t : TxId) → map.get decided (shadow_key t x) ≡ map.get m (shadow_key t x)
-      shadow t = elsewhere m (decision_key s) (Some (Row.ReadLog (Value.Bool c))) is_shadow (shadow_key t x) refl refl
+      shadow : (t : TxId) → shadow_chain decided t x ≡ shadow_chain m t x
+      shadow t = aside_apart m (decision_key s) (Some (Row.ReadLog (Value.Bool c))) t x (kind_off is_shadow same_shadow (shadow_key t x) (decision_key s) refl refl)
 
       now : listed decided x ≡ listed_under decided x (content_of m x).owner (content_of m x).value
       now = ap (λ (z : Content). listed_under decided x z.owner z.value) same
@@ -47,14 +47,14 @@ module _ (m : Rows) (s : TxId) (undecided : map.get m (decision_key s) ≡ None)
       w : Value
       w = (content_of m x).value
 
-      mine : (content_of m x).owner ≡ Some (Tx s) → listed decided x ≡ (if c then value_in (map.get m (shadow_key s x)) (listed m x) else listed m x)
+      mine : (content_of m x).owner ≡ Some (Tx s) → listed decided x ≡ (if c then value_in (shadow_row m s x) (listed m x) else listed m x)
       mine is =
-          let was : listed m x ≡ w = ap (λ o. listed_under m x o w) is ∙ ap (λ r. if is_committed r then value_in (map.get m (shadow_key s x)) w else w) undecided in
-          now ∙ ap (λ o. listed_under decided x o w) is ∙ (λ i. if is_committed (set_here m (decision_key s) (Some (Row.ReadLog (Value.Bool c))) i) then value_in (shadow s i) w else w) ∙ ap (λ z. if c then value_in (map.get m (shadow_key s x)) z else z) (sym was)
+          let was : listed m x ≡ w = ap (λ o. listed_under m x o w) is ∙ ap (λ r. if is_committed r then value_in (shadow_row m s x) w else w) undecided in
+          now ∙ ap (λ o. listed_under decided x o w) is ∙ (λ i. if is_committed (set_here m (decision_key s) (Some (Row.ReadLog (Value.Bool c))) i) then value_in (tail (shadow s i)) w else w) ∙ ap (λ z. if c then value_in (shadow_row m s x) z else z) (sym was)
 
       others : ((content_of m x).owner ≡ Some (Tx s) → ⊥) → listed decided x ≡ listed m x
       others away = lists_owned m decided x (ap (λ (z : Content). z.owner) same) (ap (λ (z : Content). z.value) same) (λ t v is i.
-          if is_committed (set_others m (decision_key s) (Some (Row.ReadLog (Value.Bool c))) (decision_key t) (false_from_ne_true _ (λ e. away (is ∙ ap (λ z. Some (Tx z)) (decision_same t s (key_same (decision_key t) (decision_key s) e))))) i) then value_in (shadow t i) v else v)
+          if is_committed (set_others m (decision_key s) (Some (Row.ReadLog (Value.Bool c))) (decision_key t) (false_from_ne_true _ (λ e. away (is ∙ ap (λ z. Some (Tx z)) (decision_same t s (key_same (decision_key t) (decision_key s) e))))) i) then value_in (tail (shadow t i)) v else v)
 
       apart : ((content_of m x).owner ≡ Some (Tx s) → ⊥) → Lists x
       apart away = inr (away, others away)
@@ -93,8 +93,8 @@ module _ (d : Deployment) (m : Rows) (p : PlainState) (known : Known) (locked : 
   undecided : map.get m (decision_key (tx_begun id q)) ≡ None
   undecided = ap (λ f. map.get m (log_key f (place_of id (length q.answers)))) (sym now.func) ∙ no_decision d m known locked h.matches id k is (length q.answers) now.begun
 
-  same_shadows : (u : TxId) (x : Item) → map.get n (shadow_key u x) ≡ map.get m (shadow_key u x)
-  same_shadows u x = elsewhere m (decision_key t) (Some (Row.ReadLog (Value.Bool c))) is_shadow (shadow_key u x) refl refl
+  same_shadows : SameShadows m n
+  same_shadows u x = aside_apart m (decision_key t) (Some (Row.ReadLog (Value.Bool c))) u x (kind_off is_shadow same_shadow (shadow_key u x) (decision_key t) refl refl)
 
   -- nobody else can step
   front : tx.going.front ≡ id
@@ -158,7 +158,7 @@ module _ (d : Deployment) (m : Rows) (p : PlainState) (known : Known) (locked : 
         let below = λ (i : IntentId) (w : IsBelow u i). stays known id i (at_once d id done) (below_apart u i w) ∙ known_none_after d known h.sane u less i w
         ∙ sym (plain_none_after d state legal u (few state.made id done (here tx.going.state.made id done)) i w) in
         let o = at_once_opens d state more id done e (here known id (at_once d id done)) below in
-        record { tx = o; shadows = λ x. subst (λ r. ShadowShows (is_writing d locked x o.going) r (value_at o.going.state x)) (sym (same_shadows u x ∙ fresh_next d m p known locked h.shadows h.beside h.sane h.matches h.plain_sane id k is Answer.Done out x)) tt }
+        record { tx = o; shadows = λ x. subst (λ r. ShadowShows (is_writing d locked x o.going) r (value_at o.going.state x)) (sym (ap tail (same_shadows u x) ∙ fresh_next d m p known locked h.shadows h.beside h.sane h.matches h.plain_sane id k is Answer.Done out x)) tt }
       where
         less : (y : Instance) → map.get known id ≡ Some y → length y.answers ≤ length done.answers
         less y same = let l = ap (λ (w : Instance). length w.answers) (same_some (sym same ∙ is)) in let r = length-append k.answers (Answer.Done ∷ []) in omega (arith, l, r)
@@ -194,7 +194,7 @@ module _ (d : Deployment) (m : Rows) (p : PlainState) (known : Known) (locked : 
             touches : (x : Item) → TouchedIn d (tx_begun j z) (opened p j z) (h.shadows.shows j z was e).tx.moves x → value_at state x ≡ value_at p x
             touches x on = agree x (touched_owned d p known h.sane h.plain_sane j z was e (h.shadows.shows j z was e).tx locked x m h.matches on)
 
-            shadowed : (x : Item) → is_some (map.get m (shadow_key (tx_begun j z) x)) ≡ true → value_at state x ≡ value_at p x
+            shadowed : (x : Item) → is_some (shadow_row m (tx_begun j z) x) ≡ true → value_at state x ≡ value_at p x
             shadowed x row = agree x (got_owned d p known h.sane h.plain_sane j z was e (h.shadows.shows j z was e).tx locked x m h.matches (h.shadows.got (tx_begun j z) x row))
 
     shows : AllShow d n state more locked
@@ -244,7 +244,7 @@ module _ (d : Deployment) (m : Rows) (p : PlainState) (known : Known) (locked : 
 
     commit_lists : ((x : Item) → listed m x ≡ value_at p x) → (x : Item) → listed n x ≡ value_at state x
     commit_lists values x = elim (decision_lists m t undecided c x) [
-      | inl l ↦ l.1 ∙ ap (λ u. if u then value_in (map.get m (shadow_key t x)) (listed m x) else listed m x) yes ∙ ap (value_in (map.get m (shadow_key t x))) (values x)
+      | inl l ↦ l.1 ∙ ap (λ u. if u then value_in (shadow_row m t x) (listed m x) else listed m x) yes ∙ ap (value_in (shadow_row m t x)) (values x)
           ∙ seen d p known h.sane h.plain_sane id q made b tx locked x m h.matches ((h.shadows.shows id q made b).shadows x) (off x)
       | inr l ↦ l.1 ∙ values x ∙ sym (unowned_kept d p known h.sane h.plain_sane id q made b tx locked x m h.matches l.0)
     ]
@@ -275,7 +275,7 @@ module _ (d : Deployment) (m : Rows) (p : PlainState) (known : Known) (locked : 
 
     abort_lists : (x : Item) → listed n x ≡ listed m x
     abort_lists x = elim (decision_lists m t undecided c x) [
-      | inl l ↦ l.1 ∙ ap (λ u. if u then value_in (map.get m (shadow_key t x)) (listed m x) else listed m x) no
+      | inl l ↦ l.1 ∙ ap (λ u. if u then value_in (shadow_row m t x) (listed m x) else listed m x) no
       | inr l ↦ l.1
     ]
 
@@ -382,9 +382,9 @@ aborts_are_tries d m p known locked s k o is ends unlocked holders =
 
 -- ---- a release: the value that it leaves is the one that was listed
 pub release_lists : ReleasesList
-release_lists m x s v owned free value y = let n : Rows = set_row m (head_key x) v in by_item x y (λ y. listed n y ≡ listed m y)
-    (ap (λ (c : Content). listed_under n x c.owner c.value) (content_here m v x) ∙ ap (λ o. listed_under n x o (content_in v).value) free ∙ value ∙ ap (λ o. listed_under m x o (content_of m x).value) (sym owned))
-    (λ other. lists_same m n y (content_apart m (head_key x) v y (turned x y other)) (λ t. elsewhere m (head_key x) v is_row_log (decision_key t) refl refl) (λ t. elsewhere m (head_key x) v is_shadow (shadow_key t y) refl refl))
+release_lists m n x s alone owned free value y = by_item x y (λ y. listed n y ≡ listed m y)
+    (ap (λ o. listed_under n x o (content_of n x).value) free ∙ value ∙ ap (λ o. listed_under m x o (content_of m x).value) (sym owned))
+    (λ other. lists_same m n y (ap content (other_item m n x alone y other)) (λ t. other_key m n x alone (decision_key t) refl) (λ t. other_shadows m n x alone t y))
 
 -- .. by how its transaction is known to have ended
 pub decision_row : (d : Deployment) (m : Rows) (known : Known) (locked : IntentId → Bool) → Matches d m known locked → (s : TxId) (k : Instance) (n : ℕ) (c : Bool) → map.get known s.intent ≡ Some k → k.func ≡ s.func → end_of d k s.begin ≡ Some (n, c) → is_committed (map.get m (decision_key s)) ≡ c

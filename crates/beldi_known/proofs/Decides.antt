@@ -1,5 +1,5 @@
 -- The decision: its row is added, at the step of Begin. No item owes more, and no owner changes.
-use Rattle.beldi_known.proofs.Names.{Answer, AnswersOne, Bool, Deployment, Instance, IntentId, Item, Kind, Known, LockedOut, LocksetMatches, Matches, None, Option, Outcome, Place, Row, Rows, Some, TxId, and_right, ap, arith, asks_lock, begins_at, commit_in, content_of, effect_after, effect_of, end_of, ended_at, ended_by, eqb-true, false, got_before, got_by, held_if, holds, id_cmp, if◌then◌else◌, is_aborted, is_at, is_decided, is_eq, is_item, is_mark, is_none, is_on, is_open, is_some, is_tx, key_cmp, last_step, length, lockset_ahead, log_key, none_by, not, note_by, op_of, or_from, or_left, or_parts, owed_lockset, owed_note, place_of, refl, row_added, set_row, shadow_by, shadow_of, subst, sym, touched, true, tx_end, tx_now, txs_after, txs_by, ℕ, ◌&&◌, ◌==◌, ◌||◌, ◌∙◌, ◌≡◌, Effect, Value}
+use Rattle.beldi_known.proofs.Names.{Answer, AnswersOne, Bool, Deployment, Effect, Instance, IntentId, Item, Kind, Known, LockedOut, LocksetMatches, Matches, None, Option, Outcome, Place, Row, Rows, Some, TxId, Value, and_right, ap, arith, asks_lock, begins_at, commit_in, content_of, effect_after, effect_of, end_of, ended_at, ended_by, eqb-true, false, got_before, got_by, held_if, holds, id_cmp, if◌then◌else◌, is_aborted, is_at, is_decided, is_eq, is_item, is_mark, is_none, is_on, is_open, is_some, is_tx, key_cmp, last_step, length, lockset_ahead, log_key, none_by, not, note_by, op_of, or_from, or_left, or_parts, owed_lockset, owed_note, place_of, refl, row_added, set_row, shadow_by, shadow_of, subst, sym, touched, true, tx_end, tx_now, txs_after, txs_by, ℕ, ◌&&◌, ◌==◌, ◌||◌, ◌∙◌, ◌≡◌}
 use Rattle.beldi_known.proofs.FrameAt.{known_set, read_here, holds_one, note_same, got_one, lockset_one, item_alike, txs_alike, lockset_by, none_out}
 use Rattle.beldi_known.proofs.{Frame.step_next, Frame.no_note, Frame.no_shadow, Frame.or_false, Fronts.row_by, Fronts.shadow_kept, Fronts.read_elsewhere, Fronts.tx_end_stays, Acts.log_set, Cases.by_cases, Cases.if_is}
 use Rattle.beldi_known.proofs.Names.map
@@ -104,7 +104,7 @@ module _ (d : Deployment) (known : Known) (locked : IntentId → Bool) (id : Int
   decided m h = let k = log_key q.func (place_of id b) in
       log_set d after locked m k (Some (Row.ReadLog (Value.Bool c))) refl (subst (λ z. z ≡ Some (Value.Bool c)) (sym (read_here d known id q r a is one b (Value.Bool c) added)) refl)
       (λ l other. row_by d known locked locked id q r a is one out l.home l.kind (map.get m l) (λ y kind. read_elsewhere d known locked locked id q r a is one out b (Value.Bool c) added l.home y (subst (λ (z : Kind). is_eq (key_cmp (record { home = l.home; kind = z }) k) ≡ false) kind other))
-      (λ j f t z kind. locksets_same f (record { func = l.home; table = t; key = z }) j (map.get m l)) (h.keys l))
+      (λ j f t z kind. locksets_same f (record { func = l.home; table = t; key = z }) j (map.get m l)) (h.keys l)) h.chains h.asides
       (λ x. item_alike d known after locked locked x (holds_one d known id q r a is one x (λ j u. u ≡ holds d x (map.get known j)) (ap (λ e. held_if x q.func (op_of e) (holds d x (map.get known id))) ends) (λ j other. refl)) marks_stay (notes_same x) (content_of m x) (h.items x))
       (λ t x. shadow_kept d known locked locked id q r a is one out t x (shadow_of m t x) (ap (λ e. shadow_by t x q.func (tx_now d id q) e a) ends ∙ no_shadow t x q.func (tx_now d id q) (Effect.End c) a refl) (h.shadows t x))
       (λ x. txs_alike d known after locked locked x (λ t. got_same t x) still_open (content_of m x).owner (h.txs x))

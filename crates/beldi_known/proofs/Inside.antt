@@ -1,7 +1,7 @@
 -- The front acts of operations inside, by their effects; and a release.
-use Rattle.beldi_known.proofs.Names.{Answer, Bool, CellMatches, Content, Deployment, Effect, Instance, Intent, IntentId, Item, ItemMatches, Known, List, LockedOut, Matches, None, Note, Option, Place, Rel, Row, RowMatches, Rows, Some, Tx, TxId, TxsMatch, Value, [], ap, arith, begins_at, cond, content_in, content_of, effect_of, eq-eqb, false, head_key, if◌then◌else◌, is_eq, is_item, is_mark, is_none, is_open, is_owner, is_some, is_tx, item_cmp, item_total, key_cmp, key_same, length, lockset_ahead, lockset_key, log_key, moved, not, note_at, note_of, note_pushed, or_right, owed_lockset, place_eq, place_of, place_same, refl, row_added, row_got, set_row, shadow_by, shadow_key, shadow_of, subst, sym, tied_itself, touched, true, tx_end, tx_eq, tx_now, txs_after, with_note, write_op, ℕ, ◌&&◌, ◌++◌, ◌==◌, ◌∙◌, ◌∷◌, ◌≡◌}
-use Rattle.beldi_known.proofs.Acts.{read_answered, write_answered, lock_died, kinds_apart, is_data, content_apart, shadow_apart, log_set, head_set}
-use Rattle.beldi_known.proofs.{Answers.true_false, Rows.keys_set, Frame.moved_one, Frame.no_shadow, Locks.tx_self, Cases.if_is, Cases.if_same, Cases.by_cases}
+use Rattle.beldi_known.proofs.Names.{Answer, Bool, ChangedAlone, Content, Deployment, Effect, Instance, Intent, IntentId, IsSoundChain, Item, ItemMatches, Known, List, LockedOut, Matches, None, Note, Option, Place, Rel, Row, Rows, ShadowMatches, Some, Sound, Tx, TxId, TxsMatch, Value, [], ap, arith, begins_at, content, content_in, content_of, effect_of, eq-eqb, false, head_key, if◌then◌else◌, is_eq, is_item, is_mark, is_none, is_open, is_owner, is_some, is_tx, item_cmp, item_total, length, lockset_ahead, lockset_key, log_key, moved, no_content, not, note_at, note_of, note_pushed, one_tail, or_right, owed_lockset, place_eq, place_of, place_same, refl, row_added, set_row, shadow_by, shadow_chain, shadow_key, shadow_of, shadow_row, subst, sym, tied_itself, touched, true, tx_end, tx_eq, tx_now, txs_after, with_note, write_op, ℕ, ◌&&◌, ◌++◌, ◌==◌, ◌∙◌, ◌∷◌, ◌≡◌}
+use Rattle.beldi_known.proofs.Acts.{read_answered, write_answered, lock_died, log_set, head_at, other_aside, by_aside, shadow_at}
+use Rattle.beldi_known.proofs.{Answers.true_false, Frame.moved_one, Frame.no_shadow, Locks.tx_self, Cases.if_is, Cases.if_same}
 use Rattle.beldi_known.proofs.Names.map
 
 module _ (d : Deployment) (known : Known) (locked unlocked : IntentId → Bool) (id : IntentId) (q : Instance) (is : map.get known id ≡ Some q) (out : LockedOut locked unlocked id)
@@ -33,30 +33,30 @@ module _ (d : Deployment) (known : Known) (locked unlocked : IntentId → Bool) 
       by_tests : (b c : Bool) (m : Option Note) → (b && c) ≡ false → (if b then (if c then m else None) else None) ≡ None
       by_tests b c m g = grind arith
 
-  pub write_inside : (v : Value) (r : Option Row) → effect_of d q ≡ Effect.Write t k v → HasLockset → locked id ≡ true → CellMatches 0 r → note_at (shadow_of m s item).notes place ≡ None
-      → content_in r ≡ record { value = v; owner = (shadow_of m s item).owner; notes = (shadow_of m s item).notes ++ (place, Note.Wrote) ∷ [] }
-      → Matches d (set_row m (shadow_key s item) r) (map.insert known id (moved d id q Answer.Done)) unlocked
-  write_inside v r wants lockset was fits none same = write_answered d known locked unlocked id q (moved d id q Answer.Done) Answer.Done is (moved_one d id q Answer.Done) out s inside (t, k) (ap touched wants) m lockset h
-      r Note.Wrote fits (ap (λ e. row_added (length q.answers) (txs_after d q q.answers).begun e Answer.Done) wants) was refl
+  pub write_inside : (v : Value) (n : Rows) → effect_of d q ≡ Effect.Write t k v → HasLockset → locked id ≡ true → ChangedAlone (shadow_key s item) m n → Sound (shadow_chain n s item) → note_at (shadow_of m s item).notes place ≡ None
+      → shadow_of n s item ≡ record { value = v; owner = (shadow_of m s item).owner; notes = (shadow_of m s item).notes ++ (place, Note.Wrote) ∷ [] }
+      → Matches d n (map.insert known id (moved d id q Answer.Done)) unlocked
+  write_inside v n wants lockset was alone sound none same = write_answered d known locked unlocked id q (moved d id q Answer.Done) Answer.Done is (moved_one d id q Answer.Done) out s inside (t, k) (ap touched wants) m lockset h
+      n Note.Wrote alone sound (ap (λ e. row_added (length q.answers) (txs_after d q q.answers).begun e Answer.Done) wants) was refl
       (noted (Effect.Write t k v) Answer.Done Note.Wrote wants (ap (λ b. if is_eq b then Some Note.Wrote else None) (tied_itself item_total item)))
       (apart (Effect.Write t k v) Answer.Done (Some Note.Wrote) wants (λ x. refl)) none v same
 
-  pub test_inside : (u : Rel) (y v : Value) (r : Option Row) (b : Bool) → effect_of d q ≡ Effect.CondWrite t k u y v → HasLockset → locked id ≡ true → CellMatches 0 r → note_at (shadow_of m s item).notes place ≡ None
-      → (w : Value) → content_in r ≡ record { value = w; owner = (shadow_of m s item).owner; notes = (shadow_of m s item).notes ++ (place, Note.Cond b) ∷ [] }
-      → Matches d (set_row m (shadow_key s item) r) (map.insert known id (moved d id q (Answer.Value (Value.Bool b)))) unlocked
-  test_inside u y v r b wants lockset was fits none w same = let a = Answer.Value (Value.Bool b) in
+  pub test_inside : (u : Rel) (y v : Value) (n : Rows) (b : Bool) → effect_of d q ≡ Effect.CondWrite t k u y v → HasLockset → locked id ≡ true → ChangedAlone (shadow_key s item) m n → Sound (shadow_chain n s item) → note_at (shadow_of m s item).notes place ≡ None
+      → (w : Value) → shadow_of n s item ≡ record { value = w; owner = (shadow_of m s item).owner; notes = (shadow_of m s item).notes ++ (place, Note.Cond b) ∷ [] }
+      → Matches d n (map.insert known id (moved d id q (Answer.Value (Value.Bool b)))) unlocked
+  test_inside u y v n b wants lockset was alone sound none w same = let a = Answer.Value (Value.Bool b) in
       write_answered d known locked unlocked id q (moved d id q a) a is (moved_one d id q a) out s inside (t, k) (ap touched wants) m lockset h
-      r (Note.Cond b) fits (ap (λ e. row_added (length q.answers) (txs_after d q q.answers).begun e a) wants) was refl
+      n (Note.Cond b) alone sound (ap (λ e. row_added (length q.answers) (txs_after d q q.answers).begun e a) wants) was refl
       (noted (Effect.CondWrite t k u y v) a (Note.Cond b) wants (ap (λ c. if is_eq c then Some (Note.Cond b) else None) (tied_itself item_total item)))
       (apart (Effect.CondWrite t k u y v) a (Some (Note.Cond b)) wants (λ x. refl)) none w same
 
   -- a death, of any of them
-  pub dies_inside : (holder : IntentId) (r : Option Row) → touched (effect_of d q) ≡ Some (t, k) → HasLockset → locked id ≡ false → CellMatches 0 r → note_at (content_of m item).notes place ≡ None
-      → content_in r ≡ with_note (content_of m item) place (Note.Died holder)
-      → Matches d (set_row m (head_key item) r) (map.insert known id (moved d id q (Answer.Aborted (record { place = place; holder = Some holder })))) unlocked
-  dies_inside holder r touch lockset was fits none same = let a = Answer.Aborted (record { place = place; holder = Some holder }) in
+  pub dies_inside : (holder : IntentId) (n : Rows) → touched (effect_of d q) ≡ Some (t, k) → HasLockset → locked id ≡ false → ChangedAlone (head_key item) m n → IsSoundChain n item → note_at (content_of m item).notes place ≡ None
+      → content_of n item ≡ with_note (content_of m item) place (Note.Died holder)
+      → Matches d n (map.insert known id (moved d id q (Answer.Aborted (record { place = place; holder = Some holder })))) unlocked
+  dies_inside holder n touch lockset was alone sound none same = let a = Answer.Aborted (record { place = place; holder = Some holder }) in
       lock_died d known locked unlocked id q (moved d id q a) a is (moved_one d id q a) out s inside (t, k) touch m lockset h
-      r holder fits (no_row (effect_of d q) touch) refl was (λ u x. by_effect u x (effect_of d q) touch) none same
+      n holder alone sound (no_row (effect_of d q) touch) refl was (λ u x. by_effect u x (effect_of d q) touch) none same
     where
       none_both : (b c : Bool) → ◌≡◌ {A = Option Note} (if b then (if c then None else None) else None) None
       none_both b c = ap (λ o. if b then o else None) (if_same c None) ∙ if_same b None
@@ -88,9 +88,9 @@ module _ (d : Deployment) (known : Known) (locked : IntentId → Bool) (x : Item
   }
 
 -- .. and the rows
-pub released : (d : Deployment) (m : Rows) (known : Known) (locked : IntentId → Bool) (x : Item) (s : TxId) (z : ℕ × Bool) (p : Place) (w : Value) (v : Option Row) → (content_of m x).owner ≡ Some (Tx s) → tx_end d known s ≡ Some z → is_mark d known p.step (map.get known p.intent) ≡ true
-    → note_at (content_of m x).notes p ≡ None → CellMatches 0 v → content_in v ≡ record { value = w; owner = None; notes = (content_of m x).notes ++ (p, Note.Freed) ∷ [] } → Matches d m known locked → Matches d (set_row m (head_key x) v) known locked
-released d m known locked x s z p w v owned decided mark none fits same h = head_set d known locked m x v _ same fits h.keys (item_released d known locked x (content_of m x) s owned z decided p w mark none (h.items x)) (λ y other. h.items y) h.shadows
+pub released : (d : Deployment) (m : Rows) (known : Known) (locked : IntentId → Bool) (x : Item) (s : TxId) (z : ℕ × Bool) (p : Place) (w : Value) (n : Rows) → (content_of m x).owner ≡ Some (Tx s) → tx_end d known s ≡ Some z → is_mark d known p.step (map.get known p.intent) ≡ true
+    → note_at (content_of m x).notes p ≡ None → ChangedAlone (head_key x) m n → IsSoundChain n x → content_of n x ≡ record { value = w; owner = None; notes = (content_of m x).notes ++ (p, Note.Freed) ∷ [] } → Matches d m known locked → Matches d n known locked
+released d m known locked x s z p w n owned decided mark none alone sound same h = head_at d known locked m n x _ alone same sound h.keys h.chains h.asides (item_released d known locked x (content_of m x) s owned z decided p w mark none (h.items x)) (λ y other. h.items y) h.shadows
     (txs_released d known locked x (content_of m x) s owned z decided (h.txs x)) (λ y other. h.txs y)
 
 -- ---- the front acts that answer nothing
@@ -99,7 +99,7 @@ module _ (d : Deployment) (known : Known) (locked : IntentId → Bool) (m : Rows
   pub lockset_put : (id : IntentId) (q : Instance) (s : TxId) (o : ℕ × List ℕ) → map.get known id ≡ Some q → q.outcome ≡ None → tx_now d id q ≡ Some s → tx_end d known s ≡ None → touched (effect_of d q) ≡ Some o
       → Matches d (set_row m (lockset_key id s.begin (record { func = q.func; table = o.0; key = o.1 })) (Some Row.Lockset)) known locked
   lockset_put id q s o is none inside open_still touch = let x : Item = record { func = q.func; table = o.0; key = o.1 } in
-      log_set d known locked m (lockset_key id s.begin x) (Some Row.Lockset) refl (or_right (owed_lockset d s.begin x id (map.get known id)) (lockset_ahead d known s.begin x id (map.get known id)) ahead) (λ l other. h.keys l) h.items h.shadows h.txs
+      log_set d known locked m (lockset_key id s.begin x) (Some Row.Lockset) refl (or_right (owed_lockset d s.begin x id (map.get known id)) (lockset_ahead d known s.begin x id (map.get known id)) ahead) (λ l other. h.keys l) h.chains h.asides h.items h.shadows h.txs
     where
       ahead : lockset_ahead d known s.begin (record { func = q.func; table = o.0; key = o.1 }) id (map.get known id) ≡ true
       ahead = ap (lockset_ahead d known s.begin (record { func = q.func; table = o.0; key = o.1 }) id) is
@@ -110,15 +110,10 @@ module _ (d : Deployment) (known : Known) (locked : IntentId → Bool) (m : Rows
           ∙ ap (is_item (record { func = q.func; table = o.0; key = o.1 }) q.func) touch ∙ ap is_eq (tied_itself item_total (record { func = q.func; table = o.0; key = o.1 }))
 
   -- the first row of a shadow, without notes
-  pub shadow_made : (s : TxId) (x : Item) (v : Option Row) → CellMatches 0 v → map.get m (shadow_key s x) ≡ None → (content_in v).notes ≡ [] → Matches d (set_row m (shadow_key s x) v) known locked
-  shadow_made s x v fits absent empty = let k = shadow_key s x in record {
-    keys = keys_set m k v (λ l z. RowMatches d known l.home l.kind z) fits (λ l other. h.keys l);
-    items = λ y. subst (ItemMatches d known locked y) (sym (content_apart m k v y (kinds_apart is_data (head_key y) k refl refl))) (h.items y);
-    shadows = λ t y a. ap (λ ns. note_at ns a) (same_notes t y) ∙ h.shadows t y a;
-    txs = λ y. subst (λ (c : Content). TxsMatch d known locked y c.owner) (sym (content_apart m k v y (kinds_apart is_data (head_key y) k refl refl))) (h.txs y);
-  }
+  pub shadow_made : (s : TxId) (x : Item) (n : Rows) → ChangedAlone (shadow_key s x) m n → Sound (shadow_chain n s x) → shadow_row m s x ≡ None → (shadow_of n s x).notes ≡ [] → Matches d n known locked
+  shadow_made s x n alone sound absent empty = shadow_at d known locked m n s x alone sound h.keys h.chains h.asides h.items
+      (by_aside m n s x alone (λ t y. ShadowMatches d known t y (shadow_of n t y)) (λ a. ap (λ ns. note_at ns a) (empty ∙ sym (ap (λ (c : Content). c.notes) none)) ∙ h.shadows s x a)
+      (λ t y off. subst (λ z. ShadowMatches d known t y (content z)) (sym (other_aside m n s x alone t y off)) (h.shadows t y))) h.txs
     where
-      same_notes : (t : TxId) (y : Item) → (shadow_of (set_row m (shadow_key s x) v) t y).notes ≡ (shadow_of m t y).notes
-      same_notes t y = by_cases (is_eq (key_cmp (shadow_key t y) (shadow_key s x)))
-          (λ e. ap (λ r. (content_in r).notes) (row_got m (shadow_key s x) (shadow_key t y) v ∙ ap (λ b. cond b v (map.get m (shadow_key t y))) e) ∙ empty ∙ sym (ap (λ r. (content_in r).notes) (ap (map.get m) (key_same (shadow_key t y) (shadow_key s x) e) ∙ absent)))
-          (λ e. ap (λ (c : Content). c.notes) (shadow_apart m (shadow_key s x) v t y e))
+      none : shadow_of m s x ≡ content_in None
+      none = no_content (shadow_chain m s x) (sym (one_tail (shadow_chain m s x) (h.asides s x)) ∙ absent)

@@ -32,7 +32,9 @@ pub use Rattle.beldi_order.proofs.Maps.{elsewhere, elsewhere as stays, equal, he
 pub use Rattle.beldi_order.proofs.Moved.{Answers, Calls, Items, MoveIs, Returns, answer_by, answer_inside, answers, answers_so, calls, calls_so, gone_on, items_after, items_by, move_is, mover, returns, returns_so}
 pub use Rattle.beldi_order.proofs.Sanes.{SaneWith, Waited, begun_pushed, is_edge, outside_of, sane_in, waited_by}
 pub use Rattle.beldi_row.{proofs.Gets.got, proofs.Gets.got as row_got, proofs.Gets.key_same, proofs.Gets.key_self, proofs.Logs.id_self, proofs.Logs.note_pushed, proofs.Logs.place_same, proofs.Logs.place_self, proofs.Rows.get_set, specs.Act.other_owner, specs.Act.owns, specs.Key.RowKey, specs.Key.key_cmp, specs.Log.id_eq, specs.Log.note_at, specs.Log.owner_eq, specs.Log.place_eq, specs.Table.Rows, specs.Table.set_row, specs.declared.key.Kind.Kind, specs.declared.notes.Note.Note, specs.declared.row.Body.Body, specs.declared.row.IntentRow.IntentRow, specs.declared.row.InvokeRow.InvokeRow, specs.declared.row.Row.Row}
-pub use Rattle.beldi_daal.specs.{Content.Content, Content.content_in, Logged.barred, Logged.done_to, Logged.note_after, Logged.owner_after, Logged.unless_owned, Logged.value_after, declared.cell.CellOp.CellOp, declared.cell.CellOp.TheVariants.Cond, declared.cell.CellOp.TheVariants.Free, declared.cell.CellOp.TheVariants.Lock, declared.cell.CellOp.TheVariants.Write}
+pub use Rattle.beldi_chain.specs.{Chain.ChangedAlone, Chain.IsHead, Chain.Sound, Chain.at_row, Chain.chain, Chain.content, Chain.is_row_of, Chain.kind_at, Chain.tail, Content.Content, Content.SoundAt, Content.content_in}
+pub use Rattle.beldi_chain.proofs.{Heads.chain_off, Heads.chain_other, OneRow.no_content, OneRow.no_tail, OneRow.one_tail, OneRow.tail_value}
+pub use Rattle.beldi_daal.specs.{Logged.barred, Logged.done_to, Logged.note_after, Logged.owner_after, Logged.unless_owned, Logged.value_after, declared.cell.CellOp.CellOp, declared.cell.CellOp.TheVariants.Cond, declared.cell.CellOp.TheVariants.Free, declared.cell.CellOp.TheVariants.Lock, declared.cell.CellOp.TheVariants.Write}
 pub use Rattle.beldi_readlog.specs.ReadLog.{log_key}
 pub use Rattle.beldi_invokelog.specs.InvokeLog.{call_at, call_in, invoke_key, result_in}
 pub use Rattle.beldi_intent.specs.Intent.{root_key}
@@ -42,7 +44,7 @@ pub use Rattle.beldi_known.specs.Frame.{AnswersOne, LockedOut, Owes, OwesSame, l
 pub use Rattle.beldi_known.specs.InsideLaws.{AbortsAreTries, CallsGo, CommitsArePieces, DeathsGo, FellAt, FirstRowsGo, Goes, HoldersInsideAreMade, IsAbort, IsCommit, IsSound, OpensAreOpen, ReadsGo, ReleasesList, ReturnsGo, RowsGo, TestsGo, WritesGo, item_of, last_answer}
 pub use Rattle.beldi_known.specs.Known.{Got, Known, Prefix, ahead_by, ahead_note, and_once, answer_at_once, answered_note, asks_lock, at_once, at_step, begins_at, commit_in, decision_by, ended_at, ended_by, got_before, got_by, is_decided, is_item, is_mark, is_on, is_tx, last_step, lock_note, lockset_of, moved, moved as answered_on, moved as goes_on, note_by, note_or, once, once_if, owed_call, owed_lockset, owed_note, owed_read, owed_shadow, owed_value, read_at, row_at, run_on, run_once, shadow_at, shadow_by, tx_end, tx_eq, value_or, write_op}
 pub use Rattle.beldi_known.specs.Matches.{ItemMatches, LockedAt, LockedAtEnds, LockedIf, LocksetMatches, Matches, RowMatches, ShadowMatches, TxsMatch, has_ended, is_open, lockset_ahead}
-pub use Rattle.beldi_known.specs.Rows.{BodyMatches, CallMatches, CalleeBodyMatches, CalleeMatches, CellMatches, EndsRow, FinishMatches, IntentMatches, IsBodyOf, IsCalleeRow, IsRootRow, LogMatches, OutcomeMatches, RootMatches, tx_in}
+pub use Rattle.beldi_known.specs.Rows.{BodyMatches, CallMatches, CalleeBodyMatches, CalleeMatches, EndsRow, FinishMatches, IntentMatches, IsBodyOf, IsCalleeRow, IsRootRow, LogMatches, OutcomeMatches, RootMatches, tx_in}
 pub use Rattle.beldi_known.specs.Shadows.{AllGot, AllShow, ShadowShows, Shadows, Shows, is_writing, writes_on, writing_at}
-pub use Rattle.beldi_known.specs.{Behind.IsFront, Beside.Beside, Beside.IsKept, Beside.OpenTx, Beside.PlainOwner, Beside.begins, Beside.is_begin, Contents.content_of, Contents.head_key, Contents.is_owner, Contents.lockset_key, Contents.shadow_key, Contents.shadow_of, Listed.listed, Listed.listed_under, Operations.DoneRows, Operations.cell_of, Owed.called_by, Owed.note_of, Owed.noted, Owed.noted as noted_by, Owed.result_of, Owed.value_for, Sane.Closed, Sane.Sane, Sane.SaneInstance, Stands.body_of}
+pub use Rattle.beldi_known.specs.{Behind.IsFront, Beside.Beside, Beside.IsKept, Beside.OpenTx, Beside.PlainOwner, Beside.begins, Beside.is_begin, Contents.IsSoundChain, Contents.SameShadows, Contents.content_of, Contents.head_key, Contents.is_owner, Contents.lockset_key, Contents.shadow_chain, Contents.shadow_key, Contents.shadow_of, Contents.shadow_row, Listed.listed, Listed.listed_under, Operations.DoneRows, Operations.cell_of, Owed.called_by, Owed.note_of, Owed.noted, Owed.noted as noted_by, Owed.result_of, Owed.value_for, Sane.Closed, Sane.Sane, Sane.SaneInstance, Stands.body_of}
 pub use Rattle.beldi_known.specs.InsideLaws as laws

@@ -1,5 +1,5 @@
 -- At the start nothing is known, no lock is ahead, and no row is there: all that matches.
-use Rattle.beldi_known.proofs.Names.{Bool, CellMatches, Content, Deployment, Instance, IntentId, IntentMatches, ItemMatches, Kind, Known, LockedAtEnds, Matches, None, RootMatches, RowMatches, Sane, ShadowMatches, Some, TxId, TxsMatch, ap, called_by, child_of, content_in, false, get-empty, got_by, has_ended, has_no_hops, head_key, holds, id_cmp, key_cmp, owed_lockset, owed_note, owed_shadow, owed_value, refl, root_of, shadow_key, subst, suc, sym, true, zero, ℕ, ◌==◌, ◌∙◌, ◌≡◌}
+use Rattle.beldi_known.proofs.Names.{Bool, Content, Deployment, Instance, IntentId, IntentMatches, ItemMatches, Kind, Known, LockedAtEnds, Matches, None, RootMatches, RowKey, RowMatches, Sane, ShadowMatches, Some, Sound, SoundAt, TxId, TxsMatch, ap, at_row, called_by, chain, child_of, content, content_in, false, get-empty, got_by, has_ended, has_no_hops, head_key, holds, id_cmp, key_cmp, no_content, owed_lockset, owed_note, owed_shadow, owed_value, refl, root_of, shadow_key, subst, suc, sym, true, ℕ, ◌==◌, ◌∙◌, ◌≡◌}
 use Rattle.beldi_known.proofs.Instances.{no_callee}
 use Rattle.beldi_known.proofs.Names.map
 
@@ -32,24 +32,28 @@ no_intent : (ended : TxId → Bool) (home : ℕ) (b : Bool) → IntentMatches en
 no_intent ended home true = elim (home == 0) as (λ b. RootMatches b None None) [ true ↦ refl | false ↦ refl ]
 no_intent ended home false = record { open_still = λ q is same idle. cc }
 
-no_cell : (n : ℕ) → CellMatches n None
-no_cell zero = tt
-no_cell (suc n) = refl
-
 no_row : (d : Deployment) (home : ℕ) (k : Kind) → RowMatches d none home k None
 no_row d home (Kind.Intent id) = subst (IntentMatches (has_ended d none) (has_no_hops id.hops) home None) (sym (absent id)) (no_intent (has_ended d none) home (has_no_hops id.hops))
 no_row d home (Kind.ReadLog a) = ap (owed_value d home a.step) (absent a.intent)
 no_row d home (Kind.Invoke a) = ap (called_by home (map.get none a.intent)) (absent (child_of a.intent a.step)) ∙ no_callee home (map.get none a.intent)
 no_row d home (Kind.Lockset i b t k) = ap (owed_lockset d b (record { func = home; table = t; key = k }) i) (absent i)
-no_row d home (Kind.Data t k n) = no_cell n
-no_row d home (Kind.Shadow s t k n) = no_cell n
+no_row d home (Kind.Data t k n) = tt
+no_row d home (Kind.Shadow s t k n) = tt
+
+no_chain : (k : RowKey) → content (chain map.empty k) ≡ content_in None
+no_chain k = no_content (chain map.empty k) (get-empty key_cmp (at_row k 0))
+
+sound_none : (k : RowKey) → Sound (chain map.empty k)
+sound_none k = record { head = subst SoundAt (sym (get-empty key_cmp (at_row k 0))) tt; alone = λ n. get-empty key_cmp (at_row k (suc n)) }
 
 pub nothing_matches : (d : Deployment) → Matches d map.empty none unlocked
 nothing_matches d = record {
   keys = λ k. subst (RowMatches d none k.home k.kind) (sym (get-empty key_cmp k)) (no_row d k.home k.kind);
-  items = λ x. subst (ItemMatches d none unlocked x) (sym (ap content_in (get-empty key_cmp (head_key x))))
+  chains = λ x. sound_none (head_key x);
+  asides = λ t x. sound_none (shadow_key t x);
+  items = λ x. subst (ItemMatches d none unlocked x) (sym (no_chain (head_key x)))
       (record { owner = λ j. sym (ap (holds d x) (absent j)); notes = λ a other. sym (ap (owed_note d x a.intent false a.step) (absent a.intent)) });
-  shadows = λ t x. subst (ShadowMatches d none t x) (sym (ap content_in (get-empty key_cmp (shadow_key t x)))) (λ a. sym (ap (owed_shadow d t x a.intent a.step) (absent a.intent)));
-  txs = λ x. subst (λ (c : Content). TxsMatch d none unlocked x c.owner) (sym (ap content_in (get-empty key_cmp (head_key x))))
+  shadows = λ t x. subst (ShadowMatches d none t x) (sym (no_chain (shadow_key t x))) (λ a. sym (ap (owed_shadow d t x a.intent a.step) (absent a.intent)));
+  txs = λ x. subst (λ (c : Content). TxsMatch d none unlocked x c.owner) (sym (no_chain (head_key x)))
       (record { owned_is_got = λ t e. cc; got_is_owned = λ t g open_still. let clash = sym (ap (got_by d t x g.member false) (absent g.member)) ∙ g.got in cc });
 }

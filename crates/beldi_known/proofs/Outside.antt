@@ -86,6 +86,8 @@ module _ (d : Deployment) (known : Known) (locked : IntentId → Bool) (id : Int
   pub call_answered : op_of (effect_of d q) ≡ None → row_added (length q.answers) (txs_after d q q.answers).begun (effect_of d q) a ≡ None → (m : Rows) → Matches d m known locked → Matches d m after locked
   call_answered none added m h = record {
     keys = λ l. row_kept l.home l.kind (map.get m l) (λ b kind. read_none d known id q r a is one added l.home b) (h.keys l);
+    chains = h.chains;
+    asides = h.asides;
     items = λ x. item_same none x (content_of m x) (h.items x);
     shadows = λ t x. shadows_kept t x (shadow_of m t x) (h.shadows t x);
     txs = λ x. txs_kept x (content_of m x).owner (h.txs x);
@@ -96,7 +98,7 @@ module _ (d : Deployment) (known : Known) (locked : IntentId → Bool) (id : Int
       → Matches d (set_row m (log_key q.func (place_of id (length q.answers))) (Some (Row.ReadLog v))) after locked
   read_added m v none added h = let k = log_key q.func (place_of id (length q.answers)) in
       log_set d after locked m k (Some (Row.ReadLog v)) refl (subst (λ z. z ≡ Some v) (sym (read_here d known id q r a is one (length q.answers) v added)) refl)
-      (λ l other. row_kept l.home l.kind (map.get m l) (λ b kind. read_elsewhere d known locked locked id q r a is one out (length q.answers) v added l.home b (subst (λ (z : Kind). is_eq (key_cmp (record { home = l.home; kind = z }) k) ≡ false) kind other)) (h.keys l))
+      (λ l other. row_kept l.home l.kind (map.get m l) (λ b kind. read_elsewhere d known locked locked id q r a is one out (length q.answers) v added l.home b (subst (λ (z : Kind). is_eq (key_cmp (record { home = l.home; kind = z }) k) ≡ false) kind other)) (h.keys l)) h.chains h.asides
       (λ x. item_same none x (content_of m x) (h.items x)) (λ t x. shadows_kept t x (shadow_of m t x) (h.shadows t x)) (λ x. txs_kept x (content_of m x).owner (h.txs x))
 
 -- ---- an operation
@@ -171,7 +173,7 @@ module _ (d : Deployment) (known : Known) (locked : IntentId → Bool) (id : Int
   -- and the rows
   pub operation_done : (m n : Rows) → DoneRows m n item p op → (content_of m item).value ≡ w → Matches d m known locked → Matches d n now locked
   operation_done m n did value h = let was = (content_of m item).owner in head_at d now locked m n item (done_to p who op (content_of m item)) did.same did.here did.sound
-      (λ l. row_kept d known locked id q r a is unlocked (inl outside) ends_none one l.home l.kind (map.get m l) (λ b kind. read_none d known id q r a is one (op_adds_none (length q.answers) (txs_after d q q.answers).begun (effect_of d q) o a wants_it) l.home b) (h.keys l))
+      (λ l. row_kept d known locked id q r a is unlocked (inl outside) ends_none one l.home l.kind (map.get m l) (λ b kind. read_none d known id q r a is one (op_adds_none (length q.answers) (txs_after d q q.answers).begun (effect_of d q) o a wants_it) l.home b) (h.keys l)) h.chains h.asides
       (item_done (content_of m item) value did.none did.free (h.items item)) (λ x other. item_kept x (content_of m x) other (h.items x)) (λ t x. shadows_kept d known locked id q r a is unlocked (inl outside) ends_none one t x (shadow_of m t x) (h.shadows t x))
       (txs_done d known locked id q r a is unlocked (inl outside) ends_none one item was (owner_after op who was) (no_tx id was (unbarred op id was did.free)) (no_tx id (owner_after op who was) (free_after op id was did.free)) (h.txs item))
       (λ x other. txs_kept d known locked id q r a is unlocked (inl outside) ends_none one x (content_of m x).owner (h.txs x))

@@ -1,6 +1,6 @@
 -- An instance goes on outside in both: what is known stays beside the plain state, and shadows show what they did. It is in no open
 -- transaction of another, so those go on as they did.
-use Rattle.beldi_known.proofs.Names.{AllGot, AllShow, Answer, Beside, Bool, CalledBy, Deployment, Effect, FinMap, Goes, Got, Instance, IntentId, IsBelow, IsIn, IsKept, Item, Items, Known, Matches, None, OpenTx, Option, Outcome, PlainState, Row, Rows, Sane, ShadowShows, Shadows, Shows, Some, TouchedIn, Tx, TxId, Txs, Value, [], aborted, all_in, answer_at_once, answered, answered_if, answers_so, ap, arith, at_once, begins, child_of, child_same, cond, content_of, dies_at, effect_of, elsewhere, end_of, ended, ended_by, equal, false, false_from_ne_true, fell, get-insert, gone_on, got_before, got_by, here, id_cmp, id_total, if◌then◌else◌, in_line, inl, inr, is_aborted, is_at, is_begin, is_eq, is_none, is_on, is_some, is_writing, item_cmp, item_same, last_hop, length, length-append, line_opened, moved, moves_beside, no_callees, no_later, none_after, none_by, not, not_longer, once, once_if, opened, or_null, or_old, plain_set, refl, root_of, same_some, sane_with, set_if, shadow_key, subst, sym, tied_itself, true, tx_after, tx_begun, tx_end, txs_after, txs_by, txs_pushed, value_at, with_instance, writing_at, ℕ, ◌&&◌, ◌++◌, ◌<◌, ◌||◌, ◌∙◌, ◌∷◌, ◌≡◌, ◌≤◌}
+use Rattle.beldi_known.proofs.Names.{AllGot, AllShow, Answer, Beside, Bool, CalledBy, Deployment, Effect, FinMap, Goes, Got, Instance, IntentId, IsBelow, IsIn, IsKept, Item, Items, Known, Matches, None, OpenTx, Option, Outcome, PlainState, Row, Rows, SameShadows, Sane, ShadowShows, Shadows, Shows, Some, TouchedIn, Tx, TxId, Txs, Value, [], aborted, all_in, answer_at_once, answered, answered_if, answers_so, ap, arith, at_once, begins, child_of, child_same, cond, content_of, dies_at, effect_of, elsewhere, end_of, ended, ended_by, equal, false, false_from_ne_true, fell, get-insert, gone_on, got_before, got_by, here, id_cmp, id_total, if◌then◌else◌, in_line, inl, inr, is_aborted, is_at, is_begin, is_eq, is_none, is_on, is_some, is_writing, item_cmp, item_same, last_hop, length, length-append, line_opened, moved, moves_beside, no_callees, no_later, none_after, none_by, not, not_longer, once, once_if, opened, or_null, or_old, plain_set, refl, root_of, same_some, sane_with, set_if, shadow_chain, shadow_row, subst, sym, tail, tied_itself, true, tx_after, tx_begun, tx_end, txs_after, txs_by, txs_pushed, value_at, with_instance, writing_at, ℕ, ◌&&◌, ◌++◌, ◌<◌, ◌||◌, ◌∙◌, ◌∷◌, ◌≡◌, ◌≤◌}
 use Rattle.beldi_known.proofs.{Answers.true_false, Begins.aborts_inside, Frame.at_once_same, Frame.moved_one, FrameAt.known_set, Callers.called_below, Lines.parent_in, NoTx.IsOutside, NoTx.begins_parts, NoTx.no_begin, Owns.going, Owns.got_owned, Owns.owner_known, Owns.touched_owned, Phases.end_is, Phases.inside_is, ReadLists.got_since, ReadLists.member_tx, Sanes.no_callees as known_childless, Cases.by_option, Cases.by_cases}
 use Rattle.beldi_known.proofs.Names.inside
 use Rattle.beldi_known.proofs.Names.map
@@ -82,7 +82,7 @@ callee_apart d p legal id q n made apart j z there b below = elim (parent_in (tx
 pub record MaySet (d : Deployment) (m : Rows) (p : PlainState) (known : Known) (id : IntentId) (s : Instance) : Type 0 where
   pub out : IsOutside d s s.answers
   -- a transaction that it begins has no shadow yet, and nobody below
-  pub fresh : begins d s ≡ true → (x : Item) → map.get m (shadow_key (tx_begun id s) x) ≡ None
+  pub fresh : begins d s ≡ true → (x : Item) → shadow_row m (tx_begun id s) x ≡ None
   pub below : begins d s ≡ true → (i : IntentId) → IsBelow (tx_begun id s) i → map.get known i ≡ map.get p.made i
   pub apart : Apart d p id
   -- and it does not commit
@@ -145,8 +145,8 @@ shows_same w (Some r) v u same (inr e) = inr (e ∙ sym (same refl))
 
 module _ (d : Deployment) (m n : Rows) (p r : PlainState) (known next : Known) (locked : IntentId → Bool) (j : IntentId) (z : Instance) (b : begins d z ≡ true) (g : Shows d m p known locked j z)
     (members : (i : IntentId) → IsIn (tx_begun j z) i → map.get r.made i ≡ map.get p.made i) (knowns : (i : IntentId) → IsIn (tx_begun j z) i → map.get next i ≡ map.get known i)
-    (rows : (x : Item) → map.get n (shadow_key (tx_begun j z) x) ≡ map.get m (shadow_key (tx_begun j z) x))
-    (touches : (x : Item) → TouchedIn d (tx_begun j z) (opened p j z) g.tx.moves x → value_at r x ≡ value_at p x) (shadowed : (x : Item) → is_some (map.get m (shadow_key (tx_begun j z) x)) ≡ true → value_at r x ≡ value_at p x) where
+    (rows : (x : Item) → shadow_chain n (tx_begun j z) x ≡ shadow_chain m (tx_begun j z) x)
+    (touches : (x : Item) → TouchedIn d (tx_begun j z) (opened p j z) g.tx.moves x → value_at r x ≡ value_at p x) (shadowed : (x : Item) → is_some (shadow_row m (tx_begun j z) x) ≡ true → value_at r x ≡ value_at p x) where
   abbrev u : TxId
   u = tx_begun j z
 
@@ -164,14 +164,14 @@ module _ (d : Deployment) (m n : Rows) (p r : PlainState) (known next : Known) (
   pub shows_beside : Shows d n r next locked j z
   shows_beside = record {
     tx = record { moves = g.tx.moves; going = there_too.going; leads = there_too.leads; whole = λ i is. knowns i is ∙ g.tx.whole i is ∙ sym (there_too.alike.members i is) };
-    shadows = λ x. subst (λ w. ShadowShows w (map.get n (shadow_key u x)) (value_at there_too.going.state x)) (sym (writes_same x))
-        (subst (λ o. ShadowShows (is_writing d locked x g.tx.going) o (value_at there_too.going.state x)) (sym (rows x))
-        (shows_same (is_writing d locked x g.tx.going) (map.get m (shadow_key u x)) (value_at g.tx.going.state x) (value_at there_too.going.state x) (λ is. there_too.same x (shadowed x is)) (g.shadows x)));
+    shadows = λ x. subst (λ w. ShadowShows w (shadow_row n u x) (value_at there_too.going.state x)) (sym (writes_same x))
+        (subst (λ o. ShadowShows (is_writing d locked x g.tx.going) (tail o) (value_at there_too.going.state x)) (sym (rows x))
+        (shows_same (is_writing d locked x g.tx.going) (shadow_row m u x) (value_at g.tx.going.state x) (value_at there_too.going.state x) (λ is. there_too.same x (shadowed x is)) (g.shadows x)));
   }
 
 -- ---- one instance is set in both, and the items
 module _ (d : Deployment) (m : Rows) (p : PlainState) (known : Known) (locked : IntentId → Bool) (h : Shadows d m p known locked) (beside : Beside d p known) (id : IntentId) (s : Instance) (set : MaySet d m p known id s)
-    (n : Rows) (rows : (t : TxId) (x : Item) → map.get n (shadow_key t x) ≡ map.get m (shadow_key t x)) where
+    (n : Rows) (rows : SameShadows m n) where
   abbrev more : Known
   more = map.insert known id (at_once d id s)
 
@@ -179,7 +179,7 @@ module _ (d : Deployment) (m : Rows) (p : PlainState) (known : Known) (locked : 
   differ i other same = true_false (sym (ap is_eq (tied_itself id_total id)) ∙ ap (λ y. is_eq (id_cmp y id)) same ∙ other)
 
   module _ (items : Items) (touches : (j : IntentId) (z : Instance) (made : map.get p.made j ≡ Some z) (b : begins d z ≡ true) → is_eq (id_cmp j id) ≡ false → (x : Item) → TouchedIn d (tx_begun j z) (opened p j z) (h.shows j z made b).tx.moves x → value_of items x ≡ value_at p x)
-      (shadowed : (j : IntentId) (z : Instance) → map.get p.made j ≡ Some z → begins d z ≡ true → is_eq (id_cmp j id) ≡ false → (x : Item) → is_some (map.get m (shadow_key (tx_begun j z) x)) ≡ true → value_of items x ≡ value_at p x) where
+      (shadowed : (j : IntentId) (z : Instance) → map.get p.made j ≡ Some z → begins d z ≡ true → is_eq (id_cmp j id) ≡ false → (x : Item) → is_some (shadow_row m (tx_begun j z) x) ≡ true → value_of items x ≡ value_at p x) where
     abbrev after : PlainState
     after = record { items = items; made = map.insert p.made id s }
 
@@ -187,7 +187,7 @@ module _ (d : Deployment) (m : Rows) (p : PlainState) (known : Known) (locked : 
     next_shows e =
         let below = λ (i : IntentId) (b : IsBelow (tx_begun id s) i). elsewhere known id i (at_once d id s) (below_apart (tx_begun id s) i b) ∙ set.below e i b ∙ sym (elsewhere p.made id i s (below_apart (tx_begun id s) i b)) in
         let tx = at_once_opens d after more id s e (here known id (at_once d id s)) below in
-        record { tx = tx; shadows = λ x. subst (λ o. ShadowShows (is_writing d locked x tx.going) o (value_at tx.going.state x)) (sym (rows (tx_begun id s) x ∙ set.fresh e x)) tt }
+        record { tx = tx; shadows = λ x. subst (λ o. ShadowShows (is_writing d locked x tx.going) o (value_at tx.going.state x)) (sym (ap tail (rows (tx_begun id s) x) ∙ set.fresh e x)) tt }
 
     other_shows : (j : IntentId) (z : Instance) → is_eq (id_cmp j id) ≡ false → map.get p.made j ≡ Some z → begins d z ≡ true → Shows d n after more locked j z
     other_shows j z other made b = shows_beside d m n p after known more locked j z b (h.shows j z made b) (λ i is. elsewhere p.made id i s (out i is)) (λ i is. elsewhere known id i (at_once d id s) (out i is))
@@ -279,8 +279,8 @@ module _ (d : Deployment) (m : Rows) (p : PlainState) (known : Known) (locked : 
   plain_none id new = none_by (map.get p.made id) (λ q made. by_cases (begins d q)
       (λ e. let clash = sym (owner_known d p known sane legal id q made e (beside.begun id q made e)) ∙ new in cc) (λ e. let clash = sym (beside.same id q made e) ∙ new in cc))
 
-  no_shadow : (t : TxId) (x : Item) → ((q : Instance) → map.get known t.intent ≡ Some q → length q.answers ≤ t.begin) → map.get m (shadow_key t x) ≡ None
-  no_shadow t x few = none_by (map.get m (shadow_key t x)) (λ r e. nothing_got d known sane locked t x few (h.got t x (ap is_some e)))
+  no_shadow : (t : TxId) (x : Item) → ((q : Instance) → map.get known t.intent ≡ Some q → length q.answers ≤ t.begin) → shadow_row m t x ≡ None
+  no_shadow t x few = none_by (shadow_row m t x) (λ r e. nothing_got d known sane locked t x few (h.got t x (ap is_some e)))
 
   none_below : (t : TxId) → ((q : Instance) → map.get known t.intent ≡ Some q → length q.answers ≤ t.begin) → ((q : Instance) → map.get p.made t.intent ≡ Some q → length q.answers ≤ t.begin) → (i : IntentId) → IsBelow t i → map.get known i ≡ map.get p.made i
   none_below t few less i b = known_none_after d known sane t few i b ∙ sym (plain_none_after d p legal t less i b)
@@ -291,7 +291,7 @@ module _ (d : Deployment) (m : Rows) (p : PlainState) (known : Known) (locked : 
       few_next : (q : Instance) → map.get known id ≡ Some q → length q.answers ≤ length (answered k a).answers
       few_next q same = let n = ap (λ (z : Instance). length z.answers) (same_some (sym same ∙ is)) in let l = length-append k.answers (a ∷ []) in omega (arith, n, l)
 
-      pub fresh_next : (x : Item) → map.get m (shadow_key (tx_begun id (answered k a)) x) ≡ None
+      pub fresh_next : (x : Item) → shadow_row m (tx_begun id (answered k a)) x ≡ None
       fresh_next x = no_shadow (tx_begun id (answered k a)) x few_next
 
       pub set_next : (effect_of d k ≡ Effect.End true → ⊥) → MaySet d m p known id (answered k a)
@@ -315,7 +315,7 @@ module _ (d : Deployment) (m : Rows) (p : PlainState) (known : Known) (locked : 
     none_yet : (f : FinMap id_cmp Instance) (n : ℕ) → map.get f id ≡ None → (q : Instance) → map.get f id ≡ Some q → length q.answers ≤ n
     none_yet f n gone q is = let clash = sym gone ∙ is in cc
 
-    pub fresh_new : (s : Instance) (x : Item) → map.get m (shadow_key (tx_begun id s) x) ≡ None
+    pub fresh_new : (s : Instance) (x : Item) → shadow_row m (tx_begun id s) x ≡ None
     fresh_new s x = no_shadow (tx_begun id s) x (none_yet known (length s.answers) new)
 
     pub set_new : (s : Instance) → s.answers ≡ [] → IsOutside d s s.answers → Apart d p id → MaySet d m p known id s
@@ -332,18 +332,18 @@ module _ (d : Deployment) (m : Rows) (p : PlainState) (known : Known) (locked : 
   set_agrees y o free j z x owned = plain_set p.items y x o ∙ ap (λ c. cond c (or_old o (value_of p.items y)) (value_of p.items x)) (false_from_ne_true (is_eq (item_cmp x y)) (λ e. free (tx_begun j z) (ap (λ w. (content_of m w).owner) (sym (item_same x y e)) ∙ owned)))
 
 -- another one was set before: its caller, or one that was called by it
-pub set_after : (d : Deployment) (m n : Rows) (p : PlainState) (known : Known) (id : IntentId) (s : Instance) → MaySet d m p known id s → ((x : Item) → map.get n (shadow_key (tx_begun id s) x) ≡ map.get m (shadow_key (tx_begun id s) x)) → (i : IntentId) (z y : Instance) → is_eq (id_cmp id i) ≡ false
+pub set_after : (d : Deployment) (m n : Rows) (p : PlainState) (known : Known) (id : IntentId) (s : Instance) → MaySet d m p known id s → ((x : Item) → shadow_chain n (tx_begun id s) x ≡ shadow_chain m (tx_begun id s) x) → (i : IntentId) (z y : Instance) → is_eq (id_cmp id i) ≡ false
     → (IsBelow (tx_begun id s) i → ⊥) → (begins d z ≡ true → IsBelow (tx_begun i z) id → ⊥) → MaySet d n (with_instance p i z) (map.insert known i y) id s
 set_after d m n p known id s set rows i z y other above apart = record {
   out = set.out;
-  fresh = λ b x. rows x ∙ set.fresh b x;
+  fresh = λ b x. ap tail (rows x) ∙ set.fresh b x;
   below = λ b j h. let out = λ (same : i ≡ j). above (subst (IsBelow (tx_begun id s)) (sym same) h) in elsewhere known i j y out ∙ set.below b j h ∙ sym (elsewhere p.made i j z out);
   apart = λ j w made b h. known_set p.made i z (λ j o. o ≡ Some w → IsBelow (tx_begun j w) id → ⊥) (λ e g. apart (ap (begins d) (same_some e) ∙ b) (subst (λ (x : Instance). IsBelow (tx_begun i x) id) (sym (same_some e)) g)) (λ j off e g. set.apart j w e b g) j made h;
   ends = λ b l e. known_set known i y (λ j o. j ≡ id → ended_by d b o ≡ Some (l, true)) (λ same. let clash = sym other ∙ ap (λ j. is_eq (id_cmp id j)) same ∙ ap is_eq (tied_itself id_total id) in cc) (λ j off same. ap (λ j. ended_by d b (map.get known j)) same ∙ set.ends b l e) id refl;
 }
 
 -- .. a callee of it: that is not below, and not above
-pub set_after_callee : (d : Deployment) (m n : Rows) (p : PlainState) (known : Known) (id : IntentId) (s : Instance) → MaySet d m p known id s → ((x : Item) → map.get n (shadow_key (tx_begun id s) x) ≡ map.get m (shadow_key (tx_begun id s) x)) → (c : ℕ) (z y : Instance) → c < length s.answers
+pub set_after_callee : (d : Deployment) (m n : Rows) (p : PlainState) (known : Known) (id : IntentId) (s : Instance) → MaySet d m p known id s → ((x : Item) → shadow_chain n (tx_begun id s) x ≡ shadow_chain m (tx_begun id s) x) → (c : ℕ) (z y : Instance) → c < length s.answers
     → MaySet d n (with_instance p (child_of id c) z) (map.insert known (child_of id c) y) id s
 set_after_callee d m n p known id s set rows c z y lt = set_after d m n p known id s set rows (child_of id c) z y (false_from_ne_true (is_eq (id_cmp id (child_of id c))) off)
     (λ b. let e = child_below b in omega (arith, lt, e))
@@ -367,10 +367,10 @@ set_after_callee d m n p known id s set rows c z y lt = set_after d m n p known 
     ]
 
 -- ---- what transactions got stays
-module _ (d : Deployment) (m : Rows) (known : Known) (locked : IntentId → Bool) (h : AllGot d m known locked) (n : Rows) (rows : (t : TxId) (x : Item) → map.get n (shadow_key t x) ≡ map.get m (shadow_key t x)) (id : IntentId) where
+module _ (d : Deployment) (m : Rows) (known : Known) (locked : IntentId → Bool) (h : AllGot d m known locked) (n : Rows) (rows : SameShadows m n) (id : IntentId) where
   got_set : (s : Instance) → ((t : TxId) (x : Item) → got_by d t x id (locked id) (map.get known id) ≡ true → got_by d t x id (locked id) (Some s) ≡ true) → AllGot d n (map.insert known id s) locked
   got_set s stays t x there =
-      let g = h t x (sym (ap is_some (rows t x)) ∙ there) in
+      let g = h t x (sym (ap (λ r. is_some (tail r)) (rows t x)) ∙ there) in
       record { member = g.member; got = known_set known id s (λ j o. got_by d t x j (locked j) (map.get known j) ≡ true → got_by d t x j (locked j) o ≡ true) (stays t x) (λ j other e. e) g.member g.got }
 
   pub got_new : map.get known id ≡ None → (s : Instance) → AllGot d n (map.insert known id s) locked

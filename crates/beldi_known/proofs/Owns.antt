@@ -1,7 +1,7 @@
 -- What an open transaction touched it got, and owns; what it wrote has a shadow. So what it sees of an item is what its shadow shows,
 -- where that is there, and else the plain value.
 use Rattle.beldi_plain.specs.Plain.{item_of}
-use Rattle.beldi_known.proofs.Names.{AllPlain, AllSound, Answer, Bool, CellMatches, Deployment, Effect, GoingSane, Got, Grown, Instance, IntentId, Item, Items, Known, List, Matches, None, OnItem, OpenTx, Option, PlainState, Row, Rows, Sane, SaneWith, ShadowShows, Some, TouchedIn, Tx, TxId, WrittenIn, answer_inside, answered, ap, at_step, begins, content_in, content_of, effect_after, effect_of, ended_by, false, fits, going_begun, going_so, got_before, got_by, id_total, if◌then◌else◌, inl, inr, is_aborted, is_eq, is_item, is_on, is_some, is_tx, is_writing, item_in, item_total, kept, length, not, note_at, note_of, noted, op_of, opened, option_map, or_left, or_null, outside_of, owed_shadow, place_of, refl, same_some, sane_in, sane_with, shadow_at, shadow_by, shadow_key, subst, sym, tied_itself, touched, true, tx_after, tx_begun, tx_end, tx_now, value_at, value_in, write, write_op, written_touched, ℕ, ◌&&◌, ◌∙◌, ◌∷◌, ◌≡◌, ◌⊎◌}
+use Rattle.beldi_known.proofs.Names.{AllPlain, AllSound, Answer, Bool, Content, Deployment, Effect, GoingSane, Got, Grown, Instance, IntentId, Item, Items, Known, List, Matches, None, OnItem, OpenTx, Option, PlainState, Row, Rows, Sane, SaneWith, ShadowShows, Some, SoundAt, TouchedIn, Tx, TxId, WrittenIn, answer_inside, answered, ap, at_step, begins, content_of, effect_after, effect_of, ended_by, false, fits, going_begun, going_so, got_before, got_by, id_total, if◌then◌else◌, inl, inr, is_aborted, is_eq, is_item, is_on, is_some, is_tx, is_writing, item_in, item_total, kept, length, no_content, not, note_at, note_of, noted, one_tail, op_of, opened, option_map, or_left, or_null, outside_of, owed_shadow, place_of, refl, same_some, sane_in, sane_with, shadow_at, shadow_by, shadow_chain, shadow_row, subst, sym, tied_itself, touched, true, tx_after, tx_begun, tx_end, tx_now, value_at, value_in, write, write_op, written_touched, ℕ, ◌&&◌, ◌∙◌, ◌∷◌, ◌≡◌, ◌⊎◌}
 use Rattle.beldi_known.proofs.{Answers.take_front, Answers.get_next, Answers.true_false, Behind.gathers, Falls.Fell, Falls.falls, Falls.later_is, Falls.sound, Falls.touched_made, Falls.written_made, Locks.tx_self, NoTx.begins_parts}
 use Rattle.beldi_known.proofs.Names.map
 use Rattle.beldi_known.proofs.Names.operation
@@ -104,30 +104,30 @@ module _ (d : Deployment) (p : PlainState) (known : Known) (sane : Sane d known)
       touched_owned on = got_owned (touched_got on)
 
       -- what it wrote has a shadow
-      written_bare : WrittenIn d t (opened p id q) tx.moves x → map.get m (shadow_key t x) ≡ None → ⊥
+      written_bare : WrittenIn d t (opened p id q) tx.moves x → shadow_row m t x ≡ None → ⊥
       written_bare on none =
           let w = written_made d t q own refl (opened p id q) tx.moves tx.going x start older tx.leads on in
           let z = w.before in
           let note = noted_at d t x w.id z w.step.instance w.given w.step.grown w.step.inside (plain_note w.items x z.func (effect_of d z) w.given w.plainly w.item) in
           let bare : None ≡ shadow_at d t x w.id (length z.answers) w.step.instance =
-          sym (ap (λ o. note_at (content_in o).notes (place_of w.id (length z.answers))) none) ∙ matches.shadows t x (place_of w.id (length z.answers)) ∙ ap (owed_shadow d t x w.id (length z.answers)) (tx.whole w.id w.step.member ∙ w.step.made) in
+          sym (ap (λ (c : Content). note_at c.notes (place_of w.id (length z.answers))) (no_content (shadow_chain m t x) (sym (one_tail (shadow_chain m t x) (matches.asides t x)) ∙ none))) ∙ matches.shadows t x (place_of w.id (length z.answers)) ∙ ap (owed_shadow d t x w.id (length z.answers)) (tx.whole w.id w.step.member ∙ w.step.made) in
           let clash = ap is_some bare ∙ note in cc
 
       unwritten_kept : (WrittenIn d t (opened p id q) tx.moves x → ⊥) → value_at tx.going.state x ≡ value_at p x
       unwritten_kept never = ap or_null (kept d t (opened p id q) tx.moves tx.going start.line tx.leads x never)
 
       -- so what has no shadow was not written, and what it does not own neither
-      pub unwritten : map.get m (shadow_key t x) ≡ None → value_at tx.going.state x ≡ value_at p x
+      pub unwritten : shadow_row m t x ≡ None → value_at tx.going.state x ≡ value_at p x
       unwritten none = unwritten_kept (λ w. written_bare w none)
 
       pub unowned_kept : ((content_of m x).owner ≡ Some (Tx t) → ⊥) → value_at tx.going.state x ≡ value_at p x
       unowned_kept free = unwritten_kept (λ w. free (touched_owned (written_touched d t (opened p id q) tx.moves tx.going x tx.leads w)))
 
       -- what a read is to find
-      pub seen : ShadowShows (is_writing d locked x tx.going) (map.get m (shadow_key t x)) (value_at tx.going.state x) → is_writing d locked x tx.going ≡ false → value_in (map.get m (shadow_key t x)) (value_at p x) ≡ value_at tx.going.state x
-      seen shows off = by_row (map.get m (shadow_key t x)) refl (matches.keys (shadow_key t x)) shows
+      pub seen : ShadowShows (is_writing d locked x tx.going) (shadow_row m t x) (value_at tx.going.state x) → is_writing d locked x tx.going ≡ false → value_in (shadow_row m t x) (value_at p x) ≡ value_at tx.going.state x
+      seen shows off = by_row (shadow_row m t x) refl (subst SoundAt (sym (one_tail (shadow_chain m t x) (matches.asides t x))) (matches.asides t x).head) shows
         where
-          by_row : (o : Option Row) → map.get m (shadow_key t x) ≡ o → CellMatches 0 o → ShadowShows (is_writing d locked x tx.going) o (value_at tx.going.state x) → value_in o (value_at p x) ≡ value_at tx.going.state x
+          by_row : (o : Option Row) → shadow_row m t x ≡ o → SoundAt o → ShadowShows (is_writing d locked x tx.going) o (value_at tx.going.state x) → value_in o (value_at p x) ≡ value_at tx.going.state x
           by_row None is fits h = sym (unwritten is)
           by_row (Some (Row.Cell c)) is fits (inl e) = absurd (true_false (sym e ∙ off))
           by_row (Some (Row.Cell c)) is fits (inr e) = e

@@ -1,6 +1,6 @@
 -- A row of a read decides no transaction that owns an item, so what is listed stays.
-use Rattle.beldi_known.proofs.Names.{Answer, Bool, Content, Deployment, Effect, Got, Instance, IntentId, Item, Kind, Known, List, None, Option, Place, Row, RowKey, Rows, Some, Tx, TxId, TxsMatch, [], along, and_parts, ap, append-nil, append_assoc, arith, cond, content_of, decision_key, effect_after, effect_of, false, false_from_ne_true, fits_at, got_before, got_by, head_key, if◌then◌else◌, inl, inr, is_aborted, is_begin, is_committed, is_eq, is_item, is_on, is_tx, key_cmp, key_same, length, length-append, listed, log_key, not, or_own, place_of, refl, row_got, same_some, set_row, shadow_key, sym, touched, true, tx_after, tx_by, tx_now, txs_after, value_in, ℕ, ◌&&◌, ◌++◌, ◌<◌, ◌||◌, ◌∙◌, ◌∷◌, ◌≡◌, ◌⊎◌}
-use Rattle.beldi_known.proofs.{Locks.is_its, Locks.tx_same, Acts.kinds_apart, Acts.is_data, Acts.is_shadow, Acts.content_apart, OwnTx.Own, OwnTx.own_by, Lists.elsewhere, Lists.lists_owned, Cases.by_cases, Answers.true_false}
+use Rattle.beldi_known.proofs.Names.{Answer, Bool, Content, Deployment, Effect, Got, Instance, IntentId, Item, Kind, Known, List, None, Option, Place, Row, RowKey, Rows, Some, Tx, TxId, TxsMatch, [], along, and_parts, ap, append-nil, append_assoc, arith, cond, content_of, decision_key, effect_after, effect_of, false, false_from_ne_true, fits_at, got_before, got_by, head_key, if◌then◌else◌, inl, inr, is_aborted, is_begin, is_committed, is_eq, is_item, is_on, is_tx, key_cmp, key_same, length, length-append, listed, log_key, not, or_own, place_of, refl, row_got, same_some, set_row, shadow_key, sym, tail, touched, true, tx_after, tx_by, tx_now, txs_after, value_in, ℕ, ◌&&◌, ◌++◌, ◌<◌, ◌||◌, ◌∙◌, ◌∷◌, ◌≡◌, ◌⊎◌}
+use Rattle.beldi_known.proofs.{Locks.is_its, Locks.tx_same, Acts.kind_off, Acts.is_data, Acts.is_shadow, Acts.same_data, Acts.same_shadow, Acts.aside_apart, Acts.content_apart, OwnTx.Own, OwnTx.own_by, Lists.lists_owned, Cases.by_cases, Answers.true_false}
 use Rattle.beldi_known.proofs.Names.map
 
 -- ---- a step that a fold has gathered
@@ -99,6 +99,6 @@ module _ (d : Deployment) (m : Rows) (known : Known) (locked : IntentId → Bool
       let b = k.before in omega (arith, b, step, len))
 
   pub begun_lists : (x : Item) → listed (set_row m key v) x ≡ listed m x
-  begun_lists x = let same = content_apart m key v x (kinds_apart is_data (head_key x) key refl refl) in
+  begun_lists x = let same = content_apart m key v x (kind_off is_data same_data (head_key x) key refl refl) in
       lists_owned m (set_row m key v) x (ap (λ (c : Content). c.owner) same) (ap (λ (c : Content). c.value) same) (λ t w e i.
-      if is_committed ((row_got m key (decision_key t) v ∙ ap (λ b. cond b v (map.get m (decision_key t))) (apart x t e)) i) then value_in (elsewhere m key v is_shadow (shadow_key t x) refl refl i) w else w)
+      if is_committed ((row_got m key (decision_key t) v ∙ ap (λ b. cond b v (map.get m (decision_key t))) (apart x t e)) i) then value_in (tail (aside_apart m key v t x (kind_off is_shadow same_shadow (shadow_key t x) key refl refl) i)) w else w)

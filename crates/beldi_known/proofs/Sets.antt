@@ -22,7 +22,7 @@ is_log (Kind.Intent id) = true
 is_log (Kind.Invoke a) = true
 is_log k = false
 
-no_cell : (k : Kind) → is_log k ≡ true → is_cell k ≡ false
+pub no_cell : (k : Kind) → is_log k ≡ true → is_cell k ≡ false
 no_cell (Kind.Data t k n) h = cc
 no_cell (Kind.Shadow s t k n) h = cc
 no_cell k h = refl
@@ -82,9 +82,9 @@ module _ (d : Deployment) (known : Known) (locked : IntentId → Bool) (id : Int
   pub instance_set : (m : Rows) (k : RowKey) (v : Option Row) → is_log k.kind ≡ true → RowMatches d after k.home k.kind v
       → ((l : RowKey) → is_eq (key_cmp l k) ≡ false → l.kind ≡ Kind.Intent id → IntentMatches (has_ended d known) (has_no_hops id.hops) l.home (map.get m l) (map.get known id) → IntentMatches (has_ended d known) (has_no_hops id.hops) l.home (map.get m l) (Some s))
       → ((l : RowKey) (b : Place) → is_eq (key_cmp l k) ≡ false → l.kind ≡ Kind.Invoke b → owed_call after l.home b ≡ owed_call known l.home b) → Matches d m known locked → Matches d (set_row m k v) after locked
-  instance_set m k v kind here own calls h = log_set d after locked m k v (no_cell k.kind kind) here (λ l other. row_same l.home l.kind (map.get m l) (own l other) (λ b e. calls l b other e) (h.keys l))
+  instance_set m k v kind here own calls h = log_set d after locked m k v (no_cell k.kind kind) here (λ l other. row_same l.home l.kind (map.get m l) (own l other) (λ b e. calls l b other e) (h.keys l)) h.chains h.asides
       (λ x. item_same x (content_of m x) (h.items x)) (λ t x. shadow_same t x (shadow_of m t x) (h.shadows t x)) (λ x. txs_same x (content_of m x).owner (h.txs x))
 
 -- only a row of an intent or of a call was set, to one that matches as well
 pub row_put : (d : Deployment) (known : Known) (locked : IntentId → Bool) (m : Rows) (k : RowKey) (v : Option Row) → is_log k.kind ≡ true → RowMatches d known k.home k.kind v → Matches d m known locked → Matches d (set_row m k v) known locked
-row_put d known locked m k v kind here h = log_set d known locked m k v (no_cell k.kind kind) here (λ l other. h.keys l) h.items h.shadows h.txs
+row_put d known locked m k v kind here h = log_set d known locked m k v (no_cell k.kind kind) here (λ l other. h.keys l) h.chains h.asides h.items h.shadows h.txs

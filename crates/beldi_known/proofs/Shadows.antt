@@ -1,6 +1,6 @@
--- Rows of shadows, one at a time, and what they show; and who got the items that have one.
-use Rattle.beldi_known.proofs.Names.{AllGot, Answer, Bool, Deployment, Got, Instance, IntentId, Item, Known, LockedOut, None, Option, PlainState, Row, RowKey, Rows, ShadowShows, Shadows, Some, TxId, Value, and_right, ap, arith, cond, content_in, effect_of, false, false_from_ne_true, got_before, got_by, inl, inr, is_aborted, is_eq, is_item, is_on, is_some, is_tx, is_writing, item_cmp, item_total, key_cmp, key_same, key_self, moved, not, refl, row_got, set_row, shadow_key, subst, sym, tied_itself, touched, true, tx_begun, tx_now, value_at, writes_on, writing_at, ◌&&◌, ◌||◌, ◌∙◌, ◌≡◌, ◌⊎◌}
-use Rattle.beldi_known.proofs.{Acts.by_item, Acts.shadow_same, Answers.true_false, Frame.moved_one, FrameAt.known_set, Cases.by_cases}
+-- Rows of shadows, those of one at a time, and what they show; and who got the items that have one.
+use Rattle.beldi_known.proofs.Names.{AllGot, Answer, Bool, ChangedAlone, Deployment, Got, Instance, IntentId, Item, Known, LockedOut, None, Option, PlainState, Row, RowKey, Rows, SameShadows, ShadowShows, Shadows, Some, TxId, Value, and_right, ap, arith, content_in, effect_of, false, false_from_ne_true, got_before, got_by, inl, inr, is_aborted, is_eq, is_item, is_on, is_some, is_tx, is_writing, item_cmp, item_total, key_cmp, key_same, moved, no_tail, not, refl, shadow_chain, shadow_key, shadow_row, subst, sym, tail, tied_itself, touched, true, tx_begun, tx_now, value_at, writes_on, writing_at, ◌&&◌, ◌||◌, ◌∙◌, ◌≡◌, ◌⊎◌}
+use Rattle.beldi_known.proofs.{Acts.by_item, Acts.other_aside, Acts.shadow_same, Answers.true_false, Frame.moved_one, FrameAt.known_set, Cases.by_cases}
 use Rattle.beldi_known.proofs.Names.map
 
 -- ---- one shadow
@@ -27,23 +27,22 @@ writing_more d locked after x i (Some k) f e = by_lock (locked i) (after i) (wri
     by_lock : (l r w : Bool) → (l ≡ true → r ≡ true) → (l && w) ≡ true → (r && w) ≡ true
     by_lock l r w g e = grind arith
 
--- ---- a row of a shadow is set
-module _ (m : Rows) (t : TxId) (x : Item) (v : Option Row) where
-  key_there : (u : TxId) (y : Item) → ((u ≡ t) × (y ≡ x) → ⊥) → map.get (set_row m (shadow_key t x) v) (shadow_key u y) ≡ map.get m (shadow_key u y)
-  key_there u y apart = row_got m (shadow_key t x) (shadow_key u y) v ∙ ap (λ b. cond b v (map.get m (shadow_key u y))) (false_from_ne_true (is_eq (key_cmp (shadow_key u y) (shadow_key t x))) (λ e. apart (shadow_same u t y x (key_same (shadow_key u y) (shadow_key t x) e))))
+-- ---- the rows of a shadow change
+module _ (m n : Rows) (t : TxId) (x : Item) (alone : ChangedAlone (shadow_key t x) m n) where
+  key_there : (u : TxId) (y : Item) → ((u ≡ t) × (y ≡ x) → ⊥) → shadow_chain n u y ≡ shadow_chain m u y
+  key_there u y apart = other_aside m n t x alone u y (false_from_ne_true (is_eq (key_cmp (shadow_key u y) (shadow_key t x))) (λ e. apart (shadow_same u t y x (key_same (shadow_key u y) (shadow_key t x) e))))
 
-  -- it is no row of another transaction
-  pub others_rows : (u : TxId) (y : Item) → (u ≡ t → ⊥) → map.get (set_row m (shadow_key t x) v) (shadow_key u y) ≡ map.get m (shadow_key u y)
+  -- they are no rows of another transaction
+  pub others_rows : (u : TxId) (y : Item) → (u ≡ t → ⊥) → shadow_chain n u y ≡ shadow_chain m u y
   others_rows u y apart = key_there u y (λ same. apart same.0)
 
-  pub row_set : (P : Item → Option Row → Type 0) → P x v → ((y : Item) → is_eq (item_cmp x y) ≡ false → P y (map.get m (shadow_key t y))) → (y : Item) → P y (map.get (set_row m (shadow_key t x) v) (shadow_key t y))
-  row_set P here other y = by_item x y (λ y. P y (map.get (set_row m (shadow_key t x) v) (shadow_key t y)))
-      (subst (P x) (sym (row_got m (shadow_key t x) (shadow_key t x) v ∙ ap (λ b. cond b v (map.get m (shadow_key t x))) (key_self (shadow_key t x)))) here)
-      (λ apart. subst (P y) (sym (key_there t y (λ same. true_false (sym (ap is_eq (tied_itself item_total x)) ∙ ap (λ z. is_eq (item_cmp x z)) (sym same.1) ∙ apart)))) (other y apart))
+  pub row_set : (P : Item → Option Row → Type 0) → P x (shadow_row n t x) → ((y : Item) → is_eq (item_cmp x y) ≡ false → P y (shadow_row m t y)) → (y : Item) → P y (shadow_row n t y)
+  row_set P here other y = by_item x y (λ y. P y (shadow_row n t y)) here
+      (λ apart. subst (λ z. P y (tail z)) (sym (key_there t y (λ same. true_false (sym (ap is_eq (tied_itself item_total x)) ∙ ap (λ z. is_eq (item_cmp x z)) (sym same.1) ∙ apart)))) (other y apart))
 
-  pub there_before : (u : TxId) (y : Item) → is_some (map.get (set_row m (shadow_key t x) v) (shadow_key u y)) ≡ true → ((u ≡ t) × (y ≡ x)) ⊎ (is_some (map.get m (shadow_key u y)) ≡ true)
+  pub there_before : (u : TxId) (y : Item) → is_some (shadow_row n u y) ≡ true → ((u ≡ t) × (y ≡ x)) ⊎ (is_some (shadow_row m u y) ≡ true)
   there_before u y there = by_cases (is_eq (key_cmp (shadow_key u y) (shadow_key t x))) (λ e. inl (shadow_same u t y x (key_same (shadow_key u y) (shadow_key t x) e)))
-      (λ e. inr (sym (ap is_some (row_got m (shadow_key t x) (shadow_key u y) v ∙ ap (λ b. cond b v (map.get m (shadow_key u y))) e)) ∙ there))
+      (λ e. inr (sym (ap (λ z. is_some (tail z)) (other_aside m n t x alone u y e)) ∙ there))
 
 -- ---- what it got stays so
 still_got : (had on l dead : Bool) → (l ≡ true → dead ≡ false) → (had || (l && on)) ≡ true → ((had || (on && not dead)) || false) ≡ true
@@ -71,7 +70,7 @@ got_if d t x id (Some k) l r f h = more_ahead (got_before d t x id k) (is_on t x
 
 -- ---- all that are there
 -- by who got its item
-pub got_still : (d : Deployment) (m n : Rows) (known after : Known) (locked unlocked : IntentId → Bool) → AllGot d m known locked → ((t : TxId) (x : Item) → is_some (map.get n (shadow_key t x)) ≡ true → is_some (map.get m (shadow_key t x)) ≡ true)
+pub got_still : (d : Deployment) (m n : Rows) (known after : Known) (locked unlocked : IntentId → Bool) → AllGot d m known locked → ((t : TxId) (x : Item) → is_some (shadow_row n t x) ≡ true → is_some (shadow_row m t x) ≡ true)
     → ((t : TxId) (x : Item) (j : IntentId) → got_by d t x j (locked j) (map.get known j) ≡ true → got_by d t x j (unlocked j) (map.get after j) ≡ true) → AllGot d n after unlocked
 got_still d m n known after locked unlocked h rows keeps t x there = let g = h t x (rows t x there) in record { member = g.member; got = keeps t x g.member g.got }
 
@@ -81,23 +80,23 @@ got_answered d m known locked h after id k a out is lives = got_still d m m know
     (λ e. ap (λ l. got_by d t x id l (Some (moved d id k a))) out.out ∙ got_moved d t x id k a (locked id) lives (sym (ap (got_by d t x id (locked id)) is) ∙ e))
     (λ j other e. ap (λ l. got_by d t x j l (map.get known j)) (out.others j other) ∙ e))
 
-pub got_set : (d : Deployment) (m : Rows) (known : Known) (locked : IntentId → Bool) → AllGot d m known locked → (s : TxId) (y : Item) (v : Option Row) → Got d known locked s y → AllGot d (set_row m (shadow_key s y) v) known locked
-got_set d m known locked h s y v own t x there = elim (there_before m s y v t x there) [
+pub got_set : (d : Deployment) (m : Rows) (known : Known) (locked : IntentId → Bool) → AllGot d m known locked → (s : TxId) (y : Item) (n : Rows) → ChangedAlone (shadow_key s y) m n → Got d known locked s y → AllGot d n known locked
+got_set d m known locked h s y n alone own t x there = elim (there_before m n s y alone t x there) [
   | inl same ↦ subst (λ z. Got d known locked z x) (sym same.0) (subst (λ z. Got d known locked s z) (sym same.1) own)
   | inr e ↦ h t x e
 ]
 
 -- rows that are no shadows, and locks that are taken
-pub shadows_rows : (d : Deployment) (m n : Rows) (p : PlainState) (known : Known) (locked after : IntentId → Bool) → ((j : IntentId) → locked j ≡ true → after j ≡ true) → ((t : TxId) (x : Item) → map.get n (shadow_key t x) ≡ map.get m (shadow_key t x)) → Shadows d m p known locked → Shadows d n p known after
+pub shadows_rows : (d : Deployment) (m n : Rows) (p : PlainState) (known : Known) (locked after : IntentId → Bool) → ((j : IntentId) → locked j ≡ true → after j ≡ true) → SameShadows m n → Shadows d m p known locked → Shadows d n p known after
 shadows_rows d m n p known locked after f same h = record {
   shows = λ id q made b. let g = h.shows id q made b in record {
     tx = g.tx;
-    shadows = λ x. more_writes (is_writing d locked x g.tx.going) (is_writing d after x g.tx.going) (map.get n (shadow_key (tx_begun id q) x)) (value_at g.tx.going.state x)
-        (writing_more d locked after x g.tx.going.front (map.get g.tx.going.state.made g.tx.going.front) (f g.tx.going.front)) (subst (λ o. ShadowShows (is_writing d locked x g.tx.going) o (value_at g.tx.going.state x)) (sym (same (tx_begun id q) x)) (g.shadows x));
+    shadows = λ x. more_writes (is_writing d locked x g.tx.going) (is_writing d after x g.tx.going) (shadow_row n (tx_begun id q) x) (value_at g.tx.going.state x)
+        (writing_more d locked after x g.tx.going.front (map.get g.tx.going.state.made g.tx.going.front) (f g.tx.going.front)) (subst (λ z. ShadowShows (is_writing d locked x g.tx.going) (tail z) (value_at g.tx.going.state x)) (sym (same (tx_begun id q) x)) (g.shadows x));
   };
-  got = got_still d m n known known locked after h.got (λ t x there. sym (ap is_some (same t x)) ∙ there) (λ t x j e. got_if d t x j (map.get known j) (locked j) (after j) (f j) e);
+  got = got_still d m n known known locked after h.got (λ t x there. sym (ap (λ z. is_some (tail z)) (same t x)) ∙ there) (λ t x j e. got_if d t x j (map.get known j) (locked j) (after j) (f j) e);
 }
 
 -- at the start there is none, and no transaction
 pub none_show : (d : Deployment) (m : Rows) (p : PlainState) (known : Known) (locked : IntentId → Bool) → ((k : RowKey) → map.get m k ≡ None) → ((id : IntentId) → map.get p.made id ≡ None) → Shadows d m p known locked
-none_show d m p known locked rows none = record { shows = λ id q made b. let clash = sym (none id) ∙ made in cc; got = λ t x there. let clash = sym (ap is_some (rows (shadow_key t x))) ∙ there in cc }
+none_show d m p known locked rows none = record { shows = λ id q made b. let clash = sym (none id) ∙ made in cc; got = λ t x there. let clash = sym (ap is_some (no_tail (shadow_chain m t x) (rows (shadow_key t x)))) ∙ there in cc }

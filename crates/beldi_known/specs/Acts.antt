@@ -3,7 +3,7 @@ use Rattle.std.specs.Prelude.{Bool, true, false, [], ◌∷◌, ◌++◌, Option
 use Rattle.beldi_value.specs.{Id.is_older, Id.age_of, Passes.passes, declared.id.IntentId.IntentId, declared.place.Owner.Owner, declared.place.Owner.TheVariants.Tx, declared.place.Place.Place, declared.place.TxId.TxId, declared.rel.Rel.Rel, declared.value.Value.Value}
 use Rattle.beldi_lang.specs.declared.effect.Answer.{Answer}
 use Rattle.beldi_row.specs.{Act.other_owner, Log.note_at, declared.notes.Note.Note, declared.row.Row.Row}
-use Rattle.beldi_daal.specs.Content.{Content}
+use Rattle.beldi_chain.specs.Content.{Content}
 
 -- ---- on a content: what is there afterwards, and what is told
 pub data Told : Type 0 where

@@ -9,10 +9,10 @@ use Rattle.beldi_plain.specs.{Item.Item, Moves.Commits, Moves.Aborts, Moves.Touc
 use Rattle.beldi_order.specs.{Sane.IsAnswer, Txs.tx_at, Txs.tx_now}
 use Rattle.beldi_order.specs.Sane as plain
 use Rattle.beldi_row.specs.{Table.Rows, Table.set_row, declared.row.Row.Row}
-use Rattle.beldi_daal.specs.Content.{content_in}
+use Rattle.beldi_chain.specs.Chain.{ChangedAlone}
 use Rattle.beldi_readlog.specs.ReadLog.{log_key}
 use Rattle.beldi_step.specs.{Run.place_of, Tables.value_in, Tables.is_committed, Tables.decision_key}
-use Rattle.beldi_known.specs.{Acts.did, Acts.tested, Acts.write_on, Acts.test_on, Beside.Beside, Beside.begins, Contents.head_key, Contents.content_of, Contents.shadow_key, Contents.shadow_of, Frame.LockedOut, Known.Known, Known.at_once, Known.moved, Behind.IsFront, Listed.listed, Matches.Matches, Sane.Sane, Shadows.Shadows, Shadows.writes_on}
+use Rattle.beldi_known.specs.{Acts.did, Acts.tested, Acts.write_on, Acts.test_on, Beside.Beside, Beside.begins, Contents.head_key, Contents.content_of, Contents.SameShadows, Contents.shadow_key, Contents.shadow_of, Contents.shadow_row, Frame.LockedOut, Known.Known, Known.at_once, Known.moved, Behind.IsFront, Listed.listed, Matches.Matches, Sane.Sane, Shadows.Shadows, Shadows.writes_on}
 
 -- what is kept together
 pub record Goes (d : Deployment) (n : Rows) (p : PlainState) (known : Known) (after : IntentId → Bool) : Type 0 where
@@ -46,43 +46,43 @@ item_of k t y = record { func = k.func; table = t; key = y }
 -- a read is answered: by the shadow's value where the shadow is there, and else by the plain one
 abbrev pub ReadsGo : Type 0
 ReadsGo = (d : Deployment) (m : Rows) (p : PlainState) (known : Known) (locked after : IntentId → Bool) (id : IntentId) (k : Instance) (s : TxId) (t : ℕ) (y : List ℕ) (v : Value) → IsOpen d m p known locked s → IsFront d known id k s t y → LockedOut locked after id
-    → effect_of d k ≡ Effect.Read t y → value_in (map.get m (shadow_key s (item_of k t y))) (value_at p (item_of k t y)) ≡ v
+    → effect_of d k ≡ Effect.Read t y → value_in (shadow_row m s (item_of k t y)) (value_at p (item_of k t y)) ≡ v
     → Goes d (set_row m (log_key k.func (place_of id (length k.answers))) (Some (Row.ReadLog v))) p (map.insert known id (moved d id k (Answer.Value v))) after
 
 -- it dies
 abbrev pub DeathsGo : Type 0
-DeathsGo = (d : Deployment) (m : Rows) (p : PlainState) (known : Known) (locked after : IntentId → Bool) (id : IntentId) (k : Instance) (s : TxId) (t : ℕ) (y : List ℕ) (r : Option Row) (c : Cause) → IsOpen d m p known locked s → IsFront d known id k s t y → LockedOut locked after id
-    → locked id ≡ false → IsAnswer (place_of id (length k.answers)) (Some s) (effect_of d k) (Answer.Aborted c) → Goes d (set_row m (head_key (item_of k t y)) r) p (map.insert known id (moved d id k (Answer.Aborted c))) after
+DeathsGo = (d : Deployment) (m : Rows) (p : PlainState) (known : Known) (locked after : IntentId → Bool) (id : IntentId) (k : Instance) (s : TxId) (t : ℕ) (y : List ℕ) (n : Rows) (c : Cause) → IsOpen d m p known locked s → IsFront d known id k s t y → LockedOut locked after id
+    → ChangedAlone (head_key (item_of k t y)) m n → locked id ≡ false → IsAnswer (place_of id (length k.answers)) (Some s) (effect_of d k) (Answer.Aborted c) → Goes d n p (map.insert known id (moved d id k (Answer.Aborted c))) after
 
 -- a write of the shadow, and a test
 abbrev pub WritesGo : Type 0
-WritesGo = (d : Deployment) (m : Rows) (p : PlainState) (known : Known) (locked after : IntentId → Bool) (id : IntentId) (k : Instance) (s : TxId) (t : ℕ) (y : List ℕ) (v : Value) (r : Option Row) → IsOpen d m p known locked s → IsFront d known id k s t y → LockedOut locked after id
-    → locked id ≡ true → effect_of d k ≡ Effect.Write t y v → write_on (place_of id (length k.answers)) (Tx s) v (shadow_of m s (item_of k t y)) ≡ (content_in r, did) → Goes d (set_row m (shadow_key s (item_of k t y)) r) p (map.insert known id (moved d id k Answer.Done)) after
+WritesGo = (d : Deployment) (m : Rows) (p : PlainState) (known : Known) (locked after : IntentId → Bool) (id : IntentId) (k : Instance) (s : TxId) (t : ℕ) (y : List ℕ) (v : Value) (n : Rows) → IsOpen d m p known locked s → IsFront d known id k s t y → LockedOut locked after id
+    → ChangedAlone (shadow_key s (item_of k t y)) m n → locked id ≡ true → effect_of d k ≡ Effect.Write t y v → write_on (place_of id (length k.answers)) (Tx s) v (shadow_of m s (item_of k t y)) ≡ (shadow_of n s (item_of k t y), did) → Goes d n p (map.insert known id (moved d id k Answer.Done)) after
 
 abbrev pub TestsGo : Type 0
-TestsGo = (d : Deployment) (m : Rows) (p : PlainState) (known : Known) (locked after : IntentId → Bool) (id : IntentId) (k : Instance) (s : TxId) (t : ℕ) (y : List ℕ) (u : Rel) (w v : Value) (b : Bool) (r : Option Row) → IsOpen d m p known locked s → IsFront d known id k s t y → LockedOut locked after id
-    → locked id ≡ true → effect_of d k ≡ Effect.CondWrite t y u w v → is_some (map.get m (shadow_key s (item_of k t y))) ≡ true → test_on (place_of id (length k.answers)) (Tx s) u w v (shadow_of m s (item_of k t y)) ≡ (content_in r, tested b)
-    → Goes d (set_row m (shadow_key s (item_of k t y)) r) p (map.insert known id (moved d id k (Answer.Value (Value.Bool b)))) after
+TestsGo = (d : Deployment) (m : Rows) (p : PlainState) (known : Known) (locked after : IntentId → Bool) (id : IntentId) (k : Instance) (s : TxId) (t : ℕ) (y : List ℕ) (u : Rel) (w v : Value) (b : Bool) (n : Rows) → IsOpen d m p known locked s → IsFront d known id k s t y → LockedOut locked after id
+    → ChangedAlone (shadow_key s (item_of k t y)) m n → locked id ≡ true → effect_of d k ≡ Effect.CondWrite t y u w v → is_some (shadow_row m s (item_of k t y)) ≡ true → test_on (place_of id (length k.answers)) (Tx s) u w v (shadow_of m s (item_of k t y)) ≡ (shadow_of n s (item_of k t y), tested b)
+    → Goes d n p (map.insert known id (moved d id k (Answer.Value (Value.Bool b)))) after
 
 -- the first row of its shadow is made: for a write, or with the plain value
 abbrev pub FirstRowsGo : Type 0
-FirstRowsGo = (d : Deployment) (m : Rows) (p : PlainState) (known : Known) (locked : IntentId → Bool) (id : IntentId) (k : Instance) (s : TxId) (t : ℕ) (y : List ℕ) (r : Option Row) → IsOpen d m p known locked s → IsFront d known id k s t y → locked id ≡ true
-    → map.get m (shadow_key s (item_of k t y)) ≡ None → ((writes_on (item_of k t y) k.func (effect_of d k) ≡ true) ⊎ ((content_in r).value ≡ value_at p (item_of k t y))) → Shadows d (set_row m (shadow_key s (item_of k t y)) r) p known locked
+FirstRowsGo = (d : Deployment) (m : Rows) (p : PlainState) (known : Known) (locked : IntentId → Bool) (id : IntentId) (k : Instance) (s : TxId) (t : ℕ) (y : List ℕ) (n : Rows) → IsOpen d m p known locked s → IsFront d known id k s t y → locked id ≡ true
+    → ChangedAlone (shadow_key s (item_of k t y)) m n → shadow_row m s (item_of k t y) ≡ None → ((writes_on (item_of k t y) k.func (effect_of d k) ≡ true) ⊎ ((shadow_of n s (item_of k t y)).value ≡ value_at p (item_of k t y))) → Shadows d n p known locked
 
 -- all other rows, and locks that are taken
 abbrev pub RowsGo : Type 0
-RowsGo = (d : Deployment) (m n : Rows) (p : PlainState) (known : Known) (locked after : IntentId → Bool) → ((j : IntentId) → locked j ≡ true → after j ≡ true) → ((t : TxId) (x : Item) → map.get n (shadow_key t x) ≡ map.get m (shadow_key t x)) → Shadows d m p known locked → Shadows d n p known after
+RowsGo = (d : Deployment) (m n : Rows) (p : PlainState) (known : Known) (locked after : IntentId → Bool) → ((j : IntentId) → locked j ≡ true → after j ≡ true) → SameShadows m n → Shadows d m p known locked → Shadows d n p known after
 
 -- ---- calls
 -- a callee is made, in the transaction; it owes no shadow yet
 abbrev pub CallsGo : Type 0
 CallsGo = (d : Deployment) (m n : Rows) (p : PlainState) (known : Known) (locked : IntentId → Bool) (id : IntentId) (k : Instance) (s : TxId) (f : ℕ) (v : Value) → IsOpen d m p known locked s → map.get known id ≡ Some k → tx_now d id k ≡ Some s → effect_of d k ≡ Effect.Call f v → has_callees id ≡ true
-    → map.get known (callee_of id k) ≡ None → ((t : TxId) (x : Item) → map.get n (shadow_key t x) ≡ map.get m (shadow_key t x)) → Goes d n p (map.insert known (callee_of id k) (at_once d (callee_of id k) (new_member s f v (calls_at id k true)))) locked
+    → map.get known (callee_of id k) ≡ None → SameShadows m n → Goes d n p (map.insert known (callee_of id k) (at_once d (callee_of id k) (new_member s f v (calls_at id k true)))) locked
 
 -- it gives its outcome back, which answers its caller
 abbrev pub ReturnsGo : Type 0
 ReturnsGo = (d : Deployment) (m n : Rows) (p : PlainState) (known : Known) (locked : IntentId → Bool) (id : IntentId) (i j : Instance) (c : ℕ) (s : TxId) (o : Outcome) → IsOpen d m p known locked s → map.get known id ≡ Some i → map.get known (child_of id c) ≡ Some j → j.within ≡ Some s → j.outcome ≡ None
-    → effect_of d j ≡ Effect.Return o → ((t : TxId) (x : Item) → map.get n (shadow_key t x) ≡ map.get m (shadow_key t x)) → Goes d n p (map.insert (map.insert known (child_of id c) (ended j o)) id (moved d id i (answer_of o))) locked
+    → effect_of d j ≡ Effect.Return o → SameShadows m n → Goes d n p (map.insert (map.insert known (child_of id c) (ended j o)) id (moved d id i (answer_of o))) locked
 
 -- ---- the decision
 abbrev pub decided : Rows → TxId → Bool → Rows
@@ -135,5 +135,5 @@ AbortsAreTries = (d : Deployment) (m : Rows) (p : PlainState) (known : Known) (l
 
 -- ---- a release leaves the value that was listed
 abbrev pub ReleasesList : Type 0
-ReleasesList = (m : Rows) (x : Item) (s : TxId) (v : Option Row) → (content_of m x).owner ≡ Some (Tx s) → (content_in v).owner ≡ None
-    → (content_in v).value ≡ (if is_committed (map.get m (decision_key s)) then value_in (map.get m (shadow_key s x)) (content_of m x).value else (content_of m x).value) → (y : Item) → listed (set_row m (head_key x) v) y ≡ listed m y
+ReleasesList = (m n : Rows) (x : Item) (s : TxId) → ChangedAlone (head_key x) m n → (content_of m x).owner ≡ Some (Tx s) → (content_of n x).owner ≡ None
+    → (content_of n x).value ≡ (if is_committed (map.get m (decision_key s)) then value_in (shadow_row m s x) (content_of m x).value else (content_of m x).value) → (y : Item) → listed n y ≡ listed m y

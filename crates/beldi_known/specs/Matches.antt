@@ -7,9 +7,9 @@ use Rattle.beldi_tree.specs.declared.deployment.Deployment.{Deployment}
 use Rattle.beldi_plain.specs.{Holds.holds, Item.Item, Plain.Instance, Plain.effect_of, Operation.touched}
 use Rattle.beldi_order.specs.Txs.{tx_now}
 use Rattle.beldi_row.specs.{Key.RowKey, declared.key.Kind.Kind, declared.row.Row.Row, Log.note_at, Table.Rows}
-use Rattle.beldi_daal.specs.Content.{Content}
+use Rattle.beldi_chain.specs.{Chain.Sound, Content.Content}
 use Rattle.beldi_known.specs.Known.{Known, is_item, begins_at, owed_read, owed_call, owed_note, owed_shadow, owed_lockset, tx_end, is_mark, Got}
-use Rattle.beldi_known.specs.{Contents.content_of, Contents.is_owner, Contents.shadow_of, Rows.IntentMatches, Rows.CallMatches, Rows.LogMatches, Rows.CellMatches}
+use Rattle.beldi_known.specs.{Contents.content_of, Contents.is_owner, Contents.IsSoundChain, Contents.shadow_chain, Contents.shadow_of, Rows.IntentMatches, Rows.CallMatches, Rows.LogMatches}
 
 -- ---- row by row
 -- a lockset row: where one is owed; and it may be ahead
@@ -47,18 +47,21 @@ pub record TxsMatch (d : Deployment) (known : Known) (locked : IntentId → Bool
   pub got_is_owned : (t : TxId) → Got d known locked t x → tx_end d known t ≡ None → owner ≡ Some (Tx t)
 
 -- ---- all rows
--- the row of a key, by its kind
+-- the row of a key, by its kind; those of items and of shadows match by their chains
 abbrev pub RowMatches : Deployment → Known → ℕ → Kind → Option Row → Type 0
 RowMatches d known home (Kind.Intent id) r = IntentMatches (has_ended d known) (has_no_hops id.hops) home r (map.get known id)
 RowMatches d known home (Kind.ReadLog a) r = LogMatches r (owed_read d known home a)
 RowMatches d known home (Kind.Invoke a) r = CallMatches r (owed_call known home a)
 RowMatches d known home (Kind.Lockset i b t k) r = LocksetMatches r (owed_lockset d b (record { func = home; table = t; key = k }) i (map.get known i)) (lockset_ahead d known b (record { func = home; table = t; key = k }) i (map.get known i))
-RowMatches d known home (Kind.Data t k n) r = CellMatches n r
-RowMatches d known home (Kind.Shadow s t k n) r = CellMatches n r
+RowMatches d known home (Kind.Data t k n) r = Unit {0}
+RowMatches d known home (Kind.Shadow s t k n) r = Unit {0}
 
 pub record Matches (d : Deployment) (m : Rows) (known : Known) (locked : IntentId → Bool) : Type 0 where
   -- every row, there or absent, matches at its key
   pub keys : (k : RowKey) → RowMatches d known k.home k.kind (map.get m k)
+  -- every chain is sound, of items and of shadows
+  pub chains : (x : Item) → IsSoundChain m x
+  pub asides : (t : TxId) (x : Item) → Sound (shadow_chain m t x)
   -- every item and every shadow matches by its content
   pub items : (x : Item) → ItemMatches d known locked x (content_of m x)
   pub shadows : (t : TxId) (x : Item) → ShadowMatches d known t x (shadow_of m t x)

@@ -1,9 +1,8 @@
 -- Rows that match what is owed to them, by their kind.
-use Rattle.std.specs.Prelude.{◌≡◌, ℕ, zero, suc, ◌==◌, Bool, true, false, Option, Some, None, is_some}
+use Rattle.std.specs.Prelude.{◌≡◌, ℕ, ◌==◌, Bool, true, false, Option, Some, None, is_some}
 use Rattle.beldi_value.specs.declared.{outcome.Outcome.Outcome, place.TxId.TxId, value.Value.Value}
 use Rattle.beldi_plain.specs.Plain.{Instance}
 use Rattle.beldi_row.specs.declared.row.{Body.Body, IntentRow.IntentRow, Row.Row}
-use Rattle.beldi_daal.specs.Content.{SoundAt}
 use Rattle.beldi_step.specs.Run.{is_waited}
 use Rattle.beldi_known.specs.Stands.{body_of}
 
@@ -81,7 +80,7 @@ pub record EndsRow (r s : IntentRow) (o : Outcome) : Type 0 where
   pub outcome : s.outcome ≡ Some o
   pub finish : is_some s.finish ≡ true
 
--- ---- calls, reads and items
+-- ---- calls and reads
 -- the row of a call, by the call that is owed there
 abbrev pub CallMatches : Option Row → Option (ℕ × Option Outcome) → Type 0
 CallMatches None o = o ≡ None
@@ -93,8 +92,3 @@ abbrev pub LogMatches : Option Row → Option Value → Type 0
 LogMatches None o = o ≡ None
 LogMatches (Some (Row.ReadLog v)) o = o ≡ Some v
 LogMatches (Some r) o = ⊥
-
--- the shape of an item's rows: there is a first one or none, and no other. What it holds is said of the item.
-abbrev pub CellMatches : ℕ → Option Row → Type 0
-CellMatches zero r = SoundAt r
-CellMatches (suc n) r = r ≡ None

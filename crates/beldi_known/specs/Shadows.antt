@@ -7,15 +7,15 @@ use Rattle.beldi_tree.specs.declared.deployment.Deployment.{Deployment}
 use Rattle.beldi_lang.specs.declared.effect.Effect.{Effect}
 use Rattle.beldi_plain.specs.{Item.Item, Piece.Going, Piece.tx_begun, Plain.Instance, Plain.PlainState, Plain.effect_of, Plain.value_at}
 use Rattle.beldi_row.specs.{Table.Rows, declared.row.Row.Row}
-use Rattle.beldi_daal.specs.Content.{content_in}
-use Rattle.beldi_known.specs.{Beside.OpenTx, Beside.begins, Contents.shadow_key, Known.Known, Known.Got, Known.is_item}
+use Rattle.beldi_chain.specs.Content.{content_in}
+use Rattle.beldi_known.specs.{Beside.OpenTx, Beside.begins, Contents.shadow_row, Known.Known, Known.Got, Known.is_item}
 
 -- a write of the item
 abbrev pub writes_on : Item → ℕ → Effect → Bool
 writes_on x func (Effect.Write t k v) = is_item x func (Some (t, k))
 writes_on x func e = false
 
--- the first row of a shadow, by whether the one that can step stands at a write of it with the lock ahead
+-- the last row of a shadow, by whether the one that can step stands at a write of it with the lock ahead
 abbrev pub ShadowShows : Bool → Option Row → Value → Type 0
 ShadowShows writing None v = Unit {0}
 ShadowShows writing (Some r) v = (writing ≡ true) ⊎ ((content_in (Some r)).value ≡ v)
@@ -30,7 +30,7 @@ is_writing d locked x s = writing_at d locked x s.front (map.get s.state.made s.
 -- an open transaction, by its owner and that as the plain state has it
 pub record Shows (d : Deployment) (m : Rows) (p : PlainState) (known : Known) (locked : IntentId → Bool) (id : IntentId) (q : Instance) : Type 0 where
   pub tx : OpenTx d p known id q
-  pub shadows : (x : Item) → ShadowShows (is_writing d locked x tx.going) (map.get m (shadow_key (tx_begun id q) x)) (value_at tx.going.state x)
+  pub shadows : (x : Item) → ShadowShows (is_writing d locked x tx.going) (shadow_row m (tx_begun id q) x) (value_at tx.going.state x)
 
 -- all of them
 abbrev pub AllShow : Deployment → Rows → PlainState → Known → (IntentId → Bool) → Type 0
@@ -38,7 +38,7 @@ AllShow d m p known locked = (id : IntentId) (q : Instance) → map.get p.made i
 
 -- a shadow is there only of an item that its transaction got: so one that is yet to begin has none
 abbrev pub AllGot : Deployment → Rows → Known → (IntentId → Bool) → Type 0
-AllGot d m known locked = (t : TxId) (x : Item) → is_some (map.get m (shadow_key t x)) ≡ true → Got d known locked t x
+AllGot d m known locked = (t : TxId) (x : Item) → is_some (shadow_row m t x) ≡ true → Got d known locked t x
 
 pub record Shadows (d : Deployment) (m : Rows) (p : PlainState) (known : Known) (locked : IntentId → Bool) : Type 0 where
   pub shows : AllShow d m p known locked

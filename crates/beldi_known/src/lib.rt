@@ -1,6 +1,7 @@
 //! What is known of each instance: the answers that the rows hold, inside transactions and outside. It has no code.
-//! It stands on the plain machine and on the step of the host. Its definitions: `specs/Known` (what an instance owes the
-//! rows, by its answers; `specs/Owed` its parts), `specs/Contents`, `specs/Rows`, `specs/Matches` (rows that match what is known),
+//! It stands on the plain machine, on the step of the host, and on chains of rows. Its definitions: `specs/Known` (what an instance owes
+//! the rows, by its answers; `specs/Owed` its parts), `specs/Contents` (the chains of items and of shadows, and what they hold),
+//! `specs/Rows`, `specs/Matches` (rows that match what is known, and that those chains are sound),
 //! `specs/Sane` (instances that went as their bodies want), `specs/Beside` (what is known beside the plain state),
 //! `specs/Shadows` (what shadows show of it), `specs/Listed` (the value that is listed),
 //! `specs/Stands` (the answers that the rows hold, and that they stand for a plain state),
@@ -11,8 +12,10 @@
 //! - An answer more changes what its instance owes at its place alone (`moved_one`, `Frame`).
 //! - Instances stay sane with an answer (`sane_moved`), and runs stay at a front of what is known (`run_on_prefix`, `Goes`).
 //! - A run that is behind finds what it looks for, changes nothing, and is told the answer that is known (`Behind`).
-//! - The acts of an operation inside keep the rows matched: its lockset row, its lock or its death, its answer, and its
-//!   shadow (`lock_did`, `Acts`; `Inside`), and so do the decision, and a release after it (`decided`, `Decides`; `released`, `Inside`).
+//! - The acts of an operation inside keep the rows matched, whatever rows of the item or of the shadow they change: its lockset row, its
+//!   lock or its death, its answer, and its shadow (`lock_did`, `Acts`; `Inside`), and so do the decision, and a release after it
+//!   (`decided`, `Decides`; `released`, `Inside`). A row that is none of an item's leaves its chain, and so do all rows of another item
+//!   (`content_apart`, `aside_apart`, `other_item`, `other_shadows`, `other_aside`, `Acts`).
 //! - So do operations and reads outside, and answers to calls (`Outside`); calls that are opened, and that give back (`call_opened`,
 //!   `given_back`, `Calls`); roots that are made, and who ends that nobody waits for (`root_bound`, `intent_ended`, `Intents`).
 //! - Transactions of a body do not nest, begin with no lock held, and go to their End after an abort (`Phases`: `inside_is`,

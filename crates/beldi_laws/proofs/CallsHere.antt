@@ -2,8 +2,8 @@
 use Rattle.beldi_value.proofs.Callees.{no_root}
 use Rattle.beldi_plain.specs.declared.kind.Kind.{Kind}
 use Rattle.beldi_known.specs.Beside.{begins}
-use Rattle.beldi_laws.proofs.Names.{Answer, Begun, Body, Bool, ByTx, Call, CalledBy, Core, Deployment, Effect, End, Entry, Frame, Goes, Grows, Inside, Instance, IntentId, InvokeRow, IsBelow, IsBodyOf, IsOutside, IsTrue, Item, Known, Knows, KnowsAt, List, LockedAtEnds, Matches, MaySet, None, Option, Outcome, PlainState, Registers, Right, Row, RowKey, Rows, Run, RunTx, Sane, Some, Step, TxId, Value, [], ahead_set, answer_given, answered, ap, append_assoc, arith, at_once, at_once_same, call_of, call_opened, called_by, called_in, callee_apart, callee_body, callee_by, callee_of, calls_at, child_of, child_same, content_of, effect_before, effect_of, elsewhere, enabled_step, ended_by, false, goes_one, got_next, grows_new, has_callees, here, if◌then◌else◌, inl, inr, invoke_key, is_begin, is_none, is_some, item_touched, kind_of, last_hop, length, length-append, made_owes, made_set, moved, new_instance, no_own_callee, none_by, none_out, now_open, opened, option_map, origin_stays, owed_call, place_of, refl, result_of, run_tx, same_some, set_after_callee, set_next, set_row, slice_get, step_by, subst, suc, sym, touched_by, true, tx_after, tx_at, tx_begun, tx_end, tx_now, unlocked_absent, waits_at, wants_answer, with_callee, with_instance, within_by, zero, ℕ, ◌&&◌, ◌++◌, ◌<◌, ◌∙◌, ◌∷◌, ◌≡◌, ◌⊎◌}
-use Rattle.beldi_laws.proofs.{Keeping.SameShadows, Keeping.goes_made, Keeping.set_shadows, Moves.Entered, Moves.change_entered, Frames.NobodyJoins, Frames.nobody_made, Settling.settled_grown, Settling.settled_new, KeptSane.called_with, Registered.log_frame, Registered.stays_new, Short.child_short, Shown.Settled, Shown.legal_sane, Shown.settled, Turns.answer_here, Turns.step_here, Turns.effect_next, Turns.not_over, Turns.plain_there, Outside.plain_none}
+use Rattle.beldi_laws.proofs.Names.{Answer, Begun, Body, Bool, ByTx, Call, CalledBy, Core, Deployment, Effect, End, Entry, Frame, Goes, Grows, Inside, Instance, IntentId, InvokeRow, IsBelow, IsBodyOf, IsOutside, IsTrue, Item, Known, Knows, KnowsAt, List, LockedAtEnds, Matches, MaySet, None, Option, Outcome, PlainState, Registers, Right, Row, RowKey, Rows, Run, RunTx, SameShadows, Sane, Some, Step, TxId, Value, [], ahead_set, answer_given, answered, ap, append_assoc, arith, at_once, at_once_same, call_of, call_opened, called_by, called_in, callee_apart, callee_body, callee_by, callee_of, calls_at, child_of, child_same, content_of, effect_before, effect_of, elsewhere, enabled_step, ended_by, false, goes_one, got_next, grows_new, has_callees, here, if◌then◌else◌, inl, inr, invoke_key, is_begin, is_none, is_some, item_touched, kind_of, last_hop, length, length-append, made_owes, made_set, moved, new_instance, no_own_callee, none_by, none_out, now_open, opened, option_map, origin_stays, owed_call, place_of, refl, result_of, run_tx, same_some, set_after_callee, set_next, set_row, slice_get, step_by, subst, suc, sym, touched_by, true, tx_after, tx_at, tx_begun, tx_end, tx_now, unlocked_absent, waits_at, wants_answer, with_callee, with_instance, within_by, zero, ℕ, ◌&&◌, ◌++◌, ◌<◌, ◌∙◌, ◌∷◌, ◌≡◌, ◌⊎◌}
+use Rattle.beldi_laws.proofs.{Keeping.goes_made, Keeping.set_shadows, Moves.Entered, Moves.change_entered, Frames.NobodyJoins, Frames.nobody_made, Settling.settled_grown, Settling.settled_new, KeptSane.called_with, Registered.log_frame, Registered.stays_new, Short.child_short, Shown.Settled, Shown.legal_sane, Shown.settled, Turns.answer_here, Turns.step_here, Turns.effect_next, Turns.not_over, Turns.plain_there, Outside.plain_none}
 use Rattle.beldi_laws.proofs.Names.map
 
 -- a call tells whether it waits, its function and its argument

@@ -6,7 +6,7 @@ use Rattle.beldi_row.specs.declared.act.Act.TheVariants.{Look, Issue, Bind, Regi
 use Rattle.beldi_row.specs.Act.{Tell, act, at_tail, bind_to, call_back_to, cond_at, did, died, end_with, entered, free_at, given_or, gone, held, held_or, if_owned, lock_at, next, next_or, no_row, not_owner, noted as said_noted, noted_or, off, on, on_cell, on_intent, on_invoke, other_owner, owned_or, owns, register_to, stamp_with, tested, unless_held, write_at}
 use Rattle.beldi_row.{proofs.Logs.place_same, specs.declared.act.Act.Act, specs.declared.notes.Note.Note, specs.declared.notes.Note.TheVariants.Wrote, specs.declared.notes.Note.TheVariants.Cond, specs.declared.notes.Note.TheVariants.Got, specs.declared.notes.Note.TheVariants.Died, specs.declared.notes.Note.TheVariants.Freed, specs.declared.row.Cell.Cell, specs.declared.row.IntentRow.IntentRow, specs.declared.row.InvokeRow.InvokeRow, specs.declared.row.Row.Row, specs.Log.note_at, specs.Log.owner_eq, specs.Log.place_eq}
 use Rattle.beldi_walk.{proofs.Lent.only_transactions_die, specs.Query.is_death, specs.Query.may_die}
-use Rattle.beldi_daal.specs.Content.{content_in}
+use Rattle.beldi_chain.specs.Content.{content_in}
 use Rattle.beldi_laws.specs.Deaths.{DeathsHaveHolders, DiesOfHolder, HasHolder}
 
 -- a note that came with an entry is that of the entry

@@ -1,5 +1,5 @@
 -- What an event keeps for the runs of others: a frame, of a row that is set.
-use Rattle.beldi_laws.proofs.Names.{Bool, ByTx, CellOp, Content, Deployment, DoneRows, Frame, Instance, IntentId, IsFreeFor, IsOf, IsWriting, Item, Kind, Known, List, None, Note, Option, Place, PlainState, Query, Row, RowKey, Rows, Some, StillOwns, TookPart, TxId, Value, [], act, ap, arith, by_item, cond, content_in, content_of, ended, false, free_after, func_called, has_finish, head_key, if◌then◌else◌, invoke_key, is_data, is_eq, is_shadow, is_some, item_cmp, item_same, key_cmp, key_in, key_same, key_self, kinds_apart, known_set, lockset_key, log_key, no_tx, note_after, note_at, note_pushed, option_map, or_null, or_old, place_eq, place_same, plain_set, refl, row_got, rows_after, same_some, set_if, set_others, set_row, shadow_key, shadow_same, subst, sym, true, turned, tx_end, value_at, ℕ, ◌++◌, ◌∙◌, ◌∷◌, ◌≡◌}
+use Rattle.beldi_laws.proofs.Names.{Bool, ByTx, CellOp, ChangedAlone, Content, Deployment, DoneRows, Frame, Instance, IntentId, IsFreeFor, IsOf, IsWriting, Item, Kind, Known, List, None, Note, Option, Place, PlainState, Query, Row, RowKey, Rows, SameShadows, Some, StillOwns, TookPart, TxId, Value, [], act, ap, arith, aside_head, by_item, chain_off, cond, content, content_of, ended, false, free_after, func_called, has_finish, head_key, if◌then◌else◌, invoke_key, is_data, is_eq, is_shadow, is_some, item_aside, item_cmp, item_head, item_same, key_cmp, key_in, key_same, key_self, kind_off, kinds_apart, known_set, lockset_key, log_key, no_tx, note_after, note_at, note_pushed, notes_stay, option_map, or_null, or_old, other_aside, other_item, other_shadows, place_eq, place_same, plain_set, refl, row_got, rows_after, same_data, same_shadow, same_some, set_if, set_others, set_row, shadow_chain, shadow_key, shadow_same, subst, sym, true, tx_end, value_at, ℕ, ◌++◌, ◌∙◌, ◌∷◌, ◌≡◌}
 use Rattle.beldi_laws.proofs.Cases.{false_by}
 use Rattle.beldi_laws.proofs.Names.map
 
@@ -58,16 +58,20 @@ module _ (m n : Rows) (k : RowKey) (same : (l : RowKey) → is_eq (key_cmp l k) 
   rows_stay there = at_all (λ l r s. is_some r ≡ true → is_some s ≡ true) there (λ l r e. e)
 
   content_off : is_data k.kind ≡ false → (x : Item) → content_of n x ≡ content_of m x
-  content_off off x = ap content_in (same (head_key x) (kinds_apart is_data (head_key x) k refl off))
+  content_off off x = ap content (chain_off m n k (head_key x) same (item_head x) (kind_off is_data same_data (head_key x) k refl off))
 
-  shadow_off : is_shadow k.kind ≡ false → (t : TxId) (x : Item) → map.get n (shadow_key t x) ≡ map.get m (shadow_key t x)
-  shadow_off off t x = same (shadow_key t x) (kinds_apart is_shadow (shadow_key t x) k refl off)
+  shadow_off : is_shadow k.kind ≡ false → SameShadows m n
+  shadow_off off t x = chain_off m n k (shadow_key t x) same (aside_head t x) (kind_off is_shadow same_shadow (shadow_key t x) k refl off)
 
   lockset_off : is_lockset k.kind ≡ false → (i : IntentId) (b : ℕ) (x : Item) → map.get n (lockset_key i b x) ≡ map.get m (lockset_key i b x)
   lockset_off off i b x = same (lockset_key i b x) (kinds_apart is_lockset (lockset_key i b x) k refl off)
 
+-- no row goes
+abbrev pub RowsStay : Rows → Rows → Type 0
+RowsStay m n = (l : RowKey) → is_some (map.get m l) ≡ true → is_some (map.get n l) ≡ true
+
 -- no query takes a row away
-pub query_keeps : (q : Query) (now : ℕ) (m : Rows) (l : RowKey) → is_some (map.get m l) ≡ true → is_some (map.get (rows_after q now m) l) ≡ true
+pub query_keeps : (q : Query) (now : ℕ) (m : Rows) → RowsStay m (rows_after q now m)
 query_keeps (Query.After k) now m l there = there
 query_keeps (Query.Act k a) now m l there = ap is_some (row_got m k l (act a now (map.get m k)).0) ∙ by_key (is_eq (key_cmp l k)) refl
   where
@@ -77,6 +81,11 @@ query_keeps (Query.Act k a) now m l there = ap is_some (row_got m k l (act a now
     by_key : (b : Bool) → is_eq (key_cmp l k) ≡ b → is_some (cond b (act a now (map.get m k)).0 (map.get m l)) ≡ true
     by_key true e = acted (map.get m k) (subst (λ z. is_some (map.get m z) ≡ true) (key_same l k e) there)
     by_key false e = there
+
+-- .. nor a note of an item
+pub query_notes : (q : Query) (now : ℕ) (m : Rows) (x : Item) (p : Place) (w : Note) → note_at (content_of m x).notes p ≡ Some w → note_at (content_of (rows_after q now m) x).notes p ≡ Some w
+query_notes (Query.After k) now m x p w there = there
+query_notes (Query.Act k a) now m x p w there = notes_stay a now k (head_key x) m p w there
 
 -- ---- finishes and calls, where one row changed
 abbrev pub is_intent : Kind → Bool
@@ -121,6 +130,23 @@ module _ (m n : Rows) (k : RowKey) (same : (l : RowKey) → is_eq (key_cmp l k) 
   -- .. nor does one that had it before
   pub no_new_finish : (d : Deployment) (next : Known) → (has_finish (map.get n k) ≡ true → has_finish (map.get m k) ≡ true) → NoFinish d m n next
   no_new_finish d next here t z i home ended part = at_all m n k same (λ l r s. has_finish s ≡ true → has_finish r ≡ true) here (λ l r e. e) (key_in home i)
+
+-- .. nor do the rows of one item, where no others changed
+module _ (m n : Rows) (k : RowKey) (alone : ChangedAlone k m n) where
+  lockset_kept : is_lockset k.kind ≡ false → (i : IntentId) (b : ℕ) (x : Item) → map.get n (lockset_key i b x) ≡ map.get m (lockset_key i b x)
+  lockset_kept off i b x = alone (lockset_key i b x) (kinds_apart is_lockset (lockset_key i b x) k refl off)
+
+  intent_kept : is_intent k.kind ≡ false → (home : ℕ) (i : IntentId) → map.get n (key_in home i) ≡ map.get m (key_in home i)
+  intent_kept off home i = alone (key_in home i) (kinds_apart is_intent (key_in home i) k refl off)
+
+  finishes_kept : is_intent k.kind ≡ false → FinishesStay m n
+  finishes_kept off home i e = ap has_finish (intent_kept off home i) ∙ e
+
+  calls_kept : is_invoke k.kind ≡ false → CallsStay m n
+  calls_kept off f a g e = ap (option_map func_called) (alone (invoke_key f a) (kinds_apart is_invoke (invoke_key f a) k refl off)) ∙ e
+
+  pub none_finish : (d : Deployment) (next : Known) → is_intent k.kind ≡ false → NoFinish d m n next
+  none_finish d next off t z i home ended part e = ap has_finish (sym (intent_kept off home i)) ∙ e
 
 -- .. and one of who took part in none may get it
 pub no_member_finish : (d : Deployment) (m n : Rows) (home : ℕ) (id : IntentId) (next : Known) → ((l : RowKey) → is_eq (key_cmp l (key_in home id)) ≡ false → map.get n l ≡ map.get m l)
@@ -172,57 +198,57 @@ module _ (d : Deployment) (m : Rows) (p q : PlainState) (known next : Known) (va
     owns_same : (t : TxId) (end : ℕ) (x : Item) → content_of n x ≡ content_of m x → (content_of n x).owner ≡ Some (ByTx t) → StillOwns next (content_of m x) (content_of n x) t end
     owns_same t end x same own = record { owner = ap (λ (c : Content). c.owner) (sym same) ∙ own; notes = λ a free. ap (λ (c : Content). note_at c.notes a) same }
 
-    -- a row that is no item's
-    module _ (k : RowKey) (same : (l : RowKey) → is_eq (key_cmp l k) ≡ false → map.get n l ≡ map.get m l) (there : is_some (map.get n k) ≡ true) (off : is_data k.kind ≡ false) where
-      frame_apart : ((t : TxId) (x : Item) → (IsWriting d known t → ⊥) → map.get n (shadow_key t x) ≡ map.get m (shadow_key t x))
-          → ((t : TxId) (z : ℕ × Bool) (i : IntentId) (x : Item) → tx_end d next t ≡ Some z → IsOf next t i → is_some (map.get n (lockset_key i t.begin x)) ≡ true → is_some (map.get m (lockset_key i t.begin x)) ≡ true) → FinishesStay m n → CallsStay m n → Frame d m n p q known next
-      frame_apart shadows locksets finishes calls = record {
-        rows = rows_stay m n k same (λ e. there);
-        notes = λ x a w e. ap (λ (c : Content). note_at c.notes a) (content_off m n k same off x) ∙ e;
-        shadows = shadows;
-        locksets = locksets;
-        owners = λ t z x e own. owns_same t z.0 x (content_off m n k same off x) own;
-        members = members;
-        finishes = finishes;
-        calls = calls;
-        values = values;
-      }
+    -- the items are as before
+    frame_apart : RowsStay m n → ((x : Item) → content_of n x ≡ content_of m x) → ((t : TxId) (x : Item) → (IsWriting d known t → ⊥) → shadow_chain n t x ≡ shadow_chain m t x)
+        → ((t : TxId) (z : ℕ × Bool) (i : IntentId) (x : Item) → tx_end d next t ≡ Some z → IsOf next t i → is_some (map.get n (lockset_key i t.begin x)) ≡ true → is_some (map.get m (lockset_key i t.begin x)) ≡ true) → FinishesStay m n → CallsStay m n → Frame d m n p q known next
+    frame_apart stay items shadows locksets finishes calls = record {
+      rows = stay;
+      notes = λ x a w e. ap (λ (c : Content). note_at c.notes a) (items x) ∙ e;
+      shadows = shadows;
+      locksets = locksets;
+      owners = λ t z x e own. owns_same t z.0 x (items x) own;
+      members = members;
+      finishes = finishes;
+      calls = calls;
+      values = values;
+    }
 
     -- the row of an intent, of a read or a decision, or of a call
     module _ (k : RowKey) (same : (l : RowKey) → is_eq (key_cmp l k) ≡ false → map.get n l ≡ map.get m l) (there : is_some (map.get n k) ≡ true) where
       frame_of : is_entry k.kind ≡ true → FinishesStay m n → CallsStay m n → Frame d m n p q known next
-      frame_of kind = let off = no_item k.kind kind in frame_apart k same there off.0 (λ t x apart. shadow_off m n k same off.1 t x) (λ t z i x e is here. ap is_some (sym (lockset_off m n k same off.2 i t.begin x)) ∙ here)
+      frame_of kind = let off = no_item k.kind kind in
+          frame_apart (rows_stay m n k same (λ e. there)) (content_off m n k same off.0) (λ t x apart. shadow_off m n k same off.1 t x) (λ t z i x e is here. ap is_some (sym (lockset_off m n k same off.2 i t.begin x)) ∙ here)
 
       pub frame_entry : is_entry k.kind ≡ true → (has_finish (map.get m k) ≡ true → has_finish (map.get n k) ≡ true) → ((g : ℕ) → option_map func_called (map.get m k) ≡ Some g → option_map func_called (map.get n k) ≡ Some g) → Frame d m n p q known next
       frame_entry kind ends calls = frame_of kind (finishes_on m n k same ends) (calls_on m n k same calls)
 
-    -- the first row of a shadow, of a transaction that an instance is to write in
-    module _ (s : TxId) (y : Item) (same : (l : RowKey) → is_eq (key_cmp l (shadow_key s y)) ≡ false → map.get n l ≡ map.get m l) (there : is_some (map.get n (shadow_key s y)) ≡ true) (writing : IsWriting d known s) where
+    -- the rows of a shadow, of a transaction that an instance is to write in
+    module _ (s : TxId) (y : Item) (alone : ChangedAlone (shadow_key s y) m n) (stay : RowsStay m n) (writing : IsWriting d known s) where
       pub frame_shadow : Frame d m n p q known next
-      frame_shadow = frame_apart (shadow_key s y) same there refl (λ t x apart. by_key t x apart (is_eq (key_cmp (shadow_key t x) (shadow_key s y))) refl)
-          (λ t z i x e is here. ap is_some (sym (lockset_off m n (shadow_key s y) same refl i t.begin x)) ∙ here) (finishes_off m n (shadow_key s y) same refl) (calls_off m n (shadow_key s y) same refl)
+      frame_shadow = let k = shadow_key s y in frame_apart stay (λ x. ap content (item_aside m n s y alone x)) (λ t x apart. by_key t x apart (is_eq (key_cmp (shadow_key t x) k)) refl)
+          (λ t z i x e is here. ap is_some (sym (lockset_kept m n k alone refl i t.begin x)) ∙ here) (finishes_kept m n k alone refl) (calls_kept m n k alone refl)
         where
-          by_key : (t : TxId) (x : Item) → (IsWriting d known t → ⊥) → (b : Bool) → is_eq (key_cmp (shadow_key t x) (shadow_key s y)) ≡ b → map.get n (shadow_key t x) ≡ map.get m (shadow_key t x)
+          by_key : (t : TxId) (x : Item) → (IsWriting d known t → ⊥) → (b : Bool) → is_eq (key_cmp (shadow_key t x) (shadow_key s y)) ≡ b → shadow_chain n t x ≡ shadow_chain m t x
           by_key t x apart true e = absurd (apart (subst (IsWriting d known) (sym (shadow_same t s x y (key_same (shadow_key t x) (shadow_key s y) e)).0) writing))
-          by_key t x apart false e = same (shadow_key t x) e
+          by_key t x apart false e = other_aside m n s y alone t x e
 
-    -- the row of an item
-    module _ (y : Item) (same : (l : RowKey) → is_eq (key_cmp l (head_key y)) ≡ false → map.get n l ≡ map.get m l) (there : is_some (map.get m (head_key y)) ≡ true → is_some (map.get n (head_key y)) ≡ true) where
+    -- the rows of an item
+    module _ (y : Item) (alone : ChangedAlone (head_key y) m n) (stay : RowsStay m n) where
       others_hold : (x : Item) → is_eq (item_cmp y x) ≡ false → content_of n x ≡ content_of m x
-      others_hold x other = ap content_in (same (head_key x) (turned y x other))
+      others_hold x other = ap content (other_item m n y alone x other)
 
       pub frame_item : ((a : Place) (w : Note) → note_at (content_of m y).notes a ≡ Some w → note_at (content_of n y).notes a ≡ Some w)
           → ((t : TxId) (z : ℕ × Bool) → tx_end d next t ≡ Some z → (content_of n y).owner ≡ Some (ByTx t) → StillOwns next (content_of m y) (content_of n y) t z.0) → Frame d m n p q known next
       frame_item notes owners = record {
-        rows = rows_stay m n (head_key y) same there;
+        rows = stay;
         notes = λ x. by_item y x (λ x. (a : Place) (w : Note) → note_at (content_of m x).notes a ≡ Some w → note_at (content_of n x).notes a ≡ Some w) notes (λ other a w e. ap (λ (c : Content). note_at c.notes a) (others_hold x other) ∙ e);
-        shadows = λ t x apart. shadow_off m n (head_key y) same refl t x;
-        locksets = λ t z i x e is here. ap is_some (sym (lockset_off m n (head_key y) same refl i t.begin x)) ∙ here;
+        shadows = λ t x apart. other_shadows m n y alone t x;
+        locksets = λ t z i x e is here. ap is_some (sym (lockset_kept m n (head_key y) alone refl i t.begin x)) ∙ here;
         owners = λ t z x. by_item y x (λ x. tx_end d next t ≡ Some z → (content_of n x).owner ≡ Some (ByTx t) → StillOwns next (content_of m x) (content_of n x) t z.0) (owners t z)
             (λ other e own. owns_same t z.0 x (others_hold x other) own);
         members = members;
-        finishes = finishes_off m n (head_key y) same refl;
-        calls = calls_off m n (head_key y) same refl;
+        finishes = finishes_kept m n (head_key y) alone refl;
+        calls = calls_kept m n (head_key y) alone refl;
         values = values;
       }
 
@@ -231,19 +257,11 @@ module _ (d : Deployment) (m : Rows) (p q : PlainState) (known next : Known) (va
       frame_held held = frame_item (λ a w e. ap (λ (c : Content). note_at c.notes a) held ∙ e) (λ t z e own. owns_same t z.0 y held own)
 
     -- .. after an operation outside
-    pub frame_done : (y : Item) (at : Place) (op : CellOp) → DoneRows m n y at op → Frame d m n p q known next
-    frame_done y at op did = frame_item y did.same (λ was. there)
+    pub frame_done : (y : Item) (at : Place) (op : CellOp) → RowsStay m n → DoneRows m n y at op → Frame d m n p q known next
+    frame_done y at op stay did = frame_item y did.same stay
         (λ a w e. ap (λ (c : Content). note_at c.notes a) did.here ∙ note_stays (content_of m y).notes at a (note_after op (content_of m y).value) w did.none e)
         (λ t z e own. absurd (no_tx at.intent (content_of n y).owner (subst (λ (c : Content). IsFreeFor at.intent c.owner) (sym did.here) (free_after op at.intent (content_of m y).owner did.free)) t own))
       where
-        has_note : (r : Option Row) (es : List (Place × Note)) (e : Place × Note) → (content_in r).notes ≡ es ++ e ∷ [] → is_some r ≡ true
-        has_note (Some r) es e h = refl
-        has_note None [] e h = cc
-        has_note None (f ∷ es) e h = cc
-
-        there : is_some (map.get n (head_key y)) ≡ true
-        there = has_note (map.get n (head_key y)) (content_of m y).notes (at, note_after op (content_of m y).value) (ap (λ (c : Content). c.notes) did.here)
-
         -- a note that was there stays, where another is put
         note_stays : (es : List (Place × Note)) (p a : Place) (w v : Note) → note_at es p ≡ None → note_at es a ≡ Some v → note_at (es ++ (p, w) ∷ []) a ≡ Some v
         note_stays es p a w v none is = note_pushed es p a w none ∙ by_place (place_eq p a) refl
@@ -265,7 +283,7 @@ module _ (d : Deployment) (m : Rows) (p q : PlainState) (known next : Known) (va
 
   -- that a member asks for a lock, of no transaction that has ended
   pub frame_lockset : (j : IntentId) (b : ℕ) (y : Item) → ((t : TxId) (z : ℕ × Bool) → tx_end d next t ≡ Some z → IsOf next t j → t.begin ≡ b → ⊥) → Frame d m (set_row m (lockset_key j b y) (Some Row.Lockset)) p q known next
-  frame_lockset j b y none = frame_apart asked key same (ap is_some (row_there key (Some Row.Lockset))) refl (λ t x apart. shadow_off m asked key same refl t x)
+  frame_lockset j b y none = frame_apart asked (rows_stay m asked key same (λ e. ap is_some (row_there key (Some Row.Lockset)))) (content_off m asked key same refl) (λ t x apart. shadow_off m asked key same refl t x)
       (λ t z i x e is here. by_key t z i x e is here (is_eq (key_cmp (lockset_key i t.begin x) key)) refl) (finishes_off m asked key same refl) (calls_off m asked key same refl)
     where
       key : RowKey

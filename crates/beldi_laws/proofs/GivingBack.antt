@@ -1,11 +1,11 @@
 -- The turns at which a run that returns tells its caller: the outcome, where the caller waits for it, and else that it is registered.
 use Rattle.std.specs.Prelude.{take}
 use Rattle.beldi_invokelog.specs.declared.invoke_log.Back.{Back}
-use Rattle.beldi_laws.proofs.Names.{Answer, Begins, Begun, Call, CallBack, CallMatches, Caller, Cause, Core, Deployment, Entry, Goes, Grows, Inside, Instance, IntentId, InvokeRow, IsCalled, Item, Known, Knows, List, Matches, None, NoteRegistered, On, Option, Outcome, PlainState, Return, Right, Row, RowKey, Rows, Run, RunAt, Sane, Some, Step, Tell, TxId, Waited, [], act, after_act, ahead_set, answer_of, answered, answers_waiter, ap, arith, at_stage, back_asks, back_of, back_says, call_answered, call_back_to, called_by, callee_of, child_of, commit_in, effect_after, effect_of, elsewhere, eq-eqb, false, given_back, grown_end, grows_self, grows_through, here, if◌then◌else◌, inr, intent_key, invoke_key, is_begin, is_some, is_waited, known_set, last, length, listed, looked, moved, moved_one, no_own_callee, no_root_key, none_by, none_out, op_of, opens_are_open, or_own, outside_parts, owed_call, place_of, refl, result_of, returned_cause, returns_go, root_key, row_added, same_some, set_others, set_row, stands_at_call, subst, sym, tell_asks, touched, true, turn_next, turned_by, tx_after, tx_at, tx_by, tx_here, tx_now, txs_after, unlocked_elsewhere, value_at, with_instance, within, within_by, ℕ, ◌++◌, ◌∙◌, ◌∷◌, ◌≡◌, Kind, Mark, Stage}
+use Rattle.beldi_laws.proofs.Names.{Answer, Begins, Begun, Call, CallBack, CallMatches, Caller, Cause, Core, Deployment, Entry, Goes, Grows, Inside, Instance, IntentId, InvokeRow, IsCalled, Item, Known, Knows, List, Matches, None, NoteRegistered, On, Option, Outcome, PlainState, Return, Right, Row, RowKey, Rows, Run, RunAt, SameShadows, Sane, Some, Step, Tell, TxId, Waited, [], act, after_act, ahead_set, answer_of, answered, answers_waiter, ap, arith, at_stage, back_asks, back_of, back_says, call_answered, call_back_to, called_by, callee_of, child_of, commit_in, effect_after, effect_of, elsewhere, eq-eqb, false, given_back, grown_end, grows_self, grows_through, here, if◌then◌else◌, inr, intent_key, invoke_key, is_begin, is_some, is_waited, known_set, last, length, listed, looked, moved, moved_one, no_own_callee, no_root_key, none_by, none_out, op_of, opens_are_open, or_own, outside_parts, owed_call, place_of, refl, result_of, returned_cause, returns_go, root_key, row_added, same_some, set_others, set_row, stands_at_call, subst, sym, tell_asks, touched, true, turn_next, turned_by, tx_after, tx_at, tx_by, tx_here, tx_now, txs_after, unlocked_elsewhere, value_at, with_instance, within, within_by, ℕ, ◌++◌, ◌∙◌, ◌∷◌, ◌≡◌, Kind, Mark, Stage}
 use Rattle.beldi_laws.proofs.Moves.{AfterQuery, SameRoots, Kept, Stays, entered, quiet, AfterAct, still}
 use Rattle.beldi_laws.proofs.Registered.{log_frame, log_shadows, log_stays, marked_registered, no_intent, stays_call, stays_marked}
 use Rattle.beldi_laws.proofs.Returns.{HasCaller, Left, ahead_over, aborted_by, done, goes_over, grows_over, has_caller, leads, over, returns_now, settled_over, state, tx, unlocked}
-use Rattle.beldi_laws.proofs.{CallsHere.goes_answered_then, Frames.NobodyJoins, Frames.nobody_set, Frames.nobody_then, Settling.settled_moved, Grown.grows_moved, Keeping.SameShadows, Keeping.as_it_was, KeptSane.returned_kept, Outside.outside_more, Outside.plain_here, Others.kept_moving, Shown.Settled, Shown.log_values, Shown.legal_sane, Shown.sound, Turns.at_other, Turns.goes_on, Turns.stands_on}
+use Rattle.beldi_laws.proofs.{CallsHere.goes_answered_then, Frames.NobodyJoins, Frames.nobody_set, Frames.nobody_then, Settling.settled_moved, Grown.grows_moved, Keeping.as_it_was, KeptSane.returned_kept, Outside.outside_more, Outside.plain_here, Others.kept_moving, Shown.Settled, Shown.log_values, Shown.legal_sane, Shown.sound, Turns.at_other, Turns.goes_on, Turns.stands_on}
 use Rattle.beldi_laws.proofs.Names.map
 
 module _ (d : Deployment) (c : Core) (m : Rows) (i : ℕ) (r : Run) (g : Begun) (h : Right d c m) (live : map.get c.runs i ≡ Some r) (k : Knows d h.known r g) (finds : Inside m h.plain c.book k g.stage) (o : Outcome) (is : g.machine.effect ≡ Return o) where

@@ -1,5 +1,5 @@
 -- What a turn outside transactions keeps, over rows whose shadows are as before.
-use Rattle.beldi_laws.proofs.Names.{Act, Answer, Apart, Core, Deployment, Frame, Goes, Instance, IntentId, IsOutside, Item, Items, Matches, None, Option, Right, Row, RowKey, Rows, Some, Tx, TxId, [], act, answered, arith, at_once, content_of, false, goes_one, goes_set, got_new, got_next, grows_self, id_cmp, is_eq, is_shadow, is_some, listed, log_elsewhere, moved, outside_no_end, outside_parts, refl, rows_go, set_new, set_next, set_row, shadow_key, true, tx_begun, tx_now, value_at, value_of, with_instance, ℕ, ◌≡◌}
+use Rattle.beldi_laws.proofs.Names.{Act, Answer, Apart, Core, Deployment, Frame, Goes, Instance, IntentId, IsOutside, Item, Items, Matches, None, Option, Right, Row, RowKey, Rows, SameShadows, Some, Tx, [], act, answered, arith, aside_apart, at_once, content_of, false, goes_one, goes_set, got_new, got_next, grows_self, id_cmp, is_eq, is_shadow, is_some, kind_off, listed, moved, outside_no_end, outside_parts, refl, rows_go, same_shadow, set_new, set_next, set_row, shadow_key, true, tx_begun, tx_now, value_at, value_of, with_instance, ℕ, ◌≡◌}
 use Rattle.beldi_laws.proofs.{Frames.NoFinish, Frames.frame_still, Frames.items_stay, Frames.nobody_new, Moves.Stays, Outside.outside_more, Others.kept_by, Others.kept_moving, Shown.legal_sane, Shown.settled, Shown.shown}
 use Rattle.beldi_laws.proofs.Names.map
 
@@ -7,13 +7,9 @@ use Rattle.beldi_laws.proofs.Names.map
 pub as_it_was : {d : Deployment} {c : Core} {m : Rows} (h : Right d c m) → Stays h m
 as_it_was {d} {c} {m} h = kept_by d c m m h h.plain h.known h.locked (shown h) (grows_self h.known) (frame_still d m h.plain h.plain h.known h.known (items_stay d m h.plain h.plain h.known refl) (nobody_new d h.known))
 
--- the shadows are as before
-abbrev pub SameShadows : Rows → Rows → Type 0
-SameShadows m n = (t : TxId) (x : Item) → map.get n (shadow_key t x) ≡ map.get m (shadow_key t x)
-
 -- a row of another kind was set
 pub set_shadows : (m : Rows) (k : RowKey) (v : Option Row) → is_shadow k.kind ≡ false → SameShadows m (set_row m k v)
-set_shadows m k v kind t x = log_elsewhere m k v is_shadow (shadow_key t x) refl kind
+set_shadows m k v kind t x = aside_apart m k v t x (kind_off is_shadow same_shadow (shadow_key t x) k refl kind)
 
 -- no act takes a row away
 pub act_stays : (a : Act) (now : ℕ) (o : Option Row) → is_some o ≡ true → is_some (act a now o).0 ≡ true

@@ -1,5 +1,5 @@
 -- The listing of the rows is that of the plain state.
-use Rattle.beldi_laws.proofs.Names.{Bool, Core, Deployment, Item, KeepsNoNull, Kind, List, None, Null, Option, Ordering, PlainState, Right, Row, RowKey, Rows, Some, T, Value, [], ap, arith, below_all, cond, content_in, entries_sorted, false, find, flat_map, get-entries, head_key, is_eq, is_lt, is_sorted, item_cmp, item_exact, item_text, item_total, key_cmp, key_same, line_at, listed, listed_under, listing_of, no_null, or_null, refl, row_line, run_of, same_entries, shown_under, subst, sym, tables_text, tied_itself, true, value_line, zero, ℕ, ◌&&◌, ◌++◌, ◌∙◌, ◌∷◌, ◌≡◌}
+use Rattle.beldi_laws.proofs.Names.{Bool, Content, Core, Deployment, IsSoundChain, Item, KeepsNoNull, Kind, List, None, Null, Option, Ordering, Owner, PlainState, Right, Row, RowKey, Rows, Some, Sound, T, Tx, TxId, Value, [], ap, arith, aside_head, below_all, cond, content_in, decision_key, entries_sorted, false, find, flat_map, get-entries, head_content, head_key, head_tail, if◌then◌else◌, is_committed, is_eq, is_lt, is_sorted, item_cmp, item_exact, item_head, item_text, item_total, key_cmp, key_same, line_at, listed, listed_under, listing_of, no_null, or_null, refl, row_line, run_of, same_entries, shadow_chain, shadow_key, shown_under, subst, sym, tables_text, tied_itself, true, value_in, value_line, zero, ℕ, ◌&&◌, ◌++◌, ◌∙◌, ◌∷◌, ◌≡◌}
 use Rattle.beldi_laws.proofs.Standing.{same_run}
 use Rattle.beldi_laws.proofs.Names.map
 
@@ -71,7 +71,7 @@ sorted_items m (e ∷ es) h = sorted_entry m e.0.home e.0.kind e.1 es (first (be
 
 -- ---- and have each item that is not null
 shown_in : Rows → Item → Option Row → Option Value
-shown_in m x o = not_null (listed_under m x (content_in o).owner (content_in o).value)
+shown_in m x o = not_null (shown_under m x.func x.table x.key (content_in o).owner (content_in o).value)
 
 not_tied : (o : Ordering) → T (is_lt o) → is_eq o ≡ false
 not_tied o h = grind arith
@@ -97,7 +97,7 @@ own_valued x v zs h = ap (λ o. cond (is_eq o) (Some v) (find item_cmp x zs)) (t
 
 own_entry : (m : Rows) (x : Item) (r : Row) (zs : List (Item × Value)) → find item_cmp x zs ≡ None → find item_cmp x (cons_some (item_entry m x.func (Kind.Data x.table x.key 0) r) zs) ≡ shown_in m x (Some r)
 unfolding shown_in not_null
-own_entry m x (Row.Cell c) zs h = own_valued x (listed_under m x c.owner c.value) zs h
+own_entry m x (Row.Cell c) zs h = own_valued x (shown_under m x.func x.table x.key c.owner c.value) zs h
 own_entry m x r zs h = h
 
 found : (m : Rows) (x : Item) (es : List (RowKey × Row)) → T (is_sorted key_cmp es) → find item_cmp x (items_in m es) ≡ shown_in m x (find key_cmp (head_key x) es)
@@ -120,13 +120,25 @@ kept_value None h = refl
 kept_value (Some Null) h = absurd (h refl)
 kept_value (Some v) h = refl
 
+-- what is shown by first rows is what is listed, where all chains are sound
+module _ (m : Rows) (items : (x : Item) → IsSoundChain m x) (asides : (t : TxId) (x : Item) → Sound (shadow_chain m t x)) where
+  shown_so : (x : Item) → (let c = content_in (map.get m (head_key x)) in shown_under m x.func x.table x.key c.owner c.value) ≡ listed m x
+  shown_so x =
+      by_owner (content_in (map.get m (head_key x))).owner (content_in (map.get m (head_key x))).value
+      ∙ ap (λ (c : Content). listed_under m x c.owner c.value) (sym (head_content m (head_key x) (item_head x) (items x)))
+    where
+      by_owner : (o : Option Owner) (v : Value) → shown_under m x.func x.table x.key o v ≡ listed_under m x o v
+      by_owner (Some (Tx t)) v = ap (λ r. if is_committed (map.get m (decision_key t)) then value_in r v else v) (sym (head_tail m (shadow_key t x) (aside_head t x) (asides t x)))
+      by_owner (Some (Owner.Intent j)) v = refl
+      by_owner None v = refl
+
 -- the items of the plain state are those of the rows
-same_items : (m : Rows) (p : PlainState) → KeepsNoNull p → ((x : Item) → listed m x ≡ or_null (map.get p.items x)) → map.entries p.items ≡ items_in m (map.entries m)
+same_items : (m : Rows) (p : PlainState) → ((x : Item) → IsSoundChain m x) → ((t : TxId) (x : Item) → Sound (shadow_chain m t x)) → KeepsNoNull p → ((x : Item) → listed m x ≡ or_null (map.get p.items x)) → map.entries p.items ≡ items_in m (map.entries m)
 unfolding shown_in
-same_items m p none is = same_entries item_cmp item_total item_exact (map.entries p.items) (items_in m (map.entries m)) (entries_sorted p.items) (sorted_items m (map.entries m) (entries_sorted m)) (λ x.
-    sym (get-entries p.items x) ∙ kept_value (map.get p.items x) (none x) ∙ ap not_null (sym (is x)) ∙ ap (shown_in m x) (get-entries m (head_key x)) ∙ sym (found m x (map.entries m) (entries_sorted m)))
+same_items m p items asides none is = same_entries item_cmp item_total item_exact (map.entries p.items) (items_in m (map.entries m)) (entries_sorted p.items) (sorted_items m (map.entries m) (entries_sorted m)) (λ x.
+    sym (get-entries p.items x) ∙ kept_value (map.get p.items x) (none x) ∙ ap not_null (sym (is x)) ∙ ap not_null (sym (shown_so m items asides x)) ∙ ap (shown_in m x) (get-entries m (head_key x)) ∙ sym (found m x (map.entries m) (entries_sorted m)))
 
 pub listing_plain : (d : Deployment) (c : Core) (m : Rows) (p : PlainState) → Right d c m → run_of d c.book ≡ Some p → tables_text d m ≡ listing_of d p
 listing_plain d c m p h is =
     lines m d (map.entries m)
-    ∙ ap (flat_map (item_line d)) (sym (same_items m p (no_null d c.book p is) (λ x. h.values x ∙ ap (λ (q : PlainState). or_null (map.get q.items x)) (same_run d c m p h is))))
+    ∙ ap (flat_map (item_line d)) (sym (same_items m p h.rows.chains h.rows.asides (no_null d c.book p is) (λ x. h.values x ∙ ap (λ (q : PlainState). or_null (map.get q.items x)) (same_run d c m p h is))))

@@ -2,9 +2,9 @@
 -- the lock is asked for, and the lock of the item is tried.
 use Rattle.beldi_daal.specs.declared.cell.WriteAt.TheVariants.{Try}
 use Rattle.beldi_known.{specs.Acts.Told, proofs.Lists.elsewhere}
-use Rattle.beldi_laws.proofs.Names.{Act, Answer, AtItem, Begun, Bool, ByTx, Cause, Content, Core, Deployment, DidAs, DidOnce, Effect, Fits, Found, Frame, Goes, HasLock, InOperation, Inside, IntentId, IsAnswer, IsDeath, IsFreePlace, IsFront, Item, Known, Knows, List, Lock, LockAt, LockTold, Lockset, LoggedTurn, Logs, Look, Make, MakeCell, Matches, None, Note, OfBegin, Option, Owner, Place, Plain, PutLockset, Query, Released, Right, Row, RowKey, Rows, Run, RunTx, Sane, Says, Some, SoundAt, TxAt, TxId, Value, WriteAt, WriteGoes, WriteWalk, [], act, age_of, ahead_by, ahead_front, ahead_set, ap, arith, asks_of, begin_of, behind_asks, behind_locks, behind_looks, behind_looks_dead, by_op, content_apart, content_here, content_in, content_of, death_answer, death_in, death_is_older, deaths_go, decision_key, did_lists, died, died_at, died_lists, dies, dies_inside, done_to, effect_after, effect_of, end_place, ended_by, false, given_goes, given_in, given_of, grows_self, has_asked, head_key, held, id_cmp, if◌then◌else◌, inl, inr, inserted, is_data, is_eq, is_item, is_log, is_shadow, is_some, item_asks, item_goes, item_of, key_cmp, kinds_apart, last_step, length, listed, lists_same, lock_answer, lock_did, lock_in, lock_is_there, lock_leads, lock_on, lock_or, locked_goes, lockset_ahead, lockset_key, lockset_put, log_key, looked, moved, no_row, none_out, note_at, note_goes, note_here, note_is_ahead, note_pushed, noted, noted_or, notes_stay, op_act, other_owner, owed_lockset, place_eq, place_of, place_same, put_goes, put_lockset, refl, rows_after, rows_go, said, same_some, sane_died, set_here, set_others, set_row, shadow_key, subst, sym, told, told_by, touched, true, true_false, turn_next, turned_by, tx_after, tx_end, tx_here_asks, tx_here_says, tx_now, tx_of, tx_says, unchanged, undecided, value_at, walk_so, with_note, write_asks, write_goes, ℕ, ◌++◌, ◌<◌, ◌∙◌, ◌∷◌, ◌≡◌, Kind, Stage, Wait}
-use Rattle.beldi_laws.proofs.Frames.{NoFinish, frame_held, frame_item, frame_lockset, is_lockset, items_stay, no_finish, nobody_new, nobody_set}
-use Rattle.beldi_laws.proofs.{Ages.Holder, Ages.dies_so, Ages.free_of, Ages.holder_made, Ages.only_one, Settling.settled_operated, Grown.grown_moved, Grown.grows_moved, Grown.moved_more, Keeping.act_stays, Keeping.as_it_was, Keeping.set_shadows, Keeping.stays_by, Moves.AfterQuery, Moves.Kept, Moves.SameRoots, Moves.Stays, Others.kept_moving, Owed.content_kept, Owed.contents_kept, Owed.others_list, Ended.ended_at, Shown.holds_here, Shown.settled, Turns.Freed, Turns.Leaves, Cases.false_by}
+use Rattle.beldi_laws.proofs.Names.{Answer, AtItem, Begun, Bool, ByTx, Cause, ChangedAlone, Content, Core, Deployment, DidAs, DidOnce, Effect, Fits, Found, Frame, Goes, HasLock, InOperation, Inside, IntentId, IsAnswer, IsDeath, IsFreePlace, IsFront, IsSoundChain, Item, Kind, Known, Knows, List, Lock, LockAt, LockTold, Lockset, Logs, Look, Matches, None, Note, OfBegin, Option, Owner, Place, Plain, PutLockset, Query, Released, Right, Row, RowKey, Rows, Run, RunTx, Sane, Says, Some, Stage, TxAt, TxId, Value, Wait, WriteAt, WriteGoes, WriteWalk, [], act, age_of, ahead_by, ahead_front, ahead_set, ap, arith, aside_apart, asks_of, begin_of, behind_asks, behind_locks, behind_looks, behind_looks_dead, by_op, content_apart, content_of, death_answer, death_in, death_is_older, deaths_go, decision_key, did_lists, died, died_at, died_lists, dies, dies_inside, done_to, effect_after, effect_of, end_place, ended_by, false, given_goes, given_in, given_of, grows_self, has_asked, head_key, held, id_cmp, if◌then◌else◌, inl, inr, inserted, is_data, is_eq, is_item, is_shadow, is_some, item_asks, item_goes, item_of, kind_off, last_step, length, listed, lists_same, lock_answer, lock_did, lock_in, lock_is_there, lock_leads, lock_on, lock_or, locked_goes, lockset_ahead, lockset_key, lockset_put, log_key, looked, moved, no_row, none_out, note_at, note_goes, note_here, note_is_ahead, note_pushed, noted, noted_or, other_key, other_owner, other_shadows, owed_lockset, place_eq, place_of, place_same, put_goes, put_lockset, refl, root_key, rows_after, rows_go, said, same_data, same_shadow, same_some, sane_died, set_here, set_others, set_row, shadow_key, shadow_row, subst, sym, told, told_by, touched, true, true_false, turn_next, turned_by, tx_after, tx_end, tx_here_asks, tx_here_says, tx_now, tx_of, tx_says, unchanged, undecided, value_at, walk_so, with_note, write_asks, write_goes, ℕ, ◌++◌, ◌<◌, ◌∙◌, ◌∷◌, ◌≡◌}
+use Rattle.beldi_laws.proofs.Frames.{NoFinish, RowsStay, frame_held, frame_item, frame_lockset, is_entry, items_stay, no_finish, nobody_new, nobody_set, none_finish, query_keeps, query_notes}
+use Rattle.beldi_laws.proofs.{Ages.Holder, Ages.dies_so, Ages.free_of, Ages.holder_made, Ages.only_one, Settling.settled_operated, Grown.grown_moved, Grown.grows_moved, Grown.moved_more, Keeping.as_it_was, Keeping.set_shadows, Keeping.stays_by, Moves.AfterQuery, Moves.Kept, Moves.SameRoots, Moves.Stays, Others.kept_moving, Owed.content_kept, Owed.contents_kept, Owed.others_list, Ended.ended_at, Shown.holds_here, Shown.settled, Turns.Freed, Turns.Leaves, Cases.false_by}
 use Rattle.beldi_laws.proofs.Names.map
 use Rattle.beldi_laws.proofs.InTx as in_tx
 use Rattle.beldi_laws.proofs.Turns as turns
@@ -101,7 +101,7 @@ module _ (d : Deployment) (c : Core) (m : Rows) (i : ℕ) (r : Run) (g : Begun) 
 
   -- what it finds where it asks for its lock
   in_lock : (n : Rows) (l : LockAt) → OfBegin (begin_of o) (TxAt.Lock l) → (has_asked (TxAt.Lock l) ≡ true → is_some (map.get n (lockset_key r.id (begin_of o) item)) ≡ true) → InOperation d n h.plain h.known r.id r.func o g.machine.steps e (TxAt.Lock l) x
-  in_lock n l begin asked = record { begin = begin; asked = asked; locked = tt; found = λ q made same. none_found e l (map.get n (shadow_key own item)) (value_at h.plain item) }
+  in_lock n l begin asked = record { begin = begin; asked = asked; locked = tt; found = λ q made same. none_found e l (shadow_row n own item) (value_at h.plain item) }
 
   -- it goes on in its operation, or has the answer that is known
   goes_at : (b : TxAt) (n : Rows) (after : IntentId → Bool) → SameRoots m n → Kept h n h.plain h.known after → Fits e b → InOperation d n h.plain h.known r.id r.func o g.machine.steps e b x → Comes (Says.On (Stage.Tx b) None) n
@@ -227,8 +227,8 @@ module _ (d : Deployment) (c : Core) (m : Rows) (i : ℕ) (r : Run) (g : Begun) 
         (lockset_put d h.known h.locked m h.rows r.id k.instance own x k.made (in_tx.open_still d c m r g h k o here e is x touch left) (tx_is left) (not_ended left) (front left).touch)
 
     asked_lists : (y : Item) → listed asked_now y ≡ listed m y
-    asked_lists y = lists_same m asked_now y (content_apart m lock_row (Some Row.Lockset) y (kinds_apart is_data (head_key y) lock_row refl refl))
-        (λ t. elsewhere m lock_row (Some Row.Lockset) is_log (decision_key t) refl refl) (λ t. elsewhere m lock_row (Some Row.Lockset) is_shadow (shadow_key t y) refl refl)
+    asked_lists y = lists_same m asked_now y (content_apart m lock_row (Some Row.Lockset) y (kind_off is_data same_data (head_key y) lock_row refl refl))
+        (λ t. elsewhere m lock_row (Some Row.Lockset) is_entry (decision_key t) refl refl) (λ t. aside_apart m lock_row (Some Row.Lockset) t y (kind_off is_shadow same_shadow (shadow_key t y) lock_row refl refl))
 
     asked_kept : Stays h asked_now
     asked_kept = stays_by h asked_now (set_shadows m lock_row (Some Row.Lockset) refl) asked_matches (λ y. asked_lists y ∙ h.values y) (frame_lockset d m h.plain h.plain h.known h.known (items_stay d m h.plain h.plain h.known refl) (nobody_new d h.known) r.id (begin_of o) item (in_tx.asks_alone d c m r g h k o here e is x touch left))
@@ -247,243 +247,216 @@ module _ (d : Deployment) (c : Core) (m : Rows) (i : ℕ) (r : Run) (g : Begun) 
   unfolding Comes
   lockset_turn b same fits = subst (λ z. Turns (TxAt.Lock (Lockset z))) (sym same) (asks_it (TxAt.Lock (Lockset (begin_of o))) (by_lockset (fits_lock e (Lockset b) (Lockset (begin_of o)) fits) (map.get m lock_row) refl))
 
-  -- ---- the lock of the item
-  module _ (w : WriteAt) (fits : Fits e (TxAt.Lock (AtItem w))) (asked : is_some (map.get m lock_row) ≡ true) (v : Option Row)
-      (stay : (p : Place) (u : Note) → note_at (content_of m item).notes p ≡ Some u → note_at (content_in v).notes p ≡ Some u) (there : is_some (map.get m (head_key item)) ≡ true → is_some v ≡ true) where
-    abbrev n : Rows
-    n = set_row m (head_key item) v
-
-    abbrev same : (l : RowKey) → is_eq (key_cmp l (head_key item)) ≡ false → map.get n l ≡ map.get m l
-    same = set_others m (head_key item) v
-
+  -- ---- the lock of the item, by rows of which its own changed
+  module _ (w : WriteAt) (fits : Fits e (TxAt.Lock (AtItem w))) (asked : is_some (map.get m lock_row) ≡ true) (n : Rows) (alone : ChangedAlone (head_key item) m n) (sound : IsSoundChain n item) (stay : RowsStay m n)
+      (notes_on : (p : Place) (u : Note) → note_at (content_of m item).notes p ≡ Some u → note_at (content_of n item).notes p ≡ Some u) where
     roots : SameRoots m n
-    roots = in_tx.set_roots m r.func (Kind.Data x.0 x.1 0) v refl
+    roots t = ap is_some (other_key m n item alone (root_key t) refl)
 
     asked_still : is_some (map.get n lock_row) ≡ true
-    asked_still = ap is_some (elsewhere m (head_key item) v is_lockset lock_row refl refl) ∙ asked
-
-    row_there : is_some (map.get m (head_key item)) ≡ true → is_some (map.get n (head_key item)) ≡ true
-    row_there was = ap is_some (set_here m (head_key item) v) ∙ there was
-
-    notes_on : (p : Place) (u : Note) → note_at (content_of m item).notes p ≡ Some u → note_at (content_of n item).notes p ≡ Some u
-    notes_on p u was = ap (λ (z : Content). note_at z.notes p) (content_here m v item) ∙ stay p u was
+    asked_still = ap is_some (other_key m n item alone lock_row refl) ∙ asked
 
     -- no finish is put
     unfinished : (next : Known) → NoFinish d m n next
-    unfinished next = no_finish m n (head_key item) same d next refl
+    unfinished next = none_finish m n (head_key item) alone d next refl
 
     -- what it finds past its lock
     in_past : (b : TxAt) → OfBegin (begin_of o) b → HasLock b place (content_of n item) → ((y : Option Row) (u : Value) → Found e b y u) → InOperation d n h.plain h.known r.id r.func o g.machine.steps e b x
-    in_past b begin has found = record { begin = begin; asked = λ past. asked_still; locked = has; found = λ q made now. found (map.get n (shadow_key own item)) (value_at h.plain item) }
+    in_past b begin has found = record { begin = begin; asked = λ past. asked_still; locked = has; found = λ q made now. found (shadow_row n own item) (value_at h.plain item) }
 
-    module _ (sound : SoundAt (map.get n (head_key item))) where
-      fits_row : SoundAt v
-      fits_row = subst SoundAt (set_here m (head_key item) v) sound
+    -- the item holds what it held
+    as_held : content_of n item ≡ content_of m item → Stays h n
+    as_held whole = stays_by h n (other_shadows m n item alone) (content_kept d m n item alone h.known h.locked sound whole h.rows) (λ y. others_list m n item alone y (contents_kept d m n item alone whole y) ∙ h.values y)
+        (frame_held d m h.plain h.plain h.known h.known (items_stay d m h.plain h.plain h.known refl) (nobody_new d h.known) n item alone stay whole) (unfinished h.known)
 
-      -- the item holds what it held
-      as_held : content_of n item ≡ content_of m item → Stays h n
-      as_held whole = stays_by h n (set_shadows m (head_key item) v refl) (content_kept d m n item same h.known h.locked sound whole h.rows) (λ y. others_list m n item same y (contents_kept d m n item same whole y) ∙ h.values y)
-          (frame_held d m h.plain h.plain h.known h.known (items_stay d m h.plain h.plain h.known refl) (nobody_new d h.known) n item same row_there whole) (unfinished h.known)
+    tries : (u : WriteAt) → content_of n item ≡ content_of m item → Comes (Says.On (Stage.Tx (TxAt.Lock (AtItem u))) None) n
+    tries u whole = goes_at (TxAt.Lock (AtItem u)) n h.locked roots (as_held whole) (fits_lock e (AtItem w) (AtItem u) fits) (in_lock n (AtItem u) tt (λ past. asked_still))
 
-      tries : (u : WriteAt) → content_of n item ≡ content_of m item → Comes (Says.On (Stage.Tx (TxAt.Lock (AtItem u))) None) n
-      tries u whole = goes_at (TxAt.Lock (AtItem u)) n h.locked roots (as_held whole) (fits_lock e (AtItem w) (AtItem u) fits) (in_lock n (AtItem u) tt (λ past. asked_still))
+    -- a note of another kind is not of the lock: it stays where it is
+    other_note : (u : Note) (first : Bool) → is_locks u ≡ false → note_at (content_of n item).notes place ≡ Some u → DidOnce place (ByTx own) Lock first (content_of m item) (content_of n item) → Comes (Says.On (Stage.Tx (TxAt.Lock (AtItem w))) None) n
+    other_note u true off there l = absurd (not_new (dies (ByTx own) Lock (content_of m item).owner) u off (new_note place (ByTx own) (content_of m item) (content_of n item) (dies (ByTx own) Lock (content_of m item).owner) u l.1 l.0 there))
+    other_note u false off there whole = tries w whole
 
-      -- a note of another kind is not of the lock: it stays where it is
-      other_note : (u : Note) (first : Bool) → is_locks u ≡ false → note_at (content_of n item).notes place ≡ Some u → DidOnce place (ByTx own) Lock first (content_of m item) (content_of n item) → Comes (Says.On (Stage.Tx (TxAt.Lock (AtItem w))) None) n
-      other_note u true off there l = absurd (not_new (dies (ByTx own) Lock (content_of m item).owner) u off (new_note place (ByTx own) (content_of m item) (content_of n item) (dies (ByTx own) Lock (content_of m item).owner) u l.1 l.0 there))
-      other_note u false off there whole = tries w whole
+    -- with its lock it goes on
+    goes_past : (after : IntentId → Bool) → Kept h n h.plain h.known after → note_at (content_of n item).notes place ≡ Some Note.Got → Comes (tx_says (TxAt.Lock (AtItem w)) (locked_goes e)) n
+    goes_past after kept got = by_effect e refl
+      where
+        by_effect : (f : Effect) → f ≡ e → Comes (tx_says (TxAt.Lock (AtItem w)) (locked_goes f)) n
+        by_effect (Effect.Read t y) f = goes_at TxAt.Shadow n after roots kept (subst (λ z. Fits z TxAt.Shadow) f tt) (in_past TxAt.Shadow tt got (λ z u. subst (λ q. Found q TxAt.Shadow z u) f tt))
+        by_effect (Effect.Write t y u) f = goes_at (TxAt.Write Try) n after roots kept (subst (λ z. Fits z (TxAt.Write Try)) f tt) (in_past (TxAt.Write Try) tt got (λ z u. subst (λ q. Found q (TxAt.Write Try) z u) f tt))
+        by_effect (Effect.CondWrite t y l p u) f = goes_at TxAt.Shadow n after roots kept (subst (λ z. Fits z TxAt.Shadow) f tt) (in_past TxAt.Shadow tt got (λ z u. subst (λ q. Found q TxAt.Shadow z u) f tt))
+        by_effect f same = let clash = ap touched same ∙ touch in cc
 
-      -- with its lock it goes on
-      goes_past : (after : IntentId → Bool) → Kept h n h.plain h.known after → note_at (content_of n item).notes place ≡ Some Note.Got → Comes (tx_says (TxAt.Lock (AtItem w)) (locked_goes e)) n
-      goes_past after kept got = by_effect e refl
-        where
-          by_effect : (f : Effect) → f ≡ e → Comes (tx_says (TxAt.Lock (AtItem w)) (locked_goes f)) n
-          by_effect (Effect.Read t y) f = goes_at TxAt.Shadow n after roots kept (subst (λ z. Fits z TxAt.Shadow) f tt) (in_past TxAt.Shadow tt got (λ z u. subst (λ q. Found q TxAt.Shadow z u) f tt))
-          by_effect (Effect.Write t y u) f = goes_at (TxAt.Write Try) n after roots kept (subst (λ z. Fits z (TxAt.Write Try)) f tt) (in_past (TxAt.Write Try) tt got (λ z u. subst (λ q. Found q (TxAt.Write Try) z u) f tt))
-          by_effect (Effect.CondWrite t y l p u) f = goes_at TxAt.Shadow n after roots kept (subst (λ z. Fits z TxAt.Shadow) f tt) (in_past TxAt.Shadow tt got (λ z u. subst (λ q. Found q TxAt.Shadow z u) f tt))
-          by_effect f same = let clash = ap touched same ∙ touch in cc
+    -- ---- at the front, where the place had no note
+    module _ (left : k.later ≡ []) (none : note_at (content_of m item).notes place ≡ None) where
+      unlocked : h.locked r.id ≡ false
+      unlocked = not_locked left none
 
-      -- ---- at the front, where the place had no note
-      module _ (left : k.later ≡ []) (none : note_at (content_of m item).notes place ≡ None) where
-        unlocked : h.locked r.id ≡ false
-        unlocked = not_locked left none
+      -- the lock is taken
+      module _ (free : other_owner (ByTx own) (content_of m item).owner ≡ None) (did : content_of n item ≡ done_to place (ByTx own) Lock (content_of m item)) where
+        abbrev taken : IntentId → Bool
+        taken = lock_in h.locked r.id
 
-        -- the lock is taken
-        module _ (free : other_owner (ByTx own) (content_of m item).owner ≡ None) (did : content_of n item ≡ done_to place (ByTx own) Lock (content_of m item)) where
-          row_did : content_in v ≡ done_to place (ByTx own) Lock (content_of m item)
-          row_did = sym (content_here m v item) ∙ did
+        taken_more : (j : IntentId) → h.locked j ≡ true → taken j ≡ true
+        taken_more j was = by_test (is_eq (id_cmp j r.id))
+          where
+            by_test : (b : Bool) → (if b then true else h.locked j) ≡ true
+            by_test b = grind arith
 
-          abbrev taken : IntentId → Bool
-          taken = lock_in h.locked r.id
+        taken_matches : Matches d n h.known taken
+        taken_matches = as_run left (λ y p. ChangedAlone (head_key y) m n → IsSoundChain n y → note_at (content_of m y).notes p ≡ None → other_owner (ByTx own) (content_of m y).owner ≡ None
+            → content_of n y ≡ record { value = (content_of m y).value; owner = Some (ByTx own); notes = (content_of m y).notes ++ (p, Note.Got) ∷ [] } → Matches d n h.known taken)
+            (λ alone sound none free did. lock_did d h.known h.locked r.id k.instance k.made unlocked own (tx_is left) x (front left).touch m n alone sound none free did h.rows) alone sound none free did
 
-          taken_more : (j : IntentId) → h.locked j ≡ true → taken j ≡ true
-          taken_more j was = by_test (is_eq (id_cmp j r.id))
-            where
-              by_test : (b : Bool) → (if b then true else h.locked j) ≡ true
-              by_test b = grind arith
+        taken_frame : Frame d m n h.plain h.plain h.known h.known
+        taken_frame = frame_item d m h.plain h.plain h.known h.known (items_stay d m h.plain h.plain h.known refl) (nobody_new d h.known) n item alone stay notes_on
+            (λ t z ended owned. let mine : own ≡ t = same_owner (sym (ap (λ (z : Content). z.owner) did) ∙ owned) in let clash = sym (not_ended left) ∙ ap (tx_end d h.known) mine ∙ ended in cc)
+          where
+            same_owner : {s t : TxId} → Some (ByTx s) ≡ Some (ByTx t) → s ≡ t
+            same_owner same = cc
 
-          taken_matches : Matches d n h.known taken
-          taken_matches = as_run left (λ y p. note_at (content_of m y).notes p ≡ None → other_owner (ByTx own) (content_of m y).owner ≡ None
-              → content_in v ≡ record { value = (content_of m y).value; owner = Some (ByTx own); notes = (content_of m y).notes ++ (p, Note.Got) ∷ [] } → Matches d (set_row m (head_key y) v) h.known taken)
-              (λ none free did. lock_did d h.known h.locked r.id k.instance k.made unlocked own (tx_is left) x (front left).touch m v fits_row none free did h.rows) none free row_did
+        taken_kept : Kept h n h.plain h.known taken
+        taken_kept = kept_moving h n h.plain h.known taken (record { beside = h.beside; shadows = rows_go d m n h.plain h.known h.locked taken taken_more (other_shadows m n item alone) h.shadows })
+            (ahead_front d h.known h.locked h.locked_at_ends r.id k.instance own x.0 x.1 (front left) (turns.sane_instance h k)) h.sane taken_matches
+            (λ y. did_lists m own (no_decision_yet left) item n alone free (ap (λ (z : Content). z.value) did) (ap (λ (z : Content). z.owner) did) y ∙ h.values y) (settled h) (grows_self h.known) taken_frame (unfinished h.known)
 
-          taken_frame : Frame d m n h.plain h.plain h.known h.known
-          taken_frame = frame_item d m h.plain h.plain h.known h.known (items_stay d m h.plain h.plain h.known refl) (nobody_new d h.known) n item same row_there notes_on
-              (λ t z ended owned. let mine : own ≡ t = same_owner (sym (ap (λ (z : Content). z.owner) did) ∙ owned) in let clash = sym (not_ended left) ∙ ap (tx_end d h.known) mine ∙ ended in cc)
-            where
-              same_owner : {s t : TxId} → Some (ByTx s) ≡ Some (ByTx t) → s ≡ t
-              same_owner same = cc
+      -- it dies: it has that answer from now on
+      module _ (j : IntentId) (dead : dies (ByTx own) Lock (content_of m item).owner ≡ Some j) (did : content_of n item ≡ died_at place j (content_of m item)) where
+        holder : Holder (content_of m item).owner j
+        holder = (dies_so place own (content_of m item) j none dead).1
 
-          taken_kept : Kept h n h.plain h.known taken
-          taken_kept = kept_moving h n h.plain h.known taken (record { beside = h.beside; shadows = rows_go d m n h.plain h.known h.locked taken taken_more (set_shadows m (head_key item) v refl) h.shadows })
-              (ahead_front d h.known h.locked h.locked_at_ends r.id k.instance own x.0 x.1 (front left) (turns.sane_instance h k)) h.sane taken_matches
-              (λ y. did_lists m own (no_decision_yet left) item v free (ap (λ (z : Content). z.value) row_did) (ap (λ (z : Content). z.owner) row_did) y ∙ h.values y) (settled h) (grows_self h.known) taken_frame (unfinished h.known)
+        abbrev cause : Cause
+        cause = record { place = place_now left; holder = Some j }
 
-        -- it dies: it has that answer from now on
-        module _ (j : IntentId) (dead : dies (ByTx own) Lock (content_of m item).owner ≡ Some j) (did : content_of n item ≡ died_at place j (content_of m item)) where
-          row_died : content_in v ≡ died_at place j (content_of m item)
-          row_died = sym (content_here m v item) ∙ did
+        abbrev a : Answer
+        a = Answer.Aborted cause
 
-          holder : Holder (content_of m item).owner j
-          holder = (dies_so place own (content_of m item) j none dead).1
+        abbrev next : Known
+        next = map.insert h.known r.id (moved d r.id k.instance a)
 
-          abbrev cause : Cause
-          cause = record { place = place_now left; holder = Some j }
+        released_now : Released d m h.known r.id (length k.instance.answers)
+        released_now = subst (Released d m h.known r.id) (turns.step_here k left) finds.released
 
-          abbrev a : Answer
-          a = Answer.Aborted cause
+        is_death : IsDeath (place_now left) own cause
+        is_death = death_is_older d h.known h.sane h.locked r.id k.instance own x.0 x.1 (front left) item (content_of m item) (h.rows.items item)
+            (only_one d m h.known h.locked h.rows h.sane r.id k.instance k.made (in_tx.open_still d c m r g h k o here e is x touch left) own (tx_is left) (in_tx.apart d c m r g h k o here e is x touch left) released_now h.latest item)
+            (place_now left) (died_at (place_now left) j (content_of m item)) j (dies_so (place_now left) own (content_of m item) j (subst (λ p. note_at (content_of m item).notes p ≡ None) (sym (at_place left)) none) dead).0
 
-          abbrev next : Known
-          next = map.insert h.known r.id (moved d r.id k.instance a)
+        back : (P : Item → Place → Type 0) → P item place → P its_item (place_now left)
+        back P z = subst (λ y. P y (place_now left)) (sym same_item) (subst (P item) (sym (at_place left)) z)
 
-          released_now : Released d m h.known r.id (length k.instance.answers)
-          released_now = subst (Released d m h.known r.id) (turns.step_here k left) finds.released
+        its_alone : ChangedAlone (head_key its_item) m n
+        its_alone = back (λ y p. ChangedAlone (head_key y) m n) alone
 
-          is_death : IsDeath (place_now left) own cause
-          is_death = death_is_older d h.known h.sane h.locked r.id k.instance own x.0 x.1 (front left) item (content_of m item) (h.rows.items item)
-              (only_one d m h.known h.locked h.rows h.sane r.id k.instance k.made (in_tx.open_still d c m r g h k o here e is x touch left) own (tx_is left) (in_tx.apart d c m r g h k o here e is x touch left) released_now h.latest item)
-              (place_now left) (died_at (place_now left) j (content_of m item)) j (dies_so (place_now left) own (content_of m item) j (subst (λ p. note_at (content_of m item).notes p ≡ None) (sym (at_place left)) none) dead).0
+        died_goes : Goes d n h.plain next h.locked
+        died_goes = deaths_go d m h.plain h.known h.locked h.locked r.id k.instance own x.0 x.1 n cause (in_tx.opened d c m r g h k o here e is x touch left) (front left) (none_out h.locked r.id unlocked) its_alone unlocked
+            (death_answer (place_now left) own (effect_of d k.instance) x cause (front left).touch is_death)
 
-          died_goes : Goes d n h.plain next h.locked
-          died_goes = subst (λ y. Goes d (set_row m (head_key y) v) h.plain next h.locked) same_item
-              (deaths_go d m h.plain h.known h.locked h.locked r.id k.instance own x.0 x.1 v cause (in_tx.opened d c m r g h k o here e is x touch left) (front left) (none_out h.locked r.id unlocked) unlocked (death_answer (place_now left) own (effect_of d k.instance) x cause (front left).touch is_death))
+        died_matches : Matches d n next h.locked
+        died_matches = dies_inside d h.known h.locked h.locked r.id k.instance k.made (none_out h.locked r.id unlocked) own (tx_is left) m h.rows x.0 x.1 j n (front left).touch
+            (subst (λ l. map.get m l ≡ Some Row.Lockset) (λ j. lockset_key r.id (sym (in_tx.begin_is r.id r.func o) j) (sym same_item j)) (in_tx.lockset_is (map.get m lock_row) (owed_lockset d (begin_of o) item r.id (map.get h.known r.id)) (lockset_ahead d h.known (begin_of o) item r.id (map.get h.known r.id)) (h.rows.keys lock_row) asked))
+            unlocked its_alone (back (λ y p. IsSoundChain n y) sound) (back (λ y p. note_at (content_of m y).notes p ≡ None) none) (back (λ y p. content_of n y ≡ with_note (content_of m y) p (Note.Died j)) did)
 
-          died_matches : Matches d n next h.locked
-          died_matches = subst (λ y. Matches d (set_row m (head_key y) v) next h.locked) same_item
-              (dies_inside d h.known h.locked h.locked r.id k.instance k.made (none_out h.locked r.id unlocked) own (tx_is left) m h.rows x.0 x.1 j v (front left).touch
-              (subst (λ l. map.get m l ≡ Some Row.Lockset) (λ j. lockset_key r.id (sym (in_tx.begin_is r.id r.func o) j) (sym same_item j)) (in_tx.lockset_is (map.get m lock_row) (owed_lockset d (begin_of o) item r.id (map.get h.known r.id)) (lockset_ahead d h.known (begin_of o) item r.id (map.get h.known r.id)) (h.rows.keys lock_row) asked))
-              unlocked fits_row (back (λ y p. note_at (content_of m y).notes p ≡ None) none) (back (λ y p. content_in v ≡ with_note (content_of m y) p (Note.Died j)) row_died))
-            where
-              back : (P : Item → Place → Type 0) → P item place → P its_item (place_now left)
-              back P z = subst (λ y. P y (place_now left)) (sym same_item) (subst (P item) (sym (at_place left)) z)
+        -- no transaction of the instance ended there
+        not_there : (t : TxId) (z : ℕ × Bool) → tx_end d next t ≡ Some z → place ≡ end_place t z.0 → ⊥
+        not_there t z ended at_end =
+            let mine : r.id ≡ t.intent = ap (λ (p : Place). p.intent) at_end in
+            let was = sym (ap (ended_by d t.begin) (ap (map.get h.known) (sym mine) ∙ k.made)) ∙ in_tx.ends_before d c m r g h k o here e is x touch left a t z ended in
+            let less = (ended_at d k.instance t.begin z was).before in
+            let step : g.machine.steps ≡ z.0 = ap (λ (p : Place). p.step) at_end in
+            let last = turns.step_here k left in
+            omega (arith, less, step, last)
 
-          -- no transaction of the instance ended there
-          not_there : (t : TxId) (z : ℕ × Bool) → tx_end d next t ≡ Some z → place ≡ end_place t z.0 → ⊥
-          not_there t z ended at_end =
-              let mine : r.id ≡ t.intent = ap (λ (p : Place). p.intent) at_end in
-              let was = sym (ap (ended_by d t.begin) (ap (map.get h.known) (sym mine) ∙ k.made)) ∙ in_tx.ends_before d c m r g h k o here e is x touch left a t z ended in
-              let less = (ended_at d k.instance t.begin z was).before in
-              let step : g.machine.steps ≡ z.0 = ap (λ (p : Place). p.step) at_end in
-              let last = turns.step_here k left in
-              omega (arith, less, step, last)
+        -- so its place is none where items are given back
+        not_free : (t : TxId) (z : ℕ × Bool) (p : Place) → tx_end d next t ≡ Some z → IsFreePlace next t z.0 p → place ≡ p → ⊥
+        not_free t z p ended (inl at_end) same = not_there t z ended (same ∙ at_end)
+        not_free t z p ended (inr last) same = let l = few_now left in let w = turns.step_here k left in let step : g.machine.steps ≡ p.step = ap (λ (y : Place). y.step) same in let is_last = last.0 in omega (arith, l, w, step, is_last)
 
-          -- so its place is none where items are given back
-          not_free : (t : TxId) (z : ℕ × Bool) (p : Place) → tx_end d next t ≡ Some z → IsFreePlace next t z.0 p → place ≡ p → ⊥
-          not_free t z p ended (inl at_end) same = not_there t z ended (same ∙ at_end)
-          not_free t z p ended (inr last) same = let l = few_now left in let w = turns.step_here k left in let step : g.machine.steps ≡ p.step = ap (λ (y : Place). y.step) same in let is_last = last.0 in omega (arith, l, w, step, is_last)
+        died_frame : Frame d m n h.plain h.plain h.known next
+        died_frame = frame_item d m h.plain h.plain h.known next (items_stay d m h.plain h.plain next refl) (nobody_set d h.known r.id (moved d r.id k.instance a) (ap is_some k.made)) n item alone stay notes_on
+            (λ t z ended owned. record {
+              owner = ap (λ (y : Content). y.owner) (sym did) ∙ owned;
+              notes = λ p free. ap (λ (y : Content). note_at y.notes p) did ∙ note_pushed (content_of m item).notes place p (Note.Died j) none ∙ off t z p ended free (place_eq place p) refl;
+            })
+          where
+            off : (t : TxId) (z : ℕ × Bool) (p : Place) → tx_end d next t ≡ Some z → IsFreePlace next t z.0 p → (b : Bool) → place_eq place p ≡ b → (if b then Some (Note.Died j) else note_at (content_of m item).notes p) ≡ note_at (content_of m item).notes p
+            off t z p ended free true here = absurd (not_free t z p ended free (place_same place p here))
+            off t z p ended free false other = refl
 
-          died_frame : Frame d m n h.plain h.plain h.known next
-          died_frame = frame_item d m h.plain h.plain h.known next (items_stay d m h.plain h.plain next refl) (nobody_set d h.known r.id (moved d r.id k.instance a) (ap is_some k.made)) n item same row_there notes_on
-              (λ t z ended owned. record {
-                owner = ap (λ (y : Content). y.owner) (sym did) ∙ owned;
-                notes = λ p free. ap (λ (y : Content). note_at y.notes p) did ∙ note_pushed (content_of m item).notes place p (Note.Died j) none ∙ off t z p ended free (place_eq place p) refl;
-              })
-            where
-              off : (t : TxId) (z : ℕ × Bool) (p : Place) → tx_end d next t ≡ Some z → IsFreePlace next t z.0 p → (b : Bool) → place_eq place p ≡ b → (if b then Some (Note.Died j) else note_at (content_of m item).notes p) ≡ note_at (content_of m item).notes p
-              off t z p ended free true here = absurd (not_free t z p ended free (place_same place p here))
-              off t z p ended free false other = refl
+        died_sane : Sane d next
+        died_sane = sane_died d h.known h.sane r.id k.instance k.made own x cause (tx_is left) (front left).touch is_death
 
-          died_sane : Sane d next
-          died_sane = sane_died d h.known h.sane r.id k.instance k.made own x cause (tx_is left) (front left).touch is_death
+        died_kept : Kept h n h.plain next h.locked
+        died_kept = kept_moving h n h.plain next h.locked died_goes (ahead_set d h.known h.locked h.locked_at_ends h.locked r.id (moved d r.id k.instance a) (none_out h.locked r.id unlocked)) died_sane died_matches
+            (λ y. died_lists m own (no_decision_yet left) item n alone (ap (λ (z : Content). z.value) did) (ap (λ (z : Content). z.owner) did) y ∙ h.values y)
+            (settled_operated d m h.plain h.known r.id k.instance k.made a x (front left).touch
+            (λ z u same by. subst (λ y. is_some (map.get h.plain.made y) ≡ true) (same_some (ap (λ (y : Cause). y.holder) (one_cause same) ∙ by)) (holder_made d m h.known h.locked h.rows h.sane h.plain h.beside item j (holds_here h item j) holder)) (settled h))
+            (grows_moved d h.known r.id k.instance a k.made) died_frame (unfinished next)
 
-          died_kept : Kept h n h.plain next h.locked
-          died_kept = kept_moving h n h.plain next h.locked died_goes (ahead_set d h.known h.locked h.locked_at_ends h.locked r.id (moved d r.id k.instance a) (none_out h.locked r.id unlocked)) died_sane died_matches
-              (λ y. died_lists m own (no_decision_yet left) item v (ap (λ (z : Content). z.value) row_died) (ap (λ (z : Content). z.owner) row_died) y ∙ h.values y)
-              (settled_operated d m h.plain h.known r.id k.instance k.made a x (front left).touch
-              (λ z u same by. subst (λ y. is_some (map.get h.plain.made y) ≡ true) (same_some (ap (λ (y : Cause). y.holder) (one_cause same) ∙ by)) (holder_made d m h.known h.locked h.rows h.sane h.plain h.beside item j (holds_here h item j) holder)) (settled h))
-              (grows_moved d h.known r.id k.instance a k.made) died_frame (unfinished next)
+        dies_now : Comes (Says.Answers (Answer.Aborted (record { place = place; holder = Some j })) None) n
+        unfolding Comes
+        dies_now = let more = moved_more d r.id k.instance a in
+            subst (λ p. Comes (Says.Answers (Answer.Aborted (record { place = p; holder = Some j })) None) n) (at_place left)
+            (turns.answers_on d c m i r g h live k finds a more.more n next h.locked (moved d r.id k.instance a) roots died_kept (inserted h.known r.id (moved d r.id k.instance a)) (grown_moved d r.id k.instance a)
+            (ap (λ ts. (ts ++ a ∷ []) ++ more.more) (turns.all_here k left) ∙ more.same) (in_tx.wants_here d c m r g h k o here e is x touch) (in_tx.frees_none d c m i r g h live k finds o tx here e is x touch n))
 
-          dies_now : Comes (Says.Answers (Answer.Aborted (record { place = place; holder = Some j })) None) n
-          unfolding Comes
-          dies_now = let more = moved_more d r.id k.instance a in
-              subst (λ p. Comes (Says.Answers (Answer.Aborted (record { place = p; holder = Some j })) None) n) (at_place left)
-              (turns.answers_on d c m i r g h live k finds a more.more n next h.locked (moved d r.id k.instance a) roots died_kept (inserted h.known r.id (moved d r.id k.instance a)) (grown_moved d r.id k.instance a)
-              (ap (λ ts. (ts ++ a ∷ []) ++ more.more) (turns.all_here k left) ∙ more.same) (in_tx.wants_here d c m r g h k o here e is x touch) (in_tx.frees_none d c m i r g h live k finds o tx here e is x touch n))
+    -- ---- what the lock told
+    -- where the place had no note, it is at the front
+    at_front : note_at (content_of m item).notes place ≡ None → k.later ≡ []
+    at_front none = turns.by_answer k (λ left. left) (λ a rest left. let clash = sym none ∙ note_here_is a rest left in cc)
 
-      -- ---- what the lock told
-      -- where the place had no note, it is at the front
-      at_front : note_at (content_of m item).notes place ≡ None → k.later ≡ []
-      at_front none = turns.by_answer k (λ left. left) (λ a rest left. let clash = sym none ∙ note_here_is a rest left in cc)
+    taken_now : note_at (content_of m item).notes place ≡ None → (j : Option IntentId) → dies (ByTx own) Lock (content_of m item).owner ≡ j → DidAs place (ByTx own) Lock j (content_of m item) (content_of n item)
+        → note_at (content_of n item).notes place ≡ Some Note.Got → Comes (tx_says (TxAt.Lock (AtItem w)) (locked_goes e)) n
+    taken_now none None alive did got = let left = at_front none in goes_past (lock_in h.locked r.id) (taken_kept left none (free_of own (content_of m item).owner did.0 alive) did.1) got
+    taken_now none (Some j) dead did got = let clash : Note.Got ≡ Note.Died j = new_note place (ByTx own) (content_of m item) (content_of n item) (Some j) Note.Got did none got in cc
 
-      taken_now : note_at (content_of m item).notes place ≡ None → (j : Option IntentId) → dies (ByTx own) Lock (content_of m item).owner ≡ j → DidAs place (ByTx own) Lock j (content_of m item) (content_of n item)
-          → note_at (content_of n item).notes place ≡ Some Note.Got → Comes (tx_says (TxAt.Lock (AtItem w)) (locked_goes e)) n
-      taken_now none None alive did got = let left = at_front none in goes_past (lock_in h.locked r.id) (taken_kept left none (free_of own (content_of m item).owner did.0 alive) did.1) got
-      taken_now none (Some j) dead did got = let clash : Note.Got ≡ Note.Died j = new_note place (ByTx own) (content_of m item) (content_of n item) (Some j) Note.Got did none got in cc
+    died_now : note_at (content_of m item).notes place ≡ None → (j : IntentId) (b : Option IntentId) → dies (ByTx own) Lock (content_of m item).owner ≡ b → DidAs place (ByTx own) Lock b (content_of m item) (content_of n item)
+        → note_at (content_of n item).notes place ≡ Some (Note.Died j) → Comes (Says.Answers (Answer.Aborted (record { place = place; holder = Some j })) None) n
+    died_now none j None alive did there = let clash : Note.Died j ≡ Note.Got = new_note place (ByTx own) (content_of m item) (content_of n item) None (Note.Died j) did none there in cc
+    died_now none j (Some i) dead did there = subst (λ z. Comes (Says.Answers (Answer.Aborted (record { place = place; holder = Some z })) None) n)
+        (one_death (new_note place (ByTx own) (content_of m item) (content_of n item) (Some i) (Note.Died j) did none there)) (dies_now (at_front none) none i dead did)
 
-      died_now : note_at (content_of m item).notes place ≡ None → (j : IntentId) (b : Option IntentId) → dies (ByTx own) Lock (content_of m item).owner ≡ b → DidAs place (ByTx own) Lock b (content_of m item) (content_of n item)
-          → note_at (content_of n item).notes place ≡ Some (Note.Died j) → Comes (Says.Answers (Answer.Aborted (record { place = place; holder = Some j })) None) n
-      died_now none j None alive did there = let clash : Note.Died j ≡ Note.Got = new_note place (ByTx own) (content_of m item) (content_of n item) None (Note.Died j) did none there in cc
-      died_now none j (Some i) dead did there = subst (λ z. Comes (Says.Answers (Answer.Aborted (record { place = place; holder = Some z })) None) n)
-          (one_death (new_note place (ByTx own) (content_of m item) (content_of n item) (Some i) (Note.Died j) did none there)) (dies_now (at_front none) none i dead did)
+    -- a death that was there is the known answer
+    died_before : (j : IntentId) → content_of n item ≡ content_of m item → note_at (content_of m item).notes place ≡ Some (Note.Died j) → Comes (Says.Answers (Answer.Aborted (record { place = place; holder = Some j })) None) n
+    died_before j whole there = turns.by_answer k
+        (λ left. absurd (none_dead its_item k.instance.func (tx_now d r.id k.instance) (effect_of d k.instance) (h.locked r.id) j
+        (sym (note_is_ahead d m h.known h.locked h.rows r.id k.instance k.made (few_now left) its_item) ∙ (λ i. note_at (content_of m (same_item i)).notes (at_place left i)) ∙ there)))
+        (λ a rest left.
+        let noted_so : (told_here a rest left).note ≡ Note.Died j = same_some (sym (note_here_is a rest left) ∙ there) in
+        let same : Answer.Aborted (record { place = place_of r.id (length k.answers); holder = Some j }) ≡ a = noted_death (place_of r.id (length k.answers)) a j (ap (λ u. lock_answer (place_of r.id (length k.answers)) (noted u)) (sym noted_so) ∙ (told_here a rest left).says) in
+        subst (λ z. Comes (Says.Answers z None) n) (sym same ∙ ap (λ q. Answer.Aborted (record { place = place_of r.id q; holder = Some j })) (sym (turns.at_steps k))) (replays n a rest left roots (as_held whole)))
 
-      -- a death that was there is the known answer
-      died_before : (j : IntentId) → content_of n item ≡ content_of m item → note_at (content_of m item).notes place ≡ Some (Note.Died j) → Comes (Says.Answers (Answer.Aborted (record { place = place; holder = Some j })) None) n
-      died_before j whole there = turns.by_answer k
-          (λ left. absurd (none_dead its_item k.instance.func (tx_now d r.id k.instance) (effect_of d k.instance) (h.locked r.id) j
-          (sym (note_is_ahead d m h.known h.locked h.rows r.id k.instance k.made (few_now left) its_item) ∙ (λ i. note_at (content_of m (same_item i)).notes (at_place left i)) ∙ there)))
-          (λ a rest left.
-          let noted_so : (told_here a rest left).note ≡ Note.Died j = same_some (sym (note_here_is a rest left) ∙ there) in
-          let same : Answer.Aborted (record { place = place_of r.id (length k.answers); holder = Some j }) ≡ a = noted_death (place_of r.id (length k.answers)) a j (ap (λ u. lock_answer (place_of r.id (length k.answers)) (noted u)) (sym noted_so) ∙ (told_here a rest left).says) in
-          subst (λ z. Comes (Says.Answers z None) n) (sym same ∙ ap (λ q. Answer.Aborted (record { place = place_of r.id q; holder = Some j })) (sym (turns.at_steps k))) (replays n a rest left roots (as_held whole)))
+    by_note : (u : Note) (first : Bool) → note_at (content_of n item).notes place ≡ Some u → DidOnce place (ByTx own) Lock first (content_of m item) (content_of n item) → Comes (tx_says (TxAt.Lock (AtItem w)) (lock_leads place e (note_goes w u first))) n
+    by_note Note.Got true got l = taken_now l.0 (dies (ByTx own) Lock (content_of m item).owner) refl l.1 got
+    by_note Note.Got false got whole = goes_past h.locked (as_held whole) got
+    by_note (Note.Died j) true there l = died_now l.0 j (dies (ByTx own) Lock (content_of m item).owner) refl l.1 there
+    by_note (Note.Died j) false there whole = died_before j whole (ap (λ (z : Content). note_at z.notes place) (sym whole) ∙ there)
+    by_note Note.Wrote first there l = other_note Note.Wrote first refl there l
+    by_note (Note.Cond b) first there l = other_note (Note.Cond b) first refl there l
+    by_note Note.Freed first there l = other_note Note.Freed first refl there l
 
-      by_note : (u : Note) (first : Bool) → note_at (content_of n item).notes place ≡ Some u → DidOnce place (ByTx own) Lock first (content_of m item) (content_of n item) → Comes (tx_says (TxAt.Lock (AtItem w)) (lock_leads place e (note_goes w u first))) n
-      by_note Note.Got true got l = taken_now l.0 (dies (ByTx own) Lock (content_of m item).owner) refl l.1 got
-      by_note Note.Got false got whole = goes_past h.locked (as_held whole) got
-      by_note (Note.Died j) true there l = died_now l.0 j (dies (ByTx own) Lock (content_of m item).owner) refl l.1 there
-      by_note (Note.Died j) false there whole = died_before j whole (ap (λ (z : Content). note_at z.notes place) (sym whole) ∙ there)
-      by_note Note.Wrote first there l = other_note Note.Wrote first refl there l
-      by_note (Note.Cond b) first there l = other_note (Note.Cond b) first refl there l
-      by_note Note.Freed first there l = other_note Note.Freed first refl there l
+    waits : (u : Owner) → Stays h n → Comes (Says.Waits (Wait.Held u)) n
+    unfolding Comes
+    waits u kept = turns.held d c m i r g h live k u n roots kept
 
-      waits : (u : Owner) → Stays h n → Comes (Says.Waits (Wait.Held u)) n
-      unfolding Comes
-      waits u kept = turns.held d c m i r g h live k u n roots kept
-
-      by_goes : (z : WriteGoes) → Logs place (ByTx own) Lock (walk_so z) (content_of m item) (content_of n item) → Comes (tx_says (TxAt.Lock (AtItem w)) (lock_leads place e (item_goes w z))) n
-      by_goes (WriteGoes.On u) whole = tries u whole
-      by_goes (WriteGoes.Done u first) l = by_note u first l.0 l.1
-      by_goes WriteGoes.NotOwner l = tries w l.2
-      by_goes (WriteGoes.Held u) l = waits u (as_held l.2)
+    by_goes : (z : WriteGoes) → Logs place (ByTx own) Lock (walk_so z) (content_of m item) (content_of n item) → Comes (tx_says (TxAt.Lock (AtItem w)) (lock_leads place e (item_goes w z))) n
+    by_goes (WriteGoes.On u) whole = tries u whole
+    by_goes (WriteGoes.Done u first) l = by_note u first l.0 l.1
+    by_goes WriteGoes.NotOwner l = tries w l.2
+    by_goes (WriteGoes.Held u) l = waits u (as_held l.2)
 
   -- .. by the act of its walk
   module _ (w : WriteAt) (fits : Fits e (TxAt.Lock (AtItem w))) (asked : is_some (map.get m lock_row) ≡ true) where
     abbrev walk : WriteWalk
     walk = record { home = r.func; item = Plain x.0 x.1; place = place; who = ByTx own; op = Lock; at = w }
 
-    abbrev item_row : Option Row
-    item_row = map.get m (head_key item)
-
-    acts : (b : Act) → (z : WriteGoes) → LoggedTurn walk m (set_row m (head_key item) (act b c.now item_row).0) (walk_so z) → Comes (tx_says (TxAt.Lock (AtItem w)) (lock_leads place e (item_goes w z))) (set_row m (head_key item) (act b c.now item_row).0)
-    acts b z logged = by_goes w fits asked (act b c.now item_row).0 (notes_stay b c.now item_row) (act_stays b c.now item_row) logged.sound z logged.logs
-
-    abbrev asked_of : WriteAt → Query
-    asked_of u = write_asks (head_key item) place (ByTx own) Lock u
-
-    by_try : (u : WriteAt) → Comes (tx_says (TxAt.Lock (AtItem w)) (lock_leads place e (item_goes w (write_goes Note.Got (told_by (asked_of u) c.now m))))) (rows_after (asked_of u) c.now m)
-    by_try Try = acts (op_act place (ByTx own) Lock) (write_goes Note.Got (told_by (asked_of Try) c.now m)) (by_op walk m (rows_after (asked_of Try) c.now m) (h.rows.keys (head_key item)) Try c.now refl)
-    by_try Make = acts (MakeCell Value.Null None) (write_goes Note.Got (told_by (asked_of Make) c.now m)) (by_op walk m (rows_after (asked_of Make) c.now m) (h.rows.keys (head_key item)) Make c.now refl)
+    by_walk : let q = write_asks (head_key item) place (ByTx own) Lock w in Comes (tx_says (TxAt.Lock (AtItem w)) (lock_leads place e (item_goes w (write_goes Note.Got (told_by q c.now m))))) (rows_after q c.now m)
+    by_walk =
+        let q : Query = write_asks (head_key item) place (ByTx own) Lock w in
+        let logged = by_op walk m (rows_after q c.now m) (h.rows.chains item) w c.now refl in
+        by_goes w fits asked (rows_after q c.now m) logged.others logged.sound (query_keeps q c.now m) (query_notes q c.now m item) (write_goes Note.Got (told_by q c.now m)) logged.logs
 
   pub lock_turn : (l : LockAt) → Fits e (TxAt.Lock l) → InOperation d m h.plain h.known r.id r.func o g.machine.steps e (TxAt.Lock l) x → Turns (TxAt.Lock l)
   unfolding Comes
   lock_turn (Lockset b) fits found = lockset_turn b found.begin fits
-  lock_turn (AtItem w) fits found = asks_it (TxAt.Lock (AtItem w)) (by_try w fits (found.asked refl) w)
+  lock_turn (AtItem w) fits found = asks_it (TxAt.Lock (AtItem w)) (by_walk w fits (found.asked refl))

@@ -1,6 +1,6 @@
 -- Where the host and its rows are right, each step of an instance has one answer; and it stays, whatever comes.
 use Rattle.beldi_known.specs.Stands.{told_by}
-use Rattle.beldi_laws.proofs.Names.{Abort, Act, Answer, AnswersOf, AnswersStay, Async, Begin, Begins, Begun, Call, CallGoesOn, CondWrite, Core, Deployment, Died, Done, Effect, End, GoesOn, Got, HeldAnswersStay, Instance, IntentId, InvokeRow, Item, Knows, KnowsAt, None, Note, OnItem, OneAnswerPerStep, OneRowChanged, Option, Outcome, Place, Read, Right, RightHasOneAnswer, Row, RowKey, Rows, Run, RunAt, Some, TxId, Value, WasGiven, Write, act, after_act, answer_aside, answer_of, ap, arith, at_each, call_in, calls_stay, content_in, decides, given, given_in, head_key, held_answer, held_inside, held_note, held_outside, inl, inr, invoke_key, item_in, log_key, note_at, note_of_lock, noted_answer, notes_stay, on, op_of, option_and_then, option_map, refl, result_in, shadow_key, subst, sym, ℕ, ◌∙◌, ◌≡◌, Query}
+use Rattle.beldi_laws.proofs.Names.{Abort, Act, Answer, AnswersOf, AnswersStay, Async, Begin, Begins, Begun, Call, CallGoesOn, CondWrite, Core, Deployment, Died, Done, Effect, End, GoesOn, Got, HeldAnswersStay, Instance, IntentId, InvokeRow, Item, Knows, KnowsAt, None, Note, OnItem, OneAnswerPerStep, OneRowChanged, Option, Outcome, Place, Read, Right, RightHasOneAnswer, Row, RowKey, Rows, Run, RunAt, Some, TxId, Value, WasGiven, Write, act, after_act, answer_aside, answer_of, ap, arith, at_each, call_in, calls_stay, chain, content, decides, given, given_in, head_key, held_answer, held_inside, held_note, held_outside, inl, inr, invoke_key, item_in, log_key, note_at, note_of_lock, noted_answer, notes_stay, on, op_of, option_and_then, option_map, refl, result_in, shadow_key, subst, sym, ℕ, ◌∙◌, ◌≡◌, Query}
 use Rattle.beldi_laws.proofs.{OneEvent.one_row, Standing.held_here, Standing.same_run}
 use Rattle.beldi_laws.proofs.Names.map
 
@@ -33,9 +33,6 @@ of_note o x is = grind arith
 value_stays : (f : Option Value → Option Answer) → f None ≡ None → (a : Act) (now : ℕ) (x : Answer) (o : Option Row) → f (option_map given_in o) ≡ Some x → f (option_map given_in (act a now o).0) ≡ Some x
 value_stays f none a now x o is = grind arith
 
-note_stays : (a : Act) (now : ℕ) (p : Place) (x : Answer) (o : Option Row) → option_and_then noted_answer (note_at (content_in o).notes p) ≡ Some x → option_and_then noted_answer (note_at (content_in (act a now o).0).notes p) ≡ Some x
-note_stays a now p x o is = let n = of_note (note_at (content_in o).notes p) x is in ap (option_and_then noted_answer) (notes_stay a now o p n.0 n.1 ∙ sym n.1) ∙ is
-
 -- what a call gave back
 back_stays : (x : Answer) (o u : Option Row) → CallGoesOn o u → option_map answer_of (result_in (call_in o)) ≡ Some x → option_map answer_of (result_in (call_in u)) ≡ Some x
 back_stays x o u goes held = by_call (call_in o) refl held
@@ -55,13 +52,16 @@ module _ (a : Act) (now : ℕ) (k : RowKey) (m : Rows) where
   at_key : (P : Option Row → Type 0) → ((b : Act) (t : ℕ) (o : Option Row) → P o → P (act b t o).0) → (l : RowKey) → P (map.get m l) → P (map.get (after_act a now k m) l)
   at_key P stays l = at_each (λ o u. P o → P u) (λ o held. held) stays (Query.Act k a) now m l
 
+  -- a note that is there stays, and so does what is told by one
+  note_keeps : (at : Place) (l : RowKey) (w : Note) → note_at (content (chain m l)).notes at ≡ Some w → note_at (content (chain (after_act a now k m) l)).notes at ≡ Some w
+  note_keeps at l w there = notes_stay a now k l m at w there
+
+  answer_keeps : (at : Place) (l : RowKey) (x : Answer) → option_and_then noted_answer (note_at (content (chain m l)).notes at) ≡ Some x → option_and_then noted_answer (note_at (content (chain (after_act a now k m) l)).notes at) ≡ Some x
+  answer_keeps at l x held = let w = of_note (note_at (content (chain m l)).notes at) x held in ap (option_and_then noted_answer) (note_keeps at l w.0 w.1 ∙ sym w.1) ∙ held
+
   notes_keep : (at : Place) (func : ℕ) (o : Option OnItem) (x : Answer) → held_note m at func o ≡ Some x → held_note (after_act a now k m) at func o ≡ Some x
   notes_keep at func None x held = cc
-  notes_keep at func (Some o) x held = at_key (λ r. option_and_then noted_answer (note_at (content_in r).notes at) ≡ Some x) (λ b t. note_stays b t at x) (head_key (item_in func o)) held
-
-  -- a note that is there stays, and so does what is told by one
-  note_keeps : (at : Place) (l : RowKey) (w : Note) → note_at (content_in (map.get m l)).notes at ≡ Some w → note_at (content_in (map.get (after_act a now k m) l)).notes at ≡ Some w
-  note_keeps at l w there = at_key (λ r. note_at (content_in r).notes at ≡ Some w) (λ b t o held. notes_stay b t o at w held) l there
+  notes_keep at func (Some o) x held = answer_keeps at (head_key (item_in func o)) x held
 
   value_keeps : (l : RowKey) (f : Option Value → Option Answer) → f None ≡ None → (x : Answer) → f (given m l) ≡ Some x → f (given (after_act a now k m) l) ≡ Some x
   value_keeps l f none x held = at_key (λ o. f (option_map given_in o) ≡ Some x) (λ b t. value_stays f none b t x) l held
@@ -82,7 +82,7 @@ module _ (a : Act) (now : ℕ) (k : RowKey) (m : Rows) where
       by_note (Some z) is held = cc
 
   shadow_keeps : (s : TxId) (p : Place) (i : Item) (x : Answer) → answer_aside m s p i ≡ Some x → answer_aside (after_act a now k m) s p i ≡ Some x
-  shadow_keeps s p i x held = at_key (λ r. option_and_then noted_answer (note_at (content_in r).notes p) ≡ Some x) (λ b t. note_stays b t p x) (shadow_key s i) held
+  shadow_keeps s p i x held = answer_keeps p (shadow_key s i) x held
 
   inside_keeps : (s : TxId) (p : Place) (func : ℕ) (e : Effect) (x : Answer) → held_inside m s p func e ≡ Some x → held_inside (after_act a now k m) s p func e ≡ Some x
   inside_keeps s p func Begin x held = held

@@ -5,7 +5,7 @@ use Rattle.std.proofs.lemmas.List.{append-nil}
 use Rattle.beldi_walk.specs.declared.query.Query.TheVariants.{Act}
 use Rattle.beldi_collect.specs.declared.cursor.Found.{Found}
 use Rattle.beldi_step.specs.{declared.run.RunAt.RunAt, Run.callee_of, Host.at_once}
-use Rattle.beldi_laws.proofs.Names.{After, AllocError, Begins, Begun, Binding, Body, BookGrew, Bool, Caller, CameOn, ChangesOneRow, Core, Crash, Deployment, DropsHaveCause, Err, Event, EventBy, Failed, Followed, Full, Func, Ic, IfOk, IntentId, IsTrue, KeepsRoom, Looks, Lost, Machine, Mark, None, Ok, OneRowChanged, Option, OutOfMemory, Plan, Query, Registers, Request, Restart, Result, Rose, Row, RowAct, RowKey, Rows, Run, RunTx, Says, Seen, Some, Stage, Start, StepBy, TableErr, TableState, Tick, Ticket, Told, Turn, Turned, Value, Wait, WritesWhatIsTold, [], act, after_act, after_turn, ap, arith, asks, at_once_of, begin_in, binding_of, body_registered, body_told, bound_by, bound_of, collect_next, collect_says, collected, cond, content_in, content_of, count_changes, counted, crash_plan, ended_run, entries_told, entry_of, false, first_stage, func_at, goes_from, goes_to, has_run, head_key, heard, if_lent, if◌then◌else◌, inl, inr, is_added, is_crowded, is_dropped, is_lost, is_some, key_total, last_moment, launched, least_key, len-insert, len-remove, lends, made, marked, may_start, most_events, no_memory, no_run, not, off, option_map, option_to_list, passed, plan, plan_of, query_adds, refl, refused, refused_by, refused_stand, request_next, rows_after, run_next, run_plan, run_told, same_some, says_of, set_others, set_row, stage_says, started, starts_of, subst, sym, ticket_next, told_at, true, turn_next, turned_by, turned_core, unbound, unheard_next, ℕ, ◌+◌, ◌-◌, ◌<◌, ◌==◌, ◌^◌, ◌||◌, ◌∙◌, ◌≡◌, ◌≤◌}
+use Rattle.beldi_laws.proofs.Names.{After, AllocError, Begins, Begun, Binding, Body, BookGrew, Bool, Caller, CameOn, ChangesOneRow, Core, Crash, Deployment, DropsHaveCause, Err, Event, EventBy, Failed, Followed, Full, Func, Ic, IfOk, IntentId, IsTrue, KeepsRoom, Looks, Lost, Machine, Mark, None, Ok, OneRowChanged, Option, OutOfMemory, Plan, Query, Registers, Request, Restart, Result, Rose, Row, RowAct, RowKey, Rows, Run, RunTx, Says, Seen, Some, Stage, Start, StepBy, TableErr, TableState, Tick, Ticket, Told, Turn, Turned, Value, Wait, WritesWhatIsTold, [], act, after_act, after_turn, ap, arith, asks, at_once_of, begin_in, binding_of, body_registered, body_told, bound_by, bound_of, chain_off, collect_next, collect_says, collected, cond, content, content_of, count_changes, counted, crash_plan, ended_run, entries_told, entry_of, false, first_stage, func_at, goes_from, goes_to, has_run, head_key, heard, if_lent, if◌then◌else◌, inl, inr, is_added, is_crowded, is_dropped, is_lost, is_some, item_head, key_total, last_moment, launched, least_key, len-insert, len-remove, lends, made, marked, may_start, most_events, no_memory, no_run, not, off, option_map, option_to_list, passed, plan, plan_of, query_adds, refl, refused, refused_by, refused_stand, request_next, rows_after, run_next, run_plan, run_told, same_some, says_of, set_others, set_row, stage_says, started, starts_of, subst, sym, ticket_next, told_at, true, turn_next, turned_by, turned_core, unbound, unheard_next, ℕ, ◌+◌, ◌-◌, ◌<◌, ◌==◌, ◌^◌, ◌||◌, ◌∙◌, ◌≡◌, ◌≤◌}
 use Rattle.beldi_laws.proofs.Moves.{if_plan}
 use Rattle.beldi_laws.proofs.Names.map
 
@@ -14,7 +14,7 @@ same_rows : (c : Core) (m n : Rows) → n ≡ m → OneRowChanged c m n
 same_rows c m n same = record { key = least_key; rows = inl same; others = λ x apart. ap (λ l. content_of l x) same }
 
 one_act : (c : Core) (m n : Rows) (k : RowKey) (a : RowAct) → n ≡ after_act a c.now k m → OneRowChanged c m n
-one_act c m n k a is = record { key = k; rows = inr (a, is); others = λ x apart. ap (λ l. content_of l x) is ∙ ap content_in (set_others m k (act a c.now (map.get m k)).0 (head_key x) apart) }
+one_act c m n k a is = record { key = k; rows = inr (a, is); others = λ x apart. ap (λ l. content_of l x) is ∙ ap content (chain_off m (after_act a c.now k m) k (head_key x) (set_others m k (act a c.now (map.get m k)).0) (item_head x) apart) }
 
 by_query : (c : Core) (q : Query) (m n : Rows) → n ≡ rows_after q c.now m → OneRowChanged c m n
 by_query c (Act k a) m n is = one_act c m n k a is

@@ -2,11 +2,11 @@
 use Rattle.beldi_plain.specs.declared.kind.Kind.{Kind}
 use Rattle.beldi_row.specs.declared.key.Kind.TheVariants as kinds
 use Rattle.beldi_known.specs.Owed.{noted}
-use Rattle.beldi_laws.proofs.Names.{Answer, Answers, Begun, CellOp, Core, Deployment, DidOnce, DoneRows, Effect, Frame, Grows, Inside, Instance, IntentId, IsAnswer, IsFree, IsTrue, Item, Known, Knows, List, LoggedTurn, Logs, Matches, None, Note, OnItem, Place, Plain, PlainState, Query, Right, RowKey, Rows, Run, Sane, Says, Some, SoundAt, Step, TxId, Value, WriteAt, WriteGoes, WriteWalk, [], ahead_set, answer_after, answer_noted, answers_it, ap, arith, by_op, cell_key, cell_of, cell_op, commit_in, content_of, does_so, done_note, done_says, effect_before, effect_of, enabled_step, false, free_at_operation, head_key, holds, if_answers, if◌then◌else◌, is_begin, is_eq, is_shadow, is_some, item_in, item_total, item_touched, key_cmp, kind_of, kinds_apart, length, moved, moved_one, no_root, no_tx, nobody_else, none_out, note_after, note_at, note_done, note_here, note_of, note_of_op, noted_answer, op_of, operate, operation_answers, operation_done, operation_step, option_and_then, place_of, put_asks, put_says, refl, root_key, rows_after, same_some, set_agrees, sets, shadow_key, slice_get, subst, sym, tied_itself, told_by, touched_by, true, turn_next, turned_by, tx_after, tx_now, unbarred, value_at, walk_so, wants_answer, write_asks, write_goes, write_says, ℕ, ◌∙◌, ◌∷◌, ◌≡◌, Mark, Owner, Stage}
+use Rattle.beldi_laws.proofs.Names.{Answer, Answers, Begun, CellOp, ChangedAlone, Core, Deployment, DidOnce, DoneRows, Effect, Frame, Grows, Inside, Instance, IntentId, IsAnswer, IsFree, IsSoundChain, IsTrue, Item, Known, Knows, List, LoggedTurn, Logs, Matches, None, Note, OnItem, Place, Plain, PlainState, Query, Right, Rows, Run, SameShadows, Sane, Says, Some, Step, TxId, Value, WriteAt, WriteGoes, WriteWalk, [], ahead_set, answer_after, answer_noted, answers_it, ap, arith, by_op, cell_key, cell_of, cell_op, commit_in, content_of, does_so, done_note, done_says, effect_before, effect_of, enabled_step, false, free_at_operation, head_key, holds, if_answers, if◌then◌else◌, is_begin, is_eq, is_some, item_in, item_total, item_touched, kind_of, length, moved, moved_one, no_root, no_tx, nobody_else, none_out, note_after, note_at, note_done, note_here, note_of, note_of_op, noted_answer, op_of, operate, operation_answers, operation_done, operation_step, option_and_then, other_shadows, place_of, put_asks, put_says, refl, root_key, rows_after, same_some, set_agrees, sets, slice_get, subst, sym, tied_itself, told_by, touched_by, true, turn_next, turned_by, tx_after, tx_now, unbarred, value_at, walk_so, wants_answer, write_asks, write_goes, write_says, ℕ, ◌∙◌, ◌∷◌, ◌≡◌, Mark, Owner, Stage}
 use Rattle.beldi_laws.proofs.Moves.{AfterTurn, AfterQuery, SameRoots, change_entered, Entered, Kept, Stays}
-use Rattle.beldi_laws.proofs.Frames.{frame_done, frame_held, item_stays, items_stay, no_finish, nobody_new, nobody_set, query_keeps}
+use Rattle.beldi_laws.proofs.Frames.{frame_done, frame_held, item_stays, items_stay, nobody_new, nobody_set, none_finish, query_keeps}
 use Rattle.beldi_laws.proofs.Turns.{effect_here, answer_here, step_here, effect_next, wants_it, fits, not_over, goes_on, held, ends, replays, steps_on, outside_here, tx_step, tx_next, plain_there, unlocked_there}
-use Rattle.beldi_laws.proofs.{Settling.settled_grown, Settling.settled_outside, Others.kept_moving, Keeping.SameShadows, Keeping.goes_answered, Keeping.stays_by, Shown.value_here, Shown.holds_here, Shown.legal_sane, Shown.settled, Owed.note_if, Owed.note_there, Owed.content_kept, Owed.contents_kept, Owed.others_list, Owed.done_lists, KeptSane.answered_kept, Outside.is_call, Grown.grows_moved}
+use Rattle.beldi_laws.proofs.{Settling.settled_grown, Settling.settled_outside, Others.kept_moving, Keeping.goes_answered, Keeping.stays_by, Shown.value_here, Shown.holds_here, Shown.legal_sane, Shown.settled, Owed.note_if, Owed.note_there, Owed.content_kept, Owed.contents_kept, Owed.others_list, Owed.done_lists, KeptSane.answered_kept, Outside.is_call, Grown.grows_moved}
 use Rattle.beldi_laws.proofs.Names.map
 
 -- what is answered to an operation is what its note reads as, and of its kind
@@ -75,17 +75,17 @@ module _ (d : Deployment) (c : Core) (m : Rows) (i : ℕ) (r : Run) (g : Begun) 
   abbrev After : Says → Type 0
   After s = AfterTurn d h.plain c i r (turned_by d r g s) n
 
-  module _ (same : (l : RowKey) → is_eq (key_cmp l (head_key item)) ≡ false → map.get n l ≡ map.get m l) (sound : SoundAt (map.get n (head_key item))) where
+  module _ (same : ChangedAlone (head_key item) m n) (sound : IsSoundChain n item) where
     roots : SameRoots m n
     roots t = ap is_some (same (root_key t) (no_root t r.func (kinds.Data o.table o.key 0) refl))
 
     same_shadows : SameShadows m n
-    same_shadows t x = same (shadow_key t x) (kinds_apart is_shadow (shadow_key t x) (head_key item) refl refl)
+    same_shadows = other_shadows m n item same
 
     kept : content_of n item ≡ content_of m item → Stays h n
     kept held = stays_by h n same_shadows (content_kept d m n item same h.known h.locked sound held h.rows) (λ x. others_list m n item same x (contents_kept d m n item same held x) ∙ h.values x)
-        (frame_held d m h.plain h.plain h.known h.known (items_stay d m h.plain h.plain h.known refl) (nobody_new d h.known) n item same (query_keeps asks c.now m (head_key item)) held)
-        (no_finish m n (head_key item) same d h.known refl)
+        (frame_held d m h.plain h.plain h.known h.known (items_stay d m h.plain h.plain h.known refl) (nobody_new d h.known) n item same (query_keeps asks c.now m) held)
+        (none_finish m n (head_key item) same d h.known refl)
 
     -- it was done now: it is the instance's next
     module _ (left : k.later ≡ []) (did : DidOnce place (Owner.Intent r.id) op true (content_of m item) (content_of n item)) where
@@ -154,7 +154,7 @@ module _ (d : Deployment) (c : Core) (m : Rows) (i : ℕ) (r : Run) (g : Begun) 
       unlocked = unlocked_there d c m i r g h live k finds out e is left
 
       frame : Frame d m n h.plain state h.known next
-      frame = frame_done d m h.plain state h.known next (item_stays d m h.plain state next y (sets o.does old) refl unowned) (nobody_set d h.known r.id (moved d r.id k.instance a) (ap is_some k.made)) n y (place_of r.id (length k.instance.answers)) op did_here
+      frame = frame_done d m h.plain state h.known next (item_stays d m h.plain state next y (sets o.does old) refl unowned) (nobody_set d h.known r.id (moved d r.id k.instance a) (ap is_some k.made)) n y (place_of r.id (length k.instance.answers)) op (query_keeps asks c.now m) did_here
 
       grows : Grows h.known next
       grows = grows_moved d h.known r.id k.instance a k.made
@@ -169,7 +169,7 @@ module _ (d : Deployment) (c : Core) (m : Rows) (i : ℕ) (r : Run) (g : Begun) 
       kept_done = kept_moving h n state next h.locked
           (goes_answered h n same_shadows r.id k.instance a k.made unlocked outside state.items (λ j z other. set_agrees d m h.plain h.known h.locked h.shadows h.beside h.sane h.rows (legal_sane h) y (sets o.does old) unowned j z))
           (ahead_set d h.known h.locked h.locked_at_ends h.locked r.id (moved d r.id k.instance a) (none_out h.locked r.id unlocked)) sane_now rows_now (done_lists m n h.plain y o.does (place_of r.id (length k.instance.answers)) did_here h.values)
-          (settled_grown d m h.plain state next leads.grows (settled_outside d m h.plain h.known r.id k.instance k.made a outside (settled h))) grows frame (no_finish m n (head_key item) same d next refl)
+          (settled_grown d m h.plain state next leads.grows (settled_outside d m h.plain h.known r.id k.instance k.made a outside (settled h))) grows frame (none_finish m n (head_key item) same d next refl)
 
       steps : After (Answers a (Some Mark.Step))
       steps = steps_on d c m i r g h live k finds out e is a Mark.Step state n left answers_so leads roots kept_done
@@ -211,6 +211,6 @@ module _ (d : Deployment) (c : Core) (m : Rows) (i : ℕ) (r : Run) (g : Begun) 
   pub operation_turn : AfterQuery d h.plain c.now m (λ u. turn_next c i r (turned_by d r g (put_says e (note_done e) u))) (put_asks r.id r.func g.machine.steps at (cell_op e))
   operation_turn =
       let z = write_goes (done_note op) (told_by asks c.now m) in
-      let logged : LoggedTurn walk m n (walk_so z) = by_op walk m n (h.rows.keys (head_key item)) at c.now refl in
+      let logged : LoggedTurn walk m n (walk_so z) = by_op walk m n (h.rows.chains item) at c.now refl in
       subst (λ x. AfterQuery d h.plain c.now m (λ u. turn_next c i r (turned_by d r g (put_says e (note_of_op x) u))) (put_asks r.id r.func g.machine.steps at x)) (sym (its_cell e o so))
       (by_says logged.others logged.sound z logged.logs)

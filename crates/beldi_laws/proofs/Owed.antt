@@ -1,6 +1,6 @@
 -- What the rows have of a step outside transactions: what its answer owes, or nothing where it has none.
 use Rattle.std.specs.Prelude.{take}
-use Rattle.beldi_laws.proofs.Names.{Answer, Bool, Content, Deployment, DoneRows, Effect, Instance, IntentId, IsFreeFor, Item, ItemMatches, Known, List, LogMatches, Matches, None, Note, Operation, Option, Place, PlainState, RowKey, RowMatches, Rows, ShadowMatches, Some, SoundAt, TxsMatch, Value, [], ahead_by, answered_note, ap, append-nil, arith, at_step, begins, by_item, cell_of, commit_in, cond, content_in, content_of, decision_by, decision_key, does_so, effect_after, effect_before, effect_of, end_of, eq-eqb, eq_by_cmp_equiv, eqb-true, false, free_after, head_key, if◌then◌else◌, is_decided, is_eq, is_log, is_mark, is_shadow, is_some, item_total, key_cmp, keys_at, kinds_apart, last_step, length, listed, lists_same, log_key, no_tx, none_by, note_at, note_by, note_of, note_or, op_of, or_none, or_null, or_old, owed_note, owed_value, own_value, place_of, plain_set, read_at, refl, row_at, set_if, sets, shadow_key, slice_get, subst, sym, take_front, tied_itself, true, turned, tx_after, tx_at, tx_now, unbarred, value_at, value_for, value_or, ℕ, ◌&&◌, ◌==◌, ◌||◌, ◌∙◌, ◌≡◌}
+use Rattle.beldi_laws.proofs.Names.{Answer, Bool, ChangedAlone, Content, Deployment, DoneRows, Effect, Instance, IntentId, IsFreeFor, IsSoundChain, Item, ItemMatches, Known, List, LogMatches, Matches, None, Note, Operation, Option, Place, PlainState, Rows, ShadowMatches, Some, Sound, TxsMatch, Value, [], ahead_by, answered_note, ap, append-nil, arith, at_step, begins, by_item, cell_of, chains_alone, commit_in, cond, content, content_of, decision_by, decision_key, does_so, effect_after, effect_before, effect_of, end_of, eq-eqb, eq_by_cmp_equiv, eqb-true, false, free_after, head_key, if◌then◌else◌, is_decided, is_eq, is_mark, is_some, item_total, keys_alone, last_step, length, listed, lists_same, log_key, no_tx, none_by, note_at, note_by, note_of, note_or, op_of, or_none, or_null, or_old, other_item, other_key, other_shadows, owed_note, owed_value, own_value, place_of, plain_set, read_at, refl, row_at, set_if, sets, slice_get, subst, sym, take_front, tied_itself, true, tx_after, tx_at, tx_now, unbarred, value_at, value_for, value_or, ℕ, ◌&&◌, ◌==◌, ◌||◌, ◌∙◌, ◌≡◌}
 use Rattle.beldi_laws.proofs.Outside.{is_of_tx}
 use Rattle.beldi_laws.proofs.Names.map
 
@@ -45,22 +45,24 @@ module _ (d : Deployment) (m : Rows) (known : Known) (locked : IntentId → Bool
       by_answer o = grind arith
 
 -- ---- rows of an item that hold what was held
-module _ (d : Deployment) (m n : Rows) (y : Item) (same : (l : RowKey) → is_eq (key_cmp l (head_key y)) ≡ false → map.get n l ≡ map.get m l) where
+module _ (d : Deployment) (m n : Rows) (y : Item) (same : ChangedAlone (head_key y) m n) where
   pub contents_kept : content_of n y ≡ content_of m y → (x : Item) → content_of n x ≡ content_of m x
-  contents_kept held x = by_item y x (λ x. content_of n x ≡ content_of m x) held (λ other. ap content_in (same (head_key x) (turned y x other)))
+  contents_kept held x = by_item y x (λ x. content_of n x ≡ content_of m x) held (λ other. ap content (other_item m n y same x other))
 
-  pub content_kept : (known : Known) (locked : IntentId → Bool) → SoundAt (map.get n (head_key y)) → content_of n y ≡ content_of m y → Matches d m known locked → Matches d n known locked
+  pub content_kept : (known : Known) (locked : IntentId → Bool) → IsSoundChain n y → content_of n y ≡ content_of m y → Matches d m known locked → Matches d n known locked
   content_kept known locked sound held h = record {
-    keys = keys_at m n (head_key y) (λ l r. RowMatches d known l.home l.kind r) same sound (λ l other. h.keys l);
+    keys = keys_alone d known m n (head_key y) refl same h.keys;
+    chains = chains_alone m n y same sound h.chains;
+    asides = λ t x. subst Sound (sym (other_shadows m n y same t x)) (h.asides t x);
     items = λ x. subst (ItemMatches d known locked x) (sym (contents_kept held x)) (h.items x);
-    shadows = λ t x. subst (ShadowMatches d known t x) (ap content_in (sym (same (shadow_key t x) (kinds_apart is_shadow (shadow_key t x) (head_key y) refl refl)))) (h.shadows t x);
+    shadows = λ t x. subst (ShadowMatches d known t x) (ap content (sym (other_shadows m n y same t x))) (h.shadows t x);
     txs = λ x. subst (λ (c : Content). TxsMatch d known locked x c.owner) (sym (contents_kept held x)) (h.txs x);
   }
 
 -- ---- what is listed after an operation
 -- the rows of one item changed: others are listed as before
-pub others_list : (m n : Rows) (y : Item) → ((l : RowKey) → is_eq (key_cmp l (head_key y)) ≡ false → map.get n l ≡ map.get m l) → (x : Item) → content_of n x ≡ content_of m x → listed n x ≡ listed m x
-others_list m n y same x content = lists_same m n x content (λ t. same (decision_key t) (kinds_apart is_log (decision_key t) (head_key y) refl refl)) (λ t. same (shadow_key t x) (kinds_apart is_shadow (shadow_key t x) (head_key y) refl refl))
+pub others_list : (m n : Rows) (y : Item) → ChangedAlone (head_key y) m n → (x : Item) → content_of n x ≡ content_of m x → listed n x ≡ listed m x
+others_list m n y same x content = lists_same m n x content (λ t. other_key m n y same (decision_key t) refl) (λ t. other_shadows m n y same t x)
 
 pub done_lists : (m n : Rows) (p : PlainState) (y : Item) (o : Operation) (at : Place) → DoneRows m n y at (cell_of o) → ((x : Item) → listed m x ≡ value_at p x) → (x : Item) → listed n x ≡ or_null (map.get (set_if p.items y (sets o (value_at p y))) x)
 done_lists m n p y o at did was x = by_item y x (λ x. listed n x ≡ or_null (map.get (set_if p.items y (sets o (value_at p y))) x))
@@ -68,5 +70,5 @@ done_lists m n p y o at did was x = by_item y x (λ x. listed n x ≡ or_null (m
     ∙ ap (λ (c : Content). c.value) did.here ∙ sym ((does_so o).value (content_of m y).value)
     ∙ ap (λ w. or_old (sets o w) w) (sym (own_value m y (no_tx at.intent (content_of m y).owner (unbarred (cell_of o) at.intent (content_of m y).owner did.free))) ∙ was y)
     ∙ sym (plain_set p.items y y (sets o (value_at p y)) ∙ ap (λ b. cond (is_eq b) (or_old (sets o (value_at p y)) (value_at p y)) (value_at p y)) (tied_itself item_total y)))
-    (λ other. others_list m n y did.same x (ap content_in (did.same (head_key x) (turned y x other))) ∙ was x
+    (λ other. others_list m n y did.same x (ap content (other_item m n y did.same x other)) ∙ was x
     ∙ sym (plain_set p.items y x (sets o (value_at p y)) ∙ ap (λ b. cond b (or_old (sets o (value_at p y)) (value_at p y)) (value_at p x)) ((eq_by_cmp_equiv item_total).symm x y ∙ other)))

@@ -1,5 +1,5 @@
 -- The turns of a read.
-use Rattle.beldi_laws.proofs.Names.{Answer, Answers, Begun, BelongsEarlier, Core, Deployment, Frame, Grows, Inside, IsAnswer, IsKeptLate, IsStateAt, Item, Keeps, Known, Knows, List, LogMatches, Look, Matches, None, On, Option, Place, Plain, PlainState, PutRead, Read, ReadGoes, ReadWalk, ReadsContent, Right, Row, RowKey, Rows, Run, Sane, Says, Some, Stage, Tell, TxId, Value, WasThere, [], act, ahead_set, answered, ap, arith, ask_says, back, begun_lists, by_row, commit_in, content_of, count_changes, effect_of, false, front, front_all, front_back, given_in, given_of, got_begun, grown_answer, grows_at, head_key, holds, in_the_way, inl, is_some, item_touched, keep_says, kept_late, kept_of, length, linear, linear_changes, listed, log_key, looked, moved, moved_one, no_root, no_tx, nobody_else, none_out, not_moved, nothing, op_of, option_map, or_null, owed_read, place_of, read_added, read_goes, read_so, refl, root_key, row_added, run_from, run_grows, runs_on, said, same_some, set_others, set_row, slice_get, stage_says, subst, sym, touched_by, turn_next, turned_by, tx_after, tx_now, txs_after, unchanged, unowned, value_at, walk_says, wants_answer, with_answer, ℕ, ◌∙◌, ◌∷◌, ◌≡◌, ◌≤◌, Entry, Kind, Mark, Owner}
+use Rattle.beldi_laws.proofs.Names.{Answer, Answers, Begun, BelongsEarlier, Core, Deployment, Frame, Grows, Inside, IsAnswer, IsKeptLate, IsStateAt, Item, Keeps, Known, Knows, List, LogMatches, Look, Matches, None, On, Option, Place, Plain, PlainState, PutRead, Read, ReadGoes, ReadWalk, ReadsContent, Right, Row, RowKey, Rows, Run, Sane, Says, Some, Stage, Tell, TxId, Value, WasThere, [], act, ahead_set, answered, ap, arith, ask_says, back, begun_lists, by_chain, commit_in, content_of, count_changes, effect_of, false, front, front_all, front_back, given_in, given_of, got_begun, grown_answer, grows_at, head_key, holds, in_the_way, inl, is_some, item_touched, keep_says, kept_late, kept_of, length, linear, linear_changes, listed, log_key, looked, moved, moved_one, no_root, no_tx, nobody_else, none_out, not_moved, nothing, op_of, option_map, or_null, owed_read, place_of, read_added, read_goes, read_so, refl, root_key, row_added, run_from, run_grows, runs_on, said, same_some, set_others, set_row, slice_get, stage_says, subst, sym, touched_by, turn_next, turned_by, tx_after, tx_now, txs_after, unchanged, unowned, value_at, walk_says, wants_answer, with_answer, ℕ, ◌∙◌, ◌∷◌, ◌≡◌, ◌≤◌, Entry, Kind, Mark, Owner}
 use Rattle.beldi_laws.proofs.Turns.{effect_here, answer_here, all_here, step_here, effect_next, fits, not_over, goes_on, held, replays, steps_on, tx_next, plain_there, unlocked_there}
 use Rattle.beldi_laws.proofs.{Lives.places_late, Moves.AfterAct, Moves.AfterTurn, Moves.Entered, Moves.Kept, Frames.frame_log, Frames.items_stay, Frames.no_finish, Frames.nobody_set, Settling.settled_grown, Settling.settled_outside, Others.kept_moving, Grown.grows_moved, Keeping.as_it_was, Keeping.goes_answered, Keeping.set_shadows, Shown.value_here, Shown.holds_here, Shown.settled, Owed.value_if, Owed.read_there, KeptSane.answered_kept, Outside.is_call}
 use Rattle.beldi_laws.proofs.Names.map
@@ -95,7 +95,7 @@ module _ (d : Deployment) (c : Core) (m : Rows) (i : ℕ) (r : Run) (g : Begun) 
   pub walk_turn : AfterRead Stage.Walk (head_key item) (act Look c.now (map.get m (head_key item)))
   walk_turn =
       let z = read_goes walk.who (said (act Look c.now (map.get m (head_key item))).1) in
-      subst (AfterTurn d h.plain c i r (turned_by d r g (walk_says (count_changes c.book) z))) (sym (looked c.now (head_key item) m)) (walked z (by_row walk c.now (map.get m (head_key item)) (h.rows.keys (head_key item))))
+      subst (AfterTurn d h.plain c i r (turned_by d r g (walk_says (count_changes c.book) z))) (sym (looked c.now (head_key item) m)) (walked z (by_chain walk c.now m (h.rows.chains item)))
 
   -- ---- it keeps what it found
   module _ (v : Value) (seen : ℕ) (at : Keeps d c.book r.id k.answers k.later item v seen) where

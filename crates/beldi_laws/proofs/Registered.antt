@@ -1,7 +1,7 @@
 -- A row of an intent or of a call was set: rows match what is known, after the row of a callee was put or a call was marked as registered, and a turn that does no more keeps all.
-use Rattle.beldi_laws.proofs.Names.{Body, Bool, CallMatches, CalleeMatches, Core, Deployment, FinishMatches, Frame, HasNoRow, IntentId, IntentMatches, InvokeRow, IsBodyOf, Kind, Known, Matches, None, NoteRegistered, Option, OutcomeMatches, Place, PlainState, Right, Row, RowKey, Rows, Some, TxId, act, after_act, ap, arith, callee_put, cond, false, func_called, got, has_ended, has_finish, has_no_hops, invoke_key, is_row_log, is_shadow, is_some, is_waited, issued_at, key_self, option_map, owed_call, refl, register_to, row_put, set_others, set_row, subst, sym, true, unchanged, ℕ, ◌∙◌, ◌≡◌}
+use Rattle.beldi_laws.proofs.Names.{Body, Bool, CallMatches, CalleeMatches, Core, Deployment, FinishMatches, Frame, HasNoRow, IntentId, IntentMatches, InvokeRow, IsBodyOf, Kind, Known, Matches, None, NoteRegistered, Option, OutcomeMatches, Place, PlainState, Right, Row, RowKey, Rows, SameShadows, Some, TxId, act, after_act, ap, arith, callee_put, cond, false, func_called, got, has_ended, has_finish, has_no_hops, invoke_key, is_row_log, is_shadow, is_some, is_waited, issued_at, key_self, option_map, owed_call, refl, register_to, row_put, set_others, set_row, subst, sym, true, unchanged, ℕ, ◌∙◌, ◌≡◌}
 use Rattle.beldi_laws.proofs.Frames.{NobodyJoins, NoFinish, is_entry, is_intent, frame_still, frame_row, items_stay, no_finish, no_new_finish, nobody_new}
-use Rattle.beldi_laws.proofs.{Keeping.SameShadows, Keeping.set_shadows, Keeping.stays_by, Moves.Stays, Shown.log_values}
+use Rattle.beldi_laws.proofs.{Keeping.set_shadows, Keeping.stays_by, Moves.Stays, Shown.log_values}
 use Rattle.beldi_laws.proofs.Names.map
 
 -- ---- a row of an intent or of a call was set, and nothing else

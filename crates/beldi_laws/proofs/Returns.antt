@@ -1,6 +1,6 @@
 -- A run at its return: who called its instance, and how that ends.
-use Rattle.beldi_laws.proofs.Names.{Answer, Begun, Caller, Cause, Core, Deployment, Goes, Grows, Inside, Instance, IntentId, IsAnswer, IsCalled, Known, Knows, List, LockedAtEnds, Machine, None, Option, Outcome, Place, PlainState, Return, Right, Rows, Run, RunTx, Sane, Says, Some, StandsAt, Step, TxId, [], ahead_set, answer_of, ap, arith, caller_in, child_of, effect_of, enabled_step, ended, ended_by, false, goes_one, got_ended, grown_end, grows_at, has_no_hops, inl, inr, is_begin, is_some, is_waited, item_touched, key_in, kind_of, none_by, none_out, place_of, refl, root_of, root_or_called, run_tx, same_some, set_over, step_by, subst, sym, touched, touched_by, true, turned_by, tx_after, tx_at, unlocked_elsewhere, waits_at, with_instance, within, ℕ, ◌<◌, ◌∙◌, ◌∷◌, ◌≡◌}
-use Rattle.beldi_laws.proofs.{Ended.ended_at, Frames.NobodyJoins, Frames.nobody_set, Settling.UnendedOwner, Settling.settled_ended, Settling.settled_grown, Keeping.SameShadows, Moves.AfterTurn, Moves.change_entered, Moves.Entered, Passing.returns_in, Passing.tx_is, Shown.Settled, Shown.settled, Shown.legal_sane, Turns.answer_here, Turns.effect_here, Turns.effect_next, Turns.sane_instance, Turns.step_here, Turns.plain_there, Turns.outside_there, Cases.false_by}
+use Rattle.beldi_laws.proofs.Names.{Answer, Begun, Caller, Cause, Core, Deployment, Goes, Grows, Inside, Instance, IntentId, IsAnswer, IsCalled, Known, Knows, List, LockedAtEnds, Machine, None, Option, Outcome, Place, PlainState, Return, Right, Rows, Run, RunTx, SameShadows, Sane, Says, Some, StandsAt, Step, TxId, [], ahead_set, answer_of, ap, arith, caller_in, child_of, effect_of, enabled_step, ended, ended_by, false, goes_one, got_ended, grown_end, grows_at, has_no_hops, inl, inr, is_begin, is_some, is_waited, item_touched, key_in, kind_of, none_by, none_out, place_of, refl, root_of, root_or_called, run_tx, same_some, set_over, step_by, subst, sym, touched, touched_by, true, turned_by, tx_after, tx_at, unlocked_elsewhere, waits_at, with_instance, within, ℕ, ◌<◌, ◌∙◌, ◌∷◌, ◌≡◌}
+use Rattle.beldi_laws.proofs.{Ended.ended_at, Frames.NobodyJoins, Frames.nobody_set, Settling.UnendedOwner, Settling.settled_ended, Settling.settled_grown, Moves.AfterTurn, Moves.change_entered, Moves.Entered, Passing.returns_in, Passing.tx_is, Shown.Settled, Shown.settled, Shown.legal_sane, Turns.answer_here, Turns.effect_here, Turns.effect_next, Turns.sane_instance, Turns.step_here, Turns.plain_there, Turns.outside_there, Cases.false_by}
 use Rattle.beldi_laws.proofs.Names.map
 
 -- the caller of an instance, if it has one, made it at this step

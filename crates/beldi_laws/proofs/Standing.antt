@@ -1,7 +1,7 @@
 -- Where the host and its rows are right, the rows stand for the run of the book.
 use Rattle.std.specs.Prelude.{zero, suc, take}
 use Rattle.beldi_known.specs.{Stands.told_by, Owed.noted}
-use Rattle.beldi_laws.proofs.Names.{Answer, Async, Body, Bool, Call, CallMatches, CalledBy, Cause, Cond, CondWrite, Core, Deployment, Died, Done, Effect, End, Got, Instance, IntentId, IntentMatches, IntentRow, IsAnswer, IsBodyOf, IsCalled, IsDeath, IsMade, IsOutside, IsRowOf, Item, Known, List, LogMatches, Matches, None, Note, OnItem, Option, Outcome, Place, PlainState, Read, Right, RootMatches, Row, Rows, Sane, Some, Stands, TxId, Value, Write, Wrote, [], ahead_note, answer_aside, answer_given, answer_of, answered_note, ap, arith, at_step, call_in, call_of, child_of, commit_in, decides, decision_there, effect_after, effect_before, ended_at, eq-eqb, eqb-true, false, given, has_ended, has_no_hops, has_place, head_key, held_answer, held_inside, held_note, held_outside, if◌then◌else◌, invoke_key, is_begin, is_decided, is_eq, is_item, is_mark, is_some, item_in, item_total, key_in, last_step, length, lock_owed, log_key, note_at, note_by, note_of, note_of_lock, note_or, noted_answer, op_of, option_and_then, option_map, or_own, outside_parts, owed_call, owed_note, owed_shadow, owed_value, place_of, refl, result_in, root_key, root_of, row_at, row_of, run_of, same_some, shadow_by, shadow_key, shadow_of, slice_get, slice_get_within, subst, sym, tied_itself, touched, true, tx_after, tx_at, tx_by, tx_self, txs_after, value_for, wants, write_op, ℕ, ◌&&◌, ◌++◌, ◌==◌, ◌||◌, ◌∙◌, ◌∷◌, ◌≡◌}
+use Rattle.beldi_laws.proofs.Names.{Answer, Async, Body, Bool, Call, CallMatches, CalledBy, Cause, Cond, CondWrite, Core, Deployment, Died, Done, Effect, End, Got, Instance, IntentId, IntentMatches, IntentRow, IsAnswer, IsBodyOf, IsCalled, IsDeath, IsMade, IsOutside, IsRowOf, Item, Known, List, LogMatches, Matches, None, Note, OnItem, Option, Outcome, Place, PlainState, Read, Right, RootMatches, Row, Rows, Sane, Some, Stands, TxId, Value, Write, Wrote, [], ahead_note, answer_aside, answer_given, answer_of, answered_note, ap, arith, at_step, call_in, call_of, child_of, commit_in, decides, decision_there, effect_after, effect_before, ended_at, eq-eqb, eqb-true, false, given, has_ended, has_no_hops, has_place, held_answer, held_inside, held_note, held_outside, if◌then◌else◌, invoke_key, is_begin, is_decided, is_eq, is_item, is_mark, is_some, item_in, item_total, key_in, last_step, length, lock_owed, log_key, note_at, note_by, note_of, note_of_lock, note_or, noted_answer, op_of, option_and_then, option_map, or_own, outside_parts, owed_call, owed_note, owed_shadow, owed_value, place_of, refl, result_in, root_key, root_of, row_at, row_of, run_of, same_some, shadow_by, shadow_of, slice_get, slice_get_within, subst, sym, tied_itself, touched, true, tx_after, tx_at, tx_by, tx_self, txs_after, value_for, wants, write_op, ℕ, ◌&&◌, ◌++◌, ◌==◌, ◌||◌, ◌∙◌, ◌∷◌, ◌≡◌}
 use Rattle.beldi_laws.proofs.{Readings.given_owed, Operations.noted_back, CallsHere.same_call, Outside.is_of_tx, Outside.known_of, Owed.note_if, Owed.value_if, Owed.note_there, Owed.read_there, Owed.no_end, Owning.holder_owns, Owning.owned_so, Owning.root_open, Grown.tx_stays, Shown.Shows, Shown.legal_sane, Shown.shown, Committed.placed, Committed.unplaced, Ended.ends_outside, Widths.answered_small, KeptSane.outside_effect, Cases.false_by}
 use Rattle.beldi_laws.proofs.Names.map
 use Rattle.beldi_laws.proofs.Names.plain
@@ -244,8 +244,8 @@ module _ (d : Deployment) (m : Rows) (p : PlainState) (known : Known) (locked : 
         root_open m (root_key t) z.instance (map.get m (root_key t)) refl (subst (RootMatches true (map.get m (root_key t))) z.is (h.rows.keys (root_key t))) (z.outcome ∙ none);
     locks = holder_owns d m p known locked h;
     owned = λ x t own. owned_so d m p known locked h x legal t own;
-    sound = λ x. h.rows.keys (head_key x);
-    shadows = λ t x. h.rows.keys (shadow_key t x);
+    sound = h.rows.chains;
+    shadows = h.rows.asides;
   }
 
 -- the run of the book is one

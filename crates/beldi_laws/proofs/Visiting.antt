@@ -2,10 +2,10 @@
 -- it asked the locks of, and gives each back once; and gives each of them but its own instance a finish.
 use Rattle.beldi_txn.specs.End.{moved}
 use Rattle.beldi_known.proofs.Behind.{front}
-use Rattle.beldi_laws.proofs.Names.{AllReleased, Answer, AreReleased, Begun, Body, Bool, Called, CalleeBodyMatches, CalleeMatches, Callees, Content, Core, Decide, Deployment, EndAt, EndGoes, EndWalk, FinishMatches, Frame, Free, FreeOp, GetsFinish, Inherited, Inside, Instance, IntentId, IntentMatches, IntentRow, IsAnswer, IsCalleeRow, IsMember, IsTrue, Item, Kind, Knows, Leads, List, Matches, Member, Next, None, Note, OpenTx, Option, Own, ParticipantsAreReleased, ParticipantsHaveRows, Place, Query, ReadGoes, Right, Row, RowKey, Rows, Run, RunTx, Shadow, Some, SoundAt, Stamp, Told, TookPart, Tx, TxId, Value, Visit, Visited, WriteAt, WriteGoes, [], ap, arith, asked, at_each, back_from, call_goes, calls_goes, commit_in, content_in, content_of, counts, decision_key, done_to, effect_after, end_by_asks, end_by_says, end_goes, end_walk, ended_at, ended_by, false, first_end, free_place, freed_goes, func_called, given_or, given_value, grows_self, has_callees, has_ended, has_finish, has_no_hops, head_key, if◌then◌else◌, inl, inr, intent_key, is_committed, is_decided, is_eq, is_mark, is_past, is_shadow, is_some, key_cmp, key_exact, key_in, key_same, key_total, keys_set, kinds_apart, last_goes, last_step, length, listed, log_key, next_goes, no_decision, no_root, note_at, notes_stay, option_map, own_tx, place_of, refl, release_lists, released, root_key, row_put, rows_after, same_map, same_some, set_row, shadow_key, shadow_value, stepped, subst, sym, told_by, true, turn_next, turned_by, turns, tx_after, tx_end, tx_eq, tx_in, tx_same, tx_self, txs_after, unchanged, value_goes, value_in, visit_asks, visit_says, visited_by, wants_answer, was_answered, ℕ, ◌&&◌, ◌++◌, ◌==◌, ◌||◌, ◌∙◌, ◌∷◌, ◌≡◌, Effect, Says, Stage}
-use Rattle.beldi_laws.proofs.Frames.{NoFinish, frame_held, frame_item, frame_row, items_stay, no_finish, nobody_new}
+use Rattle.beldi_laws.proofs.Names.{AllReleased, Answer, AreReleased, Begun, Body, Bool, Called, CalleeBodyMatches, CalleeMatches, Callees, ChangedAlone, Content, Core, Decide, Deployment, Effect, EndAt, EndGoes, EndWalk, FinishMatches, Frame, Free, FreeOp, GetsFinish, Inherited, Inside, Instance, IntentId, IntentMatches, IntentRow, IsAnswer, IsCalleeRow, IsMember, IsSoundChain, IsTrue, Item, Kind, Knows, Leads, List, Matches, Member, Next, None, OpenTx, Option, Own, ParticipantsAreReleased, ParticipantsHaveRows, Place, Query, ReadGoes, Right, Row, RowAct, RowKey, Rows, Run, RunTx, Says, Shadow, Some, Stage, Stamp, Told, TookPart, Tx, TxId, Value, Visit, Visited, WriteAt, WriteGoes, [], act, ap, arith, asked, back_from, call_goes, calls_goes, chain_off, commit_in, content_of, counts, decision_key, done_to, effect_after, end_by_asks, end_by_says, end_goes, end_walk, ended_at, ended_by, false, first_end, free_place, freed_goes, func_called, given_or, given_value, grows_self, has_callees, has_ended, has_finish, has_no_hops, head_key, if◌then◌else◌, inl, inr, intent_key, is_committed, is_decided, is_eq, is_mark, is_past, is_shadow, is_some, key_cmp, key_exact, key_in, key_same, key_total, keys_set, kind_off, kinds_apart, last_goes, last_step, length, listed, log_key, next_goes, no_decision, note_at, option_map, other_key, other_shadows, own_tx, place_of, refl, release_lists, released, root_key, row_put, rows_after, same_map, same_shadow, same_some, set_others, set_row, shadow_key, shadow_row, shadow_value, stepped, subst, sym, told_by, true, turn_next, turned_by, turns, tx_after, tx_end, tx_eq, tx_in, tx_same, tx_self, txs_after, unchanged, value_goes, value_in, visit_asks, visit_says, visited_by, wants_answer, was_answered, ℕ, ◌&&◌, ◌++◌, ◌==◌, ◌||◌, ◌∙◌, ◌∷◌, ◌≡◌}
+use Rattle.beldi_laws.proofs.Frames.{NoFinish, frame_held, frame_item, frame_row, items_stay, nobody_new, none_finish, query_keeps, query_notes}
 use Rattle.beldi_laws.proofs.Turns.{at_steps, known_prefix, wanted_here, Leaves, all_here, stands_on, answers_on}
-use Rattle.beldi_laws.proofs.{Askers.owns_none, Closing.at_key, Closing.closed_rows_of, Closing.owner_is, Settling.settled_rows, Grown.grown_same, Keeping.SameShadows, Keeping.act_stays, Keeping.as_it_was, Keeping.goes_still, Keeping.stays_by, Members.TakesPart, Members.members_joined, Members.part_below, Members.part_key, Members.took_part, Moves.AfterQuery, Moves.SameRoots, Moves.Stays, OpenOf.open_begun, OpenOf.own_begin, Others.decided_past, Others.end_here, Others.kept_by, Others.or_true, Owed.content_kept, Owed.contents_kept, Owed.others_list, Shown.log_values, Shown.settled, Widths.finds_first}
+use Rattle.beldi_laws.proofs.{Askers.owns_none, Closing.at_key, Closing.closed_rows_of, Closing.owner_is, Settling.settled_rows, Grown.grown_same, Keeping.as_it_was, Keeping.goes_still, Keeping.stays_by, Members.TakesPart, Members.members_joined, Members.part_below, Members.part_key, Members.took_part, Moves.AfterQuery, Moves.SameRoots, Moves.Stays, OpenOf.open_begun, OpenOf.own_begin, Others.decided_past, Others.end_here, Others.kept_by, Others.or_true, Owed.content_kept, Owed.contents_kept, Owed.others_list, Shown.log_values, Shown.settled, Widths.finds_first}
 use Rattle.beldi_laws.proofs.Names.map
 
 -- ---- past the decision
@@ -78,56 +78,45 @@ module _ (d : Deployment) (c : Core) (m : Rows) (h : Right d c m) where
   as_before : (n : Rows) → n ≡ m → Keeps n
   as_before n same = (subst (Stays h) (sym same) (as_it_was h), λ t. ap (λ (y : Rows). is_some (map.get y (root_key t))) same)
 
-  -- the row of one item is asked
-  module _ (q : Query) (y : Item) (others : (l : RowKey) → is_eq (key_cmp l (head_key y)) ≡ false → map.get (rows_after q c.now m) l ≡ map.get m l) (sound : SoundAt (map.get (rows_after q c.now m) (head_key y))) where
+  -- a row of one item is asked
+  module _ (q : Query) (y : Item) (others : ChangedAlone (head_key y) m (rows_after q c.now m)) (sound : IsSoundChain (rows_after q c.now m) y) where
     abbrev n : Rows
     n = rows_after q c.now m
 
-    shadows : SameShadows m n
-    shadows t x = others (shadow_key t x) (kinds_apart is_shadow (shadow_key t x) (head_key y) refl refl)
-
     roots : SameRoots m n
-    roots t = ap is_some (others (root_key t) (no_root t y.func (Kind.Data y.table y.key 0) refl))
-
-    there : is_some (map.get m (head_key y)) ≡ true → is_some (map.get n (head_key y)) ≡ true
-    there = at_each (λ r s. is_some r ≡ true → is_some s ≡ true) (λ r e. e) act_stays q c.now m (head_key y)
-
-    notes : (a : Place) (w : Note) → note_at (content_of m y).notes a ≡ Some w → note_at (content_of n y).notes a ≡ Some w
-    notes a w = at_each (λ r s. note_at (content_in r).notes a ≡ Some w → note_at (content_in s).notes a ≡ Some w) (λ r e. e) (λ b t r. notes_stay b t r a w) q c.now m (head_key y)
+    roots t = ap is_some (other_key m n y others (root_key t) refl)
 
     -- nobody gets a finish
     unfinished : NoFinish d m n h.known
-    unfinished = no_finish m n (head_key y) others d h.known refl
+    unfinished = none_finish m n (head_key y) others d h.known refl
 
     -- it stands
     stands : content_of n y ≡ content_of m y → Keeps n
     stands held = (
-      stays_by h n shadows
+      stays_by h n (other_shadows m n y others)
           (content_kept d m n y others h.known h.locked sound held h.rows)
           (λ x. others_list m n y others x (contents_kept d m n y others held x) ∙ h.values x)
-          (frame_held d m h.plain h.plain h.known h.known (items_stay d m h.plain h.plain h.known refl) (nobody_new d h.known) n y others there held) unfinished,
+          (frame_held d m h.plain h.plain h.known h.known (items_stay d m h.plain h.plain h.known refl) (nobody_new d h.known) n y others (query_keeps q c.now m) held) unfinished,
       roots,
     )
 
     -- it is given back: its transaction has ended, with this decision, and the place is a mark
-    module _ (s : TxId) (z : ℕ × Bool) (ended : tx_end d h.known s ≡ Some z) (decided : map.get m (decision_key s) ≡ Some (Row.ReadLog (Value.Bool z.1))) (p : Place) (mark : is_mark d h.known p.step (map.get h.known p.intent) ≡ true) (u : Option Value) (gives : u ≡ given_value z.1 (map.get m (shadow_key s y))) where
+    module _ (s : TxId) (z : ℕ × Bool) (ended : tx_end d h.known s ≡ Some z) (decided : map.get m (decision_key s) ≡ Some (Row.ReadLog (Value.Bool z.1))) (p : Place) (mark : is_mark d h.known p.step (map.get h.known p.intent) ≡ true) (u : Option Value) (gives : u ≡ given_value z.1 (shadow_row m s y)) where
       given_back : note_at (content_of m y).notes p ≡ None → (content_of m y).owner ≡ Some (Tx s) → content_of n y ≡ done_to p (Tx s) (FreeOp u) (content_of m y) → Keeps n
       given_back none owned is = (
-        stays_by h n shadows
-            (subst (λ l. Matches d l h.known h.locked) all (released d m h.known h.locked y s z p (given_or u (content_of m y).value) (map.get n (head_key y)) owned ended mark none sound is h.rows))
-            (λ x. ap (λ l. listed l x) (sym all) ∙ release_lists m y s (map.get n (head_key y)) owned free value x ∙ h.values x)
-            (frame_item d m h.plain h.plain h.known h.known (items_stay d m h.plain h.plain h.known refl) (nobody_new d h.known) n y others there notes (λ t e end own. let clash = sym free ∙ own in cc)) unfinished,
+        stays_by h n (other_shadows m n y others)
+            (released d m h.known h.locked y s z p (given_or u (content_of m y).value) n owned ended mark none others sound is h.rows)
+            (λ x. release_lists m n y s others owned free value x ∙ h.values x)
+            (frame_item d m h.plain h.plain h.known h.known (items_stay d m h.plain h.plain h.known refl) (nobody_new d h.known) n y others (query_keeps q c.now m) (query_notes q c.now m y) (λ t e end own. let clash = sym free ∙ own in cc)) unfinished,
         roots,
       )
         where
-          all : set_row m (head_key y) (map.get n (head_key y)) ≡ n
-          all = as_set m n (head_key y) others
-
           free : (content_of n y).owner ≡ None
           free = ap (λ (a : Content). a.owner) is
 
-          value : (content_of n y).value ≡ (if is_committed (map.get m (decision_key s)) then value_in (map.get m (shadow_key s y)) (content_of m y).value else (content_of m y).value)
-          value = grind arith
+          value : (content_of n y).value ≡ (if is_committed (map.get m (decision_key s)) then value_in (shadow_row m s y) (content_of m y).value else (content_of m y).value)
+          value = ap (λ (a : Content). a.value) is ∙ ap (λ w. given_or w (content_of m y).value) gives ∙ given_so z.1 (shadow_row m s y) (content_of m y).value
+              ∙ ap (λ r. if is_committed r then value_in (shadow_row m s y) (content_of m y).value else (content_of m y).value) (sym decided)
 
   -- the row of who took part gets its finish
   module _ (s : TxId) (z : ℕ × Bool) (ended : tx_end d h.known s ≡ Some z) (p : Member) (part : TakesPart h.known s p) (n : Rows) (others : (l : RowKey) → is_eq (key_cmp l (key_in p.1 p.0)) ≡ false → map.get n l ≡ map.get m l)
@@ -184,7 +173,7 @@ module _ (d : Deployment) (c : Core) (m : Rows) (h : Right d c m) where
     stamped : Keeps n
     stamped = (
       kept_by d c m n h h.plain h.known h.locked (record {
-        goes = goes_still h n (λ t x. others (shadow_key t x) (kinds_apart is_shadow (shadow_key t x) key refl refl));
+        goes = goes_still h n (λ t x. chain_off m n key (shadow_key t x) others (record { first = refl; numbered = λ i. refl }) (kind_off is_shadow same_shadow (shadow_key t x) key refl refl));
         locked_at_ends = h.locked_at_ends;
         sane = h.sane;
         rows = put;
@@ -277,16 +266,16 @@ module _ (d : Deployment) (c : Core) (m : Rows) (r : Run) (g : Begun) (h : Right
         q : Query
         q = asks (visit cs af (Some y) u (Free f))
 
-        others : (l : RowKey) → is_eq (key_cmp l (head_key item)) ≡ false → map.get (rows_after q c.now m) l ≡ map.get m l
-        others k off = l.others k (ap (λ x. is_eq (key_cmp k x)) (asked (head_key item) (free_place s end cs) (Tx s) (FreeOp u) f) ∙ off)
+        others : ChangedAlone (head_key item) m (rows_after q c.now m)
+        others = subst (λ k. ChangedAlone k m (rows_after q c.now m)) (asked (head_key item) (free_place s end cs) (Tx s) (FreeOp u) f) l.others
 
-        sound : SoundAt (map.get (rows_after q c.now m) (head_key item))
+        sound : IsSoundChain (rows_after q c.now m) item
         sound = (l.visited.sound who.1 y).0
 
   -- who took part gets its finish, or has it
   stamps : HasEnded → (b : Called) (bs : List Called) (member : IsMember (first_end s end commit) m (b ∷ bs)) (af : Option ℕ) (y : Option (ℕ × List ℕ)) (u : Option Value) (z : EndGoes) → let v = visit (b ∷ bs) af y u Stamp in Leads s end commit v (asks v) m (after v) z → Keeps d c m h (after v)
   stamps e b bs member af y u z l = elim l.left [
-    | inl held ↦ as_before d c m h n (sym (as_set m n own l.others) ∙ unchanged m own (map.get n own) held.0)
+    | inl held ↦ as_before d c m h n (sym (as_set m n own apart) ∙ unchanged m own (map.get n own) held.0)
     | inr gets ↦ stamped d c m h s (end, commit) e.ended p part n others (subst (λ (k : RowKey). GetsFinish (map.get m k) (map.get n k)) same gets) l.visited.released
   ]
     where
@@ -305,8 +294,11 @@ module _ (d : Deployment) (c : Core) (m : Rows) (r : Run) (g : Begun) (h : Right
       same : own ≡ key_in p.1 p.0
       same = part_key d h.known h.sane s p.0 p.1 (took_part part)
 
+      apart : (k : RowKey) → is_eq (key_cmp k own) ≡ false → map.get n k ≡ map.get m k
+      apart = set_others m own (act RowAct.Stamp c.now (map.get m own)).0
+
       others : (k : RowKey) → is_eq (key_cmp k (key_in p.1 p.0)) ≡ false → map.get n k ≡ map.get m k
-      others k off = l.others k (ap (λ x. is_eq (key_cmp k x)) same ∙ off)
+      others k off = apart k (ap (λ x. is_eq (key_cmp k x)) same ∙ off)
 
   keeps : (cs : List Called) (af : Option ℕ) (y : Option (ℕ × List ℕ)) (u : Option Value) (a : EndAt) (z : EndGoes) → is_past a ≡ true → let v = visit cs af y u a in Visited (walk v) m → HasEnded → Leads s end commit v (asks v) m (after v) z → Keeps d c m h (after v)
   keeps cs af y u Decide z past visited e l = cc

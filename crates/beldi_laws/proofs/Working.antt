@@ -1,9 +1,9 @@
 -- The turns of an operation inside a transaction, past its lock: it looks at its shadow and at the item, keeps what it read, and makes and writes its shadow.
-use Rattle.beldi_row.specs.Act.{no_row}
-use Rattle.beldi_daal.specs.declared.cell.WriteAt.TheVariants.{Try}
+use Rattle.beldi_chain.proofs.Heads.{sound_after}
+use Rattle.beldi_daal.specs.declared.{cell.WriteAt.TheVariants.Try, walk.Item.TheVariants.Shadow}
 use Rattle.beldi_txn.specs.Tx.{item_goes, note_goes}
-use Rattle.beldi_laws.proofs.Names.{Answer, Begun, Bool, ByTx, Cause, Cell, CondCell, Content, Core, Deployment, Effect, Fits, Found, Frame, Goes, InItem, InOperation, Inside, IntentId, IsAnswer, IsFront, IsOpen, Item, Known, Knows, List, LockedOut, Look, Make, MakeCell, Matches, None, Note, Option, Owner, Place, PutRead, Rel, Right, Row, RowKey, Rows, Run, RunTx, Sane, Says, Some, SoundAt, Tell, TxAt, TxId, Value, WriteAt, WriteCell, [], act, ahead_set, ap, arith, at_tail, begin_of, begun_lists, behind_locks, behind_looks, behind_tests, behind_writes, cell_held, cell_noted, cond_to, content_apart, content_in, content_of, death_in, decision_key, did, effect_of, entered, false, first_rows_go, got_begun, grows_self, head_goes, head_key, head_made, id_cmp, id_total, if◌then◌else◌, inl, inr, is_begin, is_data, is_eq, is_some, item_leads, keep_goes, kinds_apart, length, listed, listed_open, listed_under, lock_answer, lock_or, lockset_key, log_key, looked, moved, next_or, no_log, no_shadow_note, note_at, noted, noted_or, on_cell, once_pushed, other_owner, passes, place_of, read_goes, read_inside, reads_go, refl, said, said_noted, sane_read, sane_tested, sane_wrote, set_here, set_others, set_row, shadow_key, shadow_lists, shadow_made, shadow_of, shadow_read, shadow_told, shadow_value, stays, subst, sym, test_inside, test_on, test_parts, tested, tests_go, tied_itself, touched, true, turn_next, turned_by, tx_after, tx_here_asks, tx_here_says, tx_now, tx_of, tx_says, unchanged, undecided, unless_held, value_at, value_in, was_did, write_goes, write_inside, write_leads, write_on, write_parts, writes_go, writes_on, ℕ, ◌++◌, ◌∙◌, ◌∷◌, ◌≡◌, ◌⊎◌, Kind, ReadGoes, Stage}
-use Rattle.beldi_laws.proofs.Frames.{NoFinish, NobodyJoins, frame_log, frame_shadow, is_lockset, items_stay, no_finish, nobody_new, nobody_set}
+use Rattle.beldi_laws.proofs.Names.{Answer, Begun, Bool, ByTx, Cause, CellOp, ChangedAlone, Content, Core, Deployment, DidAs, Effect, Fits, Found, Frame, Goes, InItem, InOperation, Inside, IntentId, IsAnswer, IsFront, IsOpen, Item, Kind, Known, Knows, List, LockedOut, Logs, Look, Make, MakeCell, Matches, None, Note, Option, Owner, Place, PutRead, Query, ReadGoes, Rel, Right, Row, RowKey, Rows, Run, RunTx, Sane, Says, Some, Sound, SoundAt, Stage, Tell, TxAt, TxId, Value, WriteAt, WriteGoes, [], act, ahead_set, alone_by, ap, arith, aside_head, aside_key, barred, begin_of, begun_lists, behind_locks, behind_looks, behind_tests, behind_writes, by_op, content, content_in, content_of, death_in, decision_key, did, dies, done_note, done_to, effect_of, false, first_rows_go, got_begun, grows_self, head_content, head_goes, head_key, head_made, head_tail, held_by, held_or, id_cmp, id_total, if◌then◌else◌, inl, inr, is_begin, is_eq, is_some, item_aside, item_head, item_leads, keep_goes, length, listed, listed_open, listed_under, lock_answer, lock_or, lockset_key, log_key, looked, moved, no_log, no_shadow_note, note_after, note_at, note_here, noted, noted_or, op_act, other_owner, passes, place_of, read_goes, read_inside, reads_go, refl, root_key, rows_after, said, sane_read, sane_tested, sane_wrote, set_here, set_others, set_row, shadow_chain, shadow_key, shadow_lists, shadow_made, shadow_of, shadow_read, shadow_row, shadow_told, shadow_value, subst, sym, test_inside, test_on, tested, tests_go, tied_itself, told_by, touched, true, turn_next, turned_by, tx_after, tx_here_asks, tx_here_says, tx_now, tx_of, tx_says, unchanged, undecided, value_at, value_in, walk_so, write_goes, write_inside, write_leads, write_on, writes_go, writes_on, ℕ, ◌++◌, ◌∙◌, ◌∷◌, ◌≡◌, ◌⊎◌}
+use Rattle.beldi_laws.proofs.Frames.{NoFinish, NobodyJoins, RowsStay, frame_log, frame_shadow, items_stay, no_finish, nobody_new, nobody_set, none_finish, query_keeps}
 use Rattle.beldi_laws.proofs.InTx.{frees_none, open_still, item_self, goes_at, replays, set_roots, same_item, effect_so, wants_here, short, known_answers, answers_so, at_front, now, tx_is, front, apart, opened as opened_here, owned as owned_here, was_locked}
 use Rattle.beldi_laws.proofs.{Settling.settled_operated, Grown.grown_moved, Grown.grows_moved, Grown.moved_more, Keeping.as_it_was, Moves.AfterQuery, Moves.AfterTurn, Moves.SameRoots, Moves.Kept, Others.kept_moving, Shown.settled, Turns.at_steps, Turns.sane_instance, Turns.all_here, Turns.step_here, Turns.answers_on, Turns.stays_on}
 use Rattle.beldi_laws.proofs.Names.map
@@ -32,22 +32,25 @@ locked_out locked id = record { out = ap (λ b. if is_eq b then false else locke
 note_told : (c : Content) (n : Option Note) (w : Note) → noted_or c n (c, did) ≡ (c, noted w) → n ≡ Some w
 note_told c n w h = grind arith
 
--- what a write does to a row of its shadow
-abbrev on_shadow : Place → Owner → (Cell → Cell × Tell) → Option Row → Option Row × Tell
-on_shadow p w does None = (None, no_row)
-on_shadow p w does (Some v) = stays (on_cell (λ z. at_tail p z (unless_held w z (does z))) no_row v)
+-- nothing bars a write
+unheld : (o : Option Owner) → held_by o ≡ None → o ≡ None
+unheld None h = refl
+unheld (Some o) h = cc
 
-abbrev wrote : Place → Value → Cell → Cell × Tell
-wrote p v z = (entered p Note.Wrote v z.owner z, was_did)
+-- a write that its walk says was done is what its act tells, and so is a test
+wrote_so : (p : Place) (w : Owner) (v : Value) (c x : Content) → note_at c.notes p ≡ None → barred (CellOp.Write v) w c.owner ≡ None → x ≡ done_to p w (CellOp.Write v) c → write_on p w v c ≡ (x, did)
+wrote_so p w v c x none free is = (λ i. noted_or c (none i) (held_or c (unheld (other_owner w c.owner) free i) (sym is i, did)))
 
-abbrev tries : Place → Rel → Value → Value → Cell → Cell × Tell
-tries p u w v z = cond_to (passes z.value u w) p v z
+tested_so : (p : Place) (w : Owner) (u : Rel) (y v : Value) (c x : Content) → note_at c.notes p ≡ None → barred (CellOp.Cond u y v) w c.owner ≡ None → x ≡ done_to p w (CellOp.Cond u y v) c → test_on p w u y v c ≡ (x, tested (passes c.value u y))
+tested_so p w u y v c x none free is = (λ i. noted_or c (none i) (held_or c (unheld (other_owner w c.owner) free i) (sym is i, tested (passes c.value u y))))
 
-write_acts : (p : Place) (w : Owner) (v : Value) (t : ℕ) (y : Option Row) → act (WriteCell p w v) t y ≡ on_shadow p w (wrote p v) y
-write_acts p w v t y = grind arith
+-- an act that was not done leaves the row
+abbrev is_first : WriteGoes → Bool
+is_first (WriteGoes.Done u first) = first
+is_first s = false
 
-test_acts : (p : Place) (w : Owner) (u : Rel) (y v : Value) (t : ℕ) (z : Option Row) → act (CondCell p w u y v) t z ≡ on_shadow p w (tries p u y v) z
-test_acts p w u y v t z = grind arith
+undone : (p : Place) (w : Owner) (op : CellOp) (t : ℕ) (r : Option Row) → is_first (write_goes (done_note op) (said (act (op_act p w op) t r).1)) ≡ false → (act (op_act p w op) t r).0 ≡ r
+undone p w op t r h = grind arith
 
 -- the stages past the lock
 abbrev pub is_past : TxAt → Bool
@@ -59,6 +62,14 @@ is_past b = true
 pub record HasLocked (m : Rows) (r : Run) (o : RunTx) (step : ℕ) (x : ℕ × List ℕ) : Type 0 where
   pub asked : is_some (map.get m (lockset_key r.id (begin_of o) (record { func = r.func; table = x.0; key = x.1 }))) ≡ true
   pub got : note_at (content_of m (record { func = r.func; table = x.0; key = x.1 })).notes (place_of r.id step) ≡ Some Note.Got
+
+-- an operation was done to a shadow, at its place, and to nothing else
+record Wrote (m n : Rows) (s : TxId) (y : Item) (p : Place) (op : CellOp) : Type 0 where
+  pub alone : ChangedAlone (shadow_key s y) m n
+  pub sound : Sound (shadow_chain n s y)
+  pub none : note_at (shadow_of m s y).notes p ≡ None
+  pub free : barred op (ByTx s) (shadow_of m s y).owner ≡ None
+  pub so : shadow_of n s y ≡ done_to p (ByTx s) op (shadow_of m s y)
 
 -- the first row of a shadow
 abbrev fresh : Value → Row
@@ -110,11 +121,14 @@ module _ (d : Deployment) (c : Core) (m : Rows) (i : ℕ) (r : Run) (g : Begun) 
     -- what it finds in the item is the item's own value
     item_found : ((u : Value) → u ≡ (content_of m item).value → Leaves (tx_says TxAt.Item (item_leads e u)) m) → Leaves (tx_says TxAt.Item (item_goes e (read_goes None (said (act Look c.now (map.get m (head_key item))).1)))) (set_row m (head_key item) (act Look c.now (map.get m (head_key item))).0)
     item_found leads = looked_at (tx_says TxAt.Item (item_goes e (read_goes None (said (act Look c.now (map.get m (head_key item))).1)))) (head_key item)
-        (subst (λ z. Leaves (tx_says TxAt.Item (item_goes e z)) m) (sym (shadow_told c.now (map.get m (head_key item)) (h.rows.keys (head_key item)))) (by_row (map.get m (head_key item)) refl (h.rows.keys (head_key item))))
+        (subst (λ z. Leaves (tx_says TxAt.Item (item_goes e z)) m) (sym (shadow_told c.now (map.get m (head_key item)) (h.rows.chains item).head)) (by_row (map.get m (head_key item)) refl (h.rows.chains item).head))
       where
+        holds : content_of m item ≡ content_in (map.get m (head_key item))
+        holds = head_content m (head_key item) (item_head item) (h.rows.chains item)
+
         by_row : (v : Option Row) → map.get m (head_key item) ≡ v → SoundAt v → Leaves (tx_says TxAt.Item (item_goes e (ReadGoes.Got (shadow_value v)))) m
-        by_row None there sound = leads Value.Null (sym (ap (λ w. (content_in w).value) there))
-        by_row (Some (Row.Cell z)) there sound = leads z.value (sym (ap (λ w. (content_in w).value) there))
+        by_row None there sound = leads Value.Null (sym (ap (λ (w : Content). w.value) (holds ∙ ap content_in there)))
+        by_row (Some (Row.Cell z)) there sound = leads z.value (sym (ap (λ (w : Content). w.value) (holds ∙ ap content_in there)))
         by_row (Some v) there sound = absurd sound
 
     -- ---- behind: the answer that is known
@@ -205,40 +219,56 @@ module _ (d : Deployment) (c : Core) (m : Rows) (i : ℕ) (r : Run) (g : Begun) 
       undecided_here : map.get m (decision_key own) ≡ None
       undecided_here = undecided d h.known h.sane m h.locked h.rows r.id k.instance own k.made going off_begin inside
 
-      shadow_frame : (v : Row) (after_it : Known) → NobodyJoins d h.known after_it → is_some (txn.op_of e) ≡ true → Frame d m (set_row m (shadow_key own its_item) (Some v)) h.plain h.plain h.known after_it
-      shadow_frame v after_it joins writes = frame_shadow d m h.plain h.plain h.known after_it (items_stay d m h.plain h.plain after_it refl) joins (set_row m (shadow_key own its_item) (Some v)) own its_item (set_others m (shadow_key own its_item) (Some v))
-          (ap is_some (set_here m (shadow_key own its_item) (Some v))) (record { writer = r.id; instance = k.instance; made = k.made; now = inside; writes = ap (λ z. is_some (txn.op_of z)) now_is ∙ writes })
-
-      -- nobody joins, and no finish is put
+      -- nobody joins
       joins_none : (a : Answer) → NobodyJoins d h.known (next a)
       joins_none a = nobody_set d h.known r.id (moved d r.id k.instance a) (ap is_some k.made)
 
-      shadow_unfinished : (v : Row) (after_it : Known) → NoFinish d m (set_row m (shadow_key own its_item) (Some v)) after_it
-      shadow_unfinished v after_it = no_finish m (set_row m (shadow_key own its_item) (Some v)) (shadow_key own its_item) (set_others m (shadow_key own its_item) (Some v)) d after_it refl
+      -- ---- rows of which those of its shadow changed, for a write
+      module _ (n : Rows) (alone : ChangedAlone (shadow_key own its_item) m n) (stay : RowsStay m n) (writes : is_some (txn.op_of e) ≡ true) where
+        roots : SameRoots m n
+        roots t = ap is_some (aside_key m n own its_item alone (root_key t) refl)
 
-      first_keeps : (v : Value) → is_some (txn.op_of e) ≡ true → map.get m (shadow_key own its_item) ≡ None → ((writes_on its_item k.instance.func (effect_of d k.instance) ≡ true) ⊎ (v ≡ value_at h.plain its_item)) → Kept h (set_row m (shadow_key own its_item) (Some (fresh v))) h.plain h.known h.locked
-      first_keeps v writes none by =
-          let n : Rows = set_row m (shadow_key own its_item) (Some (fresh v)) in
-          kept_moving h n h.plain h.known h.locked (record { beside = h.beside; shadows = first_rows_go d m h.plain h.known h.locked r.id k.instance own x.0 x.1 (Some (fresh v)) opened stands was none by }) h.locked_at_ends h.sane
-          (shadow_made d h.known h.locked m h.rows own its_item (Some (fresh v)) (refl, tt, refl, refl) none refl) (λ y. shadow_lists m own undecided_here its_item (Some (fresh v)) y ∙ h.values y) (settled h) (grows_self h.known)
-          (shadow_frame (fresh v) h.known (nobody_new d h.known) writes) (shadow_unfinished (fresh v) h.known)
+        lists : (y : Item) → listed n y ≡ listed m y
+        lists = shadow_lists m own undecided_here its_item n alone
 
-      first_made : (v : Value) → is_some (txn.op_of e) ≡ true → map.get m (shadow_key own item) ≡ None → ((writes_on item r.func e ≡ true) ⊎ (v ≡ value_at h.plain item)) → Fits e (TxAt.Write Try) → Found e (TxAt.Write Try) (Some (fresh v)) (value_at h.plain item)
-          → Leaves (Says.On (Stage.Tx (TxAt.Write Try)) None) (set_row m (shadow_key own item) (Some (fresh v)))
-      unfolding Leaves
-      first_made v writes none by fits finds_it = let n = set_row m (shadow_key own item) (Some (fresh v)) in goes_at d c m i r g h live k finds o tx here e is x touch (TxAt.Write Try) n h.locked (set_roots m r.func (Kind.Shadow own x.0 x.1 0) (Some (fresh v)) refl)
-          (as_ran (λ y q. Kept h (set_row m (shadow_key own y) (Some (fresh v))) h.plain h.known h.locked) (first_keeps v writes (as_its (λ y q. map.get m (shadow_key own y) ≡ None) none)
-          (subst (λ z. (writes_on its_item k.instance.func z ≡ true) ⊎ (v ≡ value_at h.plain its_item)) (sym now_is) (as_its (λ y q. (writes_on y y.func e ≡ true) ⊎ (v ≡ value_at h.plain y)) by))))
-          fits (record {
-            begin = tt;
-            asked = λ t. ap is_some (set_others m (shadow_key own item) (Some (fresh v)) (lockset_key r.id (begin_of o) item) (kinds_apart is_lockset (lockset_key r.id (begin_of o) item) (shadow_key own item) refl refl)) ∙ l.asked;
-            locked = ap (λ (z : Content). note_at z.notes place) (content_apart m (shadow_key own item) (Some (fresh v)) item (kinds_apart is_data (head_key item) (shadow_key own item) refl refl)) ∙ l.got;
-            found = λ q made there. subst (λ z. Found e (TxAt.Write Try) z (value_at h.plain item)) (sym (set_here m (shadow_key own item) (Some (fresh v)))) finds_it;
-          })
+        frame : (next : Known) → NobodyJoins d h.known next → Frame d m n h.plain h.plain h.known next
+        frame next joins = frame_shadow d m h.plain h.plain h.known next (items_stay d m h.plain h.plain next refl) joins n own its_item alone stay
+            (record { writer = r.id; instance = k.instance; made = k.made; now = inside; writes = ap (λ z. is_some (txn.op_of z)) now_is ∙ writes })
+
+        unfinished : (next : Known) → NoFinish d m n next
+        unfinished next = none_finish m n (shadow_key own its_item) alone d next refl
+
+        -- it is answered
+        written : (a : Answer) → ((z : Cause) → a ≡ Answer.Aborted z → ⊥) → Goes d n h.plain (next a) after → Sane d (next a) → Matches d n (next a) after → Leaves (Says.Answers a None) n
+        written a lives goes sane matches = answers_now a n roots (answer_keeps a n lives goes sane matches lists (frame (next a) (joins_none a)) (unfinished (next a)))
+
+        -- it has its first row: for a write, or with the plain value
+        first_made : (v : Value) → map.get n (shadow_key own item) ≡ Some (fresh v) → Sound (shadow_chain n own item) → shadow_row m own item ≡ None → ((writes_on item r.func e ≡ true) ⊎ (v ≡ value_at h.plain item)) → Fits e (TxAt.Write Try)
+            → Found e (TxAt.Write Try) (shadow_row n own item) (value_at h.plain item) → Leaves (Says.On (Stage.Tx (TxAt.Write Try)) None) n
+        unfolding Leaves
+        first_made v row sound none by fits found =
+            let holds : shadow_of n own item ≡ content_in (Some (fresh v)) = head_content n (shadow_key own item) (aside_head own item) sound ∙ ap content_in row in
+            let its_values : (writes_on its_item k.instance.func e ≡ true) ⊎ ((shadow_of n own its_item).value ≡ value_at h.plain its_item) =
+            as_its (λ y q. (writes_on y y.func e ≡ true) ⊎ ((shadow_of n own y).value ≡ value_at h.plain y)) (subst (λ (s : Content). (writes_on item r.func e ≡ true) ⊎ (s.value ≡ value_at h.plain item)) (sym holds) by) in
+            let shadows = first_rows_go d m h.plain h.known h.locked r.id k.instance own x.0 x.1 n opened stands was alone (as_its (λ y q. shadow_row m own y ≡ None) none)
+            (subst (λ z. (writes_on its_item k.instance.func z ≡ true) ⊎ ((shadow_of n own its_item).value ≡ value_at h.plain its_item)) (sym now_is) its_values) in
+            let matches = shadow_made d h.known h.locked m h.rows own item n (as_ran (λ y q. ChangedAlone (shadow_key own y) m n) alone) sound none (ap (λ (s : Content). s.notes) holds) in
+            goes_at d c m i r g h live k finds o tx here e is x touch (TxAt.Write Try) n h.locked roots
+            (kept_moving h n h.plain h.known h.locked (record { beside = h.beside; shadows = shadows }) h.locked_at_ends h.sane matches (λ y. lists y ∙ h.values y) (settled h) (grows_self h.known) (frame h.known (nobody_new d h.known)) (unfinished h.known))
+            fits (record {
+              begin = tt;
+              asked = λ t. ap is_some (aside_key m n own its_item alone (lockset_key r.id (begin_of o) item) refl) ∙ l.asked;
+              locked = ap (λ f. note_at (content f).notes place) (item_aside m n own its_item alone item) ∙ l.got;
+              found = λ q made there. found;
+            })
 
   -- ---- a turn
   abbrev Turn : Effect → TxAt → Type 0
   Turn e a = AfterQuery d h.plain c.now m (λ u. turn_next c i r (turned_by d r g (tx_here_says r.id g.machine.steps e a (Some o) u))) (tx_here_asks r.id r.func g.machine.steps e a (Some o))
+
+  -- the last row of its shadow, where a Look or an act finds the first
+  last_row : (y : Item) → shadow_row m own y ≡ map.get m (shadow_key own y)
+  last_row y = head_tail m (shadow_key own y) (aside_head own y) (h.rows.asides own y)
 
   -- ---- a read
   module _ (t : ℕ) (key : List ℕ) (is : g.machine.effect ≡ Effect.Read t key) (l : HasLocked m r o g.machine.steps (t, key)) where
@@ -258,15 +288,15 @@ module _ (d : Deployment) (c : Core) (m : Rows) (i : ℕ) (r : Run) (g : Begun) 
     shadow_turn : Turn read TxAt.Shadow
     unfolding Leaves
     shadow_turn = looked_at read is (t, key) refl l (tx_says TxAt.Shadow (shadow_read (read_goes None (said (act Look c.now (map.get m aside)).1)))) aside
-        (subst (λ z. Leaves (tx_says TxAt.Shadow (shadow_read z)) m) (sym (shadow_told c.now (map.get m aside) (h.rows.keys aside))) (by_row (map.get m aside) refl (h.rows.keys aside)))
+        (subst (λ z. Leaves (tx_says TxAt.Shadow (shadow_read z)) m) (sym (shadow_told c.now (map.get m aside) (h.rows.asides own read_item).head)) (by_row (map.get m aside) (last_row read_item) (h.rows.asides own read_item).head))
       where
-        by_row : (v : Option Row) → map.get m aside ≡ v → SoundAt v → Leaves (tx_says TxAt.Shadow (shadow_read (ReadGoes.Got (shadow_value v)))) m
+        by_row : (v : Option Row) → shadow_row m own read_item ≡ v → SoundAt v → Leaves (tx_says TxAt.Shadow (shadow_read (ReadGoes.Got (shadow_value v)))) m
         by_row None there sound = moves_on read is (t, key) refl l TxAt.Item tt (record { begin = tt; asked = λ u. l.asked; locked = l.got; found = λ q made same. there })
         by_row (Some (Row.Cell z)) there sound = moves_on read is (t, key) refl l (TxAt.Keep z.value) tt (record { begin = tt; asked = λ u. l.asked; locked = l.got; found = λ q made same. ap (λ w. value_in w (value_at h.plain read_item)) there })
         by_row (Some v) there sound = absurd sound
 
     -- it looks at the item, where it has no shadow
-    item_turn : (k.later ≡ [] → map.get m aside ≡ None) → Turn read TxAt.Item
+    item_turn : (k.later ≡ [] → shadow_row m own read_item ≡ None) → Turn read TxAt.Item
     unfolding Leaves
     item_turn none = item_found read is (t, key) refl l (λ u same. moves_on read is (t, key) refl l (TxAt.Keep u) tt (record {
       begin = tt;
@@ -276,7 +306,7 @@ module _ (d : Deployment) (c : Core) (m : Rows) (i : ℕ) (r : Run) (g : Begun) 
     }))
 
     -- it keeps what it found
-    module _ (v : Value) (saw : k.later ≡ [] → value_in (map.get m aside) (value_at h.plain read_item) ≡ v) where
+    module _ (v : Value) (saw : k.later ≡ [] → value_in (shadow_row m own read_item) (value_at h.plain read_item) ≡ v) where
       abbrev Keeps : Option Row → Type 0
       Keeps w = Leaves (tx_says (TxAt.Keep v) (keep_goes (said (act (PutRead v) c.now w).1))) (set_row m log (act (PutRead v) c.now w).0)
 
@@ -295,7 +325,7 @@ module _ (d : Deployment) (c : Core) (m : Rows) (i : ℕ) (r : Run) (g : Begun) 
             let out = out read is (t, key) refl l in
             answer_keeps read is (t, key) refl l left found_now with_log (λ z e. cc)
             (reads_go d m h.plain h.known h.locked (after read is (t, key) refl l) r.id k.instance own t key v (opened read is (t, key) refl l left) (stands read is (t, key) refl l left) out front_read
-            (as_its read is (t, key) refl l left (λ y p. value_in (map.get m (shadow_key own y)) (value_at h.plain y) ≡ v) (saw left)))
+            (as_its read is (t, key) refl l left (λ y p. value_in (shadow_row m own y) (value_at h.plain y) ≡ v) (saw left)))
             (sane_read d h.known h.sane r.id k.instance k.made t key v front_read)
             (read_inside d h.known h.locked (after read is (t, key) refl l) r.id k.instance k.made out own (inside read is (t, key) refl l left) m h.rows t key v front_read (lockset read is (t, key) refl l left) (was read is (t, key) refl l left))
             (begun_lists d m h.known h.locked h.rows.txs (got_begun d h.known h.sane h.locked) r.id k.instance k.made (Some (Row.ReadLog v)))
@@ -317,89 +347,85 @@ module _ (d : Deployment) (c : Core) (m : Rows) (i : ℕ) (r : Run) (g : Begun) 
       unfolding Leaves
       keep_turn = keep_by k.later refl
 
-  -- ---- a write of the shadow, plain or tested: by what it does to a cell, the note that its act says was left, and the answer
+  -- ---- a write of the shadow, plain or tested: by its operation, and the answer where it is done
   -- what its shadow has of the known answer, and how that is told
   abbrev HasNote : Effect → ℕ × List ℕ → Answer → Type 0
   HasNote e x b = (w : Note) × (note_at (shadow_of m own (record { func = r.func; table = x.0; key = x.1 })).notes place ≡ Some w) × (tx_says (TxAt.Write Try) (note_goes e w) ≡ Says.Answers b None)
 
-  module _ (e : Effect) (is : g.machine.effect ≡ e) (x : ℕ × List ℕ) (touch : touched e ≡ Some x) (l : HasLocked m r o g.machine.steps x) (fits : (w : WriteAt) → Fits e (TxAt.Write w))
-      (finds_it : (w : WriteAt) → k.later ≡ [] → Found e (TxAt.Write w) (map.get m (shadow_key own (record { func = r.func; table = x.0; key = x.1 }))) (value_at h.plain (record { func = r.func; table = x.0; key = x.1 })))
-      (n : Note) (has_note : (b : Answer) (rest : List Answer) → k.later ≡ b ∷ rest → HasNote e x b) where
+  -- what it does to the shadow, as its instance has that
+  abbrev DoneAt : Effect → ℕ × List ℕ → CellOp → Rows → Type 0
+  DoneAt e x op n = let y : Item = record { func = k.instance.func; table = x.0; key = x.1 } in RowsStay m n → Wrote m n own y (place_of r.id (length k.instance.answers)) op → Leaves (tx_says (TxAt.Write Try) (note_goes e (note_after op (shadow_of m own y).value))) n
+
+  module _ (e : Effect) (is : g.machine.effect ≡ e) (x : ℕ × List ℕ) (touch : touched e ≡ Some x) (l : HasLocked m r o g.machine.steps x) (op : CellOp) (writes : txn.op_of e ≡ Some op) (alive : (q : Option Owner) → dies (ByTx own) op q ≡ None) (fits : (w : WriteAt) → Fits e (TxAt.Write w))
+      (has_note : (b : Answer) (rest : List Answer) → k.later ≡ b ∷ rest → HasNote e x b) where
+    abbrev aside_of : Item
+    aside_of = record { func = r.func; table = x.0; key = x.1 }
+
     abbrev its : RowKey
-    its = shadow_key own (record { func = r.func; table = x.0; key = x.1 })
+    its = shadow_key own aside_of
 
-    stood : (w : WriteAt) → InOperation d m h.plain h.known r.id r.func o g.machine.steps e (TxAt.Write w) x
-    stood w = record { begin = tt; asked = λ u. l.asked; locked = l.got; found = λ q made same. finds_it w (at_front d c m r g h k o here e is x touch q made same) }
+    -- ---- its first row is made, with this value; where it had one, that is left
+    module _ (v : Value) (by : k.later ≡ [] → shadow_row m own aside_of ≡ None → (writes_on aside_of r.func e ≡ true) ⊎ (v ≡ value_at h.plain aside_of)) (found : (z : Option Row) → is_some z ≡ true → Found e (TxAt.Write Try) z (value_at h.plain aside_of))
+        (s : Option Row → Says) (said_none : s None ≡ Says.On (Stage.Tx (TxAt.Write Try)) None) (said_some : (z : Row) → s (Some z) ≡ Says.On (Stage.Tx (TxAt.Write Try)) None) where
+      abbrev made : Option Row → Option Row × Tell
+      made = act (MakeCell v None) c.now
 
-    onto : (w : WriteAt) → Leaves (Says.On (Stage.Tx (TxAt.Write w)) None) m
-    onto w = moves_on e is x touch l (TxAt.Write w) (fits w) (stood w)
+      abbrev with_first : Rows
+      with_first = set_row m its (made (map.get m its)).0
 
-    -- the shadow is there behind
-    not_behind : (b : Answer) (rest : List Answer) → k.later ≡ b ∷ rest → map.get m its ≡ None → ⊥
-    not_behind b rest left none = let clash = sym (has_note b rest left).1 ∙ ap (λ v. note_at (content_in v).notes place) none in cc
+      makes_by : (z : Option Row) → map.get m its ≡ z → (later : List Answer) → k.later ≡ later → Leaves (s z) with_first
+      makes_by (Some z) there later left = subst (Leaves (s (Some z))) (sym (unchanged m its (made (map.get m its)).0 (ap (λ q. (made q).0) there ∙ sym there))) (subst (λ q. Leaves q m) (sym (said_some z))
+          (moves_on e is x touch l (TxAt.Write Try) (fits Try) (record { begin = tt; asked = λ u. l.asked; locked = l.got; found = λ q made same. found (shadow_row m own aside_of) (ap is_some (last_row aside_of ∙ there)) })))
+      makes_by None none (b ∷ rest) left = let clash = sym (has_note b rest left).1 ∙ ap (λ (s : Content). note_at s.notes place) (head_content m its (aside_head own aside_of) (h.rows.asides own aside_of) ∙ ap content_in none) in cc
+      makes_by None none [] left =
+          let others = set_others m its (made (map.get m its)).0 in
+          let row : map.get with_first its ≡ Some (fresh v) = set_here m its (made (map.get m its)).0 ∙ ap (λ q. (made q).0) none in
+          let sound = sound_after m with_first its (aside_head own aside_of) others (h.rows.asides own aside_of) (subst SoundAt (sym row) (refl, tt, refl, refl)) in
+          let alone = as_its e is x touch l left (λ y q. ChangedAlone (shadow_key own y) m with_first) (alone_by m with_first its refl others) in
+          subst (λ q. Leaves q with_first) (sym said_none) (first_made e is x touch l left with_first alone (query_keeps (Query.Act its (MakeCell v None)) c.now m) (ap is_some writes) v row sound (last_row aside_of ∙ none) (by left (last_row aside_of ∙ none)) (fits Try)
+          (found (shadow_row with_first own aside_of) (ap is_some (head_tail with_first its (aside_head own aside_of) sound ∙ row))))
 
-    -- it makes the first row
-    abbrev Makes : Option Row → Type 0
-    Makes v = Leaves (tx_says (TxAt.Write Make) (write_leads e (write_goes n (said (act (MakeCell Value.Null None) c.now v).1)))) (set_row m its (act (MakeCell Value.Null None) c.now v).0)
+      makes : Leaves (s (map.get m its)) with_first
+      makes = makes_by (map.get m its) refl k.later refl
 
-    module _ (makes : k.later ≡ [] → map.get m its ≡ None → Leaves (Says.On (Stage.Tx (TxAt.Write Try)) None) (set_row m its (Some (fresh Value.Null)))) where
-      makes_by : (later : List Answer) → k.later ≡ later → (v : Option Row) → map.get m its ≡ v → Makes v
-      makes_by later left (Some v) there = still_row e is x touch l (Says.On (Stage.Tx (TxAt.Write Try)) None) its (Some v) there (onto Try)
-      makes_by [] left None there = makes left there
-      makes_by (b ∷ rest) left None there = absurd (not_behind b rest left there)
+    -- ---- it writes: what is said of the shadow, and of its answer
+    module _ (finds_it : (w : WriteAt) → k.later ≡ [] → Found e (TxAt.Write w) (shadow_row m own aside_of) (value_at h.plain aside_of))
+        (done : (left : k.later ≡ []) (n : Rows) → DoneAt e x op n) where
+      -- its place has the note: that is the known answer's
+      was_noted : (u : Note) (later : List Answer) → k.later ≡ later → note_at (shadow_of m own aside_of).notes place ≡ Some u → Leaves (tx_says (TxAt.Write Try) (note_goes e u)) m
+      was_noted u [] left has = let clash = sym has ∙ as_ran e is x touch l left (λ y p. note_at (shadow_of m own y).notes p ≡ None) (no_shadow_note d m h.known h.locked h.rows r.id k.instance k.made own (record { func = k.instance.func; table = x.0; key = x.1 })) in cc
+      was_noted u (b ∷ rest) left has = let q = has_note b rest left in
+          subst (λ s. Leaves s m) (sym q.2 ∙ ap (λ z. tx_says (TxAt.Write Try) (note_goes e z)) (maps.same_some (sym q.1 ∙ has))) (known_again e is x touch l b rest left)
 
-      make_turn : Makes (map.get m its)
-      make_turn = makes_by k.later refl (map.get m its) refl
+      module _ (n : Rows) (alone : ChangedAlone its m n) (sound : Sound (shadow_chain n own aside_of)) (stay : RowsStay m n) where
+        -- it had none, and is done
+        is_done : (u : Note) (later : List Answer) → k.later ≡ later → note_at (shadow_of n own aside_of).notes place ≡ Some u → note_at (shadow_of m own aside_of).notes place ≡ None → DidAs place (ByTx own) op None (shadow_of m own aside_of) (shadow_of n own aside_of) → Leaves (tx_says (TxAt.Write Try) (note_goes e u)) n
+        is_done u (b ∷ rest) left has none so = let clash = sym (has_note b rest left).1 ∙ none in cc
+        is_done u [] left has none so =
+            let s : Content = shadow_of m own aside_of in
+            let note : u ≡ note_after op s.value = maps.same_some (sym has ∙ ap (λ (c : Content). note_at c.notes place) so.1 ∙ note_here s.notes place (note_after op s.value) none) in
+            subst (λ z. Leaves (tx_says (TxAt.Write Try) (note_goes e z)) n) (sym (as_its e is x touch l left (λ y p. u ≡ note_after op (shadow_of m own y).value) note))
+            (done left n stay (as_its e is x touch l left (λ y p. Wrote m n own y p op) (record { alone = alone; sound = sound; none = none; free = so.0; so = so.1 })))
 
-    -- it writes
-    module _ (does : Cell → Cell × Tell) (a : Cell → Answer) (told_now : (z : Cell) → tx_says (TxAt.Write Try) (write_leads e (write_goes n (said (does z).1))) ≡ Says.Answers (a z) None)
-        (keeps : (left : k.later ≡ []) (z : Cell) → map.get m its ≡ Some (Row.Cell z) → SoundAt (Some (Row.Cell z)) → note_at z.log place ≡ None → other_owner (ByTx own) z.owner ≡ None → Kept h (set_row m its (Some (Row.Cell (does z).0))) h.plain (next e is x touch l (a z)) (after e is x touch l)) where
-      abbrev Writes : Cell × Tell → Type 0
-      Writes y = Leaves (tx_says (TxAt.Write Try) (write_leads e (write_goes n (said y.1)))) (set_row m its (Some (Row.Cell y.0)))
+        by_goes : (s : WriteGoes) → (is_first s ≡ false → n ≡ m) → Logs place (ByTx own) op (walk_so s) (shadow_of m own aside_of) (shadow_of n own aside_of) → Leaves (tx_says (TxAt.Write Try) (write_leads e s)) n
+        by_goes (WriteGoes.On w) as_was logs = subst (Leaves (Says.On (Stage.Tx (TxAt.Write w)) None)) (sym (as_was refl))
+            (moves_on e is x touch l (TxAt.Write w) (fits w) (record { begin = tt; asked = λ u. l.asked; locked = l.got; found = λ q made same. finds_it w (at_front d c m r g h k o here e is x touch q made same) }))
+        by_goes (WriteGoes.Done u true) as_was logs = is_done u k.later refl logs.0 logs.1.0 (subst (λ z. DidAs place (ByTx own) op z (shadow_of m own aside_of) (shadow_of n own aside_of)) (alive (shadow_of m own aside_of).owner) logs.1.1)
+        by_goes (WriteGoes.Done u false) as_was logs = subst (Leaves (tx_says (TxAt.Write Try) (note_goes e u))) (sym (as_was refl)) (was_noted u k.later refl (ap (λ (c : Content). note_at c.notes place) (sym logs.1) ∙ logs.0))
+        by_goes WriteGoes.NotOwner as_was logs = subst (Leaves Says.Stays) (sym (as_was refl)) (stays_here e is x touch l)
+        by_goes (WriteGoes.Held u) as_was logs = subst (Leaves Says.Stays) (sym (as_was refl)) (stays_here e is x touch l)
 
-      module _ (z : Cell) (there : map.get m its ≡ Some (Row.Cell z)) (sound : SoundAt (Some (Row.Cell z))) where
-        -- its place has the note
-        noted_by : (later : List Answer) → k.later ≡ later → (w : Note) → note_at z.log place ≡ Some w → Writes (z, said_noted w)
-        noted_by [] left w is_there =
-            let clash = sym is_there ∙ ap (λ v. note_at (content_in v).notes place) (sym there) ∙ as_ran e is x touch l left (λ y p. note_at (shadow_of m own y).notes p ≡ None) (no_shadow_note d m h.known h.locked h.rows r.id k.instance k.made own (record { func = k.instance.func; table = x.0; key = x.1 })) in cc
-        noted_by (b ∷ rest) left w is_there =
-            let q = has_note b rest left in
-            let same : q.0 ≡ w = maps.same_some (sym q.1 ∙ ap (λ v. note_at (content_in v).notes place) there ∙ is_there) in
-            subst (λ u. Leaves (tx_says (TxAt.Write Try) (note_goes e u)) (set_row m its (Some (Row.Cell z)))) same
-            (subst (λ s. Leaves s (set_row m its (Some (Row.Cell z)))) (sym q.2) (still_row e is x touch l (Says.Answers b None) its (Some (Row.Cell z)) there (known_again e is x touch l b rest left)))
-
-        -- it has none: it writes now, unless another owns the shadow
-        done_by : (later : List Answer) → k.later ≡ later → note_at z.log place ≡ None → (u : Option Owner) → other_owner (ByTx own) z.owner ≡ u → Writes (cell_held z u (does z))
-        done_by later left none (Some u) owner = still_row e is x touch l Says.Stays its (Some (Row.Cell z)) there (stays_here e is x touch l)
-        done_by [] left none None owner = subst (λ s. Leaves s (set_row m its (Some (Row.Cell (does z).0)))) (sym (told_now z))
-            (answers_now e is x touch l left (a z) (set_row m its (Some (Row.Cell (does z).0))) (set_roots m r.func (Kind.Shadow own x.0 x.1 0) (Some (Row.Cell (does z).0)) refl) (keeps left z there sound none owner))
-        done_by (b ∷ rest) left none None owner = let clash = sym (has_note b rest left).1 ∙ ap (λ v. note_at (content_in v).notes place) there ∙ none in cc
-
-        by_note : (w : Option Note) → note_at z.log place ≡ w → Writes (cell_noted z w (next_or z z.next (cell_held z (other_owner (ByTx own) z.owner) (does z))))
-        by_note (Some w) is_there = noted_by k.later refl w is_there
-        by_note None none = subst (λ y. Writes (next_or z y (cell_held z (other_owner (ByTx own) z.owner) (does z)))) (sym sound.0) (done_by k.later refl none (other_owner (ByTx own) z.owner) refl)
-
-      abbrev Tries : Option Row × Tell → Type 0
-      Tries y = Leaves (tx_says (TxAt.Write Try) (write_leads e (write_goes n (said y.1)))) (set_row m its y.0)
-
-      tries_by : (v : Option Row) → map.get m its ≡ v → SoundAt v → Tries (on_shadow place (ByTx own) does v)
-      tries_by None there sound = still_row e is x touch l (Says.On (Stage.Tx (TxAt.Write Make)) None) its None there (onto Make)
-      tries_by (Some (Row.Cell z)) there sound = by_note z there sound (note_at z.log place) refl
-      tries_by (Some v) there sound = absurd sound
-
-      try_turn : Tries (on_shadow place (ByTx own) does (map.get m its))
-      try_turn = tries_by (map.get m its) refl (h.rows.keys its)
+      try_turn : Leaves (tx_says (TxAt.Write Try) (write_leads e (write_goes (done_note op) (said (act (op_act place (ByTx own) op) c.now (map.get m its)).1)))) (set_row m its (act (op_act place (ByTx own) op) c.now (map.get m its)).0)
+      try_turn =
+          let q = Query.Act its (op_act place (ByTx own) op) in
+          let v = (act (op_act place (ByTx own) op) c.now (map.get m its)).0 in
+          let logged = by_op (record { home = r.func; item = Shadow own x.0 x.1; place = place; who = ByTx own; op = op; at = Try }) m (rows_after q c.now m) (h.rows.asides own aside_of) Try c.now refl in
+          by_goes (rows_after q c.now m) logged.others logged.sound (query_keeps q c.now m) (write_goes (done_note op) (told_by q c.now m)) (λ other. unchanged m its v (undone place (ByTx own) op c.now (map.get m its) other)) logged.logs
 
   -- ---- a write
   module _ (t : ℕ) (key : List ℕ) (v : Value) (is : g.machine.effect ≡ Effect.Write t key v) (l : HasLocked m r o g.machine.steps (t, key)) where
     abbrev write : Effect
     write = Effect.Write t key v
-
-    abbrev write_row : RowKey
-    write_row = shadow_key own (record { func = r.func; table = t; key = key })
-
-    write_found : (w : WriteAt) → k.later ≡ [] → Found write (TxAt.Write w) (map.get m write_row) (value_at h.plain (record { func = r.func; table = t; key = key }))
-    write_found w left = tt
 
     write_note : (b : Answer) (rest : List Answer) → k.later ≡ b ∷ rest → HasNote write (t, key) b
     write_note b rest left =
@@ -412,41 +438,22 @@ module _ (d : Deployment) (c : Core) (m : Rows) (i : ℕ) (r : Run) (g : Begun) 
           ap (λ z. Says.Answers z None) (sym done),
         )
 
-    module _ (left : k.later ≡ []) (z : Cell) (there : map.get m write_row ≡ Some (Row.Cell z)) (sound : SoundAt (Some (Row.Cell z))) (none : note_at z.log place ≡ None) (free : other_owner (ByTx own) z.owner ≡ None) where
-      abbrev written : Option Row
-      written = Some (Row.Cell (wrote place v z).0)
-
-      write_did : write_on place (ByTx own) v (shadow_of m own (record { func = r.func; table = t; key = key })) ≡ (content_in written, did)
-      write_did = grind arith
-
-      write_keeps : Kept h (set_row m write_row written) h.plain (next write is (t, key) refl l Answer.Done) (after write is (t, key) refl l)
-      write_keeps =
-          let wants = now_is write is (t, key) refl l left in
-          let was_out = out write is (t, key) refl l in
-          let acts = as_its write is (t, key) refl l left (λ y p. write_on p (ByTx own) v (shadow_of m own y) ≡ (content_in written, did)) write_did in
-          let parts = write_parts (place_of r.id (length k.instance.answers)) (ByTx own) v (shadow_of m own (record { func = k.instance.func; table = t; key = key })) (content_in written) acts in
-          as_ran write is (t, key) refl l left (λ y p. Kept h (set_row m (shadow_key own y) written) h.plain (next write is (t, key) refl l Answer.Done) (after write is (t, key) refl l))
-          (answer_keeps write is (t, key) refl l left Answer.Done (set_row m (shadow_key own (record { func = k.instance.func; table = t; key = key })) written) (λ y e. cc)
-          (writes_go d m h.plain h.known h.locked (after write is (t, key) refl l) r.id k.instance own t key v written (opened write is (t, key) refl l left) (stands write is (t, key) refl l left) was_out (was write is (t, key) refl l left) wants acts)
-          (sane_wrote d h.known h.sane r.id k.instance k.made t key v wants)
-          (write_inside d h.known h.locked (after write is (t, key) refl l) r.id k.instance k.made was_out own (inside write is (t, key) refl l left) m h.rows t key v written wants (lockset write is (t, key) refl l left) (was write is (t, key) refl l left)
-          (sound.0, once_pushed z.log place Note.Wrote none sound.1, sound.2, sound.3) parts.0 parts.1)
-          (shadow_lists m own (undecided_here write is (t, key) refl l left) (record { func = k.instance.func; table = t; key = key }) written)
-          (shadow_frame write is (t, key) refl l left (Row.Cell (wrote place v z).0) (next write is (t, key) refl l Answer.Done) (joins_none write is (t, key) refl l left Answer.Done) refl)
-          (shadow_unfinished write is (t, key) refl l left (Row.Cell (wrote place v z).0) (next write is (t, key) refl l Answer.Done)))
-
-    write_try : Turn write (TxAt.Write Try)
-    unfolding Leaves
-    write_try = subst (λ y. Leaves (tx_says (TxAt.Write Try) (write_leads write (write_goes Note.Wrote (said y.1)))) (set_row m write_row y.0)) (sym (write_acts place (ByTx own) v c.now (map.get m write_row)))
-        (try_turn write is (t, key) refl l (λ w. tt) write_found Note.Wrote write_note (wrote place v) (λ z. Answer.Done) (λ z. refl) write_keeps)
-
-    write_make : Turn write (TxAt.Write Make)
-    unfolding Leaves
-    write_make = make_turn write is (t, key) refl l (λ w. tt) write_found Note.Wrote write_note (λ left none. first_made write is (t, key) refl l left Value.Null refl none (inl (item_self r.func t key)) tt tt)
+    write_done : (left : k.later ≡ []) (n : Rows) → DoneAt write (t, key) (CellOp.Write v) n
+    write_done left n stay z =
+        let y : Item = record { func = k.instance.func; table = t; key = key } in
+        let wants = now_is write is (t, key) refl l left in
+        written write is (t, key) refl l left n z.alone stay refl Answer.Done (λ z e. cc)
+        (writes_go d m h.plain h.known h.locked (after write is (t, key) refl l) r.id k.instance own t key v n (opened write is (t, key) refl l left) (stands write is (t, key) refl l left) (out write is (t, key) refl l) z.alone (was write is (t, key) refl l left) wants
+        (wrote_so (place_of r.id (length k.instance.answers)) (ByTx own) v (shadow_of m own y) (shadow_of n own y) z.none z.free z.so))
+        (sane_wrote d h.known h.sane r.id k.instance k.made t key v wants)
+        (write_inside d h.known h.locked (after write is (t, key) refl l) r.id k.instance k.made (out write is (t, key) refl l) own (inside write is (t, key) refl l left) m h.rows t key v n wants (lockset write is (t, key) refl l left) (was write is (t, key) refl l left)
+        z.alone z.sound z.none z.so)
 
     write_turn : (w : WriteAt) → Turn write (TxAt.Write w)
-    write_turn Try = write_try
-    write_turn Make = write_make
+    unfolding Leaves
+    write_turn Try = try_turn write is (t, key) refl l (CellOp.Write v) refl (λ q. refl) (λ w. tt) write_note (λ w left. tt) write_done
+    write_turn Make = makes write is (t, key) refl l (CellOp.Write v) refl (λ q. refl) (λ w. tt) write_note Value.Null (λ left none. inl (item_self r.func t key)) (λ z there. tt)
+        (λ z. tx_says (TxAt.Write Make) (write_leads write (write_goes Note.Wrote (said (act (MakeCell Value.Null None) c.now z).1)))) refl (λ z. refl)
 
   -- ---- a write of which a condition is tested
   module _ (t : ℕ) (key : List ℕ) (u : Rel) (y v : Value) (is : g.machine.effect ≡ Effect.CondWrite t key u y v) (l : HasLocked m r o g.machine.steps (t, key)) where
@@ -462,9 +469,9 @@ module _ (d : Deployment) (c : Core) (m : Rows) (i : ℕ) (r : Run) (g : Begun) 
     -- it looks for its shadow
     seek_turn : Turn test TxAt.Shadow
     unfolding Leaves
-    seek_turn = looked_at test is (t, key) refl l (tx_says TxAt.Shadow (head_goes (said (act Look c.now (map.get m test_row)).1))) test_row (by_row (map.get m test_row) refl)
+    seek_turn = looked_at test is (t, key) refl l (tx_says TxAt.Shadow (head_goes (said (act Look c.now (map.get m test_row)).1))) test_row (by_row (map.get m test_row) (last_row test_item))
       where
-        by_row : (w : Option Row) → map.get m test_row ≡ w → Leaves (tx_says TxAt.Shadow (head_goes (said (act Look c.now w).1))) m
+        by_row : (w : Option Row) → shadow_row m own test_item ≡ w → Leaves (tx_says TxAt.Shadow (head_goes (said (act Look c.now w).1))) m
         by_row None there = moves_on test is (t, key) refl l TxAt.Item tt (record { begin = tt; asked = λ z. l.asked; locked = l.got; found = λ q made same. tt })
         by_row (Some w) there = moves_on test is (t, key) refl l (TxAt.Write Try) tt (record { begin = tt; asked = λ z. l.asked; locked = l.got; found = λ q made same. ap is_some there })
 
@@ -490,63 +497,28 @@ module _ (d : Deployment) (c : Core) (m : Rows) (i : ℕ) (r : Run) (g : Begun) 
         )
 
     -- it makes its shadow, with the value that it found
-    module _ (w : Value) (saw : k.later ≡ [] → map.get m test_row ≡ None → value_at h.plain test_item ≡ w) where
-      abbrev Heads : Option Row → Type 0
-      Heads z = Leaves (tx_says (TxAt.Head w) (head_made (said (act (MakeCell w None) c.now z).1))) (set_row m test_row (act (MakeCell w None) c.now z).0)
+    head_turn : (w : Value) → (k.later ≡ [] → shadow_row m own test_item ≡ None → value_at h.plain test_item ≡ w) → Turn test (TxAt.Head w)
+    unfolding Leaves
+    head_turn w saw = makes test is (t, key) refl l (CellOp.Cond u y v) refl (λ q. refl) (λ w. tt) test_note w (λ left none. inr (sym (saw left none))) (λ z there. there) (λ z. tx_says (TxAt.Head w) (head_made (said (act (MakeCell w None) c.now z).1))) refl (λ z. refl)
 
-      head_by : (z : Option Row) → map.get m test_row ≡ z → (later : List Answer) → k.later ≡ later → Heads z
-      head_by (Some z) there later left = still_row test is (t, key) refl l (Says.On (Stage.Tx (TxAt.Write Try)) None) test_row (Some z) there
-          (moves_on test is (t, key) refl l (TxAt.Write Try) tt (record { begin = tt; asked = λ a. l.asked; locked = l.got; found = λ q made same. ap is_some there }))
-      head_by None there [] left = first_made test is (t, key) refl l left w refl there (inr (sym (saw left there))) tt refl
-      head_by None there (b ∷ rest) left = let clash = sym (test_note b rest left).1 ∙ ap (λ z. note_at (content_in z).notes place) there in cc
-
-      head_turn : Turn test (TxAt.Head w)
-      unfolding Leaves
-      head_turn = head_by (map.get m test_row) refl k.later refl
-
-    module _ (has : k.later ≡ [] → is_some (map.get m test_row) ≡ true) where
-      module _ (left : k.later ≡ []) (z : Cell) (there : map.get m test_row ≡ Some (Row.Cell z)) (sound : SoundAt (Some (Row.Cell z))) (none : note_at z.log place ≡ None) (free : other_owner (ByTx own) z.owner ≡ None) where
-        abbrev passed : Bool
-        passed = passes z.value u y
-
-        abbrev result : Answer
-        result = Answer.Value (Value.Bool passed)
-
-        abbrev tried : Option Row
-        tried = Some (Row.Cell (tries place u y v z).0)
-
-        test_did : test_on place (ByTx own) u y v (shadow_of m own test_item) ≡ (content_in tried, tested passed)
-        test_did = grind arith
-
-        test_keeps : Kept h (set_row m test_row tried) h.plain (next test is (t, key) refl l result) (after test is (t, key) refl l)
-        test_keeps =
-            let wants = now_is test is (t, key) refl l left in
-            let was_out = out test is (t, key) refl l in
-            let acts = as_its test is (t, key) refl l left (λ a p. test_on p (ByTx own) u y v (shadow_of m own a) ≡ (content_in tried, tested passed)) test_did in
-            let parts = test_parts (place_of r.id (length k.instance.answers)) (ByTx own) u y v (shadow_of m own (record { func = k.instance.func; table = t; key = key })) (content_in tried) passed acts in
-            as_ran test is (t, key) refl l left (λ a p. Kept h (set_row m (shadow_key own a) tried) h.plain (next test is (t, key) refl l result) (after test is (t, key) refl l))
-            (answer_keeps test is (t, key) refl l left result (set_row m (shadow_key own (record { func = k.instance.func; table = t; key = key })) tried) (λ a e. cc)
-            (tests_go d m h.plain h.known h.locked (after test is (t, key) refl l) r.id k.instance own t key u y v passed tried (opened test is (t, key) refl l left) (stands test is (t, key) refl l left) was_out (was test is (t, key) refl l left) wants
-            (as_its test is (t, key) refl l left (λ a p. is_some (map.get m (shadow_key own a)) ≡ true) (has left)) acts)
-            (sane_tested d h.known h.sane r.id k.instance k.made t key u y v passed wants)
-            (test_inside d h.known h.locked (after test is (t, key) refl l) r.id k.instance k.made was_out own (inside test is (t, key) refl l left) m h.rows t key u y v tried passed wants (lockset test is (t, key) refl l left) (was test is (t, key) refl l left)
-            (sound.0, once_pushed z.log place (Note.Cond passed) none sound.1, sound.2, sound.3) parts.0 _ parts.1)
-            (shadow_lists m own (undecided_here test is (t, key) refl l left) (record { func = k.instance.func; table = t; key = key }) tried)
-            (shadow_frame test is (t, key) refl l left (Row.Cell (tries place u y v z).0) (next test is (t, key) refl l result) (joins_none test is (t, key) refl l left result) refl)
-            (shadow_unfinished test is (t, key) refl l left (Row.Cell (tries place u y v z).0) (next test is (t, key) refl l result)))
-
-      test_try : Turn test (TxAt.Write Try)
-      unfolding Leaves
-      test_try = subst (λ a. Leaves (tx_says (TxAt.Write Try) (write_leads test (write_goes (Note.Cond true) (said a.1)))) (set_row m test_row a.0)) (sym (test_acts place (ByTx own) u y v c.now (map.get m test_row)))
-          (try_turn test is (t, key) refl l (λ w. tt) (λ w left. has left) (Note.Cond true) test_note (tries place u y v) (λ z. Answer.Value (Value.Bool (passes z.value u y))) (λ z. refl) test_keeps)
-
-      test_make : Turn test (TxAt.Write Make)
-      unfolding Leaves
-      test_make = make_turn test is (t, key) refl l (λ w. tt) (λ w left. has left) (Note.Cond true) test_note (λ left none. let clash = sym (has left) ∙ ap is_some none in cc)
+    module _ (has : k.later ≡ [] → is_some (shadow_row m own test_item) ≡ true) where
+      test_done : (left : k.later ≡ []) (n : Rows) → DoneAt test (t, key) (CellOp.Cond u y v) n
+      test_done left n stay z =
+          let a : Item = record { func = k.instance.func; table = t; key = key } in
+          let b : Bool = passes (shadow_of m own a).value u y in
+          let wants = now_is test is (t, key) refl l left in
+          written test is (t, key) refl l left n z.alone stay refl (Answer.Value (Value.Bool b)) (λ z e. cc)
+          (tests_go d m h.plain h.known h.locked (after test is (t, key) refl l) r.id k.instance own t key u y v b n (opened test is (t, key) refl l left) (stands test is (t, key) refl l left) (out test is (t, key) refl l) z.alone (was test is (t, key) refl l left) wants
+          (as_its test is (t, key) refl l left (λ a p. is_some (shadow_row m own a) ≡ true) (has left)) (tested_so (place_of r.id (length k.instance.answers)) (ByTx own) u y v (shadow_of m own a) (shadow_of n own a) z.none z.free z.so))
+          (sane_tested d h.known h.sane r.id k.instance k.made t key u y v b wants)
+          (test_inside d h.known h.locked (after test is (t, key) refl l) r.id k.instance k.made (out test is (t, key) refl l) own (inside test is (t, key) refl l left) m h.rows t key u y v n b wants (lockset test is (t, key) refl l left) (was test is (t, key) refl l left)
+          z.alone z.sound z.none _ z.so)
 
       test_turn : (w : WriteAt) → Turn test (TxAt.Write w)
-      test_turn Try = test_try
-      test_turn Make = test_make
+      unfolding Leaves
+      test_turn Try = try_turn test is (t, key) refl l (CellOp.Cond u y v) refl (λ q. refl) (λ w. tt) test_note (λ w left. has left) test_done
+      test_turn Make = makes test is (t, key) refl l (CellOp.Cond u y v) refl (λ q. refl) (λ w. tt) test_note Value.Null (λ left none. let clash = sym (has left) ∙ ap is_some none in cc) (λ z there. there)
+          (λ z. tx_says (TxAt.Write Make) (write_leads test (write_goes (Note.Cond true) (said (act (MakeCell Value.Null None) c.now z).1)))) refl (λ z. refl)
 
   -- ---- every stage past the lock
   pub working_turn : (e : Effect) (a : TxAt) → g.machine.effect ≡ e → is_past a ≡ true → Fits e a → InItem d m h.plain h.known r.id r.func o g.machine.steps e a (touched e) → Turn e a

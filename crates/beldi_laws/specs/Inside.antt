@@ -8,13 +8,13 @@ use Rattle.beldi_lang.specs.declared.effect.Effect.{Effect, TheVariants.Read, Th
 use Rattle.beldi_plain.specs.{Item.Item, Plain.Instance, Plain.PlainState, Plain.value_at, Plain.effect_of, Plain.outcome_of}
 use Rattle.beldi_order.specs.{Inside.IsBelow, Txs.tx_now}
 use Rattle.beldi_row.specs.{Key.RowKey, declared.notes.Note.Note, declared.row.Row.Row, Log.note_at, Table.Rows}
-use Rattle.beldi_daal.specs.Content.{Content}
+use Rattle.beldi_chain.specs.Content.{Content}
 use Rattle.beldi_lock.specs.declared.lock.LockAt.TheVariants.{Lockset}
 use Rattle.beldi_invokelog.specs.InvokeLog.{invoke_key}
 use Rattle.beldi_intent.specs.Intent.{intent_key}
 use Rattle.beldi_txn.specs.{declared.tx.TxAt.TxAt, declared.end.Visit.Visit, declared.end_walk.EndWalk.EndWalk, Tx.op_of, End.end_place, End.first_end, Invokes.func_called, TxTurn.HasLock, Visited.AreReleased}
 use Rattle.beldi_step.specs.{declared.run.OpenTx.OpenTx, declared.run.RunTx.RunTx, Run.begin_of, Run.own_tx, Run.place_of, Run.tx_of, Tables.value_in}
-use Rattle.beldi_known.specs.{Stands.key_in, Contents.content_of, Contents.lockset_key, Contents.shadow_key, Known.Known, Known.last_step, Known.tx_end}
+use Rattle.beldi_known.specs.{Stands.key_in, Contents.content_of, Contents.lockset_key, Contents.shadow_chain, Contents.shadow_row, Known.Known, Known.last_step, Known.tx_end}
 
 -- ---- an operation inside
 -- its begin, where it asks for the lock
@@ -28,7 +28,7 @@ has_asked TxAt.Log = false
 has_asked (TxAt.Lock (Lockset b)) = false
 has_asked a = true
 
--- what it found, by the first row of the shadow and the plain value of the item: a read keeps what the transaction sees, and the shadow
+-- what it found, by the last row of the shadow and the plain value of the item: a read keeps what the transaction sees, and the shadow
 -- of a condition is made with the plain value
 abbrev pub Found : Effect → TxAt → Option Row → Value → Type 0
 Found (Read t k) TxAt.Item shadow v = shadow ≡ None
@@ -43,7 +43,7 @@ pub record InOperation (d : Deployment) (m : Rows) (p : PlainState) (known : Kno
   pub locked : HasLock a (place_of id step) (content_of m (record { func = func; table = i.0; key = i.1 }))
   -- where its instance was not answered since
   pub found : (q : Instance) → map.get known id ≡ Some q → length q.answers ≡ step
-      → let x : Item = record { func = func; table = i.0; key = i.1 } in Found e a (map.get m (shadow_key (tx_of id func o) x)) (value_at p x)
+      → let x : Item = record { func = func; table = i.0; key = i.1 } in Found e a (shadow_row m (tx_of id func o) x) (value_at p x)
 
 abbrev pub InItem : Deployment → Rows → PlainState → Known → IntentId → ℕ → RunTx → ℕ → Effect → TxAt → Option (ℕ × List ℕ) → Type 0
 InItem d m p known id func o step e a None = Unit {0}
@@ -114,7 +114,7 @@ pub record Frame (d : Deployment) (m n : Rows) (p q : PlainState) (known next : 
   pub rows : (k : RowKey) → is_some (map.get m k) ≡ true → is_some (map.get n k) ≡ true
   pub notes : (x : Item) (a : Place) (w : Note) → note_at (content_of m x).notes a ≡ Some w → note_at (content_of n x).notes a ≡ Some w
   -- a shadow is as before, unless it may be written
-  pub shadows : (t : TxId) (x : Item) → (IsWriting d known t → ⊥) → map.get n (shadow_key t x) ≡ map.get m (shadow_key t x)
+  pub shadows : (t : TxId) (x : Item) → (IsWriting d known t → ⊥) → shadow_chain n t x ≡ shadow_chain m t x
   -- a transaction that has ended asks for no further lock, and takes none; what it still owns has the same notes
   pub locksets : (t : TxId) (z : ℕ × Bool) (i : IntentId) (x : Item) → tx_end d next t ≡ Some z → IsOf next t i → is_some (map.get n (lockset_key i t.begin x)) ≡ true → is_some (map.get m (lockset_key i t.begin x)) ≡ true
   pub owners : (t : TxId) (z : ℕ × Bool) (x : Item) → tx_end d next t ≡ Some z → (content_of n x).owner ≡ Some (ByTx t) → StillOwns next (content_of m x) (content_of n x) t z.0

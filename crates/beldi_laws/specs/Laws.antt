@@ -9,7 +9,8 @@ use Rattle.beldi_plain.specs.{Item.Item, Plain.PlainState, Legal.IsLegal, Legal.
 use Rattle.beldi_order.specs.Grown.{Grows}
 use Rattle.beldi_row.specs.{Key.RowKey, declared.act.Act.Act, Table.Rows, Table.TableState, Table.Rose, Table.after_act}
 use Rattle.beldi_step.specs.{declared.event.Event.Event, declared.event.Seen.Seen, Host.Core, Host.Stepped, Host.EventOn, Host.first_core, Told.is_lost, Told.is_dropped, Told.told_outcome, Told.bound_of, Told.entries_told, Tables.tables_text}
-use Rattle.beldi_known.specs.{Stands.Stands, Contents.is_row_of, Contents.content_of}
+use Rattle.beldi_known.specs.{Stands.Stands, Contents.head_key, Contents.content_of}
+use Rattle.beldi_chain.specs.Chain.{is_row_of}
 use Rattle.beldi_laws.specs.{Right.Right, OneAnswer.OneAnswerPerStep, OneAnswer.AnswersStay}
 
 -- a host that nothing has happened to is right, over no rows
@@ -84,7 +85,7 @@ HeldAnswersStay = (d : Deployment) (room old new : ℕ) (e : Event) (c b : Core)
 pub record OneRowChanged (c : Core) (m n : Rows) : Type 0 where
   pub key : RowKey
   pub rows : (n ≡ m) ⊎ ((a : Act) × (n ≡ after_act a c.now key m))
-  pub others : (x : Item) → is_row_of x key ≡ false → content_of n x ≡ content_of m x
+  pub others : (x : Item) → is_row_of (head_key x) key ≡ false → content_of n x ≡ content_of m x
 
 abbrev pub ChangesOneRow : Type 0
 ChangesOneRow = (d : Deployment) (room old new : ℕ) (e : Event) (c b : Core) (m n : Rows) (r : Result Seen AllocError) → EventOn d room old new e c m b n r → OneRowChanged c m n

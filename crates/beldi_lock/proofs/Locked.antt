@@ -1,5 +1,5 @@
 -- What a walk says of a lock is what a logged cell says of it.
-use Rattle.beldi_lock.proofs.Names.{CameOn, Cell, Content, DidAs, Dies, Err, Going, HasNote, IntentId, Item, LeavesAt, Lock, LockAt, LockCell, LockTurn, LockWalk, Locks, LocksAreByTheRow, LocksStand, Lockset, LoggedTurn, Logs, None, Note, Ok, Option, Owner, Place, Plain, PutLockset, PutTurn, Row, RowKey, Rows, Some, SoundAt, Tell, Try, TxId, WriteAt, WriteGoes, WriteWalk, act, after_act, age_of, ap, asks_at, barred, by_op, cond, content_in, did, died_at, died_of, dies, entered, false, free, got, if◌then◌else◌, is_older, item_goes, key_self, lock_asks, lock_goes, lock_key, lock_says, lock_so, lockset_key, next_or, no_row, note_at, note_here, noted, noted_or, other_owner, owned_or, put_goes, put_row, refl, rows_after, said, spare, subst, sym, taken, tells_map, told_by, true, waited, walk_so, write_goes, ℕ, ◌∙◌, ◌≡◌}
+use Rattle.beldi_lock.proofs.Names.{CameOn, Cell, Content, DidAs, Dies, Err, Going, HasNote, IntentId, Item, LeavesAt, Lock, LockAt, LockCell, LockTurn, LockWalk, Locks, LocksAreByTheRow, LocksStand, Lockset, LoggedTurn, Logs, None, Note, Ok, Option, Owner, Place, Plain, PutLockset, PutTurn, Row, RowKey, Rows, Some, SoundAt, Tell, Try, TxId, WriteAt, WriteGoes, WriteWalk, act, after_act, age_of, ap, asks_at, barred, by_op, chain, cond, content_in, did, died_at, died_of, dies, entered, false, free, got, if◌then◌else◌, is_older, item_goes, key_self, lock_asks, lock_goes, lock_key, lock_says, lock_so, lockset_key, next_or, no_row, note_at, note_here, noted, noted_or, one_content, other_owner, owned_or, put_goes, put_row, refl, rows_after, said, spare, subst, sym, taken, tells_map, told_by, true, waited, walk_so, write_goes, ℕ, ◌∙◌, ◌≡◌}
 use Rattle.beldi_lock.proofs.Names.map
 
 -- who neither waits nor dies meets no other owner
@@ -109,4 +109,4 @@ pub locks_stand : LocksStand
 locks_stand w now m n here sound is =
     ap (λ at. lock_says w (told_by (asks_at w.home w.table w.key w.place w.who at) now m)) here
     ∙ ap (λ at. lock_so (lock_goes at (told_by (asks_at w.home w.table w.key w.place w.who (Item Try)) now m))) here
-    ∙ ap (λ t. lock_so (item_goes Try (write_goes Note.Got (said t)))) (told_so w.place w.who now n (map.get m (lock_key w)) sound is)
+    ∙ ap (λ t. lock_so (item_goes Try (write_goes Note.Got (said t)))) (told_so w.place w.who now n (map.get m (lock_key w)) sound.head (ap (λ (c : Content). note_at c.notes w.place) (sym (one_content (chain m (lock_key w)) sound)) ∙ is))

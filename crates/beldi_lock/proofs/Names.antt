@@ -7,7 +7,8 @@ pub use Rattle.beldi_row.specs.Act.{Tell, act, did, entered, next_or, no_row, no
 pub use Rattle.beldi_row.{proofs.Gets.got, proofs.Gets.key_self, proofs.Least.next_row_least, proofs.Logs.note_here, proofs.Tells.tells_map, specs.Key.RowKey, specs.Key.key_cmp, specs.KeyOrder.key_exact, specs.KeyOrder.key_total, specs.Log.note_at, specs.Table.IsNext, specs.Table.Rows, specs.Table.after_act, specs.Table.next_row, specs.declared.act.Act.TheVariants.LockCell, specs.declared.act.Act.TheVariants.PutLockset, specs.declared.key.Kind.Kind, specs.declared.notes.Note.Note, specs.declared.row.Cell.Cell, specs.declared.row.Row.Row, specs.declared.table.TableErr.TheVariants.OutOfMemory}
 pub use Rattle.beldi_walk.{proofs.Promises.promised, proofs.Queries.unasked, proofs.Queries.went, specs.Query.CameOn, specs.Query.rows_after, specs.Query.said, specs.Query.told_by, specs.declared.query.Query.TheVariants.After}
 pub use Rattle.beldi_daal.specs.Logged.{DidAs, LoggedTurn, Logs, barred, died_at, died_of, dies, waited}
-pub use Rattle.beldi_daal.{proofs.Bars.free, proofs.Bars.taken, proofs.Logged.by_op, specs.Cell.write_goes, specs.Content.Content, specs.Content.SoundAt, specs.Content.content_in, specs.Walk.walk_so, specs.declared.cell.CellOp.TheVariants.Lock, specs.declared.cell.WriteAt.WriteAt, specs.declared.cell.WriteAt.TheVariants.Try, specs.declared.cell.WriteGoes.WriteGoes, specs.declared.walk.Item.TheVariants.Plain, specs.declared.walk.WriteWalk.WriteWalk}
+pub use Rattle.beldi_chain.{proofs.OneRow.one_content, specs.Chain.chain, specs.Content.Content, specs.Content.SoundAt, specs.Content.content_in}
+pub use Rattle.beldi_daal.{proofs.Bars.free, proofs.Bars.taken, proofs.Logged.by_op, specs.Cell.write_goes, specs.Walk.walk_so, specs.declared.cell.CellOp.TheVariants.Lock, specs.declared.cell.WriteAt.WriteAt, specs.declared.cell.WriteAt.TheVariants.Try, specs.declared.cell.WriteGoes.WriteGoes, specs.declared.walk.Item.TheVariants.Plain, specs.declared.walk.WriteWalk.WriteWalk}
 pub use Rattle.beldi_lock.specs.Lock.{asks_at, item_goes, lock_asks, lock_goes, lock_says, lock_so, lockset_key, put_goes}
 pub use Rattle.beldi_lock.specs.Locked.{Dies, HasNote, LeavesAt, LockTurn, Locks, LocksAreByTheRow, LocksStand, PutTurn, lock_key, put_row}
 pub use Rattle.beldi_lock.specs.Lockset.{AreFit, AreHops, FindsFirst, FindsNext, IsFirstFrom, IsFit, LocksetsBegin, LocksetsFollow, before_last, before_split, begin_before, filled, id_before, item_lent, lockset_after, lockset_asks, lockset_found, most}

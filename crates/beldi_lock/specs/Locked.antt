@@ -5,7 +5,8 @@ use Rattle.std.specs.FinMap as map
 use Rattle.beldi_value.specs.declared.{id.IntentId.IntentId, place.Owner.Owner, place.Place.Place}
 use Rattle.beldi_row.specs.{declared.notes.Note.Note, declared.row.Row.Row, Act.other_owner, Key.RowKey, Key.key_cmp, Log.note_at, Table.Rows, Table.TableState, Table.Tells}
 use Rattle.beldi_walk.specs.{Query.told_by, Walk.Turned}
-use Rattle.beldi_daal.specs.{declared.cell.CellOp.TheVariants.Lock, declared.cell.WriteAt.TheVariants.Try, Cell.cell_key, Content.Content, Content.content_in, Content.SoundAt, Logged.waited, Logged.dies, Logged.done_to, Logged.died_at}
+use Rattle.beldi_chain.specs.{Chain.ChangedAlone, Chain.Sound, Chain.chain, Chain.content, Content.Content}
+use Rattle.beldi_daal.specs.{declared.cell.CellOp.TheVariants.Lock, declared.cell.WriteAt.TheVariants.Try, Cell.cell_key, Logged.waited, Logged.dies, Logged.done_to, Logged.died_at}
 use Rattle.beldi_lock.specs.{declared.lock.LockAt.LockAt, declared.lock.LockAt.TheVariants.Lockset, declared.lock.LockAt.TheVariants.Item, declared.lock_walk.LockSays.LockSays, declared.lock_walk.LockSays.TheVariants.Going, declared.lock_walk.LockSays.TheVariants.Got, declared.lock_walk.LockSays.TheVariants.Died, declared.lock_walk.LockSays.TheVariants.Held, declared.lock_walk.LockSays.TheVariants.Worn, declared.lock_walk.LockWalk.LockWalk, Lock.lockset_key, Lock.note_goes, Lock.lock_asks, Lock.lock_next, Lock.lock_so, Lock.lock_says}
 
 abbrev pub lock_key : LockWalk → RowKey
@@ -35,12 +36,12 @@ Locks p who Worn c d = ⊥
 
 -- what a turn at the item leaves, where its chain is sound
 pub record LockTurn (w : LockWalk) (m n : Rows) (s : LockSays) : Type 0 where
-  -- all other rows are as before
-  pub others : (k : RowKey) → is_eq (key_cmp k (lock_key w)) ≡ false → map.get n k ≡ map.get m k
-  pub locks : Locks w.place w.who s (content_in (map.get m (lock_key w))) (content_in (map.get n (lock_key w)))
+  -- the rows of all other items are as before
+  pub others : ChangedAlone (lock_key w) m n
+  pub locks : Locks w.place w.who s (content (chain m (lock_key w))) (content (chain n (lock_key w)))
   -- the place has what is said of it
-  pub noted : HasNote w.place s (content_in (map.get n (lock_key w)))
-  pub sound : SoundAt (map.get n (lock_key w))
+  pub noted : HasNote w.place s (content (chain n (lock_key w)))
+  pub sound : Sound (chain n (lock_key w))
 
 -- what a turn leaves that puts the row of a lockset: it is there, and all other rows are as before
 abbrev pub put_row : Option Row → Row
@@ -55,7 +56,7 @@ pub record PutTurn (k : RowKey) (m n : Rows) (s : LockSays) : Type 0 where
 -- by where the walk stands
 abbrev pub LeavesAt : LockAt → LockWalk → Rows → Rows → LockSays → Type 0
 LeavesAt (Lockset begin) w m n s = PutTurn (lockset_key w.home w.place.intent begin w.table w.key) m n s
-LeavesAt (Item at) w m n s = SoundAt (map.get m (lock_key w)) → LockTurn w m n s
+LeavesAt (Item at) w m n s = Sound (chain m (lock_key w)) → LockTurn w m n s
 
 -- for every turn that says something, over every table that tells its rows
 abbrev pub LocksAreByTheRow : Type 0
@@ -64,5 +65,5 @@ LocksAreByTheRow = (w x : LockWalk) (now : ℕ) (old new : TableState) (s : Lock
 
 -- what a place came to first stands: a walk for it that tries the item says so, and took nothing
 abbrev pub LocksStand : Type 0
-LocksStand = (w : LockWalk) (now : ℕ) (m : Rows) (n : Note) → w.at ≡ Item Try → SoundAt (map.get m (lock_key w)) → note_at (content_in (map.get m (lock_key w))).notes w.place ≡ Some n
+LocksStand = (w : LockWalk) (now : ℕ) (m : Rows) (n : Note) → w.at ≡ Item Try → Sound (chain m (lock_key w)) → note_at (content (chain m (lock_key w))).notes w.place ≡ Some n
     → lock_says w (told_by (lock_asks w) now m) ≡ lock_so (note_goes Try n false)

@@ -2,14 +2,14 @@
 ghost use Rattle.beldi_lock.specs.Locked.{LocksAreByTheRow, LocksStand};
 ghost use Rattle.beldi_lock.specs.Lockset.{LocksetsBegin, LocksetsFollow};
 
-/// What a walk says of the lock is what the rows of its item hold, and it leaves every other row as it is. For a transaction it first
+/// What a walk says of the lock is what the rows of its item hold, and it leaves the rows of all other items as they are. For a transaction it first
 /// puts the row that says that the lock is asked for.
 pub fn a_lock_is_by_the_row()
     ensures { LocksAreByTheRow }
 {}
 
 /// The first lock or death of a place stands: every later walk for it is told the same, since no act takes away the note of a place
-/// (`a_note_stays` of `beldi_daal`).
+/// (`notes_of_a_chain_stay` of `beldi_chain`).
 pub fn what_came_stands()
     ensures { LocksStand }
 {}

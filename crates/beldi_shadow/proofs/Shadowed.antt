@@ -1,10 +1,10 @@
 -- What the walks say of a shadow is what a logged cell says of it.
-use Rattle.std.specs.FinMap as map
 use Rattle.std.proofs.Common.{◌≡◌, true, false, Option, None, Some, Ok, Err, refl, ap, sym, ◌∙◌, subst}
 use Rattle.beldi_value.specs.declared.place.{Owner.Owner, Owner.TheVariants.Intent, Owner.TheVariants.Tx, Place.Place}
 use Rattle.beldi_row.{specs.declared.table.TableErr.TableErr, specs.declared.table.TableErr.TheVariants.OutOfMemory, specs.declared.table.TableErr.TheVariants.Failed, specs.declared.table.TableErr.TheVariants.Full, specs.Log.note_at, specs.Table.Rows, proofs.Tells.tells_map}
+use Rattle.beldi_chain.specs.{Chain.Sound, Chain.chain, Chain.content, Content.Content}
 use Rattle.beldi_daal.specs.Logged.{owner_after, dies, barred, DidAs, Logs, LoggedTurn, ReadsContent, ReadTurn as PlainRead}
-use Rattle.beldi_daal.{specs.declared.cell.CellOp.CellOp, specs.declared.cell.CellOp.TheVariants.Write, specs.declared.cell.CellOp.TheVariants.Cond, specs.declared.cell.CellOp.TheVariants.Lock, specs.declared.cell.CellOp.TheVariants.Free, specs.declared.walk.WriteSays.WriteSays, specs.declared.read_walk.ReadSays.ReadSays, specs.Content.Content, specs.Content.content_in, specs.Content.SoundAt, proofs.Logged.writes_are_logged, proofs.Logged.reads_are_contents}
+use Rattle.beldi_daal.{specs.declared.cell.CellOp.CellOp, specs.declared.cell.CellOp.TheVariants.Write, specs.declared.cell.CellOp.TheVariants.Cond, specs.declared.cell.CellOp.TheVariants.Lock, specs.declared.cell.CellOp.TheVariants.Free, specs.declared.walk.WriteSays.WriteSays, specs.declared.read_walk.ReadSays.ReadSays, proofs.Logged.writes_are_logged, proofs.Logged.reads_are_contents}
 use Rattle.beldi_daal.specs.ReadWalk as read
 use Rattle.beldi_daal.specs.Walk as write
 use Rattle.beldi_shadow.specs.Shadowed.{is_aside, write_key, read_key, DoneOnce, Writes, WriteTurn, Reads, ReadTurn, ShadowsAreLogged, ShadowsReadTheirOwn}
@@ -47,8 +47,8 @@ module _ (p : Place) (who : Owner) (op : CellOp) (aside : is_aside op ≡ true) 
 
 pub shadows_are_logged : ShadowsAreLogged
 shadows_are_logged w x now old new s aside (Ok t, h, c) = tells_map
-    {P = λ m n. SoundAt (map.get m (write_key w)) → LoggedTurn w.walk m n (write.walk_says w.walk t)}
-    {Q = λ m n. SoundAt (map.get m (write_key w)) → (content_in (map.get m (write_key w))).owner ≡ None → WriteTurn w m n s} old.rows new.rows
+    {P = λ m n. Sound (chain m (write_key w)) → LoggedTurn w.walk m n (write.walk_says w.walk t)}
+    {Q = λ m n. Sound (chain m (write_key w)) → (content (chain m (write_key w))).owner ≡ None → WriteTurn w m n s} old.rows new.rows
     (λ m n turned sound unowned.
     let l : LoggedTurn w.walk m n (write.walk_says w.walk t) = turned sound in
     let z = written w.walk.place w.walk.who w.walk.op aside _ _ unowned (write.walk_says w.walk t) l.logs in
@@ -72,7 +72,7 @@ pub shadows_read_their_own : ShadowsReadTheirOwn
 shadows_read_their_own home tx t k y now old new (Ok s) (Ok v, h, c) =
     let w = first_read home tx t k in tells_map
     {P = λ m n. PlainRead w.walk m n (Ok (read.read_says w.walk v))} {Q = λ m n. ReadTurn w m n (Ok s)} old.rows new.rows
-    (λ m n turned. (turned.0, λ sound. subst (λ z. Reads z (content_in (map.get m (read_key w)))) (sym h.1) (so (content_in (map.get m (read_key w))) (read.read_says w.walk v) (turned.1 sound))))
+    (λ m n turned. (turned.0, λ sound. subst (λ z. Reads z (content (chain m (read_key w)))) (sym h.1) (so (content (chain m (read_key w))) (read.read_says w.walk v) (turned.1 sound))))
     (reads_are_contents w.walk w.walk now old new (Ok (read.read_says w.walk v)) (Ok v, (refl, refl), c))
 shadows_read_their_own home tx t k y now old new (Ok s) (Err v, h, c) = absurd h
 shadows_read_their_own home tx t k y now old new (Err e) (Ok v, h, c) =

@@ -1,11 +1,10 @@
 -- What the walks say of a shadow is so of it.
 use Rattle.std.specs.Prelude.{◌≡◌, ℕ, Bool, true, false, List, Option, Some, None, Result, Ok, Err}
-use Rattle.std.specs.Ordering.{is_eq}
-use Rattle.std.specs.FinMap as map
 use Rattle.beldi_value.specs.declared.place.{Owner.Owner, Place.Place, TxId.TxId}
-use Rattle.beldi_row.specs.{declared.notes.Note.Note, declared.table.TableErr.TableErr, declared.table.TableErr.TheVariants.OutOfMemory, declared.table.TableErr.TheVariants.Failed, declared.table.TableErr.TheVariants.Full, Key.RowKey, Key.key_cmp, Log.note_at, Table.Rows, Table.TableState, Table.Tells}
+use Rattle.beldi_row.specs.{declared.notes.Note.Note, declared.table.TableErr.TableErr, declared.table.TableErr.TheVariants.OutOfMemory, declared.table.TableErr.TheVariants.Failed, declared.table.TableErr.TheVariants.Full, Key.RowKey, Log.note_at, Table.Rows, Table.TableState, Table.Tells}
 use Rattle.beldi_walk.specs.Walk.{Turned}
-use Rattle.beldi_daal.specs.{declared.cell.CellOp.CellOp, declared.cell.CellOp.TheVariants.Write, declared.cell.CellOp.TheVariants.Cond, declared.cell.CellOp.TheVariants.Lock, declared.cell.CellOp.TheVariants.Free, Content.Content, Content.content_in, Content.SoundAt, Logged.done_to}
+use Rattle.beldi_chain.specs.{Chain.ChangedAlone, Chain.Sound, Chain.chain, Chain.content, Content.Content, Content.content_in}
+use Rattle.beldi_daal.specs.{declared.cell.CellOp.CellOp, declared.cell.CellOp.TheVariants.Write, declared.cell.CellOp.TheVariants.Cond, declared.cell.CellOp.TheVariants.Lock, declared.cell.CellOp.TheVariants.Free, Logged.done_to}
 use Rattle.beldi_daal.specs.ReadWalk as read
 use Rattle.beldi_daal.specs.Walk as write
 use Rattle.beldi_shadow.specs.Shadow.{first_read, read_asks, read_next, read_says, write_asks, write_next, write_says}
@@ -36,16 +35,16 @@ Writes p who op Worn c d = ⊥
 
 -- what a turn leaves, where the shadow's chain is sound and nobody owns the shadow
 pub record WriteTurn (w : ShadowWrite) (m n : Rows) (s : ShadowSays) : Type 0 where
-  -- all other rows are as before
-  pub others : (k : RowKey) → is_eq (key_cmp k (write_key w)) ≡ false → map.get n k ≡ map.get m k
-  pub writes : Writes w.walk.place w.walk.who w.walk.op s (content_in (map.get m (write_key w))) (content_in (map.get n (write_key w)))
-  pub sound : SoundAt (map.get n (write_key w))
-  pub unowned : (content_in (map.get n (write_key w))).owner ≡ None
+  -- the rows of all other items are as before
+  pub others : ChangedAlone (write_key w) m n
+  pub writes : Writes w.walk.place w.walk.who w.walk.op s (content (chain m (write_key w))) (content (chain n (write_key w)))
+  pub sound : Sound (chain n (write_key w))
+  pub unowned : (content (chain n (write_key w))).owner ≡ None
 
 -- for every turn that says something, over every table that tells its rows
 abbrev pub ShadowsAreLogged : Type 0
 ShadowsAreLogged = (w x : ShadowWrite) (now : ℕ) (old new : TableState) (s : ShadowSays) → is_aside w.walk.op ≡ true → Turned (write_asks w) now (write_next w) (write_says w) w x old new (Ok s)
-    → Tells old.rows new.rows (λ m n. SoundAt (map.get m (write_key w)) → (content_in (map.get m (write_key w))).owner ≡ None → WriteTurn w m n s)
+    → Tells old.rows new.rows (λ m n. Sound (chain m (write_key w)) → (content (chain m (write_key w))).owner ≡ None → WriteTurn w m n s)
 
 -- ---- a read
 abbrev pub read_key : ShadowRead → RowKey
@@ -61,7 +60,7 @@ Reads Worn c = ⊥
 
 -- the rows are as before, and a Look adds none, so it is never refused as Full
 abbrev pub ReadTurn : ShadowRead → Rows → Rows → Result ShadowSays TableErr → Type 0
-ReadTurn w m n (Ok s) = (n ≡ m) × (SoundAt (map.get m (read_key w)) → Reads s (content_in (map.get m (read_key w))))
+ReadTurn w m n (Ok s) = (n ≡ m) × (Sound (chain m (read_key w)) → Reads s (content (chain m (read_key w))))
 ReadTurn w m n (Err OutOfMemory) = n ≡ m
 ReadTurn w m n (Err Failed) = n ≡ m
 ReadTurn w m n (Err (Full live most)) = ⊥

@@ -1,6 +1,6 @@
 -- What a turn of an operation of a transaction leaves.
 use Rattle.beldi_txn.specs.{Tx.item_of, TxWalk.walk_asks, TxWalk.walk_next, TxWalk.walk_says, TxWalk.said_of}
-use Rattle.beldi_txn.proofs.Names.{Act, AsideMoves, AtItem, CellOp, CondWrite, Content, DidAs, Effect, Finds, Fits, HasLock, IsSo, ItemMoves, List, LockAt, LockMoves, Lockset, LoggedTurn, Logs, Look, Make, MakeCell, None, OperationsAreSo, OperationsBegin, Option, Owner, Place, Plain, PutLockset, PutRead, Query, Read, Rel, Row, RowKey, Rows, Shadow, ShadowMoves, Some, SoundAt, Stands, Try, TxAt, TxGoes, TxId, TxTurn, TxWalk, Value, Write, WriteAt, WriteGoes, WriteSays, WriteWalk, act, ap, asks_of, by_op, cell_goes, cell_key, cond, content_in, dies, false, given, given_in, gone, got, inl, inr, is_eq, item_asks, item_goes, item_leads, key_asked, key_cmp, key_same, key_self, lock_item, lock_leads, locked_goes, lockset_key, log_key, logged_so, looked, note_at, op_of, option_map, other_owner, owner_after, rank_of, read_goes, refl, rows_after, said, set_row, shadow_key, shadow_read, shadow_value, subst, sym, taken, told_by, true, turned, tx_goes, waited, write_asks, write_goes, write_leads, ℕ, ◌∙◌, ◌≡◌, Note, ReadGoes}
+use Rattle.beldi_txn.proofs.Names.{Act, AsideMoves, AtItem, CellOp, Chain, ChangedAlone, CondWrite, Content, DidAs, Effect, Finds, Fits, HasLock, IsHead, IsSo, ItemMoves, List, LockAt, LockMoves, Lockset, LoggedTurn, Logs, Look, Make, MakeCell, None, OperationsAreSo, OperationsBegin, Option, Owner, Place, Plain, PutLockset, PutRead, Query, Read, Rel, Row, RowKey, Rows, Shadow, ShadowMoves, Some, Sound, SoundAt, Stands, Try, TxAt, TxGoes, TxId, TxTurn, TxWalk, Value, Write, WriteAt, WriteGoes, WriteSays, WriteWalk, act, alone_by, ap, asks_of, at_row, by_op, cell_goes, cell_key, chain, chain_off, chain_other, cond, content, content_in, dies, false, given, given_in, gone, got, head_content, head_tail, inl, inr, is_eq, is_row_of, item_asks, item_goes, item_leads, key_asked, key_cmp, key_same, key_self, left_row, lock_item, lock_leads, locked_goes, lockset_key, log_key, logged_so, looked, no_tail, note_at, op_of, option_map, other_owner, owner_after, rank_of, read_goes, refl, rows_after, said, set_row, shadow_key, shadow_read, shadow_value, sound_after, subst, sym, tail, taken, told_by, true, turned, tx_goes, waited, write_asks, write_goes, write_leads, [], ℕ, ◌∙◌, ◌≡◌, Note, ReadGoes}
 use Rattle.beldi_txn.proofs.Names.map
 
 -- ---- rows at other keys
@@ -15,6 +15,28 @@ others_set m k v q h = got m k q v ∙ ap (λ b. cond b v (map.get m q)) h
 
 pub here_set : (m : Rows) (k : RowKey) (v : Option Row) → map.get (set_row m k v) k ≡ v
 here_set m k v = got m k k v ∙ ap (λ b. cond b v (map.get m k)) (key_self k)
+
+pub ranks : (a b : RowKey) → (rank_of a.kind ≡ rank_of b.kind → ⊥) → a ≡ b → ⊥
+ranks a b h is = h (ap (λ (q : RowKey). rank_of q.kind) is)
+
+-- a row of another kind is none of an item's
+pub off_row : (k l : RowKey) → (rank_of (at_row l 0).kind ≡ rank_of k.kind → ⊥) → is_row_of k l ≡ false
+off_row k l h = apart (at_row l 0) k (ranks (at_row l 0) k h)
+
+-- all rows are as before but those of one item: so are the rows of other kinds, and their chains
+module _ (m n : Rows) (head : RowKey) (alone : ChangedAlone head m n) where
+  pub other_kind : (q : RowKey) → (rank_of (at_row q 0).kind ≡ rank_of head.kind → ⊥) → map.get n q ≡ map.get m q
+  other_kind q h = alone q (off_row head q h)
+
+  pub other_chain : (k : RowKey) → IsHead k → (rank_of k.kind ≡ rank_of head.kind → ⊥) → chain n k ≡ chain m k
+  other_chain k is h = chain_other m n head k alone is (apart k head (ranks k head h))
+
+-- ---- the first rows of items and of shadows
+pub item_head : (home t : ℕ) (k : List ℕ) → IsHead (cell_key home t k)
+item_head home t k = record { first = refl; numbered = λ n. refl }
+
+pub aside_head : (home : ℕ) (x : TxId) (t : ℕ) (k : List ℕ) → IsHead (shadow_key home x t k)
+aside_head home x t k = record { first = refl; numbered = λ n. refl }
 
 -- a Look at a sound chain tells its value
 pub shadow_told : (now : ℕ) (r : Option Row) → SoundAt r → read_goes None (said (act Look now r).1) ≡ ReadGoes.Got (shadow_value r)
@@ -36,14 +58,14 @@ aside_same : (o : Option CellOp) (p : Place) (who : Owner) (c d : Content) → d
 aside_same None p who c d h = h
 aside_same (Some o) p who c d h = inl h
 
-shadow_same : (e : Effect) (a : TxAt) (p : Place) (who : Owner) (r s : Option Row) → s ≡ r → ShadowMoves e a p who r s
-shadow_same e TxAt.Log p who r s h = h
-shadow_same e (TxAt.Lock l) p who r s h = h
-shadow_same e TxAt.Shadow p who r s h = h
-shadow_same e TxAt.Item p who r s h = h
-shadow_same e (TxAt.Keep v) p who r s h = h
-shadow_same e (TxAt.Head v) p who r s h = inl h
-shadow_same e (TxAt.Write w) p who r s h = aside_same (op_of e) p who (content_in r) (content_in s) (ap content_in h)
+shadow_same : (e : Effect) (a : TxAt) (p : Place) (who : Owner) (f g : Chain) → g ≡ f → ShadowMoves e a p who f g
+shadow_same e TxAt.Log p who f g h = h
+shadow_same e (TxAt.Lock l) p who f g h = h
+shadow_same e TxAt.Shadow p who f g h = h
+shadow_same e TxAt.Item p who f g h = h
+shadow_same e (TxAt.Keep v) p who f g h = h
+shadow_same e (TxAt.Head v) p who f g h = inl h
+shadow_same e (TxAt.Write w) p who f g h = aside_same (op_of e) p who (content f) (content g) (ap content h)
 
 -- ---- what the walks of a cell did
 -- a lock changes the item only by itself
@@ -92,11 +114,11 @@ module _ (home : ℕ) (p : Place) (x : TxId) (e : Effect) (t : ℕ) (k : List �
 
   -- a turn of the walk at this stage that asks this, by what it leads to
   pub record Leads (a : TxAt) (q : Query) (m n : Rows) (g : TxGoes) : Type 0 where
-    pub others : (z : RowKey) → is_eq (key_cmp z (key_asked q)) ≡ false → map.get n z ≡ map.get m z
-    pub item : ItemMoves a p who (content_in (map.get m ck)) (content_in (map.get n ck))
-    pub shadow : ShadowMoves e a p who (map.get m sk) (map.get n sk)
-    pub finds : Finds a (gone a g) (map.get m sk) (map.get m ck)
-    pub so : IsSo e p who (said_of a g) (given n lk) (content_in (map.get n ck)) (content_in (map.get n sk))
+    pub others : ChangedAlone (key_asked q) m n
+    pub item : ItemMoves a p who (content (chain m ck)) (content (chain n ck))
+    pub shadow : ShadowMoves e a p who (chain m sk) (chain n sk)
+    pub finds : Finds a (gone a g) (tail (chain m sk)) (content (chain m ck)).value
+    pub so : IsSo e p who (said_of a g) (given n lk) (content (chain n ck)) (content (chain n sk))
     pub stands : Stands (walk (gone a g)) t k n
 
   -- where it stands then, it may stand, and has the lock
@@ -104,43 +126,41 @@ module _ (home : ℕ) (p : Place) (x : TxId) (e : Effect) (t : ℕ) (k : List �
   Onto a c g = Fits e (gone a g) × HasLock (gone a g) p c
 
   module _ (a : TxAt) (m : Rows) (h : Stands (walk a) t k m) where
-    standing : (n : Rows) (g : TxGoes) → SoundAt (map.get n ck) → SoundAt (map.get n sk) → (content_in (map.get n sk)).owner ≡ None → Onto a (content_in (map.get n ck)) g → Stands (walk (gone a g)) t k n
+    standing : (n : Rows) (g : TxGoes) → Sound (chain n ck) → Sound (chain n sk) → (content (chain n sk)).owner ≡ None → Onto a (content (chain n ck)) g → Stands (walk (gone a g)) t k n
     standing n g item shadow unowned onto = record { item = item; shadow = shadow; unowned = unowned; fits = onto.0; locked = onto.1 }
 
-    -- neither the item's row nor the shadow's changed
-    beside : (q : Query) (n : Rows) (g : TxGoes) → ((z : RowKey) → is_eq (key_cmp z (key_asked q)) ≡ false → map.get n z ≡ map.get m z)
-        → map.get n ck ≡ map.get m ck → map.get n sk ≡ map.get m sk → Finds a (gone a g) (map.get m sk) (map.get m ck)
-        → IsSo e p who (said_of a g) (given n lk) (content_in (map.get n ck)) (content_in (map.get n sk)) → Onto a (content_in (map.get m ck)) g → Leads a q m n g
+    -- neither the item's rows nor the shadow's changed
+    beside : (q : Query) (n : Rows) (g : TxGoes) → ChangedAlone (key_asked q) m n → chain n ck ≡ chain m ck → chain n sk ≡ chain m sk → Finds a (gone a g) (tail (chain m sk)) (content (chain m ck)).value
+        → IsSo e p who (said_of a g) (given n lk) (content (chain n ck)) (content (chain n sk)) → Onto a (content (chain m ck)) g → Leads a q m n g
     beside q n g others item shadow finds so onto = record {
       others = others;
-      item = item_same a p who (content_in (map.get m ck)) (content_in (map.get n ck)) (ap content_in item);
-      shadow = shadow_same e a p who (map.get m sk) (map.get n sk) shadow;
+      item = item_same a p who (content (chain m ck)) (content (chain n ck)) (ap content item);
+      shadow = shadow_same e a p who (chain m sk) (chain n sk) shadow;
       finds = finds;
       so = so;
-      stands = standing n g (subst SoundAt (sym item) h.item) (subst SoundAt (sym shadow) h.shadow) (ap (λ r. (content_in r).owner) shadow ∙ h.unowned)
-          (subst (λ r. Onto a (content_in r) g) (sym item) onto);
+      stands = standing n g (subst Sound (sym item) h.item) (subst Sound (sym shadow) h.shadow) (ap (λ f. (content f).owner) shadow ∙ h.unowned)
+          (subst (λ f. Onto a (content f) g) (sym item) onto);
     }
 
     -- a Look changes nothing
-    look : (z : RowKey) (now : ℕ) (g : TxGoes) → Finds a (gone a g) (map.get m sk) (map.get m ck) → IsSo e p who (said_of a g) (given m lk) (content_in (map.get m ck)) (content_in (map.get m sk)) → Onto a (content_in (map.get m ck)) g
+    look : (z : RowKey) (now : ℕ) (g : TxGoes) → Finds a (gone a g) (tail (chain m sk)) (content (chain m ck)).value → IsSo e p who (said_of a g) (given m lk) (content (chain m ck)) (content (chain m sk)) → Onto a (content (chain m ck)) g
         → Leads a (Query.Act z Look) m (rows_after (Query.Act z Look) now m) g
     look z now g finds so onto = subst (λ n. Leads a (Query.Act z Look) m n g) (sym (looked now z m)) (beside (Query.Act z Look) m g (λ y off. refl) refl refl finds so onto)
 
-    -- a row that is neither was set
-    set : (b : Act) (z : RowKey) (now : ℕ) (g : TxGoes) → (ck ≡ z → ⊥) → (sk ≡ z → ⊥) → Finds a (gone a g) (map.get m sk) (map.get m ck)
-        → IsSo e p who (said_of a g) (given (rows_after (Query.Act z b) now m) lk) (content_in (map.get (rows_after (Query.Act z b) now m) ck)) (content_in (map.get (rows_after (Query.Act z b) now m) sk))
-        → Onto a (content_in (map.get m ck)) g → Leads a (Query.Act z b) m (rows_after (Query.Act z b) now m) g
-    set b z now g not_item not_shadow finds so onto =
-        let v = (act b now (map.get m z)).0 in
-        beside (Query.Act z b) (rows_after (Query.Act z b) now m) g (others_set m z v) (others_set m z v ck (apart ck z not_item)) (others_set m z v sk (apart sk z not_shadow)) finds so onto
+    -- a row that is none of them was set
+    set : (b : Act) (z : RowKey) (now : ℕ) (g : TxGoes) → at_row z 0 ≡ z → (rank_of z.kind ≡ rank_of ck.kind → ⊥) → (rank_of z.kind ≡ rank_of sk.kind → ⊥) → Finds a (gone a g) (tail (chain m sk)) (content (chain m ck)).value
+        → IsSo e p who (said_of a g) (given (rows_after (Query.Act z b) now m) lk) (content (chain (rows_after (Query.Act z b) now m) ck)) (content (chain (rows_after (Query.Act z b) now m) sk))
+        → Onto a (content (chain m ck)) g → Leads a (Query.Act z b) m (rows_after (Query.Act z b) now m) g
+    set b z now g first not_item not_shadow finds so onto =
+        let n = rows_after (Query.Act z b) now m in
+        let others = others_set m z (act b now (map.get m z)).0 in
+        let off : (k : RowKey) → (rank_of z.kind ≡ rank_of k.kind → ⊥) → is_row_of k z ≡ false = λ k apart. off_row k z (λ is. apart (ap (λ (q : RowKey). rank_of q.kind) (sym first) ∙ is)) in
+        beside (Query.Act z b) n g (alone_by m n z first others) (chain_off m n z ck others (item_head home t k) (off ck not_item)) (chain_off m n z sk others (aside_head home x t k) (off sk not_shadow)) finds so onto
 
 -- ---- the stages, one by one
-pub ranks : (a b : RowKey) → (rank_of a.kind ≡ rank_of b.kind → ⊥) → a ≡ b → ⊥
-ranks a b h is = h (ap (λ (q : RowKey). rank_of q.kind) is)
-
 pub asked : (z : RowKey) (p : Place) (who : Owner) (o : CellOp) (w : WriteAt) → key_asked (write_asks z p who o w) ≡ z
-asked z p who o Try = refl
-asked z p who o Make = refl
+asked z p _ o Try = refl
+asked z p _ o Make = refl
 
 fits_lock : (e : Effect) (l j : LockAt) → Fits e (TxAt.Lock l) → Fits e (TxAt.Lock j)
 fits_lock (Read t k) l j h = h
@@ -160,6 +180,12 @@ module _ (home : ℕ) (p : Place) (x : TxId) (t : ℕ) (k : List ℕ) where
 
   abbrev log_row : RowKey
   log_row = log_key home p
+
+  ihead : IsHead item_row
+  ihead = item_head home t k
+
+  ahead : IsHead aside_row
+  ahead = aside_head home x t k
 
   abbrev start : Effect → TxAt → TxWalk
   start e a = walk home p x e t k a
@@ -186,9 +212,9 @@ module _ (home : ℕ) (p : Place) (x : TxId) (t : ℕ) (k : List ℕ) where
     kept_there : (o : Option Row) → map.get m log_row ≡ o → given kept_after log_row ≡ option_map given_in (act (PutRead v) now o).0
     kept_there o is = ap (option_map given_in) (here_set m log_row (act (PutRead v) now (map.get m log_row)).0 ∙ ap (λ r. (act (PutRead v) now r).0) is)
 
-    kept_so : (g : TxGoes) → IsSo (Read u j) p me (said_of (TxAt.Keep v) g) (given kept_after log_row) (content_in (map.get kept_after item_row)) (content_in (map.get kept_after aside_row))
-        → Onto home p x (Read u j) t k (TxAt.Keep v) (content_in (map.get m item_row)) g → Keeps g
-    kept_so g so onto = set home p x (Read u j) t k (TxAt.Keep v) m h (PutRead v) log_row now g (ranks item_row log_row (λ z. cc)) (ranks aside_row log_row (λ z. cc)) tt so onto
+    kept_so : (g : TxGoes) → IsSo (Read u j) p me (said_of (TxAt.Keep v) g) (given kept_after log_row) (content (chain kept_after item_row)) (content (chain kept_after aside_row))
+        → Onto home p x (Read u j) t k (TxAt.Keep v) (content (chain m item_row)) g → Keeps g
+    kept_so g so onto = set home p x (Read u j) t k (TxAt.Keep v) m h (PutRead v) log_row now g refl (λ z. cc) (λ z. cc) tt so onto
 
     by_kept : (o : Option Row) → map.get m log_row ≡ o → Keeps (tx_goes p x.begin (Read u j) (TxAt.Keep v) (said (act (PutRead v) now o).1))
     by_kept None is = kept_so TxGoes.Put (kept_there None is) (tt, tt)
@@ -203,21 +229,24 @@ module _ (home : ℕ) (p : Place) (x : TxId) (t : ℕ) (k : List ℕ) where
   Looks e a z now m g = Leads home p x e t k a (Query.Act z Look) m (rows_after (Query.Act z Look) now m) g
 
   shadow_turn : (u : ℕ) (j : List ℕ) (now : ℕ) (m : Rows) → Stands (start (Read u j) TxAt.Shadow) t k m → Turns (Read u j) TxAt.Shadow now m
-  shadow_turn u j now m h = subst (λ g. Looks (Read u j) TxAt.Shadow aside_row now m (shadow_read g)) (sym (shadow_told now (map.get m aside_row) h.shadow)) (by (map.get m aside_row) refl h.shadow)
+  shadow_turn u j now m h = subst (λ g. Looks (Read u j) TxAt.Shadow aside_row now m (shadow_read g)) (sym (shadow_told now (map.get m aside_row) h.shadow.head)) (by (map.get m aside_row) refl h.shadow.head)
     where
       by : (o : Option Row) → map.get m aside_row ≡ o → SoundAt o → Looks (Read u j) TxAt.Shadow aside_row now m (shadow_read (ReadGoes.Got (shadow_value o)))
-      by None is sound = look home p x (Read u j) t k TxAt.Shadow m h aside_row now (TxGoes.On TxAt.Item) is tt (tt, h.locked)
-      by (Some (Row.Cell c)) is sound = look home p x (Read u j) t k TxAt.Shadow m h aside_row now (TxGoes.On (TxAt.Keep c.value)) (ap shadow_value is) tt (tt, h.locked)
+      by None is sound = look home p x (Read u j) t k TxAt.Shadow m h aside_row now (TxGoes.On TxAt.Item) (no_tail (chain m aside_row) is) tt (tt, h.locked)
+      by (Some (Row.Cell c)) is sound = look home p x (Read u j) t k TxAt.Shadow m h aside_row now (TxGoes.On (TxAt.Keep c.value)) (ap shadow_value (head_tail m aside_row ahead h.shadow ∙ is)) tt (tt, h.locked)
       by (Some r) is sound = absurd sound
 
   -- what is found in the item is its value
   item_found : (e : Effect) (now : ℕ) (m : Rows) → Stands (start e TxAt.Item) t k m
-      → ((v : Value) → v ≡ (content_in (map.get m item_row)).value → Looks e TxAt.Item item_row now m (item_leads e v)) → Turns e TxAt.Item now m
-  item_found e now m h found = subst (λ g. Looks e TxAt.Item item_row now m (item_goes e g)) (sym (shadow_told now (map.get m item_row) h.item)) (by (map.get m item_row) refl h.item)
+      → ((v : Value) → v ≡ (content (chain m item_row)).value → Looks e TxAt.Item item_row now m (item_leads e v)) → Turns e TxAt.Item now m
+  item_found e now m h found = subst (λ g. Looks e TxAt.Item item_row now m (item_goes e g)) (sym (shadow_told now (map.get m item_row) h.item.head)) (by (map.get m item_row) refl h.item.head)
     where
+      valued : (o : Option Row) → map.get m item_row ≡ o → (content_in o).value ≡ (content (chain m item_row)).value
+      valued o is = sym (ap (λ (c : Content). c.value) (head_content m item_row ihead h.item ∙ ap content_in is))
+
       by : (o : Option Row) → map.get m item_row ≡ o → SoundAt o → Looks e TxAt.Item item_row now m (item_goes e (ReadGoes.Got (shadow_value o)))
-      by None is sound = found Value.Null (sym (ap (λ r. (content_in r).value) is))
-      by (Some (Row.Cell c)) is sound = found c.value (sym (ap (λ r. (content_in r).value) is))
+      by None is sound = found Value.Null (valued None is)
+      by (Some (Row.Cell c)) is sound = found c.value (valued (Some (Row.Cell c)) is)
       by (Some r) is sound = absurd sound
 
   item_turn : (u : ℕ) (j : List ℕ) (now : ℕ) (m : Rows) → Stands (start (Read u j) TxAt.Item) t k m → Turns (Read u j) TxAt.Item now m
@@ -232,7 +261,7 @@ module _ (home : ℕ) (p : Place) (x : TxId) (t : ℕ) (k : List ℕ) where
     head_turn now m h = by (map.get m aside_row) refl
       where
         by : (o : Option Row) → map.get m aside_row ≡ o → Looks cond_op TxAt.Shadow aside_row now m (tx_goes p x.begin cond_op TxAt.Shadow (said (act Look now o).1))
-        by None is = look home p x cond_op t k TxAt.Shadow m h aside_row now (TxGoes.On TxAt.Item) is tt (tt, h.locked)
+        by None is = look home p x cond_op t k TxAt.Shadow m h aside_row now (TxGoes.On TxAt.Item) (no_tail (chain m aside_row) is) tt (tt, h.locked)
         by (Some c) is = look home p x cond_op t k TxAt.Shadow m h aside_row now (TxGoes.On (TxAt.Write Try)) tt tt (tt, h.locked)
 
     found_turn : (now : ℕ) (m : Rows) → Stands (start cond_op TxAt.Item) t k m → Turns cond_op TxAt.Item now m
@@ -251,26 +280,32 @@ module _ (home : ℕ) (p : Place) (x : TxId) (t : ℕ) (k : List ℕ) where
       made_there : (o : Option Row) → map.get m aside_row ≡ o → map.get made_after aside_row ≡ (act put now o).0
       made_there o is = here_set m aside_row (act put now (map.get m aside_row)).0 ∙ ap (λ z. (act put now z).0) is
 
-      not_item : map.get made_after item_row ≡ map.get m item_row
-      not_item = others_set m aside_row (act put now (map.get m aside_row)).0 item_row (apart item_row aside_row (ranks item_row aside_row (λ z. cc)))
+      others : (q : RowKey) → is_eq (key_cmp q aside_row) ≡ false → map.get made_after q ≡ map.get m q
+      others = others_set m aside_row (act put now (map.get m aside_row)).0
+
+      not_item : chain made_after item_row ≡ chain m item_row
+      not_item = chain_off m made_after aside_row item_row others ihead (off_row item_row aside_row (λ z. cc))
 
       by_made : (o : Option Row) → map.get m aside_row ≡ o → Makes (tx_goes p x.begin cond_op (TxAt.Head first) (said (act put now o).1))
-      by_made None is = record {
-        others = others_set m aside_row (act put now (map.get m aside_row)).0;
-        item = ap content_in not_item;
-        shadow = inr (is, ap content_in (made_there None is));
-        finds = tt;
-        so = tt;
-        stands = record {
-          item = subst SoundAt (sym not_item) h.item;
-          shadow = subst SoundAt (sym (made_there None is)) (refl, tt, refl, refl);
-          unowned = ap (λ z. (content_in z).owner) (made_there None is);
-          fits = tt;
-          locked = ap (λ z. note_at (content_in z).notes p) not_item ∙ h.locked;
-        };
-      }
-      by_made (Some c) is = beside home p x cond_op t k (TxAt.Head first) m h (Query.Act aside_row put) made_after (TxGoes.On (TxAt.Write Try)) (others_set m aside_row (act put now (map.get m aside_row)).0)
-          not_item (made_there (Some c) is ∙ sym is) tt tt (tt, h.locked)
+      by_made None is =
+          let sound : Sound (chain made_after aside_row) = sound_after m made_after aside_row ahead others h.shadow (subst SoundAt (sym (made_there None is)) (refl, tt, refl, refl)) in
+          let holds : content (chain made_after aside_row) ≡ record { value = first; owner = None; notes = [] } = head_content made_after aside_row ahead sound ∙ ap content_in (made_there None is) in
+          record {
+            others = alone_by m made_after aside_row refl others;
+            item = ap content not_item;
+            shadow = inr (no_tail (chain m aside_row) is, holds);
+            finds = tt;
+            so = tt;
+            stands = record {
+              item = subst Sound (sym not_item) h.item;
+              shadow = sound;
+              unowned = ap (λ (z : Content). z.owner) holds;
+              fits = tt;
+              locked = ap (λ f. note_at (content f).notes p) not_item ∙ h.locked;
+            };
+          }
+      by_made (Some c) is = subst (λ n. Leads home p x cond_op t k (TxAt.Head first) (Query.Act aside_row put) m n (TxGoes.On (TxAt.Write Try))) (sym (left_row put now aside_row m (Some c) is refl))
+          (beside home p x cond_op t k (TxAt.Head first) m h (Query.Act aside_row put) m (TxGoes.On (TxAt.Write Try)) (λ z off. refl) refl refl tt tt (tt, h.locked))
 
       made_turn : Turns cond_op (TxAt.Head first) now m
       made_turn = by_made (map.get m aside_row) refl
@@ -283,8 +318,8 @@ module _ (home : ℕ) (p : Place) (x : TxId) (t : ℕ) (k : List ℕ) where
 
       by_put : (o : Option Row) → Leads home p x e t k (TxAt.Lock (Lockset b)) (Query.Act lockset_row PutLockset) m (rows_after (Query.Act lockset_row PutLockset) now m)
           (tx_goes p x.begin e (TxAt.Lock (Lockset b)) (said (act PutLockset now o).1))
-      by_put None = set home p x e t k (TxAt.Lock (Lockset b)) m h PutLockset lockset_row now (TxGoes.On (TxAt.Lock (AtItem Try))) (ranks item_row lockset_row (λ y. cc)) (ranks aside_row lockset_row (λ y. cc)) tt tt (fits_lock e (Lockset b) (AtItem Try) h.fits, tt)
-      by_put (Some r) = set home p x e t k (TxAt.Lock (Lockset b)) m h PutLockset lockset_row now (TxGoes.On (TxAt.Lock (AtItem Try))) (ranks item_row lockset_row (λ y. cc)) (ranks aside_row lockset_row (λ y. cc)) tt tt (fits_lock e (Lockset b) (AtItem Try) h.fits, tt)
+      by_put None = set home p x e t k (TxAt.Lock (Lockset b)) m h PutLockset lockset_row now (TxGoes.On (TxAt.Lock (AtItem Try))) refl (λ y. cc) (λ y. cc) tt tt (fits_lock e (Lockset b) (AtItem Try) h.fits, tt)
+      by_put (Some r) = set home p x e t k (TxAt.Lock (Lockset b)) m h PutLockset lockset_row now (TxGoes.On (TxAt.Lock (AtItem Try))) refl (λ y. cc) (λ y. cc) tt tt (fits_lock e (Lockset b) (AtItem Try) h.fits, tt)
 
       put_turn : Turns e (TxAt.Lock (Lockset b)) now m
       put_turn = by_put (map.get m lockset_row)
@@ -299,17 +334,17 @@ module _ (home : ℕ) (p : Place) (x : TxId) (t : ℕ) (k : List ℕ) where
       abbrev Locks : TxGoes → Type 0
       Locks g = Leads home p x e t k lock_stage (write_asks item_row p me CellOp.Lock w) m n g
 
-      lock_to : (s : WriteSays) (g : TxGoes) → LoggedTurn as_lock m n s → IsSo e p me (said_of lock_stage g) (given n log_row) (content_in (map.get n item_row)) (content_in (map.get n aside_row))
-          → Onto home p x e t k lock_stage (content_in (map.get n item_row)) g → Locks g
+      lock_to : (s : WriteSays) (g : TxGoes) → LoggedTurn as_lock m n s → IsSo e p me (said_of lock_stage g) (given n log_row) (content (chain n item_row)) (content (chain n aside_row))
+          → Onto home p x e t k lock_stage (content (chain n item_row)) g → Locks g
       lock_to s g l so onto =
-          let aside : map.get n aside_row ≡ map.get m aside_row = l.others aside_row (apart aside_row item_row (ranks aside_row item_row (λ z. cc))) in
+          let aside : chain n aside_row ≡ chain m aside_row = other_chain m n item_row l.others aside_row ahead (λ z. cc) in
           record {
-            others = λ z off. l.others z (sym (ap (λ y. is_eq (key_cmp z y)) (asked item_row p me CellOp.Lock w)) ∙ off);
-            item = lock_moved p me (content_in (map.get m item_row)) (content_in (map.get n item_row)) s l.logs;
+            others = subst (λ y. ChangedAlone y m n) (sym (asked item_row p me CellOp.Lock w)) l.others;
+            item = lock_moved p me (content (chain m item_row)) (content (chain n item_row)) s l.logs;
             shadow = aside;
             finds = tt;
             so = so;
-            stands = standing home p x e t k lock_stage m h n g l.sound (subst SoundAt (sym aside) h.shadow) (ap (λ z. (content_in z).owner) aside ∙ h.unowned) onto;
+            stands = standing home p x e t k lock_stage m h n g l.sound (subst Sound (sym aside) h.shadow) (ap (λ f. (content f).owner) aside ∙ h.unowned) onto;
           }
 
       again : (s : WriteSays) (j : LockAt) → LoggedTurn as_lock m n s → Locks (TxGoes.On (TxAt.Lock j))
@@ -317,7 +352,7 @@ module _ (home : ℕ) (p : Place) (x : TxId) (t : ℕ) (k : List ℕ) where
 
   -- the place has the lock: the shadow comes next
   got_turn : (e : Effect) (m : Rows) (w : WriteAt) (h : Stands (start e (TxAt.Lock (AtItem w))) t k m) (n : Rows) (s : WriteSays) → LoggedTurn (as_lock e m w h n) m n s
-      → note_at (content_in (map.get n item_row)).notes p ≡ Some Note.Got → Locks e m w h n (locked_goes e)
+      → note_at (content (chain n item_row)).notes p ≡ Some Note.Got → Locks e m w h n (locked_goes e)
   got_turn (Read u j) m w h n s l got = lock_to (Read u j) m w h n s (TxGoes.On TxAt.Shadow) l tt (tt, got)
   got_turn (Write u j v) m w h n s l got = lock_to (Write u j v) m w h n s (TxGoes.On (TxAt.Write Try)) l tt (tt, got)
   got_turn (CondWrite u j r o v) m w h n s l got = lock_to (CondWrite u j r o v) m w h n s (TxGoes.On TxAt.Shadow) l tt (tt, got)
@@ -333,7 +368,7 @@ module _ (home : ℕ) (p : Place) (x : TxId) (t : ℕ) (k : List ℕ) where
   lock_turn e m w h n (WriteGoes.Done Note.Freed f) l = again e m w h n (WriteSays.Done Note.Freed f) (AtItem w) l
   lock_turn e m w h n WriteGoes.NotOwner l = again e m w h n WriteSays.NotOwner (AtItem w) l
   lock_turn e m w h n (WriteGoes.Held o) l =
-      let c = content_in (map.get m item_row) in
+      let c = content (chain m item_row) in
       let same = l.logs.2 in
       lock_to e m w h n (WriteSays.Held o) (TxGoes.Held o) l
       (ap (λ (z : Content). note_at z.notes p) same ∙ l.logs.0, ap (λ (z : Content). waited me (other_owner me z.owner)) same ∙ taken (waited me (other_owner me c.owner)) o l.logs.1)
@@ -347,21 +382,21 @@ module _ (home : ℕ) (p : Place) (x : TxId) (t : ℕ) (k : List ℕ) where
     abbrev Writes : TxGoes → Type 0
     Writes g = Leads home p x e t k (TxAt.Write w) (write_asks aside_row p me o w) m n g
 
-    write_to : (s : WriteSays) (g : TxGoes) → op_of e ≡ Some o → Aside p me o (content_in (map.get m aside_row)) (content_in (map.get n aside_row)) → LoggedTurn as_write m n s
-        → IsSo e p me (said_of (TxAt.Write w) g) (given n log_row) (content_in (map.get n item_row)) (content_in (map.get n aside_row)) → Onto home p x e t k (TxAt.Write w) (content_in (map.get m item_row)) g → Writes g
+    write_to : (s : WriteSays) (g : TxGoes) → op_of e ≡ Some o → Aside p me o (content (chain m aside_row)) (content (chain n aside_row)) → LoggedTurn as_write m n s
+        → IsSo e p me (said_of (TxAt.Write w) g) (given n log_row) (content (chain n item_row)) (content (chain n aside_row)) → Onto home p x e t k (TxAt.Write w) (content (chain m item_row)) g → Writes g
     write_to s g is moved l so onto =
-        let item : map.get n item_row ≡ map.get m item_row = l.others item_row (apart item_row aside_row (ranks item_row aside_row (λ z. cc))) in
+        let item : chain n item_row ≡ chain m item_row = other_chain m n aside_row l.others item_row ihead (λ z. cc) in
         record {
-          others = λ z off. l.others z (sym (ap (λ y. is_eq (key_cmp z y)) (asked aside_row p me o w)) ∙ off);
-          item = ap content_in item;
-          shadow = subst (λ z. AsideMoves z p me (content_in (map.get m aside_row)) (content_in (map.get n aside_row))) (sym is) moved.0;
+          others = subst (λ y. ChangedAlone y m n) (sym (asked aside_row p me o w)) l.others;
+          item = ap content item;
+          shadow = subst (λ z. AsideMoves z p me (content (chain m aside_row)) (content (chain n aside_row))) (sym is) moved.0;
           finds = tt;
           so = so;
-          stands = standing home p x e t k (TxAt.Write w) m h n g (subst SoundAt (sym item) h.item) l.sound moved.1 (subst (λ z. Onto home p x e t k (TxAt.Write w) (content_in z) g) (sym item) onto);
+          stands = standing home p x e t k (TxAt.Write w) m h n g (subst Sound (sym item) h.item) l.sound moved.1 (subst (λ f. Onto home p x e t k (TxAt.Write w) (content f) g) (sym item) onto);
         }
 
   abbrev Content_at : RowKey → Rows → Content
-  Content_at z m = content_in (map.get m z)
+  Content_at z m = content (chain m z)
 
   module _ (u : ℕ) (j : List ℕ) (v : Value) (w : WriteAt) (m : Rows) (h : Stands (start (Write u j v) (TxAt.Write w)) t k m) (n : Rows) where
     abbrev we : Effect
@@ -371,7 +406,7 @@ module _ (home : ℕ) (p : Place) (x : TxId) (t : ℕ) (k : List ℕ) where
     wo = CellOp.Write v
 
     wrote_to : (s : WriteSays) (y : TxGoes) → LoggedTurn (as_write we wo w m h n) m n s
-        → IsSo we p me (said_of (TxAt.Write w) y) (given n log_row) (content_in (map.get n item_row)) (content_in (map.get n aside_row)) → Onto home p x we t k (TxAt.Write w) (content_in (map.get m item_row)) y → Writes we wo w m h n y
+        → IsSo we p me (said_of (TxAt.Write w) y) (given n log_row) (content (chain n item_row)) (content (chain n aside_row)) → Onto home p x we t k (TxAt.Write w) (content (chain m item_row)) y → Writes we wo w m h n y
     wrote_to s y l so onto = write_to we wo w m h n s y refl (aside_moved p me wo (Content_at aside_row m) (Content_at aside_row n) refl refl h.unowned s l.logs) l so onto
 
     write_by : (g : WriteGoes) → LoggedTurn (as_write we wo w m h n) m n (logged_so g) → Writes we wo w m h n (write_leads we g)
@@ -392,7 +427,7 @@ module _ (home : ℕ) (p : Place) (x : TxId) (t : ℕ) (k : List ℕ) where
     co = CellOp.Cond r c v
 
     cond_to : (s : WriteSays) (y : TxGoes) → LoggedTurn (as_write ce co w m h n) m n s
-        → IsSo ce p me (said_of (TxAt.Write w) y) (given n log_row) (content_in (map.get n item_row)) (content_in (map.get n aside_row)) → Onto home p x ce t k (TxAt.Write w) (content_in (map.get m item_row)) y → Writes ce co w m h n y
+        → IsSo ce p me (said_of (TxAt.Write w) y) (given n log_row) (content (chain n item_row)) (content (chain n aside_row)) → Onto home p x ce t k (TxAt.Write w) (content (chain m item_row)) y → Writes ce co w m h n y
     cond_to s y l so onto = write_to ce co w m h n s y refl (aside_moved p me co (Content_at aside_row m) (Content_at aside_row n) refl refl h.unowned s l.logs) l so onto
 
     cond_by : (g : WriteGoes) → LoggedTurn (as_write ce co w m h n) m n (logged_so g) → Writes ce co w m h n (write_leads ce g)

@@ -1,6 +1,6 @@
 -- The end of a transaction visits all who took part, and passes all rows of their locks, one after another.
-use Rattle.beldi_txn.{specs.declared.end.EndAt.TheVariants.Shadow, proofs.TxTurn.apart, proofs.TxTurn.others_set, proofs.TxTurn.here_set, proofs.TxTurn.shadow_told, proofs.TxTurn.ranks, proofs.TxTurn.asked, proofs.Calls.by_order, proofs.Calls.next_call, proofs.Calls.first_call, proofs.Locks.Item, proofs.Locks.item_at, proofs.Locks.none_past, proofs.Locks.none_first, proofs.Locks.none_between, proofs.Locks.none_before}
-use Rattle.beldi_txn.proofs.Names.{AllFreed, AllReleased, AreClosed, AreFit, AreMarked, AreReleased, AreSound, AtEnd, Bool, Called, Callees, Content, Decide, DecidedAt, EndAt, EndGoes, EndTurn, EndWalk, EndsAreVisits, Free, Frees, Gives, HasItem, HasWay, IntentId, IsAfter, IsCall, IsDecided, IsFirstFrom, IsFrom, IsMember, IsNext, IsNextCall, IsPassed, IsPast, IsReleased, IsWay, IsWithin, Kind, Leaves, LeftAt, Less, Levels, List, LoggedTurn, Member, Next, None, Option, Place, Plain, PutRead, Query, Row, RowKey, Rows, Some, SoundAt, Stamp, StampAct, Stamps, StartsWithin, Try, TxId, Value, Visit, Visited, VisitsBegin, VisitsStand, WriteAt, WriteGoes, WriteSays, WriteWalk, [], act, ap, arith, aside_row, back_from, by_op, call_after, call_goes, call_key, called_at, callee_of, calls_after, calls_goes, child_of, content_in, counts, decide_goes, decision_row, false, first_from, first_visit, free_first, free_place, freed_goes, func_called, given_value, has_callees, has_no_hops, home_of, if◌then◌else◌, inl, inr, intent_key, invokes_after, is_closed, is_eq, is_none, is_own, is_owner, is_some, item_after, item_in, item_row, key_asked, key_cmp, key_exact, key_same, key_total, last_goes, left_row, lock_row, lockset_after, lockset_key, logged_so, looked, ltb-false, ltb-true, member_at, moved, next_goes, next_row, next_row_least, no_root, note_at, option_map, ordering_reverse, owner_of, owns, rank_of, refl, row_closed, rows_after, said, said_of, shadow_value, split_front, stamp_with, subst, suc, sym, told_by, true, turned, unless_owned, value_goes, visited_by, walk_asks, walk_goes, walk_next, walk_says, write_goes, zero, ℕ, ◌++◌, ◌<◌, ◌∙◌, ◌∷◌, ◌≡◌, ◌≤◌, ◌⊎◌, Note, CellOp, Owner, EndSays}
+use Rattle.beldi_txn.{specs.declared.end.EndAt.TheVariants.Shadow, proofs.TxTurn.others_set, proofs.TxTurn.here_set, proofs.TxTurn.shadow_told, proofs.TxTurn.other_kind, proofs.TxTurn.other_chain, proofs.TxTurn.item_head, proofs.TxTurn.aside_head, proofs.TxTurn.asked, proofs.Calls.by_order, proofs.Calls.next_call, proofs.Calls.first_call, proofs.Locks.Item, proofs.Locks.item_at, proofs.Locks.none_past, proofs.Locks.none_first, proofs.Locks.none_between, proofs.Locks.none_before}
+use Rattle.beldi_txn.proofs.Names.{AllFreed, AllReleased, AreClosed, AreFit, AreMarked, AreReleased, AreSound, AtEnd, Bool, Called, Callees, ChangedAlone, Content, Decide, DecidedAt, EndAt, EndGoes, EndTurn, EndWalk, EndsAreVisits, Free, Frees, Gives, HasItem, HasWay, IntentId, IsAfter, IsCall, IsDecided, IsFirstFrom, IsFrom, IsMember, IsNext, IsNextCall, IsPassed, IsPast, IsReleased, IsWay, IsWithin, Kind, Leaves, LeftAt, Less, Levels, List, LoggedTurn, Member, Next, None, Option, Place, Plain, PutRead, Query, Row, RowKey, Rows, Some, Sound, Stamp, StampAct, Stamps, StartsWithin, Try, TxId, Value, Visit, Visited, VisitsBegin, VisitsStand, WriteAt, WriteGoes, WriteSays, WriteWalk, [], act, alone_by, ap, arith, aside_row, at_row, back_from, by_op, call_after, call_goes, call_key, called_at, callee_of, calls_after, calls_goes, chain, chain_other, child_of, content, counts, decide_goes, decision_row, false, first_from, first_visit, free_first, free_place, freed_goes, func_called, given_value, has_callees, has_no_hops, head_tail, home_of, if◌then◌else◌, inl, inr, intent_key, invokes_after, is_closed, is_eq, is_none, is_own, is_owner, is_some, item_after, item_in, item_row, key_asked, key_cmp, key_exact, key_same, key_total, last_goes, left_row, lock_row, lockset_after, lockset_key, logged_so, looked, ltb-false, ltb-true, member_at, moved, next_goes, next_row, next_row_least, no_root, note_at, option_map, ordering_reverse, owner_of, owns, rank_of, refl, row_closed, rows_after, said, said_of, shadow_value, split_front, stamp_with, subst, suc, sym, tail, told_by, true, turned, unless_owned, value_goes, visited_by, walk_asks, walk_goes, walk_next, walk_says, write_goes, zero, ℕ, ◌++◌, ◌<◌, ◌∙◌, ◌∷◌, ◌≡◌, ◌≤◌, ◌⊎◌, Note, CellOp, Owner, EndSays, ReadGoes}
 use Rattle.beldi_txn.proofs.Levels.{ends_in, member_more, way_more, way_front, way_last, levels_top, levels_with, levels_pushed, levels_last, levels_popped, member_fit}
 use Rattle.beldi_txn.proofs.Names.map
 
@@ -197,7 +197,7 @@ module _ (x : TxId) (end : ℕ) (commit : Bool) where
   who cs = visited_by x cs
 
   pub record Leads (z : Visit) (q : Query) (m n : Rows) (g : EndGoes) : Type 0 where
-    pub others : (k : RowKey) → is_eq (key_cmp k (key_asked q)) ≡ false → map.get n k ≡ map.get m k
+    pub others : ChangedAlone (key_asked q) m n
     pub left : LeftAt z.at (walk z) z.item (said_of g) m n
     pub visited : Visited (walk (moved commit z g)) n
     pub done : said_of g ≡ EndSays.Done → IsDecided (walk z) n × AllReleased (walk z) n
@@ -242,7 +242,7 @@ module _ (x : TxId) (end : ℕ) (commit : Bool) where
     decision : IsDecided bare m → IsDecided bare n
     calls : (p : Member) (s : ℕ) → map.get n (call_key p.1 p.0 s) ≡ map.get m (call_key p.1 p.0 s)
     locks : (p : Member) (q : Item) → map.get n (lock_row bare p q) ≡ map.get m (lock_row bare p q)
-    asides : (f : ℕ) (q : Item) → map.get n (aside_row bare f q) ≡ map.get m (aside_row bare f q)
+    asides : (f : ℕ) (q : Item) → chain n (aside_row bare f q) ≡ chain m (aside_row bare f q)
     closed : (p : Member) → is_closed m p ≡ true → is_closed n p ≡ true
     -- an item is as it was, or is not the transaction's
     items : (f : ℕ) (q : Item) → (item_in f n q ≡ item_in f m q) ⊎ (is_own bare (item_in f n q) ≡ false)
@@ -281,7 +281,7 @@ module _ (x : TxId) (end : ℕ) (commit : Bool) where
     stands : (z : Visit) → Visited (walk z) m → Visited (walk z) n
     stands z v = visits_stand (walk z) m n v (record {
       decision = h.decision;
-      asides = λ f q. ap shadow_value (h.asides f q);
+      asides = λ f q. ap (λ c. shadow_value (tail c)) (h.asides f q);
       way = λ w. (w.0, way_kept m n h.calls owns_all z.way w.1);
       calls = λ cs w c at. call_kept n m call_back (who cs) c;
       locks = λ cs w q r here. ap is_some (sym (h.locks (who cs) q) ∙ here);
@@ -307,7 +307,7 @@ module _ (x : TxId) (end : ℕ) (commit : Bool) where
     dn = rows_after (walk_asks (walk dz)) now m
 
     put_first : map.get m dk ≡ None → Leads dz (walk_asks (walk dz)) m dn (EndGoes.Decided true)
-    put_first none = record { others = others_set m dk s; left = (none, there); visited = decides dn (stands m dn shows dz v) there; done = λ is. cc }
+    put_first none = record { others = others; left = (none, there); visited = decides dn (stands m dn shows dz v) there; done = λ is. cc }
       where
         s : Option Row
         s = (act (PutRead (Value.Bool commit)) now (map.get m dk)).0
@@ -315,19 +315,28 @@ module _ (x : TxId) (end : ℕ) (commit : Bool) where
         there : map.get dn dk ≡ Some (Row.ReadLog (Value.Bool commit))
         there = here_set m dk s ∙ ap (λ o. (act (PutRead (Value.Bool commit)) now o).0) none
 
-        same : (q : RowKey) → (rank_of q.kind ≡ 1 → ⊥) → map.get dn q ≡ map.get m q
-        same q h = others_set m dk s q (apart q dk (ranks q dk h))
+        others : ChangedAlone dk m dn
+        others = alone_by m dn dk refl (others_set m dk s)
+
+        same : (q : RowKey) → (rank_of (at_row q 0).kind ≡ 1 → ⊥) → map.get dn q ≡ map.get m q
+        same = other_kind m dn dk others
+
+        same_item : (f : ℕ) (q : Item) → chain dn (item_row f q) ≡ chain m (item_row f q)
+        same_item f q = other_chain m dn dk others (item_row f q) (item_head f q.0 q.1) (λ y. cc)
+
+        same_aside : (f : ℕ) (q : Item) → chain dn (aside_row bare f q) ≡ chain m (aside_row bare f q)
+        same_aside f q = other_chain m dn dk others (aside_row bare f q) (aside_head f x q.0 q.1) (λ y. cc)
 
         shows : Shows m dn
         shows = record {
           decision = λ is. there;
           calls = λ p s. same (call_key p.1 p.0 s) (λ y. cc);
           locks = λ p q. same (lock_row bare p q) (λ y. cc);
-          asides = λ f q. same (aside_row bare f q) (λ y. cc);
+          asides = same_aside;
           closed = λ p c. ap row_closed (same (intent_key p.0 p.1) (λ y. cc)) ∙ c;
-          items = λ f q. inl (ap content_in (same (item_row f q) (λ y. cc)));
+          items = λ f q. inl (ap content (same_item f q));
           released = λ c ds w k. inl (sym (ap row_closed (same (intent_key (who (c ∷ ds)).0 (who (c ∷ ds)).1) (λ y. cc))) ∙ k);
-          sound = λ f q. (subst SoundAt (sym (same (item_row f q) (λ y. cc))) (v.sound f q).0, subst SoundAt (sym (same (aside_row bare f q) (λ y. cc))) (v.sound f q).1);
+          sound = λ f q. (subst Sound (sym (same_item f q)) (v.sound f q).0, subst Sound (sym (same_aside f q)) (v.sound f q).1);
         }
 
     -- it was there, and stays as it is
@@ -464,7 +473,7 @@ module _ (x : TxId) (end : ℕ) (commit : Bool) where
     at_item : (i : Option Item) (v : Visited (walk (nz i)) m) (j : Item) → ((q : Item) (r : Row) → map.get m (lock_row bare (who cs) q) ≡ Some r → key_cmp (lock_row bare (who cs) q) (lock_row bare (who cs) j) ≡ Less → is_own bare (item_in (who cs).1 m q) ≡ false)
         → (c : Bool) → commit ≡ c → Visited (walk (visit cs af (Some j) None (free_first c))) m
     at_item i v j freed true is = goes_to (nz i) (visit cs af (Some j) None Shadow) m v v.decided refl tt v.from v.member is v.callees freed
-    at_item i v j freed false is = goes_to (nz i) (visit cs af (Some j) None (Free Try)) m v v.decided refl tt v.from v.member (ap (λ c. given_value c (map.get m (aside_row bare (who cs).1 j))) (sym is)) v.callees freed
+    at_item i v j freed false is = goes_to (nz i) (visit cs af (Some j) None (Free Try)) m v v.decided refl tt v.from v.member (ap (λ c. given_value c (tail (chain m (aside_row bare (who cs).1 j)))) (sym is)) v.callees freed
 
     next_turn : (i : Option Item) (now : ℕ) → Visited (walk (nz i)) m → Turns (nz i) now m
     next_turn i now v = by (item_after (who cs).1 (who cs).0 x.begin found) refl
@@ -484,11 +493,13 @@ module _ (x : TxId) (end : ℕ) (commit : Bool) where
   look_turn cs af j u now m v =
       let z = visit cs af (Some j) u Shadow in
       let k = aside_row bare (who cs).1 j in
-      let s = shadow_value (map.get m k) in
+      let sound = (v.sound (who cs).1 j).1 in
+      let s = shadow_value (tail (chain m k)) in
+      let told = shadow_told now (map.get m k) sound.head ∙ ap (λ r. ReadGoes.Got (shadow_value r)) (sym (head_tail m k (aside_head (who cs).1 x j.0 j.1) sound)) in
       subst (λ n. Leads z (walk_asks (walk z)) m n (walk_goes (walk z) (told_by (walk_asks (walk z)) now m))) (sym (looked now k m))
-      (subst (λ g. Moves z m (value_goes g)) (sym (shadow_told now (map.get m k) (v.sound (who cs).1 j).1))
+      (subst (λ g. Moves z m (value_goes g)) (sym told)
       (moves z m (EndGoes.Value s) refl (λ h. cc)
-      (goes_to z (visit cs af (Some j) s (Free Try)) m v v.decided refl tt v.from v.member (ap (λ c. given_value c (map.get m k)) (sym v.gives)) v.callees v.freed)))
+      (goes_to z (visit cs af (Some j) s (Free Try)) m v v.decided refl tt v.from v.member (ap (λ c. given_value c (tail (chain m k))) (sym v.gives)) v.callees v.freed)))
 
   -- ---- an item is given back
   module _ (cs : List Called) (af : Option ℕ) (j : Item) (u : Option Value) (f : WriteAt) (m n : Rows) (v : Visited (walk (visit cs af (Some j) u (Free f))) m) where
@@ -509,31 +520,40 @@ module _ (x : TxId) (end : ℕ) (commit : Bool) where
     Became c d = (d ≡ c) ⊎ (is_own bare d ≡ false)
 
     module _ (s : WriteSays) (l : LoggedTurn as_free m n s) (became : Became (item_in (who cs).1 m j) (item_in (who cs).1 n j)) where
-      beside : (k : RowKey) → (rank_of k.kind ≡ 3 → ⊥) → map.get n k ≡ map.get m k
-      beside k h = l.others k (apart k (item_row (who cs).1 j) (ranks k (item_row (who cs).1 j) h))
+      abbrev fk : RowKey
+      fk = item_row (who cs).1 j
+
+      beside : (k : RowKey) → (rank_of (at_row k 0).kind ≡ 3 → ⊥) → map.get n k ≡ map.get m k
+      beside = other_kind m n fk l.others
+
+      other_item : (h : ℕ) (q : Item) → is_eq (key_cmp (item_row h q) fk) ≡ false → chain n (item_row h q) ≡ chain m (item_row h q)
+      other_item h q = chain_other m n fk (item_row h q) l.others (item_head h q.0 q.1)
+
+      same_aside : (h : ℕ) (q : Item) → chain n (aside_row bare h q) ≡ chain m (aside_row bare h q)
+      same_aside h q = other_chain m n fk l.others (aside_row bare h q) (aside_head h x q.0 q.1) (λ y. cc)
 
       stood_free : Visited (walk fz) n
       stood_free = stands m n (record {
         decision = λ is. beside (decision_row bare) (λ y. cc) ∙ is;
         calls = λ p t. beside (call_key p.1 p.0 t) (λ y. cc);
         locks = λ p q. beside (lock_row bare p q) (λ y. cc);
-        asides = λ h q. beside (aside_row bare h q) (λ y. cc);
+        asides = same_aside;
         closed = λ p c. ap row_closed (beside (intent_key p.0 p.1) (λ y. cc)) ∙ c;
-        items = λ h q. by_key (item_row h q) (item_row (who cs).1 j) (Became (item_in h m q) (item_in h n q))
-            (λ e. subst (λ k. Became (content_in (map.get m k)) (content_in (map.get n k))) (sym e) became)
-            (λ off. inl (ap content_in (l.others (item_row h q) off)));
+        items = λ h q. by_key (item_row h q) fk (Became (item_in h m q) (item_in h n q))
+            (λ e. subst (λ k. Became (content (chain m k)) (content (chain n k))) (sym e) became)
+            (λ off. inl (ap content (other_item h q off)));
         released = λ c ds w k. inl (sym (ap row_closed (beside (intent_key (who (c ∷ ds)).0 (who (c ∷ ds)).1) (λ y. cc))) ∙ k);
         sound = λ h q. (
-          by_key (item_row h q) (item_row (who cs).1 j) (SoundAt (map.get n (item_row h q)))
-              (λ e. subst (λ k. SoundAt (map.get n k)) (sym e) l.sound)
-              (λ off. subst SoundAt (sym (l.others (item_row h q) off)) (v.sound h q).0),
-          subst SoundAt (sym (beside (aside_row bare h q) (λ y. cc))) (v.sound h q).1,
+          by_key (item_row h q) fk (Sound (chain n (item_row h q)))
+              (λ e. subst (λ k. Sound (chain n k)) (sym e) l.sound)
+              (λ off. subst Sound (sym (other_item h q off)) (v.sound h q).0),
+          subst Sound (sym (same_aside h q)) (v.sound h q).1,
         );
       }) fz v
 
       freed_to : (g : EndGoes) → Frees place (Owner.Tx x) u (item_in (who cs).1 m j) (item_in (who cs).1 n j) → (said_of g ≡ EndSays.Done → ⊥) → Visited (walk (moved commit fz g)) n → Frees_to g
       freed_to g left going w = record {
-        others = λ k off. l.others k (sym (ap (λ y. is_eq (key_cmp k y)) (asked (item_row (who cs).1 j) place (Owner.Tx x) (CellOp.Free u) f)) ∙ off);
+        others = subst (λ y. ChangedAlone y m n) (sym (asked fk place (Owner.Tx x) (CellOp.Free u) f)) l.others;
         left = left;
         visited = w;
         done = λ h. absurd (going h);
@@ -586,8 +606,17 @@ module _ (x : TxId) (end : ℕ) (commit : Bool) where
     off_here : (k : RowKey) → is_eq (key_cmp k pk) ≡ false → map.get pn k ≡ map.get m k
     off_here = others_set m pk (act StampAct now (map.get m pk)).0
 
-    same_off : (k : RowKey) → (rank_of k.kind ≡ 0 → ⊥) → map.get pn k ≡ map.get m k
-    same_off k h = off_here k (apart k pk (ranks k pk h))
+    alone : ChangedAlone pk m pn
+    alone = alone_by m pn pk refl off_here
+
+    same_off : (k : RowKey) → (rank_of (at_row k 0).kind ≡ 0 → ⊥) → map.get pn k ≡ map.get m k
+    same_off = other_kind m pn pk alone
+
+    same_item : (h : ℕ) (q : Item) → chain pn (item_row h q) ≡ chain m (item_row h q)
+    same_item h q = other_chain m pn pk alone (item_row h q) (item_head h q.0 q.1) (λ y. cc)
+
+    same_copy : (h : ℕ) (q : Item) → chain pn (aside_row bare h q) ≡ chain m (aside_row bare h q)
+    same_copy h q = other_chain m pn pk alone (aside_row bare h q) (aside_head h x q.0 q.1) (λ y. cc)
 
     closed_here : row_closed (map.get pn pk) ≡ true
     closed_here = closed_by (map.get m pk) (map.get pn pk) stamped
@@ -601,15 +630,15 @@ module _ (x : TxId) (end : ℕ) (commit : Bool) where
       decision = λ is. same_off (decision_row bare) (λ y. cc) ∙ is;
       calls = λ p t. same_off (call_key p.1 p.0 t) (λ y. cc);
       locks = λ p q. same_off (lock_row bare p q) (λ y. cc);
-      asides = λ h q. same_off (aside_row bare h q) (λ y. cc);
+      asides = same_copy;
       closed = λ p k. by_key (intent_key p.0 p.1) pk (is_closed pn p ≡ true)
           (λ e. ap (λ (y : RowKey). row_closed (map.get pn y)) e ∙ closed_here)
           (λ off. ap row_closed (off_here (intent_key p.0 p.1) off) ∙ k);
-      items = λ h q. inl (ap content_in (same_off (item_row h q) (λ y. cc)));
+      items = λ h q. inl (ap content (same_item h q));
       released = λ d ds w k. let p = who (d ∷ ds) in by_key (intent_key p.0 p.1) pk ((is_closed m p ≡ true) ⊎ IsReleased bare m p)
           (λ e. inr (subst (λ (y : Member). IsReleased bare m y) (sym (same_member (who way) p (not_root m owns_all way v.member.1 (owner_not front c)) (not_root m owns_all (d ∷ ds) w.1 refl) e)) given_back))
           (λ off. inl (sym (ap row_closed (off_here (intent_key p.0 p.1) off)) ∙ k));
-      sound = λ h q. (subst SoundAt (sym (same_off (item_row h q) (λ y. cc))) (v.sound h q).0, subst SoundAt (sym (same_off (aside_row bare h q) (λ y. cc))) (v.sound h q).1);
+      sound = λ h q. (subst Sound (sym (same_item h q)) (v.sound h q).0, subst Sound (sym (same_copy h q)) (v.sound h q).1);
     }) pz v
 
     -- the caller's callees are closed up to this one
@@ -629,7 +658,7 @@ module _ (x : TxId) (end : ℕ) (commit : Bool) where
 
     stamp_turn : Turns pz now m
     stamp_turn = record {
-      others = off_here;
+      others = alone;
       left = stamped;
       visited = subst (λ (s : Option (List Called × Called)). Visited (walk (back_from pz s)) pn) (sym (split_front front c))
           (to_calls pz front (Some c.step) None pn stood_stamp stood_stamp.decided (begins_front front v.member.0).0 ((begins_front front v.member.0).1, way_front pn owns_all front c stood_stamp.member.1)

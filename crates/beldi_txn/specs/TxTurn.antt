@@ -1,12 +1,11 @@
 -- What a turn of an operation of a transaction leaves, and that what it answers is so of the rows.
-use Rattle.std.specs.Prelude.{◌≡◌, ◌⊎◌, ℕ, Bool, false, List, [], Option, Some, None, Ok}
-use Rattle.std.specs.Ordering.{is_eq}
-use Rattle.std.specs.FinMap as map
+use Rattle.std.specs.Prelude.{◌≡◌, ◌⊎◌, ℕ, Bool, List, [], Option, Some, None, Ok}
 use Rattle.beldi_value.specs.declared.{id.IntentId.IntentId, outcome.Cause.Cause, place.Owner.Owner, place.Place.Place, place.TxId.TxId, value.Value.Value}
 use Rattle.beldi_lang.specs.declared.effect.Effect.{Effect, TheVariants.Read, TheVariants.Write, TheVariants.CondWrite}
-use Rattle.beldi_row.specs.{declared.row.Row.Row, Act.other_owner, Key.RowKey, Key.key_cmp, Log.note_at, Table.Rows, Table.TableState, Table.Tells, declared.notes.Note.Note}
+use Rattle.beldi_row.specs.{declared.row.Row.Row, Act.other_owner, Key.RowKey, Log.note_at, Table.Rows, Table.TableState, Table.Tells, declared.notes.Note.Note}
 use Rattle.beldi_walk.specs.{declared.query.Query.Query, declared.query.Query.TheVariants.Act, declared.query.Query.TheVariants.After, Walk.Turned}
-use Rattle.beldi_daal.specs.{declared.cell.CellOp.CellOp, declared.cell.CellOp.TheVariants.Lock, Cell.cell_key, Cell.shadow_key, Content.Content, Content.content_in, Content.SoundAt, Logged.waited, Logged.dies, Logged.done_to, Logged.DidAs}
+use Rattle.beldi_chain.specs.{Chain.Chain, Chain.ChangedAlone, Chain.Sound, Chain.chain, Chain.content, Chain.tail, Content.Content}
+use Rattle.beldi_daal.specs.{declared.cell.CellOp.CellOp, declared.cell.CellOp.TheVariants.Lock, Cell.cell_key, Cell.shadow_key, Logged.waited, Logged.dies, Logged.done_to, Logged.DidAs}
 use Rattle.beldi_readlog.specs.ReadLog.{log_key, given}
 use Rattle.beldi_txn.specs.{declared.tx.TxAt.TxAt, declared.tx.TxSays.TxSays, declared.tx_walk.TxWalk.TxWalk, Tx.item_of, Tx.op_of, TxWalk.first_tx, TxWalk.walk_asks, TxWalk.walk_next, TxWalk.walk_says}
 
@@ -30,7 +29,7 @@ HasLock TxAt.Log p c = Unit {0}
 HasLock (TxAt.Lock l) p c = Unit {0}
 HasLock a p c = note_at c.notes p ≡ Some Note.Got
 
--- the rows of its item and of the transaction's shadow of it, by table and key
+-- the first rows of its item and of the transaction's shadow of it, by table and key
 abbrev pub item_key : TxWalk → ℕ → List ℕ → RowKey
 item_key w t k = cell_key w.home t k
 
@@ -39,11 +38,11 @@ aside_key w t k = shadow_key w.home w.tx t k
 
 -- what it needs: both chains are sound, nobody owns the shadow, and it stands where it may
 pub record Stands (w : TxWalk) (t : ℕ) (k : List ℕ) (m : Rows) : Type 0 where
-  pub item : SoundAt (map.get m (item_key w t k))
-  pub shadow : SoundAt (map.get m (aside_key w t k))
-  pub unowned : (content_in (map.get m (aside_key w t k))).owner ≡ None
+  pub item : Sound (chain m (item_key w t k))
+  pub shadow : Sound (chain m (aside_key w t k))
+  pub unowned : (content (chain m (aside_key w t k))).owner ≡ None
   pub fits : Fits w.effect w.at
-  pub locked : HasLock w.at w.place (content_in (map.get m (item_key w t k)))
+  pub locked : HasLock w.at w.place (content (chain m (item_key w t k)))
 
 -- ---- what a turn leaves
 abbrev pub key_asked : Query → RowKey
@@ -64,23 +63,23 @@ AsideMoves None p who c d = d ≡ c
 AsideMoves (Some o) p who c d = (d ≡ c) ⊎ ((note_at c.notes p ≡ None) × (d ≡ done_to p who o c))
 
 -- .. or by a first row, with the value that was found and no notes
-abbrev pub ShadowMoves : Effect → TxAt → Place → Owner → Option Row → Option Row → Type 0
-ShadowMoves e (TxAt.Head v) p who r s = (s ≡ r) ⊎ ((r ≡ None) × (content_in s ≡ record { value = v; owner = None; notes = [] }))
-ShadowMoves e (TxAt.Write w) p who r s = AsideMoves (op_of e) p who (content_in r) (content_in s)
-ShadowMoves e a p who r s = s ≡ r
+abbrev pub ShadowMoves : Effect → TxAt → Place → Owner → Chain → Chain → Type 0
+ShadowMoves e (TxAt.Head v) p who f g = (g ≡ f) ⊎ ((tail f ≡ None) × (content g ≡ record { value = v; owner = None; notes = [] }))
+ShadowMoves e (TxAt.Write w) p who f g = AsideMoves (op_of e) p who (content f) (content g)
+ShadowMoves e a p who f g = g ≡ f
 
 -- a read and a condition find the shadow's value, or, where there is no shadow, the item's: by where the operation stood, where it
--- stands then, and the rows of the shadow and of the item
+-- stands then, and the last row of the shadow and the value of the item
 abbrev pub shadow_value : Option Row → Option Value
 shadow_value (Some (Row.Cell c)) = Some c.value
 shadow_value r = None
 
-abbrev pub Finds : TxAt → TxAt → Option Row → Option Row → Type 0
-Finds TxAt.Shadow (TxAt.Keep v) r s = shadow_value r ≡ Some v
-Finds TxAt.Shadow TxAt.Item r s = r ≡ None
-Finds TxAt.Item (TxAt.Keep v) r s = v ≡ (content_in s).value
-Finds TxAt.Item (TxAt.Head v) r s = v ≡ (content_in s).value
-Finds a b r s = Unit {0}
+abbrev pub Finds : TxAt → TxAt → Option Row → Value → Type 0
+Finds TxAt.Shadow (TxAt.Keep v) r w = shadow_value r ≡ Some v
+Finds TxAt.Shadow TxAt.Item r w = r ≡ None
+Finds TxAt.Item (TxAt.Keep v) r w = v ≡ w
+Finds TxAt.Item (TxAt.Head v) r w = v ≡ w
+Finds a b r w = Unit {0}
 
 -- ---- what is said
 -- it died of the owner in the cause
@@ -107,13 +106,13 @@ IsSo e p who (TxSays.Value v) g c d = Gave e p v g d
 IsSo e p who TxSays.Done g c d = WasDone e p d
 
 pub record TxTurn (w x : TxWalk) (t : ℕ) (k : List ℕ) (m n : Rows) (s : TxSays) : Type 0 where
-  -- every row but the one that it asks for is as before
-  pub others : (q : RowKey) → is_eq (key_cmp q (key_asked (walk_asks w))) ≡ false → map.get n q ≡ map.get m q
-  pub item : ItemMoves w.at w.place (Owner.Tx w.tx) (content_in (map.get m (item_key w t k))) (content_in (map.get n (item_key w t k)))
-  pub shadow : ShadowMoves w.effect w.at w.place (Owner.Tx w.tx) (map.get m (aside_key w t k)) (map.get n (aside_key w t k))
-  pub finds : Finds w.at x.at (map.get m (aside_key w t k)) (map.get m (item_key w t k))
+  -- all rows are as before but those of the item that it asks for
+  pub others : ChangedAlone (key_asked (walk_asks w)) m n
+  pub item : ItemMoves w.at w.place (Owner.Tx w.tx) (content (chain m (item_key w t k))) (content (chain n (item_key w t k)))
+  pub shadow : ShadowMoves w.effect w.at w.place (Owner.Tx w.tx) (chain m (aside_key w t k)) (chain n (aside_key w t k))
+  pub finds : Finds w.at x.at (tail (chain m (aside_key w t k))) (content (chain m (item_key w t k))).value
   -- what it says is so
-  pub so : IsSo w.effect w.place (Owner.Tx w.tx) s (given n (log_key w.home w.place)) (content_in (map.get n (item_key w t k))) (content_in (map.get n (aside_key w t k)))
+  pub so : IsSo w.effect w.place (Owner.Tx w.tx) s (given n (log_key w.home w.place)) (content (chain n (item_key w t k))) (content (chain n (aside_key w t k)))
   -- it goes on in the same operation, from where it may stand
   pub same : x ≡ record w { at = x.at }
   pub stands : Stands x t k n

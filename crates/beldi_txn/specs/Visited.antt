@@ -1,12 +1,13 @@
 -- What the end of a transaction leaves, and that at its end no item that the transaction asked the lock of is its own any more, and each
 -- of its participants has its finish.
 use Rattle.std.specs.Prelude.{◌≡◌, ◌⊎◌, ◌≤◌, ◌<◌, ℕ, Bool, true, false, List, [], ◌∷◌, Option, Some, None, is_some, Ok}
-use Rattle.std.specs.{Option.option_map, Ordering.is_eq, declared.cmp.Ordering.TheVariants.Less}
+use Rattle.std.specs.{Option.option_map, declared.cmp.Ordering.TheVariants.Less}
 use Rattle.std.specs.FinMap as map
 use Rattle.beldi_value.specs.{declared.place.Owner.Owner, declared.place.Place.Place, declared.place.TxId.TxId, declared.value.Value.Value, Id.has_callees}
 use Rattle.beldi_row.specs.{declared.notes.Note.Note, declared.row.IntentRow.IntentRow, declared.row.Row.Row, Act.owns, Key.RowKey, Key.key_cmp, Log.note_at, Table.Rows, Table.TableState, Table.Tells}
 use Rattle.beldi_walk.specs.Walk.{Turned}
-use Rattle.beldi_daal.specs.{declared.cell.CellOp.TheVariants.Free as FreeOp, Cell.cell_key, Cell.shadow_key, Content.Content, Content.content_in, Content.SoundAt, Logged.done_to}
+use Rattle.beldi_chain.specs.{Chain.ChangedAlone, Chain.Sound, Chain.chain, Chain.content, Chain.tail, Content.Content}
+use Rattle.beldi_daal.specs.{declared.cell.CellOp.TheVariants.Free as FreeOp, Cell.cell_key, Cell.shadow_key, Logged.done_to}
 use Rattle.beldi_lock.specs.{Lock.lockset_key, Lockset.AreHops, Lockset.AreFit}
 use Rattle.beldi_readlog.specs.ReadLog.{log_key}
 use Rattle.beldi_intent.specs.Intent.{intent_key}
@@ -28,7 +29,7 @@ abbrev pub lock_row : EndWalk → Member → ℕ × List ℕ → RowKey
 lock_row w p i = lockset_key p.1 p.0 w.tx.begin i.0 i.1
 
 abbrev pub item_in : ℕ → Rows → ℕ × List ℕ → Content
-item_in f m i = content_in (map.get m (item_row f i))
+item_in f m i = content (chain m (item_row f i))
 
 -- the transaction owns an item with this content
 abbrev pub is_own : EndWalk → Content → Bool
@@ -120,7 +121,7 @@ IsFrom w cs after = Unit {0}
 -- only a commit looks at the shadow; an item is given back with its value exactly where the transaction commits and has a shadow of it
 abbrev pub Gives : EndAt → EndWalk → ℕ → Rows → Option (ℕ × List ℕ) → Type 0
 Gives Shadow w home m i = w.commit ≡ true
-Gives (Free f) w home m (Some i) = w.visit.value ≡ given_value w.commit (map.get m (aside_row w home i))
+Gives (Free f) w home m (Some i) = w.visit.value ≡ given_value w.commit (tail (chain m (aside_row w home i)))
 Gives a w home m i = Unit {0}
 
 -- the calls of who is visited are passed in the order of their steps
@@ -152,7 +153,7 @@ IsPast a w p (Some i) q = key_cmp (lock_row w p q) (lock_row w p i) ≡ Less
 
 -- all chains of items and shadows are sound
 abbrev pub AreSound : EndWalk → Rows → Type 0
-AreSound w m = (f : ℕ) (q : ℕ × List ℕ) → SoundAt (map.get m (item_row f q)) × SoundAt (map.get m (aside_row w f q))
+AreSound w m = (f : ℕ) (q : ℕ × List ℕ) → Sound (chain m (item_row f q)) × Sound (chain m (aside_row w f q))
 
 -- an item with a note at a place where a member gives items back is not the transaction's
 abbrev pub AreMarked : EndWalk → Rows → Type 0
@@ -211,8 +212,8 @@ LeftAt Stamp w i s m n = let p = visited_by w.tx w.visit.way in Stamps (map.get 
 LeftAt a w i s m n = n ≡ m
 
 pub record EndTurn (w x : EndWalk) (m n : Rows) (s : EndSays) : Type 0 where
-  -- every row but the one that it asks for is as before
-  pub others : (q : RowKey) → is_eq (key_cmp q (key_asked (walk_asks w))) ≡ false → map.get n q ≡ map.get m q
+  -- all rows are as before but those of the item that it asks for
+  pub others : ChangedAlone (key_asked (walk_asks w)) m n
   pub left : LeftAt w.visit.at w w.visit.item s m n
   pub same : x ≡ record w { visit = x.visit }
   pub visited : Visited x n
@@ -229,7 +230,7 @@ EndsAreVisits = (w x : EndWalk) (now : ℕ) (old new : TableState) (s : EndSays)
 -- and none that has a note at a place where items are given back
 pub record Leaves (w : EndWalk) (m n : Rows) : Type 0 where
   pub decision : IsDecided w m → IsDecided w n
-  pub asides : (f : ℕ) (q : ℕ × List ℕ) → shadow_value (map.get n (aside_row w f q)) ≡ shadow_value (map.get m (aside_row w f q))
+  pub asides : (f : ℕ) (q : ℕ × List ℕ) → shadow_value (tail (chain n (aside_row w f q))) ≡ shadow_value (tail (chain m (aside_row w f q)))
   pub way : IsMember w m w.visit.way → IsMember w n w.visit.way
   pub calls : (cs : List Called) → IsMember w m cs → (c : Called) → AtEnd (IsWithin w) cs c.step → IsCall n (visited_by w.tx cs) c → IsCall m (visited_by w.tx cs) c
   pub locks : (cs : List Called) → IsMember w m cs → (q : ℕ × List ℕ) (r : Row) → map.get n (lock_row w (visited_by w.tx cs) q) ≡ Some r → is_some (map.get m (lock_row w (visited_by w.tx cs) q)) ≡ true

@@ -3,9 +3,9 @@ ghost use Rattle.beldi_txn.specs.Invokes.{CallsFollow};
 ghost use Rattle.beldi_txn.specs.TxTurn.{OperationsAreSo, OperationsBegin};
 ghost use Rattle.beldi_txn.specs.Visited.{EndsAreVisits, OtherWalksLeave, VisitsBegin, VisitsStand};
 
-/// A turn of an operation of a transaction leaves every row but the one that it asks for. The item changes only by the lock, and the
-/// transaction's copy of it only by this operation, or by its first row; what is answered is so of the rows. Past its lock the
-/// place has it.
+/// A turn of an operation of a transaction leaves all rows but the one, or those of the one item, that it asks for. The item changes
+/// only by the lock, and the transaction's copy of it only by this operation, or by its first row; what is answered is so of the rows.
+/// Past its lock the place has it.
 pub fn an_operation_is_so()
     ensures { OperationsAreSo }
 {}
@@ -21,10 +21,10 @@ pub fn the_next_call_is_found()
     ensures { CallsFollow }
 {}
 
-/// A turn of the end of a transaction leaves every row but the one that it asks for. It gives an item back with the value of the
-/// transaction's own copy exactly where it commits and there is one, and gives a participant its finish where that has none. When it
-/// is done the decision is kept, the transaction owns none of the items that the owner and the participants asked the locks of, and
-/// each participant's row has its finish or is absent.
+/// A turn of the end of a transaction leaves all rows but the one, or those of the one item, that it asks for. It gives an item back
+/// with the value of the transaction's own copy exactly where it commits and there is one, and gives a participant its finish where
+/// that has none. When it is done the decision is kept, the transaction owns none of the items that the owner and the participants
+/// asked the locks of, and each participant's row has its finish or is absent.
 pub fn an_end_is_a_visit()
     ensures { EndsAreVisits }
 {}

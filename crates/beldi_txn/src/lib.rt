@@ -19,20 +19,22 @@
 //!   told, whatever the table tells; at an error they stand where they stood (`Turned`), and the rows are as before, but for a death
 //!   that it was out of memory to tell (`an_error_leaves_the_rows` of `beldi_walk`).
 //! - Laws of an operation: where the chains of the item and of the transaction's copy are sound and nobody owns the copy, a turn
-//!   leaves every row but the one that it asks for. The item changes only by the lock. The copy changes only by this operation,
-//!   where its place had no note, or by a first row with the value that was found in the item. What is found and what is kept is
-//!   the copy's value, or without a copy the item's. What it answers is so of the rows: a read's value is kept for its place; a
-//!   write or a condition is noted in the copy at its place; a death is noted in the item at its place, with the owner in the
-//!   cause; who is waited for has the item. Past its lock the place has it (`an_operation_is_so`, `an_operation_begins`).
+//!   leaves all rows but the one, or those of the one item, that it asks for. The item changes only by the lock. The copy changes
+//!   only by this operation, where its place had no note, or by a first row with the value that was found in the item. What is
+//!   found and what is kept is the copy's value, or without a copy the item's. What it answers is so of the rows: a read's value is
+//!   kept for its place; a write or a condition is noted in the copy at its place; a death is noted in the item at its place, with
+//!   the owner in the cause; who is waited for has the item. Past its lock the place has it (`an_operation_is_so`,
+//!   `an_operation_begins`).
 //! - Law of the calls: `invokes_query` finds the intent's call at the next step, and none exactly where there is no further one
 //!   (`the_next_call_is_found`).
-//! - Laws of an end: a turn leaves every row but the one that it asks for. The decision is put once. An item that is the
-//!   transaction's is given back, with the value of the transaction's copy exactly where it commits and has a copy; a participant
-//!   gets its finish where it has none. When it is done, the decision is kept, the transaction owns none of the items that the owner
-//!   and the participants asked the locks of, and each participant's row has its finish or is absent (`an_end_is_a_visit`). The
-//!   participants are those that the rows of calls lead to. That stands whatever else changes in the rows, where that adds no call and
-//!   no lock of those who take part, takes no finish away, and makes the transaction the owner of nothing (`a_visit_stands`): a turn of
-//!   another walk of the same end is such a change (`another_walk_leaves_the_end`). And it is so from the start (`a_visit_begins`).
+//! - Laws of an end: a turn leaves all rows but the one, or those of the one item, that it asks for. The decision is put once. An
+//!   item that is the transaction's is given back, with the value of the transaction's copy exactly where it commits and has a copy;
+//!   a participant gets its finish where it has none. When it is done, the decision is kept, the transaction owns none of the items
+//!   that the owner and the participants asked the locks of, and each participant's row has its finish or is absent
+//!   (`an_end_is_a_visit`). The participants are those that the rows of calls lead to. That stands whatever else changes in the rows,
+//!   where that adds no call and no lock of those who take part, takes no finish away, and makes the transaction the owner of nothing
+//!   (`a_visit_stands`): a turn of another walk of the same end is such a change (`another_walk_leaves_the_end`). And it is so from
+//!   the start (`a_visit_begins`).
 //!
 //! Files:
 //! - Code (`src/`): `tx` what an operation of a transaction asks, and what follows, for walks and runs; `tx_walk` its walk,

@@ -8,7 +8,7 @@ use Rattle.beldi_value.specs.declared.{place.Owner.Owner, place.Place.Place, rel
 use Rattle.beldi_tree.specs.declared.deployment.Deployment.{Deployment}
 use Rattle.beldi_row.specs.{Act.Tell, Act.act, Act.at_tail, Act.cond_at, Act.cond_to, Act.did, Act.entered, Act.free_at, Act.given_or, Act.held_or, Act.if_owned, Act.next_or, Act.not_owner, Act.noted_or, Act.on, Act.other_owner, Act.owns, Act.unless_held, Act.write_at, Key.RowKey, Key.key_cmp, Log.note_at, declared.act.Act.Act, declared.notes.Note.Note, declared.row.Cell.Cell, declared.row.Row.Row}
 use Rattle.beldi_walk.specs.declared.query.Query.{Query}
-use Rattle.beldi_daal.specs.Content.{content_in}
+use Rattle.beldi_chain.specs.Content.{content_in}
 use Rattle.beldi_step.specs.{declared.event.Event.Event, declared.run.Run.Run, declared.run.RunAt.RunAt, Host.Core, Host.counted, Host.crash_plan, Host.is_crowded, Host.last_moment, Host.most_events, Host.plan, Host.plan_of, Host.run_plan, Run.asks_at, Run.stage_asks}
 use Rattle.beldi_laws.proofs.Moves.{if_plan}
 use Rattle.beldi_upkeep.specs.Checked.{NoShadowAtFirst, ShadowsStayFree, is_shadow}

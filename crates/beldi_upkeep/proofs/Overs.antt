@@ -9,14 +9,15 @@ use Rattle.beldi_plain.specs.{Item.Item, Operation.OnItem, Operation.item_in, Op
 use Rattle.beldi_order.proofs.Maps.{same_some}
 use Rattle.beldi_row.{proofs.Logs.note_here, specs.Act.other_owner, specs.Act.owns, specs.Log.note_at, specs.Table.Rows, specs.declared.notes.Note.Note}
 use Rattle.beldi_walk.specs.{Query.rows_after, Query.told_by, declared.query.Query.Query}
-use Rattle.beldi_daal.specs.{Cell.cell_key, Cell.done_note, Cell.write_asks, Cell.write_goes, Content.Content, Logged.Logs, Logged.barred, Logged.held_by, Logged.note_after, Logged.unless_owned, Logged.waited, Walk.walk_so, declared.cell.CellOp.CellOp, declared.cell.ReadGoes.ReadGoes, declared.cell.WriteAt.WriteAt, declared.cell.WriteGoes.WriteGoes, declared.walk.Item.TheVariants.Plain, declared.walk.WriteSays.WriteSays, declared.walk.WriteWalk.WriteWalk}
+use Rattle.beldi_chain.specs.Content.{Content}
+use Rattle.beldi_daal.specs.{Cell.cell_key, Cell.done_note, Cell.write_asks, Cell.write_goes, Logged.Logs, Logged.barred, Logged.held_by, Logged.note_after, Logged.unless_owned, Logged.waited, Walk.walk_so, declared.cell.CellOp.CellOp, declared.cell.ReadGoes.ReadGoes, declared.cell.WriteAt.WriteAt, declared.cell.WriteGoes.WriteGoes, declared.walk.Item.TheVariants.Plain, declared.walk.WriteSays.WriteSays, declared.walk.WriteWalk.WriteWalk}
 use Rattle.beldi_daal.proofs.Logged.{by_op}
 use Rattle.beldi_txn.specs.{declared.end.EndGoes.EndGoes, declared.end.Visit.Visit, declared.tx.TxAt.TxAt, declared.tx.TxGoes.TxGoes, TxTurn.Fits}
 use Rattle.beldi_invokelog.specs.declared.invoke_log.Back.{Back}
 use Rattle.beldi_known.proofs.Cases.{by_option}
 use Rattle.beldi_call.specs.{Async.async_says, Call.call_says, declared.async_call.AsyncAt.AsyncAt, declared.async_call.AsyncSays.AsyncSays, declared.call.CallSays.CallSays}
 use Rattle.beldi_step.specs.{declared.run.Begun.Begun, declared.run.Mark.Mark, declared.run.Run.Run, declared.run.RunAt.RunAt, declared.run.RunTx.RunTx, declared.run.Says.Says, declared.run.Stage.Stage, Host.Core, Run.answer_noted, Run.cell_op, Run.goes_from, Run.note_of_op, Run.place_of, Run.put_asks, Run.put_says, Run.asks_at, Run.stage_asks, Run.stage_says, Run.takes, Run.told_at, Run.turned_by, Run.write_says, Run.done_says, Run.ask_says, Run.async_answer, Run.at_once, Run.back_says, Run.call_answer, Run.decided_says, Run.put_answer, Run.tx_says, Run.visit_says, Run.walk_says}
-use Rattle.beldi_known.specs.{Contents.content_of, Contents.head_key, Contents.is_owner, Operations.cell_of}
+use Rattle.beldi_known.specs.{Contents.content_of, Contents.is_owner, Operations.cell_of}
 use Rattle.beldi_laws.specs.{OneAnswer.IsBegun, Right.AtStage, Right.Inside, Right.Knows, Right.Right}
 use Rattle.beldi_upkeep.specs.Checked.{Begins, NoTurnIsOver, is_close, is_own_note, works_on}
 use Rattle.beldi_upkeep.proofs.{Notes.knows, Notes.notes_are_own, Notes.unlocks_are_owned, Stranded.no_run_stranded}
@@ -107,7 +108,7 @@ module _ (d : Deployment) (c : Core) (m : Rows) (r : Run) (g : Begun) (h : Right
 
   operation_on : GoesOn e (put_says e (note_of_op (cell_op e)) (told_by (put_asks r.id r.func g.machine.steps at (cell_op e)) c.now m))
   operation_on = subst (λ x. GoesOn e (put_says e (note_of_op x) (told_by (put_asks r.id r.func g.machine.steps at x) c.now m))) (sym (its_cell e o so))
-      (by_says (write_goes (done_note op) (told_by asks c.now m)) (by_op walk m n (h.rows.keys (head_key item)) at c.now refl).logs)
+      (by_says (write_goes (done_note op) (told_by asks c.now m)) (by_op walk m n (h.rows.chains item) at c.now refl).logs)
 
 -- ---- what each stage says
 ask_on : (t : ℕ) (x : List ℕ) (v : Option Value) → GoesOn (Effect.Read t x) (ask_says v)

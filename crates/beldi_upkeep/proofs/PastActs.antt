@@ -4,7 +4,7 @@ use Rattle.beldi_value.specs.{Id.age_of, Passes.passes, declared.place.Owner.Own
 use Rattle.beldi_row.proofs.Logs.{place_same}
 use Rattle.beldi_row.specs.Act.{Tell, act, at_tail, cond_at, died, entered, free_at, held, held_or, if_owned, lock_at, next_or, no_row, not_owner, noted_or, off, on, on_cell, other_owner, owned_or, owns, waits_for, write_at}
 use Rattle.beldi_row.specs.{Log.note_at, Log.place_eq, declared.act.Act.Act, declared.key.Kind.Kind, declared.notes.Note.Note, declared.row.Cell.Cell, declared.row.Row.Row}
-use Rattle.beldi_daal.specs.Content.{content_in}
+use Rattle.beldi_chain.specs.Content.{content_in}
 use Rattle.std.specs.Prelude.{is_none}
 use Rattle.std.proofs.Common.{Bool, List, None, Option, Some, [], ap, arith, false, if◌then◌else◌, inl, inr, is_some, refl, sym, true, ℕ, ◌&&◌, ◌++◌, ◌||◌, ◌∙◌, ◌∷◌, ◌≡◌, ◌⊎◌}
 use Rattle.beldi_upkeep.specs.Passed.{IsLater, ShowsPast, has_note, has_outcome, has_result, is_call, is_log, may_pass}

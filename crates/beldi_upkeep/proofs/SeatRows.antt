@@ -1,8 +1,9 @@
 -- Rows that keep their seats when one row is set, by the kind of that row.
-use Rattle.beldi_laws.proofs.Names.{AsyncAt, Body, Bool, ByTx, Caller, Effect, IntentId, IntentRow, InvokeRow, Item, Kind, None, Option, Place, Row, RowKey, Rows, Begun, Some, Stage, TxId, ap, arith, call_in, child_of, content_in, content_of, false, has_finish, head_key, invoke_key, is_eq, is_some, is_waited, key_cmp, key_in, key_same, place_of, refl, subst, sym, true, ℕ, ◌∙◌, ◌≡◌, ◌⊎◌, inl, inr}
+use Rattle.beldi_laws.proofs.Names.{AsyncAt, Body, Bool, ByTx, Caller, Effect, IntentId, IntentRow, InvokeRow, Item, Kind, None, Option, Place, Row, RowKey, Rows, Begun, Some, Stage, TxId, ap, arith, call_in, child_of, content_of, false, has_finish, head_key, invoke_key, is_eq, is_some, is_waited, key_cmp, key_in, key_same, place_of, refl, subst, sym, true, ℕ, ◌∙◌, ◌≡◌, ◌⊎◌, inl, inr}
 use Rattle.beldi_laws.proofs.Names.map
 use Rattle.beldi_laws.proofs.Frames.{is_intent, is_invoke}
-use Rattle.beldi_known.proofs.{Acts.is_data, Acts.kinds_apart}
+use Rattle.beldi_chain.{specs.Chain.content, proofs.Heads.chain_off}
+use Rattle.beldi_known.proofs.{Acts.is_data, Acts.kind_off, Acts.kinds_apart, Acts.same_data}
 use Rattle.beldi_invokelog.specs.InvokeLog.{call_at, registered_in}
 use Rattle.beldi_upkeep.specs.Callees.{AllFinished, HasBody, HasPut, HasTold, IsPassed, RunOwes, Seats, belongs_to, owner_key, seat_of}
 
@@ -47,8 +48,8 @@ module _ (m n : Rows) (k : RowKey) (same : (l : RowKey) → is_eq (key_cmp l k) 
   calls_off : is_invoke k.kind ≡ false → (f : ℕ) (a : Place) → map.get n (invoke_key f a) ≡ map.get m (invoke_key f a)
   calls_off off f a = same (invoke_key f a) (kinds_apart is_invoke (invoke_key f a) k refl off)
 
-  contents_off : is_data k.kind ≡ false → (x : Item) → content_of n x ≡ content_of m x
-  contents_off off x = ap content_in (same (head_key x) (kinds_apart is_data (head_key x) k refl off))
+  pub contents_off : is_data k.kind ≡ false → (x : Item) → content_of n x ≡ content_of m x
+  contents_off off x = ap content (chain_off m n k (head_key x) same (record { first = refl; numbered = λ i. refl }) (kind_off is_data same_data (head_key x) k refl off))
 
   body_off : is_intent k.kind ≡ false → (home : ℕ) (i : IntentId) (r : IntentRow) (b : Body) → HasBody n home i r b → HasBody m home i r b
   body_off off home i r b h = record { there = sym (intents_off off home i) ∙ h.there; body = h.body }

@@ -8,7 +8,8 @@ use Rattle.beldi_book.specs.Order.{count_changes}
 use Rattle.beldi_plain.specs.{Item.Item, Operation.OnItem, Operation.item_in, Operation.op_of}
 use Rattle.beldi_row.specs.{Act.Tell, Act.act, Act.added, Act.kept, Act.at_tail, Act.cond_to, Act.did, Act.entered, Act.died, Act.given_or, Act.held, Act.held_or, Act.kept_tell, Act.noted, Act.register_to, Act.if_owned, Act.next_or, Act.not_owner, Act.noted_or, Act.other_owner, Act.owned_or, Act.owns, Act.unless_held, Act.waits_for, Log.note_at, Table.Rows, declared.act.Act.Act, declared.notes.Note.Note, declared.row.Cell.Cell, declared.row.InvokeRow.InvokeRow, declared.row.Row.Row}
 use Rattle.beldi_walk.specs.Query.{Told, said, told_by}
-use Rattle.beldi_daal.specs.{Cell.cell_goes, Cell.done_note, Cell.got_or_held, Cell.in_the_way, Cell.op_act, Cell.read_goes, Cell.write_goes, Content.SoundAt, Content.content_in, declared.cell.CellOp.CellOp, declared.cell.WriteAt.WriteAt, declared.cell.WriteAt.TheVariants.Make, declared.cell.WriteAt.TheVariants.Try, declared.cell.WriteGoes.WriteGoes}
+use Rattle.beldi_chain.{specs.Chain.chain, specs.Content.SoundAt, specs.Content.content_in, proofs.OneRow.one_content}
+use Rattle.beldi_daal.specs.{Cell.cell_goes, Cell.done_note, Cell.got_or_held, Cell.in_the_way, Cell.op_act, Cell.read_goes, Cell.write_goes, declared.cell.CellOp.CellOp, declared.cell.WriteAt.WriteAt, declared.cell.WriteAt.TheVariants.Make, declared.cell.WriteAt.TheVariants.Try, declared.cell.WriteGoes.WriteGoes}
 use Rattle.beldi_lock.specs.{Lock.asks_at, Lock.item_goes, Lock.lock_goes, Lock.lockset_key, Lock.put_goes, declared.lock.LockAt.LockAt}
 use Rattle.beldi_invokelog.specs.InvokeLog.{back_of, invoke_key, invoked_of, registered_asks}
 use Rattle.beldi_readlog.specs.ReadLog.{given_of}
@@ -17,7 +18,7 @@ use Rattle.beldi_invokelog.specs.declared.invoke_log.Back.{Back}
 use Rattle.beldi_txn.specs.{End.decide_goes, End.decided_by, Tx.given_goes, Tx.head_goes, Tx.head_made, Tx.item_goes as tx_item_goes, Tx.item_leads, Tx.locked_goes, Tx.shadow_read, Tx.keep_goes, Tx.lock_leads, Tx.note_goes, Tx.tx_asks, Tx.tx_goes, Tx.write_leads, TxTurn.Fits, declared.tx.TxAt.TxAt}
 use Rattle.beldi_call.specs.{Async.async_asks, Async.async_says, Async.open_says, Call.call_says, declared.async_call.AsyncAt.AsyncAt, declared.call.CallAt.CallAt, declared.call.CallSays.CallSays}
 use Rattle.beldi_step.specs.{declared.run.Begun.Begun, declared.run.Mark.Mark, declared.run.Run.Run, declared.run.RunTx.RunTx, declared.run.Says.Says, declared.run.Stage.Stage, Host.Core, Run.OnCell, Run.ask_says, Run.async_answer, Run.back_says, Run.begin_of, Run.call_answer, Run.callee_body, Run.cell_op, Run.close_says, Run.decided_says, Run.done_says, Run.note_of_op, Run.own_tx, Run.place_of, Run.put_asks, Run.put_says, Run.stage_asks, Run.stage_says, Run.tx_of, Run.tx_says, Run.walk_says, Run.write_says, Tables.decision_key}
-use Rattle.beldi_known.specs.{Contents.content_of, Contents.head_key, Contents.shadow_key, Operations.cell_of, Owed.called_by, Owed.result_of, Rows.CallMatches}
+use Rattle.beldi_known.specs.{Contents.head_key, Contents.shadow_key, Operations.cell_of, Owed.called_by, Owed.result_of, Rows.CallMatches}
 use Rattle.beldi_known.proofs.Cases.{by_option}
 use Rattle.beldi_laws.specs.{OneAnswer.IsBegun, Right.AtStage, Right.Knows, Right.Right, Right.is_sent}
 use Rattle.beldi_upkeep.specs.Checked.{IsStill, NoTurnStays, ShadowsAreFree, is_of_lock, is_own_note, is_shadow_note, is_visit, works_on}
@@ -282,37 +283,37 @@ module _ (d : Deployment) (c : Core) (m : Rows) (r : Run) (g : Begun) (h : Right
       abbrev x : Item
       x = record { func = r.func; table = t; key = key }
 
-      lock_note : works_on e ≡ true → (w : Note) → note_at (content_of m x).notes place ≡ Some w → is_of_lock w ≡ true
-      lock_note works w there = ap (λ z. is_own_note z g.machine.effect w) (sym in_it) ∙ notes_are_own d c m r g x w h b (ap works_on is ∙ works) there
+      lock_note : works_on e ≡ true → (w : Note) → note_at (content_in (map.get m (head_key x))).notes place ≡ Some w → is_of_lock w ≡ true
+      lock_note works w there = ap (λ z. is_own_note z g.machine.effect w) (sym in_it) ∙ notes_are_own d c m r g x w h b (ap works_on is ∙ works) (ap (λ z. note_at z.notes place) (one_content (chain m (head_key x)) (h.rows.chains x)) ∙ there)
 
       by_lock : works_on e ≡ true → (l : LockAt) → Fits e (TxAt.Lock l) → IsStill (Stage.Tx (TxAt.Lock l)) (tx_says (TxAt.Lock l) (lock_leads place e (lock_goes l (told_by (asks_at r.func t key place (Owner.Tx own) l) c.now m)))) → ⊥
       by_lock works (LockAt.Lockset n) fits still = lockset_moves place e n c.now (map.get m (lockset_key r.func r.id n t key)) still
       by_lock works (LockAt.Item Try) fits still = lock_moves place e (write_goes Note.Got (said (act (op_act place (Owner.Tx own) CellOp.Lock) c.now (map.get m (head_key x))).1)) fits
-          (lock_off place (Owner.Tx own) c.now (map.get m (head_key x)) (h.rows.keys (head_key x)) (lock_note works)) still
+          (lock_off place (Owner.Tx own) c.now (map.get m (head_key x)) (h.rows.chains x).head (lock_note works)) still
       by_lock works (LockAt.Item Make) fits still = made_moves place e c.now (map.get m (head_key x)) still
 
       abbrev aside : Option Row
       aside = map.get m (shadow_key own x)
 
       aside_note : (w : Note) → note_at (content_in aside).notes place ≡ Some w → is_shadow_note e w ≡ true
-      aside_note w there = ap (λ z. is_shadow_note z w) (sym is) ∙ shadow_notes_are_own d c m r g own x w h b there
+      aside_note w there = ap (λ z. is_shadow_note z w) (sym is) ∙ shadow_notes_are_own d c m r g own x w h b (ap (λ z. note_at z.notes place) (one_content (chain m (shadow_key own x)) (h.rows.asides own x)) ∙ there)
 
     by_tx : (e : Effect) (a : TxAt) → g.machine.effect ≡ e → Fits e a → InTx e a
     by_tx (Effect.Read t key) TxAt.Log is fits still = log_moves (begin_of o) (given_of (told_by (tx_asks r.func place own (Effect.Read t key) TxAt.Log) c.now m)) still
     by_tx (Effect.Read t key) (TxAt.Lock l) is fits still = by_lock (Effect.Read t key) is t key refl l fits still
-    by_tx (Effect.Read t key) TxAt.Shadow is fits still = shadow_read_moves c.now (aside (Effect.Read t key) is t key) (h.rows.keys (shadow_key own (record { func = r.func; table = t; key = key }))) still
-    by_tx (Effect.Read t key) TxAt.Item is fits still = item_moves (Effect.Read t key) c.now (map.get m (head_key (record { func = r.func; table = t; key = key }))) (h.rows.keys (head_key (record { func = r.func; table = t; key = key }))) fits still
+    by_tx (Effect.Read t key) TxAt.Shadow is fits still = shadow_read_moves c.now (aside (Effect.Read t key) is t key) (h.rows.asides own (record { func = r.func; table = t; key = key })).head still
+    by_tx (Effect.Read t key) TxAt.Item is fits still = item_moves (Effect.Read t key) c.now (map.get m (head_key (record { func = r.func; table = t; key = key }))) (h.rows.chains (record { func = r.func; table = t; key = key })).head fits still
     by_tx (Effect.Read t key) (TxAt.Keep v) is fits still = keep_moves v (told_by (tx_asks r.func place own (Effect.Read t key) (TxAt.Keep v)) c.now m) still
     by_tx (Effect.Write t key v) (TxAt.Lock l) is fits still = by_lock (Effect.Write t key v) is t key refl l fits still
     by_tx (Effect.Write t key v) (TxAt.Write Try) is fits still = aside_moves (Effect.Write t key v) (write_goes Note.Wrote (said (act (op_act place (Owner.Tx own) (CellOp.Write v)) c.now (aside (Effect.Write t key v) is t key)).1))
-        (aside_write place (Owner.Tx own) c.now t key v (aside (Effect.Write t key v) is t key) (h.rows.keys (shadow_key own (record { func = r.func; table = t; key = key }))) (free (shadow_key own (record { func = r.func; table = t; key = key })) refl) (aside_note (Effect.Write t key v) is t key)) still
+        (aside_write place (Owner.Tx own) c.now t key v (aside (Effect.Write t key v) is t key) (h.rows.asides own (record { func = r.func; table = t; key = key })).head (free (shadow_key own (record { func = r.func; table = t; key = key })) refl) (aside_note (Effect.Write t key v) is t key)) still
     by_tx (Effect.Write t key v) (TxAt.Write Make) is fits still = aside_made_moves (Effect.Write t key v) Note.Wrote c.now (aside (Effect.Write t key v) is t key) still
     by_tx (Effect.CondWrite t key u w v) (TxAt.Lock l) is fits still = by_lock (Effect.CondWrite t key u w v) is t key refl l fits still
     by_tx (Effect.CondWrite t key u w v) TxAt.Shadow is fits still = head_moves c.now (aside (Effect.CondWrite t key u w v) is t key) still
-    by_tx (Effect.CondWrite t key u w v) TxAt.Item is fits still = item_moves (Effect.CondWrite t key u w v) c.now (map.get m (head_key (record { func = r.func; table = t; key = key }))) (h.rows.keys (head_key (record { func = r.func; table = t; key = key }))) fits still
+    by_tx (Effect.CondWrite t key u w v) TxAt.Item is fits still = item_moves (Effect.CondWrite t key u w v) c.now (map.get m (head_key (record { func = r.func; table = t; key = key }))) (h.rows.chains (record { func = r.func; table = t; key = key })).head fits still
     by_tx (Effect.CondWrite t key u w v) (TxAt.Head y) is fits still = first_moves y c.now (aside (Effect.CondWrite t key u w v) is t key) still
     by_tx (Effect.CondWrite t key u w v) (TxAt.Write Try) is fits still = aside_moves (Effect.CondWrite t key u w v) (write_goes (Note.Cond true) (said (act (op_act place (Owner.Tx own) (CellOp.Cond u w v)) c.now (aside (Effect.CondWrite t key u w v) is t key)).1))
-        (aside_test place (Owner.Tx own) c.now t key u w v (aside (Effect.CondWrite t key u w v) is t key) (h.rows.keys (shadow_key own (record { func = r.func; table = t; key = key }))) (free (shadow_key own (record { func = r.func; table = t; key = key })) refl) (aside_note (Effect.CondWrite t key u w v) is t key)) still
+        (aside_test place (Owner.Tx own) c.now t key u w v (aside (Effect.CondWrite t key u w v) is t key) (h.rows.asides own (record { func = r.func; table = t; key = key })).head (free (shadow_key own (record { func = r.func; table = t; key = key })) refl) (aside_note (Effect.CondWrite t key u w v) is t key)) still
     by_tx (Effect.CondWrite t key u w v) (TxAt.Write Make) is fits still = aside_made_moves (Effect.CondWrite t key u w v) (Note.Cond true) c.now (aside (Effect.CondWrite t key u w v) is t key) still
     by_tx e a is fits still = fits
 
@@ -328,7 +329,7 @@ module _ (d : Deployment) (c : Core) (m : Rows) (r : Run) (g : Begun) (h : Right
     by_write at = subst (λ z. IsStill (Stage.Write at) (put_says e (note_of_op z) (told_by (put_asks r.id r.func step at z) c.now m)) → ⊥) (sym (its_cell e u so)) (by_at at)
       where
         by_at : (at : WriteAt) → let z : Option OnCell = Some (record { table = u.table; key = u.key; op = cell_of u.does }) in IsStill (Stage.Write at) (put_says e (note_of_op z) (told_by (put_asks r.id r.func step at z) c.now m)) → ⊥
-        by_at Try still = try_moves e (write_goes (done_note op) (said (act (op_act place (Owner.Intent r.id) op) c.now row).1)) (try_off (done_note op) place (Owner.Intent r.id) c.now op row (h.rows.keys (head_key (item_in r.func u)))) still
+        by_at Try still = try_moves e (write_goes (done_note op) (said (act (op_act place (Owner.Intent r.id) op) c.now row).1)) (try_off (done_note op) place (Owner.Intent r.id) c.now op row (h.rows.chains (item_in r.func u)).head) still
         by_at Make still = make_moves e (done_note op) c.now Value.Null row still
 
   -- the row of a call whose callee is known
@@ -353,7 +354,7 @@ module _ (d : Deployment) (c : Core) (m : Rows) (r : Run) (g : Begun) (h : Right
 
   by_stage : (s : Stage) (e : Effect) (o : Option RunTx) → g.machine.effect ≡ e → g.tx ≡ o → is_visit s ≡ false → AtStage m h.plain c.book k s e o → IsStill s (stage_says r.id r.func g.caller o (count_changes c.book) step e s (told_at s e o)) → ⊥
   by_stage Stage.Ask (Effect.Read t x) None is out near here still = ask_moves (given_of (told_at Stage.Ask (Effect.Read t x) None)) still
-  by_stage Stage.Walk (Effect.Read t x) None is out near here still = let y : Item = record { func = r.func; table = t; key = x } in walk_moves (count_changes c.book) c.now (Some (Owner.Intent r.id)) (map.get m (head_key y)) (h.rows.keys (head_key y)) still
+  by_stage Stage.Walk (Effect.Read t x) None is out near here still = let y : Item = record { func = r.func; table = t; key = x } in walk_moves (count_changes c.book) c.now (Some (Owner.Intent r.id)) (map.get m (head_key y)) (h.rows.chains y).head still
   by_stage (Stage.Keep v seen) (Effect.Read t x) None is out near here still = still
   by_stage (Stage.Write at) e None is out near here still = by_option (op_of e) (λ none. let clash = sym (ap is_some none) ∙ here in cc) (λ u so. by_write e u so at still)
   by_stage (Stage.Async at) (Effect.Async f a) None is out near here still = by_async f a at here.1

@@ -1,4 +1,5 @@
 -- What the turn of a run that has begun leaves of the rows.
+use Rattle.beldi_chain.{specs.Chain.chain, proofs.OneRow.one_content}
 use Rattle.beldi_known.proofs.{Acts.is_data, Callers.all_called, Participants.open_owner}
 use Rattle.beldi_laws.proofs.Names.{Async, AsyncAt, Begun, Body, Bool, ByTx, CallAt, Caller, CellOp, Core, Deployment, Effect, Fits, Inherited, Inside, Instance, IntentId, IntentMatches, InvokeRow, Item, Kind, Knows, List, Look, MakeCell, None, Null, Option, Outcome, Own, Place, PutLockset, PutRead, Register, Return, Right, RootMatches, Row, RowAct, RowKey, Rows, Run, RunTx, Some, Stage, TxAt, TxId, Value, WriteAt, after_act, ap, behind_locks, call_of, child_of, content_of, effect_before, length, false, func_called, has_ended, has_finish, has_no_hops, head_key, if◌then◌else◌, inl, inr, intent_key, invoke_key, is_some, key_in, log_key, op_act, note_at, place_of, refl, rows_after, same_some, shadow_key, subst, sym, touched, true, tx_after, tx_of, ℕ, ◌∙◌, ◌≡◌, AtItem, Lockset, async_asks, back_to_asks, call_asks, callee_body, register_asks, tell_asks, write_asks}
 use Rattle.beldi_laws.proofs.Names.map
@@ -63,7 +64,7 @@ module _ (d : Deployment) (c : Core) (m : Rows) (h : Right d c m) (seats : Seats
   -- ---- an operation outside
   pub write_leaves : (w : WriteAt) (o : Option _) → Leave (rows_after (put_asks r.id r.func g.machine.steps w o) c.now m)
   write_leaves w None = look (intent_key r.id r.func)
-  write_leaves w (Some o) = leaves_op c m seats c.now (record { func = r.func; table = o.table; key = o.key }) place (Owner.Intent r.id) o.op w refl
+  write_leaves w (Some o) = leaves_op c m seats c.now (record { func = r.func; table = o.table; key = o.key }) (h.rows.chains (record { func = r.func; table = o.table; key = o.key })) place (Owner.Intent r.id) o.op w refl
 
   -- ---- inside a transaction
   module _ (o : RunTx) (tx : g.tx ≡ Some o) (here : tx_after d r.id k.instance k.answers ≡ Some (tx_of r.id r.func o)) (e : Effect) (is : g.machine.effect ≡ e) (x : ℕ × List ℕ) (touch : touched e ≡ Some x) where
@@ -78,8 +79,8 @@ module _ (d : Deployment) (c : Core) (m : Rows) (h : Right d c m) (seats : Seats
 
     -- a lock makes the transaction of who stands at the front the owner; behind, its place has its note
     lock_leaves : (w : WriteAt) → Leave (rows_after (write_asks (head_key item) place (ByTx own) CellOp.Lock w) c.now m)
-    lock_leaves WriteAt.Make = leaves_item c m seats c.now item (MakeCell Null None) (λ t owned. inl (make_owner t c.now (map.get m (head_key item)) owned))
-    lock_leaves WriteAt.Try = leaves_item c m seats c.now item (op_act place (ByTx own) CellOp.Lock) (λ t owned. by_answer k
+    lock_leaves WriteAt.Make = leaves_item c m seats c.now item (MakeCell Null None) (h.rows.chains item) (λ t owned. inl (make_owner t c.now (map.get m (head_key item)) owned))
+    lock_leaves WriteAt.Try = leaves_item c m seats c.now item (op_act place (ByTx own) CellOp.Lock) (h.rows.chains item) (λ t owned. by_answer k
         (λ left. elim (lock_owner t own place c.now (map.get m (head_key item)) owned) [
           | inl was ↦ inl was
           | inr same ↦ inr (subst (λ z. has_finish (map.get m (owner_key z)) ≡ false) (sym same) (open_unfinished d c m h own
@@ -88,7 +89,7 @@ module _ (d : Deployment) (c : Core) (m : Rows) (h : Right d c m) (seats : Seats
         (λ a rest left.
         let locks = behind_locks d m h.known h.locked h.rows r.id k.instance k.made (sane_instance h k) k.answers a rest (in_tx.known_answers d c m r g h k o here e is x touch a rest left) (in_tx.short d c m r g h k o here e is x touch) own here x (ap touched (in_tx.effect_so d c m r g h k o here e is x touch) ∙ touch) in
         let told = told_note (place_of r.id (length k.answers)) own (content_of m its_item) (content_of m its_item) _ locks.0 in
-        inl (lock_noted t own place c.now (map.get m (head_key item)) _ ((λ i. note_at (content_of m (sym (in_tx.same_item d c m r g h k o here e is x touch) i)).notes (place_of r.id ((at_steps k) i))) ∙ told) owned)))
+        inl (lock_noted t own place c.now (map.get m (head_key item)) _ (ap (λ z. note_at z.notes place) (sym (one_content (chain m (head_key item)) (h.rows.chains item))) ∙ (λ i. note_at (content_of m (sym (in_tx.same_item d c m r g h k o here e is x touch) i)).notes (place_of r.id ((at_steps k) i))) ∙ told) owned)))
 
     aside_leaves : (w : WriteAt) (y : Option CellOp) → Leave (rows_after (txn.aside_asks r.func place own (shadow_key own item) w y) c.now m)
     aside_leaves w None = look (log_key r.func place)

@@ -11,7 +11,7 @@ use Rattle.beldi_plain.specs.{Item.Item, Plain.Instance, Replies.starts_of}
 use Rattle.beldi_order.specs.{Sane.call_of, Txs.effect_after}
 use Rattle.beldi_row.specs.{Key.RowKey, Log.note_at, Table.Rows, declared.key.Kind.Kind, declared.notes.Note.Note, declared.row.Body.Body, declared.row.Row.Row}
 use Rattle.beldi_walk.specs.Query.{told_by}
-use Rattle.beldi_daal.specs.Content.{content_in}
+use Rattle.beldi_chain.specs.Content.{content_in}
 use Rattle.beldi_intent.specs.Intent.{root_key}
 use Rattle.beldi_step.specs.{declared.event.Event.Event, declared.event.Seen.Seen, declared.run.Begun.Begun, declared.run.OpenTx.OpenTx, declared.run.Run.Run, declared.run.RunAt.RunAt, declared.run.RunTx.RunTx, declared.run.Says.Says, declared.run.Stage.Stage, Host.Core, Host.EventOn, Run.answer_at_once, Run.answer_noted, Run.at_once, Run.body_found, Run.first_stage, Run.own_tx, Run.place_of, Run.run_asks, Run.run_told, Run.stage_asks, Run.stage_says, Run.takes, Run.Turned, Run.within, Tables.decision_key}
 use Rattle.beldi_known.specs.{Contents.content_of, Contents.is_owner, Contents.shadow_of, Rows.IsBodyOf}

@@ -7,7 +7,7 @@ use Rattle.beldi_tree.specs.declared.deployment.Deployment.{Deployment}
 use Rattle.beldi_lang.specs.declared.effect.Effect.{Effect}
 use Rattle.beldi_plain.specs.{Legal.run_of, Plain.Instance, Plain.PlainState, Plain.effect_before}
 use Rattle.beldi_row.specs.{Key.RowKey, Log.note_at, Table.Rows, declared.key.Kind.Kind, declared.row.InvokeRow.InvokeRow, declared.row.Row.Row}
-use Rattle.beldi_daal.specs.Content.{content_in}
+use Rattle.beldi_chain.specs.Content.{content_in}
 use Rattle.beldi_invokelog.specs.InvokeLog.{call_in, invoke_key, result_in}
 use Rattle.beldi_step.specs.{Host.Core, Host.EventOn, Host.first_core, Run.answer_at_once, Run.place_of, declared.event.Event.Event, declared.event.Seen.Seen, declared.run.Run.Run, declared.run.RunAt.TheVariants.Begins, declared.run.Begun.Begun}
 use Rattle.beldi_known.specs.Known.{Known, last_step}

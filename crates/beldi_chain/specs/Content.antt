@@ -9,13 +9,23 @@ pub record Content : Type 0 where
   pub owner : Option Owner
   pub notes : List (Place × Note)
 
--- an item without a row is null, and nothing was done to it
+-- what a last row holds, with the notes of all rows; without a row an item is null, and nobody's
+abbrev pub held_in : Option Row → List (Place × Note) → Content
+held_in (Some (Row.Cell c)) es = record { value = c.value; owner = c.owner; notes = es }
+held_in r es = record { value = Null; owner = None; notes = es }
+
+-- the notes of one row
+abbrev pub log_of : Option Row → List (Place × Note)
+log_of (Some (Row.Cell c)) = c.log
+log_of r = []
+
+-- what one row holds by itself
 abbrev pub content_in : Option Row → Content
 content_in (Some (Row.Cell c)) = record { value = c.value; owner = c.owner; notes = c.log }
 content_in r = record { value = Null; owner = None; notes = [] }
 
--- the rows of an item are one cell that no row follows, in which no place occurs twice, and which is not to be removed; or
--- there is none
+-- a first row that is the only one: a cell that no row follows, in which no place occurs twice, and which is not to be removed;
+-- or there is none
 abbrev pub SoundAt : Option Row → Type 0
 SoundAt None = Unit {0}
 SoundAt (Some (Row.Cell c)) = (c.next ≡ None) × NoneTwice c.log × (c.marked ≡ false) × (c.dangled ≡ None)

@@ -1,0 +1,3 @@
+pub mod Grows
+pub mod Heads
+pub mod OneRow

@@ -1,0 +1,64 @@
+-- Chains of one row, and of none.
+use Rattle.std.proofs.Common.{◌≡◌, ℕ, zero, suc, List, [], ◌++◌, Option, None, Some, refl, ap, ◌∙◌, append-nil}
+use Rattle.beldi_value.specs.declared.place.Place.{Place}
+use Rattle.beldi_row.specs.{declared.notes.Note.Note, declared.row.Row.Row}
+use Rattle.beldi_chain.specs.Chain.{Chain, above, content, most_rows, next_of, notes_from, on_next, Sound, tail, tail_from}
+use Rattle.beldi_chain.specs.Content.{SoundAt, content_in, held_in, log_of}
+
+module _ (f : Chain) (n : ℕ) (last : above n (next_of (f n)) ≡ None) where
+  tail_here : (s : ℕ) → tail_from s f n ≡ f n
+  tail_here zero = refl
+  tail_here (suc s) = ap (λ o. on_next o (f n) (tail_from s f)) last
+
+  notes_here : (s : ℕ) → notes_from s f n ≡ log_of (f n)
+  notes_here zero = refl
+  notes_here (suc s) = ap (λ o. log_of (f n) ++ on_next o [] (notes_from s f)) last ∙ append-nil (log_of (f n))
+
+held_alone : (r : Option Row) → held_in r (log_of r) ≡ content_in r
+held_alone None = refl
+held_alone (Some (Row.Cell c)) = refl
+held_alone (Some (Row.Intent i)) = refl
+held_alone (Some (Row.ReadLog v)) = refl
+held_alone (Some (Row.Invoke i)) = refl
+held_alone (Some Row.Lockset) = refl
+
+-- the first row is the last one, where none comes after it
+module _ (f : Chain) (last : above 0 (next_of (f 0)) ≡ None) where
+  pub tail_is_head : tail f ≡ f 0
+  tail_is_head = tail_here f 0 last most_rows
+
+  pub content_is_head : content f ≡ content_in (f 0)
+  content_is_head = (λ i. held_in (tail_is_head i) (notes_here f 0 last most_rows i)) ∙ held_alone (f 0)
+
+-- no row follows the only one
+pub no_next : (r : Option Row) → SoundAt r → next_of r ≡ None
+no_next None h = refl
+no_next (Some (Row.Cell c)) h = h.0
+no_next (Some r) h = absurd h
+
+module _ (f : Chain) (sound : Sound f) where
+  pub one_tail : tail f ≡ f 0
+  one_tail = tail_is_head f (ap (above 0) (no_next (f 0) sound.head))
+
+  pub one_content : content f ≡ content_in (f 0)
+  one_content = content_is_head f (ap (above 0) (no_next (f 0) sound.head))
+
+-- without a first row there is none
+module _ (f : Chain) (none : f 0 ≡ None) where
+  pub no_tail : tail f ≡ None
+  no_tail = tail_is_head f (ap (λ r. above 0 (next_of r)) none) ∙ none
+
+  pub no_content : content f ≡ content_in None
+  no_content = content_is_head f (ap (λ r. above 0 (next_of r)) none) ∙ ap content_in none
+
+-- the value that a chain has is that of its last row
+pub tail_value : (f : Chain) → (content f).value ≡ (content_in (tail f)).value
+tail_value f = by_row (tail f) (notes_from most_rows f 0)
+  where
+    by_row : (r : Option Row) (es : List (Place × Note)) → (held_in r es).value ≡ (content_in r).value
+    by_row None es = refl
+    by_row (Some (Row.Cell c)) es = refl
+    by_row (Some (Row.Intent i)) es = refl
+    by_row (Some (Row.ReadLog v)) es = refl
+    by_row (Some (Row.Invoke i)) es = refl
+    by_row (Some Row.Lockset) es = refl
