@@ -1,3 +1,5 @@
+mod LastRows
+mod Lines
 mod Looks
 mod Names
 mod Newest

@@ -1,6 +1,6 @@
 -- Reading all rows, one after another.
 use Rattle.std.specs.Prelude.{Result}
-use Rattle.beldi_host.proofs.Names.{Cell, Data, Deployment, Err, Failed, Greater, IfOk, Intent, Invoke, IsErrOf, Kind, Less, List, Lockset, None, Ok, OpenErr, Option, Ordering, Owned, Owner, ReadLog, Reads, Rose, Row, RowKey, Rows, Shadow, Some, T, TableState, Tells, Value, [], ap, append-nil, append_assoc, arith, below_all, cell_seen, false, first, first_above, flat_map, greatest, if◌then◌else◌, is_committed, is_lt, is_sorted, key_cmp, key_ticket, key_total, kind_cmp, least_key, less, line_after, line_at, max, nat_cmp, nat_cmp_is, newest_of, latest, latest_of, next_mark_of, next_line_of, next_row, IsHighWater, rest, row_moment, next_seen_of, ordering_reverse, ordering_then, owned_value, refl, row_line, same_rows, second, seen_at, seen_of, shown_under, subst, suc, sym, tables_text, tells_map, test_true, ticket_of, tied_itself, true, value_in, value_line, zero, ℕ, ◌++◌, ◌∙◌, ◌∷◌, ◌≡◌, ◌≤◌}
+use Rattle.beldi_host.proofs.Names.{Data, Deployment, Err, Failed, Greater, IfOk, Intent, Invoke, IsErrOf, Kind, Less, List, Lockset, None, Ok, OpenErr, Option, Ordering, ReadLog, Reads, Rose, Row, RowKey, Rows, Shadow, Some, T, TableState, Tells, [], ap, append-nil, append_assoc, arith, below_all, false, first, first_above, flat_map, greatest, if◌then◌else◌, is_lt, is_sorted, key_cmp, key_ticket, key_total, kind_cmp, least_key, less, line_at, max, nat_cmp, nat_cmp_is, newest_of, latest, latest_of, next_mark_of, next_line_of, next_row, IsHighWater, rest, row_moment, ordering_reverse, ordering_then, refl, row_line, same_rows, second, subst, suc, sym, tables_text, tells_map, test_true, ticket_of, tied_itself, true, zero, ℕ, ◌++◌, ◌∙◌, ◌∷◌, ◌≡◌, ◌≤◌}
 use Rattle.beldi_host.proofs.Names.map
 
 abbrev Entry : Type 0
@@ -129,31 +129,7 @@ marks_last t u k m h next =
     let moments : max u 0 ≡ latest_of m = ap (λ es. max u (latest es)) (sym end) ∙ h.1 in
     record { newest = omega (arith, tickets); latest = omega (arith, moments) }
 
--- ---- the line of a row, in two steps
-cell_whole : (d : Deployment) (m : Rows) (text : List ℕ) (f t : ℕ) (k : List ℕ) (o : Option Owner) (v : Value) → line_after d m f (Data t k 0) (cell_seen d text f t k o v) ≡ text ++ value_line d f t k (shown_under m f t k o v)
-cell_whole d m text f t k None v = refl
-cell_whole d m text f t k (Some (Owner.Intent i)) v = refl
-cell_whole d m text f t k (Some (Owner.Tx x)) v = refl
-
-line_whole : (d : Deployment) (m : Rows) (text : List ℕ) (f : ℕ) (k : Kind) (r : Row) → line_after d m f k (seen_at d text f k r) ≡ text ++ line_at d m f k r
-line_whole d m text f (Data t k zero) (Cell c) = cell_whole d m text f t k c.owner c.value
-line_whole d m text f k r = sym (append-nil text)
-
-none_some : {X : Type 0} (x : X) → None ≡ Some x → ⊥
-none_some x h = cc
-
-pub seen_some : (d : Deployment) (m : Rows) (text mid new : List ℕ) (k : RowKey) (w : Option Owned) (o : Option Entry) → (Some (k, w), mid) ≡ next_seen_of d text o → new ≡ line_after d m k.home k.kind (w, mid) → (Some k, new) ≡ next_line_of d m text o
-seen_some d m text mid new k w None h is = absurd (none_some (k, w) (sym (ap (λ (q : Option (RowKey × Option Owned) × List ℕ). q.0) h)))
-seen_some d m text mid new k w (Some e) h is =
-    let pair : (k, w) ≡ (e.0, (seen_of d text e).0) = pair_of (k, w) (e.0, (seen_of d text e).0) (ap (λ (q : Option (RowKey × Option Owned) × List ℕ). q.0) h) in
-    let key : k ≡ e.0 = ap (λ (q : RowKey × Option Owned). q.0) pair in
-    let seen : (w, mid) ≡ seen_of d text e = (λ i. ((pair i).1, (h i).1)) in
-    let line : new ≡ text ++ row_line d m e = is ∙ ap (λ (q : RowKey). line_after d m q.home q.kind (w, mid)) key ∙ ap (line_after d m e.0.home e.0.kind) seen ∙ line_whole d m text e.0.home e.0.kind e.1 in
-    λ i. (Some (key i), line i)
-  where
-    pair_of : (x y : RowKey × Option Owned) → Some x ≡ Some y → x ≡ y
-    pair_of x y h = cc
-
+-- ---- the lines of all rows
 abbrev pub Listed : Deployment → List ℕ → RowKey → Rows → Type 0
 Listed d text k m = text ++ flat_map (row_line d m) (rest k (map.entries m)) ≡ tables_text d m
 
@@ -236,10 +212,3 @@ reads_then P Q R a b c x y f h k = record {
   failed = λ e. let rose : Rose b.faults c.faults = k.failed e in omega (arith, h.later, rose);
   room = k.room ∙ h.room;
 }
-
--- ---- the value of an item that a transaction owns
-pub owned_committed : (m : Rows) (decision shadow : RowKey) (own v : Value) → true ≡ is_committed (map.get m decision) → v ≡ value_in (map.get m shadow) own → v ≡ owned_value m decision shadow own
-owned_committed m decision shadow own v h is = is ∙ ap (λ b. if b then value_in (map.get m shadow) own else own) h
-
-pub owned_open : (m : Rows) (decision shadow : RowKey) (own : Value) → false ≡ is_committed (map.get m decision) → own ≡ owned_value m decision shadow own
-owned_open m decision shadow own h = ap (λ b. if b then value_in (map.get m shadow) own else own) h

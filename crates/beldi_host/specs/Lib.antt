@@ -1,4 +1,5 @@
 pub mod Host
+pub mod LastRow
 pub mod Opening
 pub mod Right
 pub mod Said

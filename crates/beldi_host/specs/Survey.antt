@@ -1,15 +1,17 @@
 -- Calls that read the rows of a table, one after another, and change none.
 use Rattle.std.specs.Prelude.{◌≡◌, ◌⊎◌, ℕ, zero, ◌≤◌, ◌==◌, ◌||◌, max, IsSome, IfSome, nat_le, nat_lt, Bool, true, false, ◌++◌, List, [], ◌∷◌, Option, Some, None, Result, IfOk, OnOk, IsErrOf, if◌then◌else◌}
+use Rattle.std.specs.Option.{option_map}
 use Rattle.std.specs.Ordering.{is_lt}
 use Rattle.std.specs.FinMap as map
 use Rattle.beldi_value.specs.declared.{outcome.Outcome.Outcome, place.Owner.Owner, place.Owner.TheVariants.Tx, value.Value.Value}
 use Rattle.beldi_tree.specs.declared.deployment.Deployment.{Deployment}
-use Rattle.beldi_row.specs.{Key.RowKey, Key.key_cmp, Key.key_ticket, Key.least_key, Key.rank_of, declared.key.Kind.Kind, declared.key.Kind.TheVariants.Data, declared.key.Kind.TheVariants.Shadow, declared.key.Kind.TheVariants.Lockset, declared.row.Row.Row, declared.row.Row.TheVariants.Intent, declared.row.Row.TheVariants.Cell, Act.Tell, Act.here, Table.Rows, Table.TableState, Table.Tells, Table.Rose}
+use Rattle.beldi_row.specs.{Key.RowKey, Key.head_key, Key.key_cmp, Key.key_ticket, Key.least_key, Key.rank_of, declared.key.Kind.Kind, declared.key.Kind.TheVariants.Data, declared.key.Kind.TheVariants.Shadow, declared.key.Kind.TheVariants.Lockset, declared.row.Row.Row, declared.row.Row.TheVariants.Intent, declared.row.Row.TheVariants.Cell, Act.Tell, Act.here, Table.Rows, Table.TableState, Table.Tells, Table.Rose}
+use Rattle.beldi_chain.specs.Chain.{above, chain, tail}
 use Rattle.beldi_daal.specs.Cell.{shadow_key}
 use Rattle.beldi_intent.specs.Intent.{root_key}
-use Rattle.beldi_step.specs.{Host.Core, Host.first_core, Host.last_moment, Next.PassesNoOpen, Tables.row_line, Tables.value_line, Tables.decision_key, Tables.owned_value}
+use Rattle.beldi_step.specs.{Host.Core, Host.first_core, Host.last_moment, Next.PassesNoOpen, Tables.cell_line, Tables.row_line, Tables.value_line, Tables.decision_key, Tables.owned_value}
 use Rattle.beldi_host.specs.declared.high_water.HighWater.{HighWater}
-use Rattle.beldi_host.specs.declared.survey.{OpenErr.OpenErr, Owned.Owned, OpenErr.TheVariants.Failed, ReplySeen.ReplySeen, ReplySeen.TheVariants.Unknown, ReplySeen.TheVariants.Gone, ReplySeen.TheVariants.Waiting, ReplySeen.TheVariants.Reply}
+use Rattle.beldi_host.specs.declared.survey.{OpenErr.OpenErr, Owned.Owned, Wanted.Wanted, Wanted.TheVariants.LastRow, OpenErr.TheVariants.Failed, ReplySeen.ReplySeen, ReplySeen.TheVariants.Unknown, ReplySeen.TheVariants.Gone, ReplySeen.TheVariants.Waiting, ReplySeen.TheVariants.Reply}
 
 -- the rows are as before, and an answer is right of them
 pub record Reads {X : Type 0} (P : Rows → X → Type 0) (old new : TableState) (result : Result X OpenErr) : Type 0 where
@@ -74,14 +76,23 @@ abbrev pub cell_seen : Deployment → List ℕ → ℕ → ℕ → List ℕ → 
 cell_seen d text f t k (Some (Tx x)) v = (Some (record { decision = decision_key x; shadow = shadow_key f x t k; value = v }), text)
 cell_seen d text f t k o v = (None, text ++ value_line d f t k v)
 
-abbrev pub seen_at : Deployment → List ℕ → ℕ → Kind → Row → Option Owned × List ℕ
-seen_at d text f (Data t k zero) (Cell c) = cell_seen d text f t k c.owner c.value
+abbrev pub held_seen : Deployment → List ℕ → ℕ → Kind → Option Owner → Value → Option Owned × List ℕ
+held_seen d text f (Data t k zero) o v = cell_seen d text f t k o v
+held_seen d text f k o v = (None, text)
+
+-- .. by the row after the item's first one too
+abbrev pub head_seen : Option Owned × List ℕ → List ℕ → Option ℕ → Option Wanted × List ℕ
+head_seen z text None = (option_map Wanted.Owned z.0, z.1)
+head_seen z text (Some n) = (Some LastRow, text)
+
+abbrev pub seen_at : Deployment → List ℕ → ℕ → Kind → Row → Option Wanted × List ℕ
+seen_at d text f k (Cell c) = head_seen (held_seen d text f k c.owner c.value) text (above 0 c.next)
 seen_at d text f k r = (None, text)
 
-abbrev pub seen_of : Deployment → List ℕ → RowKey × Row → Option Owned × List ℕ
+abbrev pub seen_of : Deployment → List ℕ → RowKey × Row → Option Wanted × List ℕ
 seen_of d text e = seen_at d text e.0.home e.0.kind e.1
 
-abbrev pub next_seen_of : Deployment → List ℕ → Option (RowKey × Row) → Option (RowKey × Option Owned) × List ℕ
+abbrev pub next_seen_of : Deployment → List ℕ → Option (RowKey × Row) → Option (RowKey × Option Wanted) × List ℕ
 next_seen_of d text None = (None, text)
 next_seen_of d text (Some e) = (Some (e.0, (seen_of d text e).0), (seen_of d text e).1)
 
@@ -90,10 +101,20 @@ abbrev pub key_line : Deployment → ℕ → Kind → Value → List ℕ
 key_line d f (Data t k zero) v = value_line d f t k v
 key_line d f k v = []
 
+-- the line of an item by its last row
+abbrev pub last_line : Deployment → Rows → ℕ → Kind → List ℕ
+last_line d m f (Data t k zero) = cell_line d m f t k (tail (chain m (head_key f t k)))
+last_line d m f k = []
+
 -- the text, with the line that was left
-abbrev pub line_after : Deployment → Rows → ℕ → Kind → Option Owned × List ℕ → List ℕ
+abbrev pub owned_after : Deployment → Rows → ℕ → Kind → Option Owned × List ℕ → List ℕ
+owned_after d m f k (None, text) = text
+owned_after d m f k (Some o, text) = text ++ key_line d f k (owned_value m o.decision o.shadow o.value)
+
+abbrev pub line_after : Deployment → Rows → ℕ → Kind → Option Wanted × List ℕ → List ℕ
 line_after d m f k (None, text) = text
-line_after d m f k (Some o, text) = text ++ key_line d f k (owned_value m o.decision o.shadow o.value)
+line_after d m f k (Some (Wanted.Owned o), text) = owned_after d m f k (Some o, text)
+line_after d m f k (Some LastRow, text) = text ++ last_line d m f k
 
 -- the key of the next row, and the text with its line
 abbrev pub next_line_of : Deployment → Rows → List ℕ → Option (RowKey × Row) → Option RowKey × List ℕ

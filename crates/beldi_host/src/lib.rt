@@ -1,8 +1,9 @@
 //! The host: it carries out events over a table, one at a time, and reads the table's rows. Each event is planned, asks the
 //! table at most one thing, and is followed by what the table told (`beldi_core`); only `Host` touches the table.
 //! It stands on `beldi_core`, and on `beldi_laws`, which says what every event keeps. Its
-//! definitions: `specs/Host` (the host as the core that events speak of), `specs/Survey` (calls that read the rows), `specs/Opening`
-//! (their errors), `specs/Said` (that what is said of a reply is so) and `specs/Right` (what the calls keep, and what a right host has).
+//! definitions: `specs/Host` (the host as the core that events speak of), `specs/Survey` (calls that read the rows), `specs/LastRow`
+//! (what is read of a chain), `specs/Opening` (their errors), `specs/Said` (that what is said of a reply is so) and `specs/Right`
+//! (what the calls keep, and what a right host has).
 //!
 //! Proved:
 //! - `Host::event` is one step of the definition, for every table that keeps the trait's contract; crashes, lost
@@ -33,13 +34,16 @@
 //!   leave the table as it was, and keep a right host right (`right`).
 //!
 //! Files:
-//! - Code (`src/`): `host` the host over its table; `survey` reads the rows; `laws` what a right host has.
-//! - Lemmas (`proofs/`): `Steps` reading all rows, `Skips` all but the items', `Looks` at one; `Newest` the greatest ticket;
+//! - Code (`src/`): `host` the host over its table; `survey` reads the rows, `last_row` those of a chain; `laws` what a right host
+//!   has.
+//! - Lemmas (`proofs/`): `Steps` reading all rows, `Skips` all but the items', `Lines` what is written of each; `Looks` at one row,
+//!   `LastRows` at those of a chain; `Newest` the greatest ticket;
 //!   `Openings` where the intent collector may go on; `Right` what follows from the laws; `Taken` that an event counts once.
 #![tactic(auto)]
 
 mod high_water;
 mod host;
+mod last_row;
 mod laws;
 mod survey;
 

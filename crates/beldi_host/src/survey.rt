@@ -5,12 +5,14 @@ ghost use Rattle.beldi_row.specs.Act.{tell_of};
 ghost use Rattle.beldi_row.specs.Key.{rank_of};
 ghost use Rattle.beldi_row.specs.Table.{next_row, AtMostOne};
 ghost use Rattle.beldi_intent.specs.Intent.{root_key as root_key_of};
+ghost use Rattle.beldi_chain.specs.Chain.{chain, tail};
 ghost use Rattle.beldi_daal.specs.Cell.{shadow_key as shadow_key_of};
 ghost use Rattle.beldi_step.specs.Tables.{tables_text, decision_key as decision_key_of, is_committed as is_commit, value_in, owned_value as shown_value};
-ghost use Rattle.beldi_host.specs.Survey.{PassesToldOpen, Reads, Prepared, IsHighWater, timely, timely_in, row_moment, next_mark_of, next_seen_of, next_line_of, seen_of, key_line, line_after, last_rank, Past, row_seen, told_row};
+ghost use Rattle.beldi_host.specs.Survey.{PassesToldOpen, Reads, Prepared, IsHighWater, timely, timely_in, row_moment, next_mark_of, next_seen_of, next_line_of, held_seen, seen_of, key_line, last_line, line_after, owned_after, last_rank, Past, row_seen, told_row};
 ghost use Rattle.beldi_host.specs.declared.survey.ReplySeen.TheVariants.{Unknown};
 
 use crate::high_water::HighWater;
+use crate::last_row::{last_row, row_after};
 use beldi_book::write_item;
 use beldi_daal::shadow_key;
 use beldi_intent::root_key;
@@ -184,6 +186,15 @@ struct Owned {
     value: Value,
 }
 
+// What a line wants that is not written at its first row.
+#[derive(Drop)]
+enum Wanted {
+    // A transaction owns the item.
+    Owned(Owned),
+    // The item has more rows, and the last one has what is shown.
+    LastRow,
+}
+
 // The key of a transaction's decision.
 fn decision_key(alloc: Global, tx: &TxId) -> Result<RowKey, AllocError>
     ensures { IfOk result (λ k. k ≡ decision_key_of tx.now) }
@@ -239,35 +250,26 @@ fn write_value(
     }
 }
 
-// Appends the line of a row, if it has one; for an item that a transaction owns, it gives what its line wants instead.
-fn write_row(
+// Appends the line of an item by what its last row holds; for one that a transaction owns, it gives what the line wants instead.
+fn write_held(
     alloc: Global,
     code: &Deployment,
     key: &RowKey,
-    row: &Row,
+    owner: &Option<Owner>,
+    value: &Value,
     text: &mut Str,
 ) -> Result<Option<Owned>, AllocError>
-    ensures { IfOk result (λ o. (o, text.new) ≡ seen_of code.now text.old (key.now, row.now)) }
+    ensures { IfOk result (λ o. (o, text.new) ≡ held_seen code.now text.old key.now.home key.now.kind owner.now value.now) }
 {
-    let Row::Cell(cell) = row else {
-        return Ok(None);
-    };
     match key.kind() {
         Kind::Data {
             table,
             key: item,
             row: 0,
-        } => match &cell.owner {
-            Some(Owner::Tx(tx)) => Ok(Some(owned_by(
-                alloc,
-                key.home(),
-                tx,
-                *table,
-                item,
-                &cell.value,
-            )?)),
+        } => match owner {
+            Some(Owner::Tx(tx)) => Ok(Some(owned_by(alloc, key.home(), tx, *table, item, value)?)),
             _ => {
-                write_value(alloc, code, key, &cell.value, text)?;
+                write_value(alloc, code, key, value, text)?;
                 Ok(None)
             }
         },
@@ -275,22 +277,45 @@ fn write_row(
     }
 }
 
-// The key of the row after a key; its line is appended, but for an item that a transaction owns.
+// Appends the line of a row, if it has one; for an item that a transaction owns, or that has more rows, it gives what its line
+// wants instead.
+fn write_row(
+    alloc: Global,
+    code: &Deployment,
+    key: &RowKey,
+    row: &Row,
+    text: &mut Str,
+) -> Result<Option<Wanted>, AllocError>
+    ensures { IfOk result (λ o. (o, text.new) ≡ seen_of code.now text.old (key.now, row.now)) }
+{
+    let Row::Cell(cell) = row else {
+        return Ok(None);
+    };
+    match row_after(0, cell.next) {
+        Some(_) => Ok(Some(Wanted::LastRow)),
+        None => match write_held(alloc, code, key, &cell.owner, &cell.value, text)? {
+            Some(owned) => Ok(Some(Wanted::Owned(owned))),
+            None => Ok(None),
+        },
+    }
+}
+
+// The key of the row after a key; its line is appended, but for what that wants.
 fn next_seen<T: Table>(
     alloc: Global,
     code: &Deployment,
     table: &mut T,
     after: &RowKey,
     text: &mut Str,
-) -> Result<Option<(RowKey, Option<Owned>)>, OpenErr>
+) -> Result<Option<(RowKey, Option<Wanted>)>, OpenErr>
     ensures { Reads (λ m s. (s, text.new) ≡ next_seen_of code.now text.old (next_row m after.now)) (T.state table.old) (T.state table.new) result }
 {
     match table.next(after)? {
         None => Ok(None),
         Some((key, row)) => {
-            let owned = write_row(alloc, code, key, row, text)?;
-            let key = or_drop!(key.copy(alloc); owned);
-            Ok(Some((key, owned)))
+            let wanted = write_row(alloc, code, key, row, text)?;
+            let key = or_drop!(key.copy(alloc); wanted);
+            Ok(Some((key, wanted)))
         }
     }
 }
@@ -312,29 +337,28 @@ fn is_committed<T: Table>(table: &mut T, decision: RowKey, now: u64) -> Result<b
     Ok(says_commit(said))
 }
 
-fn says_value(alloc: Global, said: Said<'_>, value: Value) -> Result<Value, AllocError>
-    ensures { IfOk result (λ v. v ≡ value_in (told_row (tell_of said.entry)) value) }
-{
-    match said {
-        Said::Row(Row::Cell(cell)) => cell.value.copy(alloc),
-        _ => Ok(value),
-    }
-}
-
-// The value of a cell, or this one where there is none.
-fn cell_value<T: Table>(
+// The value of the last row of a shadow, or this one where there is none.
+fn shadow_value<T: Table>(
     alloc: Global,
     table: &mut T,
-    key: RowKey,
+    shadow: RowKey,
     value: Value,
     now: u64,
 ) -> Result<Value, OpenErr>
-    ensures { Reads (λ m v. v ≡ value_in (map.get m key) value) (T.state table.old) (T.state table.new) result }
+    ensures { Reads (λ m v. v ≡ value_in (tail (chain m shadow)) value) (T.state table.old) (T.state table.new) result }
 {
-    let said = or_drop!(table.act(key, Act::Look, now); value);
-    match says_value(alloc, said, value) {
-        Ok(value) => Ok(value),
-        Err(_) => Err(OpenErr::OutOfMemory),
+    let last = last_row(alloc, table, &shadow, now);
+    drop(shadow);
+    match last {
+        Ok(None) => Ok(value),
+        Ok(Some(held)) => {
+            drop(value);
+            Ok(held.value)
+        }
+        Err(why) => {
+            drop(value);
+            Err(why)
+        }
     }
 }
 
@@ -353,7 +377,7 @@ fn owned_value<T: Table>(
         value,
     } = owned;
     match is_committed(table, decision, now) {
-        Ok(true) => cell_value(alloc, table, shadow, value, now),
+        Ok(true) => shadow_value(alloc, table, shadow, value, now),
         Ok(false) => {
             drop(shadow);
             Ok(value)
@@ -376,7 +400,7 @@ fn write_owned<T: Table>(
     now: u64,
     text: &mut Str,
 ) -> Result<(), OpenErr>
-    ensures { Reads (λ m u. text.new ≡ line_after code.now m key.now.home key.now.kind (owned, text.old)) (T.state table.old) (T.state table.new) result }
+    ensures { Reads (λ m u. text.new ≡ owned_after code.now m key.now.home key.now.kind (owned, text.old)) (T.state table.old) (T.state table.new) result }
 {
     let Some(owned) = owned else {
         return Ok(());
@@ -391,6 +415,52 @@ fn write_owned<T: Table>(
             }
         }
         Err(why) => Err(why),
+    }
+}
+
+// Appends the line of an item by its last row, if there is one.
+fn write_last<T: Table>(
+    alloc: Global,
+    code: &Deployment,
+    table: &mut T,
+    key: &RowKey,
+    now: u64,
+    text: &mut Str,
+) -> Result<(), OpenErr>
+    ensures { Reads (λ m u. text.new ≡ text.old ++ last_line code.now m key.now.home key.now.kind) (T.state table.old) (T.state table.new) result }
+{
+    match last_row(alloc, table, key, now) {
+        Ok(None) => Ok(()),
+        Ok(Some(held)) => {
+            let seen = write_held(alloc, code, key, &held.owner, &held.value, text);
+            drop(held);
+            match seen {
+                Ok(owned) => write_owned(alloc, code, table, key, owned, now, text),
+                Err(_) => Err(OpenErr::OutOfMemory),
+            }
+        }
+        Err(why) => Err(why),
+    }
+}
+
+// Appends the line of a row that wants more than the row, if there is one.
+fn write_wanted<T: Table>(
+    alloc: Global,
+    code: &Deployment,
+    table: &mut T,
+    key: &RowKey,
+    wanted: Option<Wanted>,
+    now: u64,
+    text: &mut Str,
+) -> Result<(), OpenErr>
+    ensures { Reads (λ m u. text.new ≡ line_after code.now m key.now.home key.now.kind (wanted, text.old)) (T.state table.old) (T.state table.new) result }
+{
+    match wanted {
+        None => Ok(()),
+        Some(Wanted::Owned(owned)) => {
+            write_owned(alloc, code, table, key, Some(owned), now, text)
+        }
+        Some(Wanted::LastRow) => write_last(alloc, code, table, key, now, text),
     }
 }
 
@@ -409,7 +479,7 @@ fn next_line<T: Table>(
     drop(after);
     match seen {
         Ok(None) => Ok(None),
-        Ok(Some((key, owned))) => match write_owned(alloc, code, table, &key, owned, now, text) {
+        Ok(Some((key, wanted))) => match write_wanted(alloc, code, table, &key, wanted, now, text) {
             Ok(()) => Ok(Some(key)),
             Err(why) => {
                 drop(key);
@@ -459,8 +529,9 @@ fn past_others(alloc: Global, key: RowKey) -> RowKey
     }
 }
 
-/// The listing of tables. Rows of other kinds than items' are skipped, kind by kind. Where a transaction owns an item, the rows
-/// of its decision and of its shadow are looked at, at the moment `now`; a look changes nothing.
+/// The listing of tables. Rows of other kinds than items' are skipped, kind by kind. Where an item has more rows than one, they are
+/// looked at up to the last; where a transaction owns it, so are the row of its decision and those of its shadow, at the moment
+/// `now`; a look changes nothing.
 pub fn list_tables<T: Table>(
     alloc: Global,
     code: &Deployment,

@@ -4,7 +4,8 @@ use Rattle.std.specs.FinMap as map
 use Rattle.beldi_value.specs.declared.{place.Owner.Owner, place.Owner.TheVariants.Tx, place.TxId.TxId, value.Value.Value}
 use Rattle.beldi_tree.specs.declared.deployment.Deployment.{Deployment}
 use Rattle.beldi_book.specs.Text.{item_text}
-use Rattle.beldi_row.specs.{Key.RowKey, declared.key.Kind.Kind, declared.key.Kind.TheVariants.Data, declared.row.Row.Row, declared.row.Row.TheVariants.Cell, declared.row.Row.TheVariants.ReadLog, Table.Rows}
+use Rattle.beldi_row.specs.{Key.RowKey, Key.head_key, declared.key.Kind.Kind, declared.key.Kind.TheVariants.Data, declared.row.Row.Row, declared.row.Row.TheVariants.Cell, declared.row.Row.TheVariants.ReadLog, Table.Rows}
+use Rattle.beldi_chain.specs.Chain.{chain, tail}
 use Rattle.beldi_daal.specs.Cell.{shadow_key}
 use Rattle.beldi_readlog.specs.ReadLog.{log_key}
 
@@ -22,10 +23,10 @@ abbrev pub value_in : Option Row → Value → Value
 value_in (Some (Cell c)) v = c.value
 value_in r v = v
 
--- the value of an item that a transaction owns, by the keys of its decision and of its shadow, and the item's own value: where it is
--- committed and has a shadow, the shadow's
+-- the value of an item that a transaction owns, by the keys of its decision and of the first row of its shadow, and the item's own
+-- value: where it is committed and has a shadow, that of the shadow's last row
 abbrev pub owned_value : Rows → RowKey → RowKey → Value → Value
-owned_value m decision shadow v = if is_committed (map.get m decision) then value_in (map.get m shadow) v else v
+owned_value m decision shadow v = if is_committed (map.get m decision) then value_in (tail (chain m shadow)) v else v
 
 -- the value that is shown of an item, by its owner and its own value
 abbrev pub shown_under : Rows → ℕ → ℕ → List ℕ → Option Owner → Value → Value
@@ -37,9 +38,14 @@ abbrev pub value_line : Deployment → ℕ → ℕ → List ℕ → Value → Li
 value_line d f t k Value.Null = []
 value_line d f t k v = item_text d f t k v
 
--- an item is its first row
+-- what the last row of an item holds
+abbrev pub cell_line : Deployment → Rows → ℕ → ℕ → List ℕ → Option Row → List ℕ
+cell_line d m f t k (Some (Cell c)) = value_line d f t k (shown_under m f t k c.owner c.value)
+cell_line d m f t k r = []
+
+-- an item has its line at its first row
 abbrev pub line_at : Deployment → Rows → ℕ → Kind → Row → List ℕ
-line_at d m f (Data t k zero) (Cell c) = value_line d f t k (shown_under m f t k c.owner c.value)
+line_at d m f (Data t k zero) (Cell c) = cell_line d m f t k (tail (chain m (head_key f t k)))
 line_at d m f k r = []
 
 abbrev pub row_line : Deployment → Rows → RowKey × Row → List ℕ
