@@ -9,7 +9,7 @@ use Rattle.beldi_order.specs.Txs.{tx_now}
 use Rattle.beldi_row.specs.{Key.RowKey, Table.Rows, declared.key.Kind.Kind, declared.row.Body.Body, declared.row.IntentRow.IntentRow, declared.row.Row.Row}
 use Rattle.beldi_known.specs.Stands.{held_answer}
 use Rattle.beldi_upkeep.specs.Checked.{body_at}
-use Rattle.beldi_bound.specs.Visits.{chain, end_cost}
+use Rattle.beldi_bound.specs.Visits.{chain_length, end_cost}
 
 -- ---- effects
 -- by the rows of its item, outside a transaction ..
@@ -33,11 +33,11 @@ cost_inside c v (Effect.End commit) = v
 cost_inside c v e = cost_outside c e
 
 abbrev pub item_chain : Rows → Instance → Effect → ℕ
-item_chain e q (Effect.Read t k) = chain e (item_of q t k)
-item_chain e q (Effect.Write t k v) = chain e (item_of q t k)
-item_chain e q (Effect.CondWrite t k r o v) = chain e (item_of q t k)
-item_chain e q (Effect.Lock t k) = chain e (item_of q t k)
-item_chain e q (Effect.Unlock t k) = chain e (item_of q t k)
+item_chain e q (Effect.Read t k) = chain_length e (item_of q t k)
+item_chain e q (Effect.Write t k v) = chain_length e (item_of q t k)
+item_chain e q (Effect.CondWrite t k r o v) = chain_length e (item_of q t k)
+item_chain e q (Effect.Lock t k) = chain_length e (item_of q t k)
+item_chain e q (Effect.Unlock t k) = chain_length e (item_of q t k)
 item_chain e q f = 1
 
 -- an effect of an instance at a step, by the transaction that it stands in

@@ -17,8 +17,8 @@ sum_by f (e ∷ es) = f e.0 e.1 + sum_by f es
 
 -- ---- the rows of a transaction
 -- how many rows an item has: one, until rows are linked
-abbrev pub chain : Rows → Item → ℕ
-chain e x = 1
+abbrev pub chain_length : Rows → Item → ℕ
+chain_length e x = 1
 
 -- the steps of calls that lead from an intent to another, by their hops; none where they do not
 abbrev pub behind : List ℕ → List ℕ → Option (List ℕ)
@@ -54,7 +54,7 @@ lock_cost t end c same (Some xs) = lock_turns c (same && is_within t end xs)
 -- what a row costs the end of a transaction
 abbrev pub kind_cost : Rows → TxId → ℕ → ℕ → Kind → ℕ
 kind_cost e t end home (Kind.Invoke p) = call_cost t end p.step (steps_to t p.intent)
-kind_cost e t end home (Kind.Lockset i b n k) = lock_cost t end (chain e (record { func = home; table = n; key = k })) (b == t.begin) (steps_to t i)
+kind_cost e t end home (Kind.Lockset i b n k) = lock_cost t end (chain_length e (record { func = home; table = n; key = k })) (b == t.begin) (steps_to t i)
 kind_cost e t end home k = 0
 
 abbrev pub end_row_cost : Rows → TxId → ℕ → RowKey → Row → ℕ

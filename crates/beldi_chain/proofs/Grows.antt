@@ -27,13 +27,13 @@ then_note (e ∷ es) fs gs p n h is = by_test (place_eq e.0 p) is (then_note es 
 
 -- ---- a cell after an act
 -- it stays, where a row follows; and else gets these entries
-pub record More (c d : Cell) : Type 0 where
+record More (c d : Cell) : Type 0 where
   pub last : c.next ≡ None
   pub same : d.next ≡ None
   pub entries : List (Place × Note)
   pub log : d.log ≡ c.log ++ entries
 
-abbrev pub GrowsTo : Cell → Cell → Type 0
+abbrev GrowsTo : Cell → Cell → Type 0
 GrowsTo c d = (d ≡ c) ⊎ More c d
 
 module _ (c : Cell) where
@@ -85,7 +85,7 @@ module _ (c : Cell) where
   owned p w m v o t = last p (if_owned w c (entered p m v o c, t)) (λ is. by_own (owns w c.owner) (entered p m v o c, t) (put p m v o t is))
 
 -- ---- on a row
-abbrev pub RowGrows : Option Row → Option Row → Type 0
+abbrev RowGrows : Option Row → Option Row → Type 0
 RowGrows (Some (Row.Cell c)) (Some (Row.Cell d)) = GrowsTo c d
 RowGrows (Some (Row.Cell c)) s = ⊥
 RowGrows r s = Unit {0}
@@ -97,7 +97,7 @@ stays (Row.ReadLog v) = tt
 stays (Row.Invoke i) = tt
 stays Row.Lockset = tt
 
-pub row_stays : (r : Option Row) → RowGrows r r
+row_stays : (r : Option Row) → RowGrows r r
 row_stays None = tt
 row_stays (Some r) = stays r
 
@@ -140,7 +140,7 @@ act_on (CondCell p w k o v) now r = on_cells (cond_at p w k o v) no_row (λ c. l
 act_on (LockCell p w s) now r = on_cells (lock_at p w) no_row (λ c. locked c p w) r
 act_on (FreeCell p w v) now r = on_cells (free_at p w v) no_row (λ c. owned c p w Freed (given_or v c.value) None did) r
 
-pub act_grows : (a : Act) (now : ℕ) (r : Option Row) → RowGrows r (act a now r).0
+act_grows : (a : Act) (now : ℕ) (r : Option Row) → RowGrows r (act a now r).0
 act_grows a now None = tt
 act_grows a now (Some r) = act_on a now r
 
@@ -150,7 +150,7 @@ act_last a now r is = grind (arith, is)
 
 -- ---- on a chain
 -- each of its rows grows
-abbrev pub ChainGrows : Chain → Chain → Type 0
+abbrev ChainGrows : Chain → Chain → Type 0
 ChainGrows f g = (n : ℕ) → RowGrows (f n) (g n)
 
 module _ (f g : Chain) (p : Place) (note : Note) (grows : ChainGrows f g) where
@@ -197,13 +197,13 @@ notes_are (Some (Row.ReadLog v)) es = refl
 notes_are (Some (Row.Invoke i)) es = refl
 notes_are (Some Row.Lockset) es = refl
 
-pub chain_keeps : (f g : Chain) (p : Place) (n : Note) → ChainGrows f g → note_at (content f).notes p ≡ Some n → note_at (content g).notes p ≡ Some n
+chain_keeps : (f g : Chain) (p : Place) (n : Note) → ChainGrows f g → note_at (content f).notes p ≡ Some n → note_at (content g).notes p ≡ Some n
 chain_keeps f g p n grows is =
     ap (λ es. note_at es p) (notes_are (tail_from most_rows g 0) (notes_from most_rows g 0))
     ∙ keeps f g p n grows most_rows 0 (ap (λ es. note_at es p) (sym (notes_are (tail_from most_rows f 0) (notes_from most_rows f 0))) ∙ is)
 
 -- the rows of a chain grow by an act, on whatever row
-pub rows_grow : (a : Act) (now : ℕ) (l head : RowKey) (m : Rows) → ChainGrows (chain m head) (chain (after_act a now l m) head)
+rows_grow : (a : Act) (now : ℕ) (l head : RowKey) (m : Rows) → ChainGrows (chain m head) (chain (after_act a now l m) head)
 rows_grow a now l head m i = let k = at_row head i in
     subst (RowGrows (map.get m k)) (sym (got m l k (act a now (map.get m l)).0)) (by_key (is_eq (key_cmp k l)) refl)
   where

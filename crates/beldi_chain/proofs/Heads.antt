@@ -1,9 +1,10 @@
 -- Keys of rows, and chains that are as before.
-use Rattle.std.proofs.Common.{◌≡◌, ℕ, suc, Bool, true, false, refl, ap, sym, ◌∙◌, subst}
+use Rattle.std.proofs.Common.{◌≡◌, ℕ, suc, Bool, true, false, refl, ap, sym, ◌∙◌, subst, List}
 use Rattle.std.proofs.lemmas.Bool.{false_from_ne_true}
 use Rattle.std.specs.Ordering.{is_eq}
 use Rattle.std.specs.FinMap as map
-use Rattle.beldi_row.{specs.Key.RowKey, specs.Key.key_cmp, specs.Key.row_of, specs.declared.key.Kind.Kind, specs.Table.Rows, proofs.Gets.key_self, proofs.Gets.key_same}
+use Rattle.beldi_value.specs.declared.place.TxId.{TxId}
+use Rattle.beldi_row.{specs.Key.RowKey, specs.Key.key_cmp, specs.Key.rank_of, specs.Key.row_of, specs.declared.key.Kind.Kind, specs.Table.Rows, proofs.Gets.key_self, proofs.Gets.key_same}
 use Rattle.beldi_chain.specs.Chain.{kind_at, at_row, is_row_of, IsHead, chain, content, tail, Sound, ChangedAlone}
 use Rattle.beldi_chain.specs.Content.{SoundAt, content_in}
 use Rattle.beldi_chain.proofs.OneRow.{one_content, one_tail}
@@ -13,9 +14,21 @@ true_is_false : (b : Bool) → b ≡ true → b ≡ false → ⊥
 true_is_false true h g = cc
 true_is_false false h g = cc
 
--- two keys that a test tells apart
-pub told_apart : (f : RowKey → Bool) (k l : RowKey) → f k ≡ true → f l ≡ false → is_eq (key_cmp k l) ≡ false
-told_apart f k l h g = false_from_ne_true (is_eq (key_cmp k l)) (λ e. true_is_false (f l) (sym (ap f (key_same k l e)) ∙ h) g)
+-- the first row of an item, and of a transaction's copy of it
+pub item_head : (home t : ℕ) (k : List ℕ) → IsHead (record { home = home; kind = Kind.Data t k 0 })
+item_head home t k = record { first = refl; numbered = λ n. refl }
+
+pub aside_head : (home : ℕ) (x : TxId) (t : ℕ) (k : List ℕ) → IsHead (record { home = home; kind = Kind.Shadow x t k 0 })
+aside_head home x t k = record { first = refl; numbered = λ n. refl }
+
+-- a row of another number is of the same kind
+pub kind_rank : (k : Kind) (n : ℕ) → rank_of (kind_at k n) ≡ rank_of k
+kind_rank (Kind.Data t k r) n = refl
+kind_rank (Kind.Shadow x t k r) n = refl
+kind_rank (Kind.Intent i) n = refl
+kind_rank (Kind.ReadLog a) n = refl
+kind_rank (Kind.Invoke a) n = refl
+kind_rank (Kind.Lockset i b t k) n = refl
 
 kind_again : (k : Kind) (n : ℕ) → kind_at (kind_at k n) 0 ≡ kind_at k 0
 kind_again (Kind.Data t k r) n = refl
@@ -26,20 +39,20 @@ kind_again (Kind.Invoke a) n = refl
 kind_again (Kind.Lockset i b t k) n = refl
 
 -- the first row of a row's item is that of each of its rows
-pub row_again : (k : RowKey) (n : ℕ) → at_row (at_row k n) 0 ≡ at_row k 0
+row_again : (k : RowKey) (n : ℕ) → at_row (at_row k n) 0 ≡ at_row k 0
 row_again k n = ap (λ z. record { home = k.home; kind = z }) (kind_again k.kind n)
 
 -- a row of another first row is of another item
-pub other_row : (head k : RowKey) → IsHead k → is_eq (key_cmp k head) ≡ false → (n : ℕ) → is_row_of head (at_row k n) ≡ false
+other_row : (head k : RowKey) → IsHead k → is_eq (key_cmp k head) ≡ false → (n : ℕ) → is_row_of head (at_row k n) ≡ false
 other_row head k is off n = ap (λ z. is_eq (key_cmp z head)) (row_again k n ∙ is.first) ∙ off
 
 -- what is no row of an item is not its row of any number
-pub no_row : (head l : RowKey) → IsHead head → is_row_of head l ≡ false → (n : ℕ) → is_eq (key_cmp (at_row head n) l) ≡ false
+no_row : (head l : RowKey) → IsHead head → is_row_of head l ≡ false → (n : ℕ) → is_eq (key_cmp (at_row head n) l) ≡ false
 no_row head l is off n = false_from_ne_true (is_eq (key_cmp (at_row head n) l)) (λ e. true_is_false (is_row_of head l)
     (ap (λ z. is_eq (key_cmp z head)) (sym (ap (λ z. at_row z 0) (key_same (at_row head n) l e)) ∙ row_again head n ∙ is.first) ∙ key_self head) off)
 
 -- .. nor its first row
-pub no_head : (head l : RowKey) → at_row head 0 ≡ head → is_row_of head l ≡ false → is_eq (key_cmp l head) ≡ false
+no_head : (head l : RowKey) → at_row head 0 ≡ head → is_row_of head l ≡ false → is_eq (key_cmp l head) ≡ false
 no_head head l first off = false_from_ne_true (is_eq (key_cmp l head)) (λ e. true_is_false (is_row_of head l)
     (ap (λ z. is_eq (key_cmp z head)) (ap (λ z. at_row z 0) (key_same l head e) ∙ first) ∙ key_self head) off)
 
@@ -49,7 +62,7 @@ later_row head is n = false_from_ne_true (is_eq (key_cmp (at_row head (suc n)) h
     let same : suc n ≡ 0 = sym (is.numbered (suc n)) ∙ ap (λ (z : RowKey). row_of z.kind) (key_same (at_row head (suc n)) head e ∙ sym is.first) ∙ is.numbered 0 in cc)
 
 -- ---- chains that are as before
-pub chain_kept : (m n : Rows) (head : RowKey) → ((i : ℕ) → map.get n (at_row head i) ≡ map.get m (at_row head i)) → chain n head ≡ chain m head
+chain_kept : (m n : Rows) (head : RowKey) → ((i : ℕ) → map.get n (at_row head i) ≡ map.get m (at_row head i)) → chain n head ≡ chain m head
 chain_kept m n head same = λ i r. same r i
 
 -- .. where all but one item's rows are
@@ -75,7 +88,7 @@ module _ (m : Rows) (head : RowKey) (is : IsHead head) (sound : Sound (chain m h
   pub head_content : content (chain m head) ≡ content_in (map.get m head)
   head_content = one_content (chain m head) sound ∙ ap (λ k. content_in (map.get m k)) is.first
 
--- .. and after an act on that
+-- .. and where that row alone changed, to one that fits
 pub sound_after : (m n : Rows) (head : RowKey) → IsHead head → ((q : RowKey) → is_eq (key_cmp q head) ≡ false → map.get n q ≡ map.get m q) → Sound (chain m head) → SoundAt (map.get n head) → Sound (chain n head)
 sound_after m n head is same sound fits = record {
   head = subst SoundAt (ap (map.get n) (sym is.first)) fits;

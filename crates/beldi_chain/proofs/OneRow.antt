@@ -14,21 +14,13 @@ module _ (f : Chain) (n : ℕ) (last : above n (next_of (f n)) ≡ None) where
   notes_here zero = refl
   notes_here (suc s) = ap (λ o. log_of (f n) ++ on_next o [] (notes_from s f)) last ∙ append-nil (log_of (f n))
 
-held_alone : (r : Option Row) → held_in r (log_of r) ≡ content_in r
-held_alone None = refl
-held_alone (Some (Row.Cell c)) = refl
-held_alone (Some (Row.Intent i)) = refl
-held_alone (Some (Row.ReadLog v)) = refl
-held_alone (Some (Row.Invoke i)) = refl
-held_alone (Some Row.Lockset) = refl
-
 -- the first row is the last one, where none comes after it
 module _ (f : Chain) (last : above 0 (next_of (f 0)) ≡ None) where
   pub tail_is_head : tail f ≡ f 0
   tail_is_head = tail_here f 0 last most_rows
 
   pub content_is_head : content f ≡ content_in (f 0)
-  content_is_head = (λ i. held_in (tail_is_head i) (notes_here f 0 last most_rows i)) ∙ held_alone (f 0)
+  content_is_head = λ i. held_in (tail_is_head i) (notes_here f 0 last most_rows i)
 
 -- no row follows the only one
 pub no_next : (r : Option Row) → SoundAt r → next_of r ≡ None

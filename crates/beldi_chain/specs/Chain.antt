@@ -63,7 +63,7 @@ pub most_rows_are : most_rows ≡ 2 ^ 32
 unfolding most_rows
 most_rows_are = refl
 
--- the last row of a chain, if any
+-- the last row of a chain; none without a first row, or where a next leads to no row
 abbrev pub tail : Chain → Option Row
 tail f = tail_from most_rows f 0
 

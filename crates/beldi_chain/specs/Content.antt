@@ -21,8 +21,7 @@ log_of r = []
 
 -- what one row holds by itself
 abbrev pub content_in : Option Row → Content
-content_in (Some (Row.Cell c)) = record { value = c.value; owner = c.owner; notes = c.log }
-content_in r = record { value = Null; owner = None; notes = [] }
+content_in r = held_in r (log_of r)
 
 -- a first row that is the only one: a cell that no row follows, in which no place occurs twice, and which is not to be removed;
 -- or there is none

@@ -4,8 +4,8 @@
 //!
 //! Proved:
 //! - No act takes away a note of a chain (`notes_of_a_chain_stay`).
-//! - A sound chain holds what its first row does (`one_content`, `one_tail` of `proofs/OneRow`), and stays sound by an act on
-//!   that row (`sound_after` of `proofs/Heads`).
+//! - A sound chain holds what its first row does (`one_content`, `one_tail` of `proofs/OneRow`), and stays sound where
+//!   that row alone changed, to one that fits (`sound_after` of `proofs/Heads`).
 //!
 //! Files: lemmas (`proofs/`), which the crates above cite too: `Heads` keys of rows, and chains that are as before; `OneRow`
 //! chains of one row; `Grows` what an act leaves of a row, and so of a chain.

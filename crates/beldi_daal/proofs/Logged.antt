@@ -5,7 +5,7 @@ use Rattle.std.proofs.Common.{◌≡◌, ℕ, Bool, true, false, cond, if◌then
 use Rattle.beldi_value.specs.{declared.id.IntentId.IntentId, declared.place.Owner.Owner, Id.age_of, Id.is_older, declared.place.Place.Place, declared.place.TxId.TxId, Passes.passes, declared.value.Value.TheVariants.Null}
 use Rattle.beldi_row.specs.Act.{Tell, act, did, held, died, not_owner, tested, other_owner, owns, noted_or, next_or, held_or, owned_or, at_tail, unless_held, if_owned, entered}
 use Rattle.beldi_row.{specs.declared.notes.Note.Note, specs.declared.notes.Note.TheVariants.Died, specs.declared.row.Cell.Cell, specs.declared.row.Row.Row, specs.declared.act.Act.Act, specs.declared.act.Act.TheVariants.Look, specs.declared.act.Act.TheVariants.MakeCell, specs.declared.table.TableErr.TableErr, specs.declared.table.TableErr.TheVariants.OutOfMemory, specs.declared.table.TableErr.TheVariants.Failed, specs.declared.table.TableErr.TheVariants.Full, specs.Key.RowKey, specs.Key.key_cmp, specs.Log.note_at, specs.Table.Rows, specs.Table.after_act, proofs.Gets.got, proofs.Gets.key_self, proofs.Logs.note_here, proofs.Logs.once_pushed, proofs.Tells.tells_map}
-use Rattle.beldi_chain.{specs.Chain.IsHead, specs.Chain.Sound, specs.Chain.chain, specs.Chain.content, specs.Content.SoundAt, specs.Content.content_in, proofs.Heads.alone_by, proofs.Heads.head_content, proofs.Heads.head_sound, proofs.Heads.sound_after}
+use Rattle.beldi_chain.{specs.Chain.IsHead, specs.Chain.Sound, specs.Chain.chain, specs.Chain.content, specs.Content.SoundAt, specs.Content.content_in, proofs.Heads.alone_by, proofs.Heads.aside_head, proofs.Heads.item_head, proofs.Heads.head_content, proofs.Heads.head_sound, proofs.Heads.sound_after}
 use Rattle.beldi_walk.{specs.Query.Told, specs.Query.said, specs.Query.rows_after, specs.Query.told_by, specs.Query.CameOn, proofs.Looks.look_stands, proofs.Looks.never_full}
 use Rattle.beldi_daal.specs.Cell.{op_act, done_note, write_asks, write_goes, cell_goes, got_or_held, in_the_way}
 use Rattle.beldi_daal.specs.Logged.{note_after, value_after, owner_after, waited, died_of, dies, held_by, unless_owned, barred, done_to, died_at, DidAs, Logs, LoggedTurn, WritesAreLogged, ReadsContent, ReadTurn, ReadsAreContents}
@@ -124,9 +124,9 @@ module _ (p : Place) (who : Owner) (now : ℕ) where
   tried op (Some r) h = absurd h
 
 -- the key of a walk is that of a first row
-pub first_head : (home : ℕ) (item : Item) → IsHead (first_key home item)
-first_head home (Item.Plain t k) = record { first = refl; numbered = λ n. refl }
-first_head home (Item.Shadow x t k) = record { first = refl; numbered = λ n. refl }
+first_head : (home : ℕ) (item : Item) → IsHead (first_key home item)
+first_head home (Item.Plain t k) = item_head home t k
+first_head home (Item.Shadow x t k) = aside_head home x t k
 
 module _ (w : WriteWalk) (m n : Rows) (sound : Sound (chain m (walk_key w))) where
   by_act : (a : Act) (now : ℕ) → n ≡ after_act a now (walk_key w) m → Fits w.place w.who w.op (map.get m (walk_key w)) (act a now (map.get m (walk_key w)))

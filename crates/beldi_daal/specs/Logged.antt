@@ -97,7 +97,7 @@ Logs p who op Worn c d = ⊥
 
 -- what a turn of a walk leaves, where its item's chain is sound
 pub record LoggedTurn (w : WriteWalk) (m n : Rows) (s : WriteSays) : Type 0 where
-  -- the rows of all other items are as before
+  -- all rows are as before but those of its item
   pub others : ChangedAlone (walk_key w) m n
   pub logs : Logs w.place w.who w.op s (content (chain m (walk_key w))) (content (chain n (walk_key w)))
   pub sound : Sound (chain n (walk_key w))

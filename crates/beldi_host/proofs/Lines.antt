@@ -63,42 +63,18 @@ wants_owned : (d : Deployment) (m : Rows) (f : ℕ) (k : Kind) (z : Option Owned
 wants_owned d m f k (None, text) = refl
 wants_owned d m f k (Some o, text) = refl
 
--- a first row that is the last one holds what the item does
-alone_whole : (d : Deployment) (m : Rows) (f : ℕ) (k : Kind) (c : Cell) → map.get m (record { home = f; kind = k }) ≡ Some (Row.Cell c) → above 0 c.next ≡ None → held_line d m f k c.owner c.value ≡ line_at d m f k (Row.Cell c)
-alone_whole d m f (Data t k zero) c there last =
-    ap (cell_line d m f t k) (sym (tail_is_head (chain m (head_key f t k)) (ap (λ r. above 0 (next_of r)) there ∙ last) ∙ there))
-alone_whole d m f (Data t k (suc n)) c there last = refl
-alone_whole d m f (Shadow x t k n) c there last = refl
-alone_whole d m f (Intent a) c there last = refl
-alone_whole d m f (ReadLog p) c there last = refl
-alone_whole d m f (Invoke p) c there last = refl
-alone_whole d m f (Lockset a b t k) c there last = refl
+module _ (d : Deployment) (m : Rows) (text : List ℕ) (f t : ℕ) (k : List ℕ) where
+  -- a first row that is the last one holds what the item does
+  alone_whole : (c : Cell) → map.get m (head_key f t k) ≡ Some (Row.Cell c) → above 0 c.next ≡ None → value_line d f t k (shown_under m f t k c.owner c.value) ≡ line_at d m f (Data t k 0) (Row.Cell c)
+  alone_whole c there last = ap (cell_line d m f t k) (sym (tail_is_head (chain m (head_key f t k)) (ap (λ r. above 0 (next_of r)) there ∙ last) ∙ there))
 
-last_at : (d : Deployment) (m : Rows) (f : ℕ) (k : Kind) (c : Cell) → last_line d m f k ≡ line_at d m f k (Row.Cell c)
-last_at d m f (Data t k zero) c = refl
-last_at d m f (Data t k (suc n)) c = refl
-last_at d m f (Shadow x t k n) c = refl
-last_at d m f (Intent a) c = refl
-last_at d m f (ReadLog p) c = refl
-last_at d m f (Invoke p) c = refl
-last_at d m f (Lockset a b t k) c = refl
+  by_next : (c : Cell) (o : Option ℕ) → map.get m (head_key f t k) ≡ Some (Row.Cell c) → above 0 c.next ≡ o → line_after d m f (Data t k 0) (head_seen (cell_seen d text f t k c.owner c.value) text o) ≡ text ++ line_at d m f (Data t k 0) (Row.Cell c)
+  by_next c None there last = wants_owned d m f (Data t k 0) (cell_seen d text f t k c.owner c.value) ∙ cell_whole d m text f t k c.owner c.value ∙ ap (λ s. text ++ s) (alone_whole c there last)
+  by_next c (Some n) there last = refl
 
--- a row that is no cell has no line
-bare_line : (d : Deployment) (m : Rows) (text : List ℕ) (f : ℕ) (k : Kind) (r : Row) → ((c : Cell) → r ≡ Row.Cell c → ⊥) → text ≡ text ++ line_at d m f k r
-bare_line d m text f (Data t k zero) (Row.Cell c) h = absurd (h c refl)
-bare_line d m text f k r h = sym (append-nil text)
-
-module _ (d : Deployment) (m : Rows) (text : List ℕ) (f : ℕ) (k : Kind) where
-  by_next : (c : Cell) (o : Option ℕ) → map.get m (record { home = f; kind = k }) ≡ Some (Row.Cell c) → above 0 c.next ≡ o → line_after d m f k (head_seen (held_seen d text f k c.owner c.value) text o) ≡ text ++ line_at d m f k (Row.Cell c)
-  by_next c None there last = wants_owned d m f k (held_seen d text f k c.owner c.value) ∙ held_whole d m text f k c.owner c.value ∙ ap (λ s. text ++ s) (alone_whole d m f k c there last)
-  by_next c (Some n) there last = ap (λ s. text ++ s) (last_at d m f k c)
-
-  line_whole : (r : Row) → map.get m (record { home = f; kind = k }) ≡ Some r → line_after d m f k (seen_at d text f k r) ≡ text ++ line_at d m f k r
-  line_whole (Row.Cell c) there = by_next c (above 0 c.next) there refl
-  line_whole (Row.Intent i) there = bare_line d m text f k (Row.Intent i) (λ c e. cc)
-  line_whole (Row.ReadLog v) there = bare_line d m text f k (Row.ReadLog v) (λ c e. cc)
-  line_whole (Row.Invoke i) there = bare_line d m text f k (Row.Invoke i) (λ c e. cc)
-  line_whole Row.Lockset there = bare_line d m text f k Row.Lockset (λ c e. cc)
+line_whole : (d : Deployment) (m : Rows) (text : List ℕ) (f : ℕ) (k : Kind) (r : Row) → map.get m (record { home = f; kind = k }) ≡ Some r → line_after d m f k (seen_at d text f k r) ≡ text ++ line_at d m f k r
+line_whole d m text f (Data t k zero) (Row.Cell c) there = by_next d m text f t k c (above 0 c.next) there refl
+line_whole d m text f k r there = sym (append-nil text)
 
 none_some : {X : Type 0} (x : X) → None ≡ Some x → ⊥
 none_some x h = cc

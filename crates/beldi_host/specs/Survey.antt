@@ -80,13 +80,13 @@ abbrev pub held_seen : Deployment → List ℕ → ℕ → Kind → Option Owner
 held_seen d text f (Data t k zero) o v = cell_seen d text f t k o v
 held_seen d text f k o v = (None, text)
 
--- .. by the row after the item's first one too
+-- .. or that its last row is wanted, where one follows the first
 abbrev pub head_seen : Option Owned × List ℕ → List ℕ → Option ℕ → Option Wanted × List ℕ
 head_seen z text None = (option_map Wanted.Owned z.0, z.1)
 head_seen z text (Some n) = (Some LastRow, text)
 
 abbrev pub seen_at : Deployment → List ℕ → ℕ → Kind → Row → Option Wanted × List ℕ
-seen_at d text f k (Cell c) = head_seen (held_seen d text f k c.owner c.value) text (above 0 c.next)
+seen_at d text f (Data t k zero) (Cell c) = head_seen (cell_seen d text f t k c.owner c.value) text (above 0 c.next)
 seen_at d text f k r = (None, text)
 
 abbrev pub seen_of : Deployment → List ℕ → RowKey × Row → Option Wanted × List ℕ

@@ -37,7 +37,7 @@ pub fn row_after(row: u32, next: Option<u32>) -> Option<u32>
     }
 }
 
-fn held_in(alloc: Global, cell: &Cell) -> Result<Held, AllocError>
+fn held_of(alloc: Global, cell: &Cell) -> Result<Held, AllocError>
     ensures { IfOk result (λ h. h ≡ record { owner = cell.now.owner; value = cell.now.value }) }
 {
     let owner = match &cell.owner {
@@ -54,7 +54,7 @@ fn says_row(alloc: Global, said: Said<'_>, row: u32) -> Result<Told, AllocError>
     match said {
         Said::Row(Row::Cell(cell)) => match row_after(row, cell.next) {
             Some(next) => Ok(Told::Next(next)),
-            None => Ok(Told::Last(Some(held_in(alloc, cell)?))),
+            None => Ok(Told::Last(Some(held_of(alloc, cell)?))),
         },
         _ => Ok(Told::Last(None)),
     }

@@ -291,6 +291,9 @@ fn write_row(
     let Row::Cell(cell) = row else {
         return Ok(None);
     };
+    let Kind::Data { row: 0, .. } = key.kind() else {
+        return Ok(None);
+    };
     match row_after(0, cell.next) {
         Some(_) => Ok(Some(Wanted::LastRow)),
         None => match write_held(alloc, code, key, &cell.owner, &cell.value, text)? {
@@ -300,7 +303,7 @@ fn write_row(
     }
 }
 
-// The key of the row after a key; its line is appended, but for what that wants.
+// The key of the row after a key; its line is appended, or what it wants is given.
 fn next_seen<T: Table>(
     alloc: Global,
     code: &Deployment,

@@ -36,7 +36,7 @@ Locks p who Worn c d = ⊥
 
 -- what a turn at the item leaves, where its chain is sound
 pub record LockTurn (w : LockWalk) (m n : Rows) (s : LockSays) : Type 0 where
-  -- the rows of all other items are as before
+  -- all rows are as before but those of its item
   pub others : ChangedAlone (lock_key w) m n
   pub locks : Locks w.place w.who s (content (chain m (lock_key w))) (content (chain n (lock_key w)))
   -- the place has what is said of it

@@ -2,8 +2,8 @@
 ghost use Rattle.beldi_lock.specs.Locked.{LocksAreByTheRow, LocksStand};
 ghost use Rattle.beldi_lock.specs.Lockset.{LocksetsBegin, LocksetsFollow};
 
-/// What a walk says of the lock is what the rows of its item hold, and it leaves the rows of all other items as they are. For a transaction it first
-/// puts the row that says that the lock is asked for.
+/// What a walk says of the lock is what the rows of its item hold, and it leaves all other rows as they are. For a transaction it
+/// first puts the row that says that the lock is asked for.
 pub fn a_lock_is_by_the_row()
     ensures { LocksAreByTheRow }
 {}

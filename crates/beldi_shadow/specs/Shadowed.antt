@@ -35,7 +35,7 @@ Writes p who op Worn c d = ⊥
 
 -- what a turn leaves, where the shadow's chain is sound and nobody owns the shadow
 pub record WriteTurn (w : ShadowWrite) (m n : Rows) (s : ShadowSays) : Type 0 where
-  -- the rows of all other items are as before
+  -- all rows are as before but those of the shadow
   pub others : ChangedAlone (write_key w) m n
   pub writes : Writes w.walk.place w.walk.who w.walk.op s (content (chain m (write_key w))) (content (chain n (write_key w)))
   pub sound : Sound (chain n (write_key w))

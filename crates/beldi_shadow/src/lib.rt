@@ -6,7 +6,7 @@
 //! Proved:
 //! - The walks ask, go and say as the definitions do, whatever they are told (`Walk` of `beldi_walk`); unless a write goes on, it
 //!   stands where it stood.
-//! - Laws: where the shadow's chain is sound and nobody owns it, a turn of a write leaves the rows of all other items as they are, and the shadow
+//! - Laws: where the shadow's chain is sound and nobody owns it, a turn of a write leaves all rows but its own as they are, and the shadow
 //!   but for its own operation's effect, of which a place has one, however many walks there are for it; `Noted` tells the
 //!   note that the place has (`a_shadow_is_a_logged_cell`). A read changes nothing, is never refused as `Full`, and gives the
 //!   shadow's value, or none where the transaction has no shadow of the item (`a_shadow_reads_its_own`).

@@ -38,7 +38,7 @@ abbrev pub value_line : Deployment → ℕ → ℕ → List ℕ → Value → Li
 value_line d f t k Value.Null = []
 value_line d f t k v = item_text d f t k v
 
--- what the last row of an item holds
+-- the line of an item, by its last row
 abbrev pub cell_line : Deployment → Rows → ℕ → ℕ → List ℕ → Option Row → List ℕ
 cell_line d m f t k (Some (Cell c)) = value_line d f t k (shown_under m f t k c.owner c.value)
 cell_line d m f t k r = []

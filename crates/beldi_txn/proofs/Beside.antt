@@ -3,8 +3,8 @@ use Rattle.std.specs.Prelude.{is_some}
 use Rattle.beldi_value.specs.declared.place.Place.{Place}
 use Rattle.beldi_txn.specs.Visited.{Decides, OtherWalksLeave}
 use Rattle.beldi_txn.specs.declared.end.EndAt.TheVariants.{Shadow}
-use Rattle.beldi_txn.proofs.Names.{Callees, ChangedAlone, Decide, EndAt, EndSays, EndWalk, Free, Frees, IsDecided, Leaves, LeftAt, List, Member, Next, None, Option, Row, RowKey, Rows, Some, Stamp, Value, Visit, Visited, ap, aside_row, at_row, call_key, chain, chain_other, content, decision_row, false, free_place, inl, inr, intent_key, is_closed, is_own, item_in, item_row, key_asked, lock_row, rank_of, row_closed, shadow_value, subst, sym, tail, true, visited_by, walk_asks, ℕ, ◌∙◌, ◌≡◌, ◌∷◌, Called, CellOp, Owner, Stamps, owner_of}
-use Rattle.beldi_txn.proofs.{TxTurn.asked, TxTurn.aside_head, TxTurn.item_head, TxTurn.other_chain, TxTurn.other_kind, Visited.by_key, Visited.call_kept, Visited.closed_by, Visited.way_kept, Locks.Item}
+use Rattle.beldi_txn.proofs.Names.{Callees, ChangedAlone, Decide, EndAt, EndSays, EndWalk, Free, Frees, IsDecided, Leaves, LeftAt, List, Member, Next, None, Option, Row, RowKey, Rows, Some, Stamp, Value, Visit, Visited, ap, aside_row, call_key, chain, chain_other, content, decision_row, false, free_place, inl, inr, intent_key, is_closed, is_own, item_in, item_row, key_asked, lock_row, rank_of, row_closed, shadow_value, subst, sym, tail, true, visited_by, walk_asks, ℕ, ◌∙◌, ◌≡◌, ◌∷◌, Called, CellOp, Owner, Stamps, owner_of, item_head}
+use Rattle.beldi_txn.proofs.{TxTurn.asked, TxTurn.aside_kept, TxTurn.item_kept, TxTurn.other_kind, Visited.by_key, Visited.call_kept, Visited.closed_by, Visited.way_kept, Locks.Item}
 use Rattle.beldi_txn.proofs.Names.map
 
 -- what is as before after a turn of the walk w: no row of calls and locks and no copy changes, no finish and no decision goes, and no item
@@ -44,12 +44,12 @@ module _ (w : EndWalk) (m n : Rows) where
     decision = decided_still s (Value.Bool w.commit) (map.get m (decision_row w)) (map.get n (decision_row w)) h;
     calls = λ p s. same (call_key p.1 p.0 s) (λ y. cc);
     locks = λ p q. same (lock_row w p q) (λ y. cc);
-    asides = λ f q. other_chain m n (decision_row w) others (aside_row w f q) (aside_head f w.tx q.0 q.1) (λ y. cc);
+    asides = λ f q. aside_kept m n (decision_row w) others (λ y. cc) f w.tx q.0 q.1;
     closed = λ p c. ap row_closed (same (intent_key p.0 p.1) (λ y. cc)) ∙ c;
-    items = λ f q c. ap (λ r. is_own w (content r)) (other_chain m n (decision_row w) others (item_row f q) (item_head f q.0 q.1) (λ y. cc)) ∙ c;
+    items = λ f q c. ap (λ r. is_own w (content r)) (item_kept m n (decision_row w) others (λ y. cc) f q.0 q.1) ∙ c;
   }
     where
-      same : (q : RowKey) → (rank_of (at_row q 0).kind ≡ 1 → ⊥) → map.get n q ≡ map.get m q
+      same : (q : RowKey) → (rank_of q.kind ≡ 1 → ⊥) → map.get n q ≡ map.get m q
       same = other_kind m n (decision_row w) others
 
   -- an item, which was given back or stands
@@ -58,14 +58,14 @@ module _ (w : EndWalk) (m n : Rows) where
     decision = λ c. same (decision_row w) (λ y. cc) ∙ c;
     calls = λ p s. same (call_key p.1 p.0 s) (λ y. cc);
     locks = λ p q. same (lock_row w p q) (λ y. cc);
-    asides = λ g q. other_chain m n (item_row f i) others (aside_row w g q) (aside_head g w.tx q.0 q.1) (λ y. cc);
+    asides = λ g q. aside_kept m n (item_row f i) others (λ y. cc) g w.tx q.0 q.1;
     closed = λ p c. ap row_closed (same (intent_key p.0 p.1) (λ y. cc)) ∙ c;
     items = λ g q c. by_key (item_row g q) (item_row f i) (is_own w (item_in g n q) ≡ false)
         (λ e. ap (λ z. is_own w (content (chain n z))) e ∙ given h (sym (ap (λ z. is_own w (content (chain m z))) e) ∙ c))
         (λ off. ap (λ r. is_own w (content r)) (chain_other m n (item_row f i) (item_row g q) others (item_head g q.0 q.1) off) ∙ c);
   }
     where
-      same : (q : RowKey) → (rank_of (at_row q 0).kind ≡ rank_of (item_row f i).kind → ⊥) → map.get n q ≡ map.get m q
+      same : (q : RowKey) → (rank_of q.kind ≡ rank_of (item_row f i).kind → ⊥) → map.get n q ≡ map.get m q
       same = other_kind m n (item_row f i) others
 
       given : Frees p (Owner.Tx w.tx) u (item_in f m i) (item_in f n i) → is_own w (item_in f m i) ≡ false → is_own w (item_in f n i) ≡ false
@@ -78,14 +78,14 @@ module _ (w : EndWalk) (m n : Rows) where
     decision = λ c. same (decision_row w) (λ y. cc) ∙ c;
     calls = λ p s. same (call_key p.1 p.0 s) (λ y. cc);
     locks = λ p q. same (lock_row w p q) (λ y. cc);
-    asides = λ g q. other_chain m n (intent_key p.0 p.1) others (aside_row w g q) (aside_head g w.tx q.0 q.1) (λ y. cc);
+    asides = λ g q. aside_kept m n (intent_key p.0 p.1) others (λ y. cc) g w.tx q.0 q.1;
     closed = λ o c. by_key (intent_key o.0 o.1) (intent_key p.0 p.1) (is_closed n o ≡ true)
         (λ e. ap (λ z. row_closed (map.get n z)) e ∙ closed_by (map.get m (intent_key p.0 p.1)) (map.get n (intent_key p.0 p.1)) h)
         (λ off. ap row_closed (others (intent_key o.0 o.1) off) ∙ c);
-    items = λ f q c. ap (λ r. is_own w (content r)) (other_chain m n (intent_key p.0 p.1) others (item_row f q) (item_head f q.0 q.1) (λ y. cc)) ∙ c;
+    items = λ f q c. ap (λ r. is_own w (content r)) (item_kept m n (intent_key p.0 p.1) others (λ y. cc) f q.0 q.1) ∙ c;
   }
     where
-      same : (q : RowKey) → (rank_of (at_row q 0).kind ≡ rank_of (intent_key p.0 p.1).kind → ⊥) → map.get n q ≡ map.get m q
+      same : (q : RowKey) → (rank_of q.kind ≡ rank_of (intent_key p.0 p.1).kind → ⊥) → map.get n q ≡ map.get m q
       same = other_kind m n (intent_key p.0 p.1) others
 
 -- by where the other walk stands

@@ -9,7 +9,7 @@ pub use Rattle.beldi_lang.specs.declared.effect.Effect.{Effect, TheVariants.Cond
 pub use Rattle.beldi_row.{proofs.Gets.got, proofs.Gets.key_same, proofs.Gets.key_self, proofs.Least.next_row_least, proofs.Logs.id_same, proofs.Logs.id_self, proofs.Unchanged.left as left_row, proofs.Unchanged.looked, specs.Act.act, specs.Act.other_owner, specs.Act.owns, specs.Act.stamp_with, specs.Key.RowKey, specs.Key.key_cmp, specs.Key.rank_of, specs.KeyOrder.key_exact, specs.KeyOrder.key_total, specs.Log.id_eq, specs.Log.note_at, specs.Table.IsNext, specs.Table.Rows, specs.Table.entry_of, specs.Table.next_row, specs.Table.set_row, specs.declared.act.Act.Act, specs.declared.act.Act.TheVariants.Look, specs.declared.act.Act.TheVariants.MakeCell, specs.declared.act.Act.TheVariants.PutLockset, specs.declared.act.Act.TheVariants.PutRead, specs.declared.act.Act.TheVariants.Stamp as StampAct, specs.declared.key.Kind.Kind, specs.declared.row.Row.Row, specs.declared.notes.Note.Note}
 pub use Rattle.beldi_walk.{proofs.Promises.promised, proofs.Promises.turned, specs.Query.rows_after, specs.Query.said, specs.Query.told_by, specs.Query.told_of, specs.Walk.Promises, specs.declared.query.Query.Query}
 pub use Rattle.beldi_daal.specs.Logged.{DidAs, LoggedTurn, Logs, dies, owner_after, unless_owned, waited}
-pub use Rattle.beldi_chain.{proofs.Heads.alone_by, proofs.Heads.chain_off, proofs.Heads.chain_other, proofs.Heads.head_content, proofs.Heads.head_tail, proofs.Heads.sound_after, proofs.OneRow.no_tail, specs.Chain.Chain, specs.Chain.ChangedAlone, specs.Chain.IsHead, specs.Chain.Sound, specs.Chain.at_row, specs.Chain.chain, specs.Chain.content, specs.Chain.is_row_of, specs.Chain.tail, specs.Content.Content, specs.Content.SoundAt, specs.Content.content_in}
+pub use Rattle.beldi_chain.{proofs.Heads.alone_by, proofs.Heads.aside_head, proofs.Heads.item_head, proofs.Heads.kind_rank, proofs.Heads.chain_off, proofs.Heads.chain_other, proofs.Heads.head_content, proofs.Heads.head_tail, proofs.Heads.sound_after, proofs.OneRow.no_tail, specs.Chain.Chain, specs.Chain.ChangedAlone, specs.Chain.IsHead, specs.Chain.Sound, specs.Chain.at_row, specs.Chain.chain, specs.Chain.content, specs.Chain.is_row_of, specs.Chain.tail, specs.Content.Content, specs.Content.SoundAt, specs.Content.content_in}
 pub use Rattle.beldi_daal.{proofs.Bars.taken, proofs.Logged.by_op, specs.Cell.cell_goes, specs.Cell.cell_key, specs.Cell.read_goes, specs.Cell.shadow_key, specs.Cell.write_asks, specs.Cell.write_goes, specs.Walk.walk_so as logged_so, specs.declared.cell.CellOp.CellOp, specs.declared.cell.WriteAt.WriteAt, specs.declared.cell.WriteAt.TheVariants.Make, specs.declared.cell.WriteAt.TheVariants.Try, specs.declared.cell.WriteGoes.WriteGoes, specs.declared.walk.Item.TheVariants.Plain, specs.declared.walk.Item.TheVariants.Shadow, specs.declared.walk.WriteSays.WriteSays, specs.declared.walk.WriteWalk.WriteWalk, specs.declared.cell.ReadGoes.ReadGoes}
 pub use Rattle.beldi_lock.specs.Lockset.{AreFit, AreHops, IsFirstFrom, IsFit, id_before, item_after, item_of, lockset_after, most}
 pub use Rattle.beldi_lock.{proofs.Last.split_front, specs.Last.split_last, specs.Lock.item_goes as lock_item, specs.Lock.lockset_key, specs.declared.lock.LockAt.LockAt, specs.declared.lock.LockAt.TheVariants.Item as AtItem, specs.declared.lock.LockAt.TheVariants.Lockset}

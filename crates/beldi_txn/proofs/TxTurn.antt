@@ -1,6 +1,6 @@
 -- What a turn of an operation of a transaction leaves.
 use Rattle.beldi_txn.specs.{Tx.item_of, TxWalk.walk_asks, TxWalk.walk_next, TxWalk.walk_says, TxWalk.said_of}
-use Rattle.beldi_txn.proofs.Names.{Act, AsideMoves, AtItem, CellOp, Chain, ChangedAlone, CondWrite, Content, DidAs, Effect, Finds, Fits, HasLock, IsHead, IsSo, ItemMoves, List, LockAt, LockMoves, Lockset, LoggedTurn, Logs, Look, Make, MakeCell, None, OperationsAreSo, OperationsBegin, Option, Owner, Place, Plain, PutLockset, PutRead, Query, Read, Rel, Row, RowKey, Rows, Shadow, ShadowMoves, Some, Sound, SoundAt, Stands, Try, TxAt, TxGoes, TxId, TxTurn, TxWalk, Value, Write, WriteAt, WriteGoes, WriteSays, WriteWalk, act, alone_by, ap, asks_of, at_row, by_op, cell_goes, cell_key, chain, chain_off, chain_other, cond, content, content_in, dies, false, given, given_in, gone, got, head_content, head_tail, inl, inr, is_eq, is_row_of, item_asks, item_goes, item_leads, key_asked, key_cmp, key_same, key_self, left_row, lock_item, lock_leads, locked_goes, lockset_key, log_key, logged_so, looked, no_tail, note_at, op_of, option_map, other_owner, owner_after, rank_of, read_goes, refl, rows_after, said, set_row, shadow_key, shadow_read, shadow_value, sound_after, subst, sym, tail, taken, told_by, true, turned, tx_goes, waited, write_asks, write_goes, write_leads, [], ℕ, ◌∙◌, ◌≡◌, Note, ReadGoes}
+use Rattle.beldi_txn.proofs.Names.{Act, AsideMoves, AtItem, CellOp, Chain, ChangedAlone, CondWrite, Content, DidAs, Effect, Finds, Fits, HasLock, IsHead, IsSo, ItemMoves, List, LockAt, LockMoves, Lockset, LoggedTurn, Logs, Look, Make, MakeCell, None, OperationsAreSo, OperationsBegin, Option, Owner, Place, Plain, PutLockset, PutRead, Query, Read, Rel, Row, RowKey, Rows, Shadow, ShadowMoves, Some, Sound, SoundAt, Stands, Try, TxAt, TxGoes, TxId, TxTurn, TxWalk, Value, Write, WriteAt, WriteGoes, WriteSays, WriteWalk, act, alone_by, ap, asks_of, at_row, by_op, cell_goes, cell_key, chain, chain_off, chain_other, cond, content, content_in, dies, false, given, given_in, gone, got, head_content, head_tail, inl, inr, is_eq, is_row_of, item_asks, item_goes, item_leads, key_asked, key_cmp, key_same, key_self, left_row, lock_item, lock_leads, locked_goes, lockset_key, log_key, logged_so, looked, no_tail, note_at, op_of, option_map, other_owner, owner_after, rank_of, read_goes, refl, rows_after, said, set_row, shadow_key, shadow_read, shadow_value, sound_after, subst, sym, tail, taken, told_by, true, turned, tx_goes, waited, write_asks, write_goes, write_leads, [], ℕ, ◌∙◌, ◌≡◌, Note, ReadGoes, kind_rank, item_head, aside_head}
 use Rattle.beldi_txn.proofs.Names.map
 
 -- ---- rows at other keys
@@ -20,23 +20,22 @@ pub ranks : (a b : RowKey) → (rank_of a.kind ≡ rank_of b.kind → ⊥) → a
 ranks a b h is = h (ap (λ (q : RowKey). rank_of q.kind) is)
 
 -- a row of another kind is none of an item's
-pub off_row : (k l : RowKey) → (rank_of (at_row l 0).kind ≡ rank_of k.kind → ⊥) → is_row_of k l ≡ false
-off_row k l h = apart (at_row l 0) k (ranks (at_row l 0) k h)
+off_row : (k l : RowKey) → (rank_of l.kind ≡ rank_of k.kind → ⊥) → is_row_of k l ≡ false
+off_row k l h = apart (at_row l 0) k (ranks (at_row l 0) k (λ same. h (sym (kind_rank l.kind 0) ∙ same)))
 
 -- all rows are as before but those of one item: so are the rows of other kinds, and their chains
 module _ (m n : Rows) (head : RowKey) (alone : ChangedAlone head m n) where
-  pub other_kind : (q : RowKey) → (rank_of (at_row q 0).kind ≡ rank_of head.kind → ⊥) → map.get n q ≡ map.get m q
+  pub other_kind : (q : RowKey) → (rank_of q.kind ≡ rank_of head.kind → ⊥) → map.get n q ≡ map.get m q
   other_kind q h = alone q (off_row head q h)
 
-  pub other_chain : (k : RowKey) → IsHead k → (rank_of k.kind ≡ rank_of head.kind → ⊥) → chain n k ≡ chain m k
+  other_chain : (k : RowKey) → IsHead k → (rank_of k.kind ≡ rank_of head.kind → ⊥) → chain n k ≡ chain m k
   other_chain k is h = chain_other m n head k alone is (apart k head (ranks k head h))
 
--- ---- the first rows of items and of shadows
-pub item_head : (home t : ℕ) (k : List ℕ) → IsHead (cell_key home t k)
-item_head home t k = record { first = refl; numbered = λ n. refl }
+  pub item_kept : (rank_of head.kind ≡ 3 → ⊥) → (home t : ℕ) (k : List ℕ) → chain n (cell_key home t k) ≡ chain m (cell_key home t k)
+  item_kept h home t k = other_chain (cell_key home t k) (item_head home t k) (λ is. h (sym is))
 
-pub aside_head : (home : ℕ) (x : TxId) (t : ℕ) (k : List ℕ) → IsHead (shadow_key home x t k)
-aside_head home x t k = record { first = refl; numbered = λ n. refl }
+  pub aside_kept : (rank_of head.kind ≡ 4 → ⊥) → (home : ℕ) (x : TxId) (t : ℕ) (k : List ℕ) → chain n (shadow_key home x t k) ≡ chain m (shadow_key home x t k)
+  aside_kept h home x t k = other_chain (shadow_key home x t k) (aside_head home x t k) (λ is. h (sym is))
 
 -- a Look at a sound chain tells its value
 pub shadow_told : (now : ℕ) (r : Option Row) → SoundAt r → read_goes None (said (act Look now r).1) ≡ ReadGoes.Got (shadow_value r)
@@ -154,8 +153,7 @@ module _ (home : ℕ) (p : Place) (x : TxId) (e : Effect) (t : ℕ) (k : List �
     set b z now g first not_item not_shadow finds so onto =
         let n = rows_after (Query.Act z b) now m in
         let others = others_set m z (act b now (map.get m z)).0 in
-        let off : (k : RowKey) → (rank_of z.kind ≡ rank_of k.kind → ⊥) → is_row_of k z ≡ false = λ k apart. off_row k z (λ is. apart (ap (λ (q : RowKey). rank_of q.kind) (sym first) ∙ is)) in
-        beside (Query.Act z b) n g (alone_by m n z first others) (chain_off m n z ck others (item_head home t k) (off ck not_item)) (chain_off m n z sk others (aside_head home x t k) (off sk not_shadow)) finds so onto
+        beside (Query.Act z b) n g (alone_by m n z first others) (chain_off m n z ck others (item_head home t k) (off_row ck z not_item)) (chain_off m n z sk others (aside_head home x t k) (off_row sk z not_shadow)) finds so onto
 
 -- ---- the stages, one by one
 pub asked : (z : RowKey) (p : Place) (who : Owner) (o : CellOp) (w : WriteAt) → key_asked (write_asks z p who o w) ≡ z
@@ -337,7 +335,7 @@ module _ (home : ℕ) (p : Place) (x : TxId) (t : ℕ) (k : List ℕ) where
       lock_to : (s : WriteSays) (g : TxGoes) → LoggedTurn as_lock m n s → IsSo e p me (said_of lock_stage g) (given n log_row) (content (chain n item_row)) (content (chain n aside_row))
           → Onto home p x e t k lock_stage (content (chain n item_row)) g → Locks g
       lock_to s g l so onto =
-          let aside : chain n aside_row ≡ chain m aside_row = other_chain m n item_row l.others aside_row ahead (λ z. cc) in
+          let aside : chain n aside_row ≡ chain m aside_row = aside_kept m n item_row l.others (λ z. cc) home x t k in
           record {
             others = subst (λ y. ChangedAlone y m n) (sym (asked item_row p me CellOp.Lock w)) l.others;
             item = lock_moved p me (content (chain m item_row)) (content (chain n item_row)) s l.logs;
@@ -385,7 +383,7 @@ module _ (home : ℕ) (p : Place) (x : TxId) (t : ℕ) (k : List ℕ) where
     write_to : (s : WriteSays) (g : TxGoes) → op_of e ≡ Some o → Aside p me o (content (chain m aside_row)) (content (chain n aside_row)) → LoggedTurn as_write m n s
         → IsSo e p me (said_of (TxAt.Write w) g) (given n log_row) (content (chain n item_row)) (content (chain n aside_row)) → Onto home p x e t k (TxAt.Write w) (content (chain m item_row)) g → Writes g
     write_to s g is moved l so onto =
-        let item : chain n item_row ≡ chain m item_row = other_chain m n aside_row l.others item_row ihead (λ z. cc) in
+        let item : chain n item_row ≡ chain m item_row = item_kept m n aside_row l.others (λ z. cc) home t k in
         record {
           others = subst (λ y. ChangedAlone y m n) (sym (asked aside_row p me o w)) l.others;
           item = ap content item;

@@ -1,6 +1,6 @@
 -- The end of a transaction visits all who took part, and passes all rows of their locks, one after another.
-use Rattle.beldi_txn.{specs.declared.end.EndAt.TheVariants.Shadow, proofs.TxTurn.others_set, proofs.TxTurn.here_set, proofs.TxTurn.shadow_told, proofs.TxTurn.other_kind, proofs.TxTurn.other_chain, proofs.TxTurn.item_head, proofs.TxTurn.aside_head, proofs.TxTurn.asked, proofs.Calls.by_order, proofs.Calls.next_call, proofs.Calls.first_call, proofs.Locks.Item, proofs.Locks.item_at, proofs.Locks.none_past, proofs.Locks.none_first, proofs.Locks.none_between, proofs.Locks.none_before}
-use Rattle.beldi_txn.proofs.Names.{AllFreed, AllReleased, AreClosed, AreFit, AreMarked, AreReleased, AreSound, AtEnd, Bool, Called, Callees, ChangedAlone, Content, Decide, DecidedAt, EndAt, EndGoes, EndTurn, EndWalk, EndsAreVisits, Free, Frees, Gives, HasItem, HasWay, IntentId, IsAfter, IsCall, IsDecided, IsFirstFrom, IsFrom, IsMember, IsNext, IsNextCall, IsPassed, IsPast, IsReleased, IsWay, IsWithin, Kind, Leaves, LeftAt, Less, Levels, List, LoggedTurn, Member, Next, None, Option, Place, Plain, PutRead, Query, Row, RowKey, Rows, Some, Sound, Stamp, StampAct, Stamps, StartsWithin, Try, TxId, Value, Visit, Visited, VisitsBegin, VisitsStand, WriteAt, WriteGoes, WriteSays, WriteWalk, [], act, alone_by, ap, arith, aside_row, at_row, back_from, by_op, call_after, call_goes, call_key, called_at, callee_of, calls_after, calls_goes, chain, chain_other, child_of, content, counts, decide_goes, decision_row, false, first_from, first_visit, free_first, free_place, freed_goes, func_called, given_value, has_callees, has_no_hops, head_tail, home_of, if◌then◌else◌, inl, inr, intent_key, invokes_after, is_closed, is_eq, is_none, is_own, is_owner, is_some, item_after, item_in, item_row, key_asked, key_cmp, key_exact, key_same, key_total, last_goes, left_row, lock_row, lockset_after, lockset_key, logged_so, looked, ltb-false, ltb-true, member_at, moved, next_goes, next_row, next_row_least, no_root, note_at, option_map, ordering_reverse, owner_of, owns, rank_of, refl, row_closed, rows_after, said, said_of, shadow_value, split_front, stamp_with, subst, suc, sym, tail, told_by, true, turned, unless_owned, value_goes, visited_by, walk_asks, walk_goes, walk_next, walk_says, write_goes, zero, ℕ, ◌++◌, ◌<◌, ◌∙◌, ◌∷◌, ◌≡◌, ◌≤◌, ◌⊎◌, Note, CellOp, Owner, EndSays, ReadGoes}
+use Rattle.beldi_txn.{specs.declared.end.EndAt.TheVariants.Shadow, proofs.TxTurn.others_set, proofs.TxTurn.here_set, proofs.TxTurn.shadow_told, proofs.TxTurn.other_kind, proofs.TxTurn.item_kept, proofs.TxTurn.aside_kept, proofs.TxTurn.asked, proofs.Calls.by_order, proofs.Calls.next_call, proofs.Calls.first_call, proofs.Locks.Item, proofs.Locks.item_at, proofs.Locks.none_past, proofs.Locks.none_first, proofs.Locks.none_between, proofs.Locks.none_before}
+use Rattle.beldi_txn.proofs.Names.{AllFreed, AllReleased, AreClosed, AreFit, AreMarked, AreReleased, AreSound, AtEnd, Bool, Called, Callees, ChangedAlone, Content, Decide, DecidedAt, EndAt, EndGoes, EndTurn, EndWalk, EndsAreVisits, Free, Frees, Gives, HasItem, HasWay, IntentId, IsAfter, IsCall, IsDecided, IsFirstFrom, IsFrom, IsMember, IsNext, IsNextCall, IsPassed, IsPast, IsReleased, IsWay, IsWithin, Kind, Leaves, LeftAt, Less, Levels, List, LoggedTurn, Member, Next, None, Option, Place, Plain, PutRead, Query, Row, RowKey, Rows, Some, Sound, Stamp, StampAct, Stamps, StartsWithin, Try, TxId, Value, Visit, Visited, VisitsBegin, VisitsStand, WriteAt, WriteGoes, WriteSays, WriteWalk, [], act, alone_by, ap, arith, aside_row, back_from, by_op, call_after, call_goes, call_key, called_at, callee_of, calls_after, calls_goes, chain, chain_other, child_of, content, counts, decide_goes, decision_row, false, first_from, first_visit, free_first, free_place, freed_goes, func_called, given_value, has_callees, has_no_hops, head_tail, home_of, if◌then◌else◌, inl, inr, intent_key, invokes_after, is_closed, is_eq, is_none, is_own, is_owner, is_some, item_after, item_in, item_row, key_asked, key_cmp, key_exact, key_same, key_total, last_goes, left_row, lock_row, lockset_after, lockset_key, logged_so, looked, ltb-false, ltb-true, member_at, moved, next_goes, next_row, next_row_least, no_root, note_at, option_map, ordering_reverse, owner_of, owns, rank_of, refl, row_closed, rows_after, said, said_of, shadow_value, split_front, stamp_with, subst, suc, sym, tail, told_by, true, turned, unless_owned, value_goes, visited_by, walk_asks, walk_goes, walk_next, walk_says, write_goes, zero, ℕ, ◌++◌, ◌<◌, ◌∙◌, ◌∷◌, ◌≡◌, ◌≤◌, ◌⊎◌, Note, CellOp, Owner, EndSays, ReadGoes, item_head, aside_head}
 use Rattle.beldi_txn.proofs.Levels.{ends_in, member_more, way_more, way_front, way_last, levels_top, levels_with, levels_pushed, levels_last, levels_popped, member_fit}
 use Rattle.beldi_txn.proofs.Names.map
 
@@ -318,14 +318,14 @@ module _ (x : TxId) (end : ℕ) (commit : Bool) where
         others : ChangedAlone dk m dn
         others = alone_by m dn dk refl (others_set m dk s)
 
-        same : (q : RowKey) → (rank_of (at_row q 0).kind ≡ 1 → ⊥) → map.get dn q ≡ map.get m q
+        same : (q : RowKey) → (rank_of q.kind ≡ 1 → ⊥) → map.get dn q ≡ map.get m q
         same = other_kind m dn dk others
 
         same_item : (f : ℕ) (q : Item) → chain dn (item_row f q) ≡ chain m (item_row f q)
-        same_item f q = other_chain m dn dk others (item_row f q) (item_head f q.0 q.1) (λ y. cc)
+        same_item f q = item_kept m dn dk others (λ y. cc) f q.0 q.1
 
         same_aside : (f : ℕ) (q : Item) → chain dn (aside_row bare f q) ≡ chain m (aside_row bare f q)
-        same_aside f q = other_chain m dn dk others (aside_row bare f q) (aside_head f x q.0 q.1) (λ y. cc)
+        same_aside f q = aside_kept m dn dk others (λ y. cc) f x q.0 q.1
 
         shows : Shows m dn
         shows = record {
@@ -523,14 +523,14 @@ module _ (x : TxId) (end : ℕ) (commit : Bool) where
       abbrev fk : RowKey
       fk = item_row (who cs).1 j
 
-      beside : (k : RowKey) → (rank_of (at_row k 0).kind ≡ 3 → ⊥) → map.get n k ≡ map.get m k
+      beside : (k : RowKey) → (rank_of k.kind ≡ 3 → ⊥) → map.get n k ≡ map.get m k
       beside = other_kind m n fk l.others
 
       other_item : (h : ℕ) (q : Item) → is_eq (key_cmp (item_row h q) fk) ≡ false → chain n (item_row h q) ≡ chain m (item_row h q)
       other_item h q = chain_other m n fk (item_row h q) l.others (item_head h q.0 q.1)
 
       same_aside : (h : ℕ) (q : Item) → chain n (aside_row bare h q) ≡ chain m (aside_row bare h q)
-      same_aside h q = other_chain m n fk l.others (aside_row bare h q) (aside_head h x q.0 q.1) (λ y. cc)
+      same_aside h q = aside_kept m n fk l.others (λ y. cc) h x q.0 q.1
 
       stood_free : Visited (walk fz) n
       stood_free = stands m n (record {
@@ -609,14 +609,14 @@ module _ (x : TxId) (end : ℕ) (commit : Bool) where
     alone : ChangedAlone pk m pn
     alone = alone_by m pn pk refl off_here
 
-    same_off : (k : RowKey) → (rank_of (at_row k 0).kind ≡ 0 → ⊥) → map.get pn k ≡ map.get m k
+    same_off : (k : RowKey) → (rank_of k.kind ≡ 0 → ⊥) → map.get pn k ≡ map.get m k
     same_off = other_kind m pn pk alone
 
     same_item : (h : ℕ) (q : Item) → chain pn (item_row h q) ≡ chain m (item_row h q)
-    same_item h q = other_chain m pn pk alone (item_row h q) (item_head h q.0 q.1) (λ y. cc)
+    same_item h q = item_kept m pn pk alone (λ y. cc) h q.0 q.1
 
-    same_copy : (h : ℕ) (q : Item) → chain pn (aside_row bare h q) ≡ chain m (aside_row bare h q)
-    same_copy h q = other_chain m pn pk alone (aside_row bare h q) (aside_head h x q.0 q.1) (λ y. cc)
+    same_shadow : (h : ℕ) (q : Item) → chain pn (aside_row bare h q) ≡ chain m (aside_row bare h q)
+    same_shadow h q = aside_kept m pn pk alone (λ y. cc) h x q.0 q.1
 
     closed_here : row_closed (map.get pn pk) ≡ true
     closed_here = closed_by (map.get m pk) (map.get pn pk) stamped
@@ -630,7 +630,7 @@ module _ (x : TxId) (end : ℕ) (commit : Bool) where
       decision = λ is. same_off (decision_row bare) (λ y. cc) ∙ is;
       calls = λ p t. same_off (call_key p.1 p.0 t) (λ y. cc);
       locks = λ p q. same_off (lock_row bare p q) (λ y. cc);
-      asides = same_copy;
+      asides = same_shadow;
       closed = λ p k. by_key (intent_key p.0 p.1) pk (is_closed pn p ≡ true)
           (λ e. ap (λ (y : RowKey). row_closed (map.get pn y)) e ∙ closed_here)
           (λ off. ap row_closed (off_here (intent_key p.0 p.1) off) ∙ k);
@@ -638,7 +638,7 @@ module _ (x : TxId) (end : ℕ) (commit : Bool) where
       released = λ d ds w k. let p = who (d ∷ ds) in by_key (intent_key p.0 p.1) pk ((is_closed m p ≡ true) ⊎ IsReleased bare m p)
           (λ e. inr (subst (λ (y : Member). IsReleased bare m y) (sym (same_member (who way) p (not_root m owns_all way v.member.1 (owner_not front c)) (not_root m owns_all (d ∷ ds) w.1 refl) e)) given_back))
           (λ off. inl (sym (ap row_closed (off_here (intent_key p.0 p.1) off)) ∙ k));
-      sound = λ h q. (subst Sound (sym (same_item h q)) (v.sound h q).0, subst Sound (sym (same_copy h q)) (v.sound h q).1);
+      sound = λ h q. (subst Sound (sym (same_item h q)) (v.sound h q).0, subst Sound (sym (same_shadow h q)) (v.sound h q).1);
     }) pz v
 
     -- the caller's callees are closed up to this one

@@ -106,7 +106,7 @@ IsSo e p who (TxSays.Value v) g c d = Gave e p v g d
 IsSo e p who TxSays.Done g c d = WasDone e p d
 
 pub record TxTurn (w x : TxWalk) (t : ℕ) (k : List ℕ) (m n : Rows) (s : TxSays) : Type 0 where
-  -- all rows are as before but those of the item that it asks for
+  -- all rows are as before but the one, or those of the item, that it asks for
   pub others : ChangedAlone (key_asked (walk_asks w)) m n
   pub item : ItemMoves w.at w.place (Owner.Tx w.tx) (content (chain m (item_key w t k))) (content (chain n (item_key w t k)))
   pub shadow : ShadowMoves w.effect w.at w.place (Owner.Tx w.tx) (chain m (aside_key w t k)) (chain n (aside_key w t k))

@@ -212,7 +212,7 @@ LeftAt Stamp w i s m n = let p = visited_by w.tx w.visit.way in Stamps (map.get 
 LeftAt a w i s m n = n ≡ m
 
 pub record EndTurn (w x : EndWalk) (m n : Rows) (s : EndSays) : Type 0 where
-  -- all rows are as before but those of the item that it asks for
+  -- all rows are as before but the one, or those of the item, that it asks for
   pub others : ChangedAlone (key_asked (walk_asks w)) m n
   pub left : LeftAt w.visit.at w w.visit.item s m n
   pub same : x ≡ record w { visit = x.visit }
