@@ -1,0 +1,4 @@
+pub mod Grows
+pub mod Keeps
+pub mod Meets
+pub mod Ways

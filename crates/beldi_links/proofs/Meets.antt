@@ -1,0 +1,198 @@
+-- Where a walk stands, and what it passed.
+use Rattle.std.proofs.lemmas.Option.{none-some}
+use Rattle.std.proofs.Common.{◌≡◌, ◌⊎◌, inl, inr, ℕ, ◌+◌, ◌<◌, ◌≤◌, Bool, true, false, List, [], ◌∷◌, ◌++◌, length, Option, None, Some, nat_lt, if◌then◌else◌, refl, ap, sym, ◌∙◌, subst, arith, append_assoc, ltb-true, ltb-false}
+use Rattle.beldi_value.specs.declared.place.Place.{Place}
+use Rattle.beldi_row.specs.{declared.notes.Note.Note, declared.row.Cell.Cell, declared.row.Row.Row, Log.note_at, Log.place_eq}
+use Rattle.beldi_chain.specs.{Chain.Chain, Content.Content, Content.log_of}
+use Rattle.beldi_links.specs.{Laws.FullIsSeen, Laws.LastIsLast, Laws.MeetingsGoOn, Laws.NextIsSeen, Laws.NoneIsNoted, Laws.NotedIsNoted, Laws.PassedGoesOn, Laws.SpareIsMade, Laws.SpareIsSeen, Laws.WalksBegin, Laws.WalksEnd, Links.IsPassed, Links.IsSpare, Links.LeadsTo, Links.Linked, Links.Meets, Links.Passed, Links.StandsAt, Links.Steps, Links.ToldBy, Links.before}
+use Rattle.beldi_links.proofs.Ways.{before_join, content_is, few, join, none_next, one_cell, then_way}
+
+-- ---- ways from one row
+-- from one on a way to a later one
+between : (f : Chain) (a : ℕ) (ks : List ℕ) (r : ℕ) (js : List ℕ) (n : ℕ) → Steps f a ks r → Steps f a js n → r < n → LeadsTo f r n
+between f a [] r js n way more less = (js, subst (λ z. Steps f z js n) way more)
+between f a (k ∷ ks) r [] n (c, is, next, rise, way) more less = let w : a ≡ n = more in let m = few f k ks r way in absurd (omega (arith, w, m, rise, less))
+between f a (k ∷ ks) r (j ∷ js) n (c, is, next, rise, way) (d, at, to, more, all) less =
+    let cell : c ≡ d = cc in
+    let one : k ≡ j = cc in
+    between f k ks r js n way (subst (λ z. Steps f z js n) (sym one) all) less
+
+-- and none below the next one is on it
+no_less : (f : Chain) (r : ℕ) (js : List ℕ) (n : ℕ) (c : Cell) (k : ℕ) → Steps f r js n → f r ≡ Some (Row.Cell c) → c.next ≡ Some k → r < n → k ≤ n
+no_less f r [] n c k way is next less = let w : r ≡ n = way in absurd (omega (arith, w, less))
+no_less f r (j ∷ js) n c k (d, at, to, more, all) is next less =
+    let cell : c ≡ d = cc in
+    let one : j ≡ k = cc in
+    let m = few f j js n all in
+    omega (arith, one, m)
+
+-- ---- a way to where no row follows goes on from any row on it
+module _ (f : Chain) (last : ℕ) (t : Cell) (there : f last ≡ Some (Row.Cell t)) (ends : t.next ≡ None) where
+  pub no_more : (c : Cell) (k : ℕ) → f last ≡ Some (Row.Cell c) → c.next ≡ Some k → ⊥
+  no_more c k is next = none_next c k (subst (λ (z : Cell). z.next ≡ None) (one_cell t c (sym there ∙ is)) ends) next
+
+  rest : (r : ℕ) (ks : List ℕ) (js : List ℕ) (n : ℕ) → Steps f r ks n → Steps f r js last → LeadsTo f n last
+  rest r [] js n way all = (js, subst (λ z. Steps f z js last) way all)
+  rest r (k ∷ ks) [] n (c, is, next, less, way) all = absurd (no_more c k (ap f (sym all) ∙ is) next)
+  rest r (k ∷ ks) (j ∷ js) n (c, is, next, less, way) (d, at, to, more, all) =
+      let cell : c ≡ d = cc in
+      let one : k ≡ j = cc in
+      rest k ks js n way (subst (λ z. Steps f z js last) (sym one) all)
+
+  ends_at : LeadsTo f 0 last → (r : ℕ) → Meets f r → LeadsTo f r last
+  ends_at head r m = then_way f r m.at last m.here (rest 0 m.head.0 head.0 m.at m.head.1 head.1)
+
+  after : (r : ℕ) (js : List ℕ) (c : Cell) (k : ℕ) → Steps f r js last → f r ≡ Some (Row.Cell c) → c.next ≡ Some k → LeadsTo f k last
+  after r [] c k way is next = absurd (no_more c k (ap f (sym way) ∙ is) next)
+  after r (j ∷ js) c k (d, at, to, more, all) is next =
+      let cell : c ≡ d = cc in
+      let one : j ≡ k = cc in
+      (js, subst (λ z. Steps f z js last) one all)
+
+  last_at : (r : ℕ) (js : List ℕ) (c : Cell) → Steps f r js last → f r ≡ Some (Row.Cell c) → c.next ≡ None → r ≡ last
+  last_at r [] c way is none = way
+  last_at r (j ∷ js) c (d, at, to, more, all) is none = absurd (none_next c j none (subst (λ (z : Cell). z.next ≡ Some j) (one_cell d c (sym at ∙ is)) to))
+
+pub walks_end : WalksEnd
+walks_end f last t head there ends r m = ends_at f last t there ends head r m
+
+pub meetings_go_on : MeetingsGoOn
+meetings_go_on f last t head there ends r c k m is next =
+    let way = ends_at f last t there ends head r m in
+    record { at = last; head = head; here = after f last t there ends r way.0 c k way.1 is next }
+
+pub last_is_last : LastIsLast
+last_is_last f last t head there ends r c m is none = let way = ends_at f last t there ends head r m in last_at f last t there ends r way.0 c way.1 is none
+
+-- ---- what is passed
+-- no row that is there stands between one and its next
+module _ (f : Chain) (l : Linked f) (r : ℕ) (c : Cell) (k : ℕ) (is : f r ≡ Some (Row.Cell c)) (next : c.next ≡ Some k) where
+  not_spare : r ≡ l.last + 1 → ⊥
+  not_spare e = none_next c k (l.spare c (ap f (sym e) ∙ is)).next next
+
+  -- so it is on the way, and its next leads to the last
+  goes_on : LeadsTo f k l.last
+  goes_on = by_rest (l.rest r c is)
+    where
+      by_rest : (r ≡ l.last + 1) ⊎ (LeadsTo f 0 r × LeadsTo f r l.last) → LeadsTo f k l.last
+      by_rest (inl e) = absurd (not_spare e)
+      by_rest (inr w) = after f l.last l.tail l.there l.ends r w.1.0 c k w.1.1 is next
+
+  none_between : (n : ℕ) (d : Cell) → f n ≡ Some (Row.Cell d) → r < n → n < k → ⊥
+  none_between n d at above below = by_rest (l.rest r c is) (l.rest n d at)
+    where
+      by_rest : (r ≡ l.last + 1) ⊎ (LeadsTo f 0 r × LeadsTo f r l.last) → (n ≡ l.last + 1) ⊎ (LeadsTo f 0 n × LeadsTo f n l.last) → ⊥
+      by_rest (inl e) y = not_spare e
+      by_rest (inr x) (inl e) =
+          let way = goes_on in
+          let m = few f k way.0 l.last way.1 in
+          omega (arith, m, e, below)
+      by_rest (inr x) (inr y) =
+          let way = between f 0 x.0.0 r y.0.0 n x.0.1 y.0.1 above in
+          let m = no_less f r way.0 n c k way.1 is next above in
+          omega (arith, m, below)
+
+pub passed_goes_on : PassedGoesOn
+passed_goes_on f l p r c k passed is next none n d less at = by_order (nat_lt n r) (nat_lt r n) refl refl
+  where
+    by_order : (a b : Bool) → nat_lt n r ≡ a → nat_lt r n ≡ b → IsPassed p d
+    by_order true b low high = passed n d (ltb-true n r low) at
+    by_order false true low high = absurd (none_between f l r c k is next n d at (ltb-true r n high) less)
+    by_order false false low high =
+        let x = ltb-false n r low in
+        let y = ltb-false r n high in
+        let e : n ≡ r = omega (arith, x, y) in
+        subst (IsPassed p) (one_cell c d (sym is ∙ ap f (sym e) ∙ at)) (record { after = k; next = next; none = none })
+
+-- a row that leads to one that is there is there
+row_there : (f : Chain) (k : ℕ) (js : List ℕ) (last : ℕ) (t : Cell) → f last ≡ Some (Row.Cell t) → Steps f k js last → (c : Cell) × (f k ≡ Some (Row.Cell c))
+row_there f k [] last t there way = (t, ap f way ∙ there)
+row_there f k (j ∷ js) last t there (c, is, next, less, way) = (c, is)
+
+pub next_is_seen : NextIsSeen
+next_is_seen f l p r c k passed is next none =
+    let way = goes_on f l r c k is next in
+    let here = row_there f k way.0 l.last l.tail l.there way.1 in
+    (record { at = l.last; head = l.way; here = way }, passed_goes_on f l p r c k passed is next none, subst (λ z. StandsAt z k) (sym here.1) tt)
+
+pub walks_begin : WalksBegin
+walks_begin f p = (record { at = 0; head = ([], refl); here = ([], refl) }, (λ n c less is. absurd (omega (arith, less))), stands (f 0))
+  where
+    stands : (y : Option Row) → StandsAt y 0
+    stands None = refl
+    stands (Some y) = tt
+
+pub full_is_seen : FullIsSeen
+full_is_seen f p r c h is full none = (h.0, h.1, record { cell = c; there = is; full = full; none = none; told = by_next c.next })
+  where
+    by_next : (z : Option ℕ) → ToldBy z c c.value c.owner
+    by_next None = (refl, refl)
+    by_next (Some k) = tt
+
+pub spare_is_seen : SpareIsSeen
+spare_is_seen f p r v o s h is = (h.0, h.1, record { cell = h.2.cell; there = h.2.there; full = h.2.full; none = h.2.none; spare = s; after = is })
+
+-- the row that was full is the last, where there is none of the next number
+pub spare_is_made : SpareIsMade
+spare_is_made f l p r v o s (meets, passed, told) none value owner log next = by_next told.cell.next refl told.told
+  where
+    by_next : (z : Option ℕ) → told.cell.next ≡ z → ToldBy z told.cell v o → (r ≡ l.last) × IsSpare l.tail s
+    by_next None ends was =
+        let at : r ≡ l.last = last_is_last f l.last l.tail l.way l.there l.ends r told.cell meets told.there ends in
+        let cell : told.cell ≡ l.tail = one_cell told.cell l.tail (sym told.there ∙ ap f at ∙ l.there) in (
+          at,
+          record {
+            value = value ∙ sym was.0 ∙ ap (λ (z : Cell). z.value) cell;
+            owner = owner ∙ sym was.1 ∙ ap (λ (z : Cell). z.owner) cell;
+            log = log;
+            next = next;
+            full = ap (λ (z : Cell). length z.log) (sym cell) ∙ told.full;
+          },
+        )
+    by_next (Some k) after was =
+        let way = goes_on f l r told.cell k told.there after in
+        let here = row_there f k way.0 l.last l.tail l.there way.1 in
+        absurd (none-some (Row.Cell here.0) (sym none ∙ ap f (sym (l.numbers r told.cell k told.there after)) ∙ here.1))
+
+-- ---- a note on the way
+pub passed_by : (es fs : List (Place × Note)) (p : Place) → note_at es p ≡ None → note_at (es ++ fs) p ≡ note_at fs p
+passed_by [] fs p none = refl
+passed_by (e ∷ es) fs p none = by_test (place_eq e.0 p) none (passed_by es fs p)
+  where
+    by_test : (b : Bool) → (if b then Some e.1 else note_at es p) ≡ None → (note_at es p ≡ None → note_at (es ++ fs) p ≡ note_at fs p) → (if b then Some e.1 else note_at (es ++ fs) p) ≡ note_at fs p
+    by_test true h more = cc
+    by_test false h more = more h
+
+found_first : (es fs : List (Place × Note)) (p : Place) (w : Note) → note_at es p ≡ Some w → note_at (es ++ fs) p ≡ Some w
+found_first [] fs p w h = cc
+found_first (e ∷ es) fs p w h = by_test (place_eq e.0 p) h (found_first es fs p w)
+  where
+    by_test : (b : Bool) → (if b then Some e.1 else note_at es p) ≡ Some w → (note_at es p ≡ Some w → note_at (es ++ fs) p ≡ Some w) → (if b then Some e.1 else note_at (es ++ fs) p) ≡ Some w
+    by_test true h more = h
+    by_test false h more = more h
+
+pub none_before : (f : Chain) (p : Place) (r : ℕ) (ks : List ℕ) (n : ℕ) → Steps f r ks n → Passed f p n → note_at (before f r ks) p ≡ None
+none_before f p r [] n way passed = refl
+none_before f p r (k ∷ ks) n (c, is, next, less, way) passed =
+    let far = few f k ks n way in
+    passed_by (log_of (f r)) (before f k ks) p (ap (λ z. note_at (log_of z) p) is ∙ (passed r c (omega (arith, less, far)) is).none) ∙ none_before f p k ks n way passed
+
+pub none_noted : NoneIsNoted
+none_noted f l p passed none =
+    ap (λ (z : Content). note_at z.notes p) (content_is f l.way.0 l.last l.tail l.way.1 l.there l.ends l.few)
+    ∙ passed_by (before f 0 l.way.0) l.tail.log p (none_before f p 0 l.way.0 l.last l.way.1 passed)
+    ∙ none
+
+-- from the row on
+found_here : (f : Chain) (r : ℕ) (ks : List ℕ) (last : ℕ) (t c : Cell) (p : Place) (w : Note) → Steps f r ks last → f last ≡ Some (Row.Cell t) → f r ≡ Some (Row.Cell c) → note_at c.log p ≡ Some w → note_at (before f r ks ++ t.log) p ≡ Some w
+found_here f r [] last t c p w way there is note = ap (λ (z : Cell). note_at z.log p) (one_cell t c (sym there ∙ ap f (sym way) ∙ is)) ∙ note
+found_here f r (k ∷ ks) last t c p w (d, at, next, less, way) there is note =
+    ap (λ z. note_at z p) (append_assoc (log_of (f r)) (before f k ks) t.log) ∙ found_first (log_of (f r)) (before f k ks ++ t.log) p w (ap (λ z. note_at (log_of z) p) is ∙ note)
+
+pub noted_is_noted : NotedIsNoted
+noted_is_noted f l p r c w head here passed is note =
+    ap (λ (z : Content). note_at z.notes p) (content_is f (head.0 ++ here.0) l.last l.tail (join f 0 head.0 r here.0 l.last head.1 here.1) l.there l.ends l.few)
+    ∙ ap (λ z. note_at (z ++ l.tail.log) p) (before_join f 0 head.0 r here.0 head.1)
+    ∙ ap (λ z. note_at z p) (append_assoc (before f 0 head.0) (before f r here.0) l.tail.log)
+    ∙ passed_by (before f 0 head.0) (before f r here.0 ++ l.tail.log) p (none_before f p 0 head.0 r head.1 passed)
+    ∙ found_here f r here.0 l.last l.tail c p w here.1 l.there is note

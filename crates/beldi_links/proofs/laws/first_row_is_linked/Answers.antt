@@ -1,0 +1,5 @@
+use Rattle.beldi_links.proofs.Keeps.{first_linked}
+use Rattle.beldi_links.proofs.laws.first_row_is_linked.Goals as goal
+
+pub returns : goal.returns
+returns c = first_linked

@@ -1,0 +1,5 @@
+use Rattle.beldi_links.proofs.Keeps.{linked}
+use Rattle.beldi_links.proofs.laws.linking_changes_nothing.Goals as goal
+
+pub returns : goal.returns
+returns c = linked

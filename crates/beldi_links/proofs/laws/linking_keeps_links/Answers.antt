@@ -1,0 +1,5 @@
+use Rattle.beldi_links.proofs.Keeps.{linking_keeps}
+use Rattle.beldi_links.proofs.laws.linking_keeps_links.Goals as goal
+
+pub returns : goal.returns
+returns c = linking_keeps
