@@ -1,6 +1,5 @@
 // A sink and a link that keep a file before each write.
 ghost use Rattle.std.specs.Prelude.{None};
-ghost use Rattle.beldi_outside.specs.Outside.{HasCause, IsWithin, Reads, Writes, ZeroIsFault};
 
 use crate::kept_file::KeptFile;
 use beldi_outside::{Failed, Link, Sink};
