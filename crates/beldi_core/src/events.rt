@@ -27,7 +27,8 @@ const MOST_EVENTS: u64 = 1 << 62;
 
 const MOST_RUNS: usize = 1024;
 
-const LAST_MOMENT: u64 = 1 << 62;
+/// The last moment of a host, in ticks.
+pub const LAST_MOMENT: u64 = 1 << 62;
 
 /// An event that asked something of the table, and what it needs for the answer.
 #[derive(Drop)]

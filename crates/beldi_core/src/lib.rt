@@ -20,6 +20,6 @@ mod events;
 mod host_core;
 mod runs;
 
-pub use events::{Pending, Planned};
+pub use events::{LAST_MOMENT, Pending, Planned};
 pub use host_core::HostCore;
 pub use runs::Runs;

@@ -47,6 +47,7 @@ mod last_row;
 mod laws;
 mod survey;
 
+pub use beldi_core::LAST_MOMENT;
 pub use host::Host;
 pub use laws::{right_has_one_answer, right_is_legal, right_stands};
 pub use survey::{OpenErr, ReplySeen};

@@ -14,6 +14,7 @@ ghost use Rattle.beldi_host.specs.declared.survey.ReplySeen.TheVariants.{Unknown
 use crate::high_water::HighWater;
 use crate::last_row::{last_row, row_after};
 use beldi_book::write_item;
+use beldi_core::LAST_MOMENT;
 use beldi_daal::shadow_key;
 use beldi_intent::root_key;
 use beldi_lang::Deployment;
@@ -68,9 +69,7 @@ impl From<AllocError> for OpenErr {
     }
 }
 
-// The last moment of a host, in ticks. A later one in a row is no host's, and does not count.
-const LAST_MOMENT: u64 = 1 << 62;
-
+// A moment of a row, and 0 for one that is past the last moment of a host: it is no host's, and does not count.
 fn timely(moment: u64) -> u64
     ensures is { result ≡ timely moment }
     ensures early { result ≤ 2 ^ 62 }

@@ -7,6 +7,7 @@ ghost use Rattle.beldi_serve.specs.declared.connections.ServeErr.TheVariants.{Si
 
 use crate::desk::HostDesk;
 use beldi_gateway::{Served, serve_one};
+use beldi_host::LAST_MOMENT;
 use beldi_outside::{Clock, Link, Sink, write_all};
 use beldi_row::Table;
 use beldi_step::Event;
@@ -23,9 +24,6 @@ pub enum ServeErr {
     /// The link gives no further connection, and its count of refusals has risen.
     LinkRefused,
 }
-
-/// The last moment of a host, in ticks.
-const LAST_MOMENT: u64 = 1 << 62;
 
 /// A clock's moment as a host counts it.
 pub fn moment_of(moment: u64) -> u64
