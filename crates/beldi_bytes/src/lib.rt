@@ -16,7 +16,8 @@
 //!   2^32 parts or more is refused as out of memory.
 //! - `read_key` gives the key that has the bytes, and none only where no such key has them (`ReadsKey`). `read_row` gives the row that has
 //!   the bytes and whose moments are at most 2^62 (`IsInTime`), and none only where no such row has them (`ReadsRow`).
-//! - So what was written is read again as it was (`a_written_key_is_read_again`, `a_written_row_is_read_again`).
+//! - So what was written is read again as it was (`a_written_key_is_read_again`, `a_written_row_is_read_again`); of rows those alone whose
+//!   moments are at most 2^62, which are all that a host has. `write_row` does not ask.
 //!
 //! Not proved: that a value which nests very deep is read within the stack. Reading a record takes time as the square of the number of its
 //! fields (`Rec::set`), and all else as the length of the bytes.

@@ -97,7 +97,8 @@ fn put_row(out: &mut Vec<u8>, row: &Row) -> Result<(), AllocError>
     }
 }
 
-/// The bytes of a row. A text or a list of 2^32 parts or more is refused as out of memory.
+/// The bytes of a row. A text or a list of 2^32 parts or more is refused as out of memory. A row with a moment above 2^62 has bytes
+/// too, which `read_row` does not read: no host has one.
 pub fn write_row(alloc: Global, row: &Row) -> Result<Vec<u8>, AllocError>
     ensures bytes { IfOk result (λ b. b.items ≡ row_bytes row.now) }
     ensures real { IfOk result (λ b. IsRow row.now) }

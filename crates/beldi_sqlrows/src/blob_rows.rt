@@ -12,7 +12,8 @@ use beldi_row::{Row, RowKey};
 use beldi_sqltable::{RowStore, StoreErr};
 use std::alloc::Global;
 
-/// The rows that a map from bytes to bytes holds. It tells them where the map tells its entries.
+/// The rows that a map from bytes to bytes holds. It tells them where the map tells its entries. A row with a moment above 2^62 is written
+/// as any other, but each call that would read it then fails: whoever writes keeps below, as a host does.
 #[derive(Drop)]
 pub struct BlobRows<B: Blobs> {
     alloc: Global,

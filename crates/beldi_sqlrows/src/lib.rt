@@ -7,6 +7,9 @@
 //!   bytes are at the bytes of its key, and these rows are the only ones (`Holds`, `same_rows`).
 //! - `MemoryRows` keeps it too, and always tells its rows: none, before the database is opened.
 //!
+//! Not proved: that a row that was written can be read. One with a moment above 2^62 cannot: each call that comes to it fails. No host
+//! writes one.
+//!
 //! Files:
 //! - Code (`src/`): `blob_rows`, `memory_rows`.
 //! - Lemmas (`proofs/`): `Rows` rows in bytes, through the calls of a map; `Late` a store that is not open yet.
