@@ -230,3 +230,7 @@ NoTwoRowsHaveOneBytes = (r s : Row) → row_bytes r ≡ row_bytes s → r ≡ s
 -- a row that was written is read again
 abbrev pub WrittenRowsAreRead : Type 0
 WrittenRowsAreRead = (r : Row) (o : Option Row) → IsRow r → IsInTime r → ReadsRow (row_bytes r) o → o ≡ Some r
+
+-- a row with a moment above 2 ^ 62 is not read, though it has bytes
+abbrev pub LateRowsAreNotRead : Type 0
+LateRowsAreNotRead = (r : Row) (o : Option Row) → (IsInTime r → ⊥) → ReadsRow (row_bytes r) o → o ≡ None

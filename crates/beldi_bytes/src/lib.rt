@@ -17,7 +17,8 @@
 //! - `read_key` gives the key that has the bytes, and none only where no such key has them (`ReadsKey`). `read_row` gives the row that has
 //!   the bytes and whose moments are at most 2^62 (`IsInTime`), and none only where no such row has them (`ReadsRow`).
 //! - So what was written is read again as it was (`a_written_key_is_read_again`, `a_written_row_is_read_again`); of rows those alone whose
-//!   moments are at most 2^62, which are all that a host has. `write_row` does not ask.
+//!   moments are at most 2^62, which are all that a host has. `write_row` does not ask, and another row is not read
+//!   (`a_late_row_is_not_read`).
 //!
 //! Not proved: that a value which nests very deep is read within the stack. Reading a record takes time as the square of the number of its
 //! fields (`Rec::set`), and all else as the length of the bytes.
@@ -47,8 +48,8 @@ mod value_out;
 pub use key_in::read_key;
 pub use key_out::write_key;
 pub use laws::{
-    a_written_key_is_read_again, a_written_row_is_read_again, bytes_are_ordered_as_keys,
-    no_two_keys_have_the_same_bytes, no_two_rows_have_the_same_bytes,
+    a_late_row_is_not_read, a_written_key_is_read_again, a_written_row_is_read_again,
+    bytes_are_ordered_as_keys, no_two_keys_have_the_same_bytes, no_two_rows_have_the_same_bytes,
 };
 pub use row_in::read_row;
 pub use row_out::write_row;
