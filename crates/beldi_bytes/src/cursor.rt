@@ -1,5 +1,5 @@
 // Bytes that are still to be read.
-ghost use Rattle.std.specs.Prelude.{◌≡◌, ◌+◌, ◌∷◌, [], length, IsUtf8};
+ghost use Rattle.std.specs.Prelude.{◌≡◌, length, IsUtf8};
 ghost use Rattle.beldi_bytes.specs.Coding.{Reads, one, truth_bytes, Any};
 ghost use Rattle.beldi_bytes.specs.KeyBytes.{two, four};
 ghost use Rattle.beldi_bytes.specs.RowBytes.{eight, str_bytes};

@@ -1,5 +1,5 @@
 // Reading keys.
-ghost use Rattle.std.specs.Prelude.{◌≡◌, ◌∷◌, IfOk, IsUtf8};
+ghost use Rattle.std.specs.Prelude.{◌∷◌, IfOk, IsUtf8};
 ghost use Rattle.beldi_bytes.specs.Coding.{Reads, Any, option_bytes};
 ghost use Rattle.beldi_bytes.specs.KeyBytes.{four, hops_bytes, id_bytes, place_bytes, tx_bytes, char_bytes, text_bytes, kind_bytes, key_then, AreFew, IsId, IsPlace, IsTx, IsKind, IsKey, ReadsKey};
 

@@ -1,8 +1,8 @@
 // Writing keys.
-ghost use Rattle.std.specs.Prelude.{◌≡◌, ◌∷◌, OnOk, IfOk, IsUtf8, Some};
+ghost use Rattle.std.specs.Prelude.{◌≡◌, OnOk, IfOk, IsUtf8, Some};
 ghost use Rattle.beldi_bytes.specs.Coding.{Adds};
 ghost use Rattle.beldi_row.specs.declared.key.Kind.TheVariants.{Data, Shadow, Lockset};
-ghost use Rattle.beldi_bytes.specs.KeyBytes.{two, four, hops_bytes, id_bytes, place_bytes, tx_bytes, char_bytes, text_bytes, kind_bytes, key_bytes, AreFew, IsId, IsPlace, IsTx, IsKind, IsKey};
+ghost use Rattle.beldi_bytes.specs.KeyBytes.{hops_bytes, id_bytes, place_bytes, tx_bytes, char_bytes, text_bytes, kind_bytes, key_bytes, AreFew, IsId, IsPlace, IsTx, IsKind, IsKey};
 
 use crate::number_out::{put_byte, put_four, put_two};
 use beldi_row::{Kind, RowKey};

@@ -1,5 +1,5 @@
 // Writing numbers, truths and texts.
-ghost use Rattle.std.specs.Prelude.{◌≡◌, ◌++◌, OnOk, IsUtf8, length};
+ghost use Rattle.std.specs.Prelude.{◌≡◌, OnOk, IsUtf8};
 ghost use lib.Signed.{mag};
 ghost use Rattle.beldi_bytes.specs.Coding.{Adds, one, truth_bytes, option_bytes};
 ghost use Rattle.beldi_bytes.specs.KeyBytes.{four, two};

@@ -1,8 +1,6 @@
 // Reading the parts of rows.
-ghost use Rattle.std.specs.Prelude.{◌≡◌};
 ghost use Rattle.beldi_bytes.specs.Coding.{Reads, Any, option_bytes, IfThere};
 ghost use Rattle.beldi_bytes.specs.KeyBytes.{id_bytes, tx_bytes, IsId, IsTx};
-ghost use Rattle.beldi_bytes.specs.Reading.{ReadsValue};
 ghost use Rattle.beldi_bytes.specs.RowBytes.{eight, value_bytes, code_bytes, cause_bytes, outcome_bytes, caller_bytes, owner_bytes, note_bytes, entry_bytes, log_bytes, IsValue, IsCause, IsOutcome, IsCaller, IsOwner, IsNote, IsEntry, AreEntries, IsMoment};
 
 use crate::cursor::{Cursor, ReadErr, given};

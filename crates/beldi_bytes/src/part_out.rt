@@ -1,8 +1,8 @@
 // Writing the parts of rows.
-ghost use Rattle.std.specs.Prelude.{◌≡◌, OnOk, drop};
+ghost use Rattle.std.specs.Prelude.{◌≡◌, OnOk};
 ghost use Rattle.beldi_bytes.specs.Coding.{Adds, option_bytes, IfThere};
 ghost use Rattle.beldi_bytes.specs.KeyBytes.{id_bytes, IsId};
-ghost use Rattle.beldi_bytes.specs.RowBytes.{code_of, code_bytes, cause_bytes, outcome_bytes, caller_bytes, owner_bytes, note_bytes, entry_bytes, log_bytes, IsCause, IsOutcome, IsCaller, IsOwner, IsNote, IsEntry, AreEntries};
+ghost use Rattle.beldi_bytes.specs.RowBytes.{code_of, cause_bytes, outcome_bytes, caller_bytes, owner_bytes, note_bytes, entry_bytes, log_bytes, IsCause, IsOutcome, IsCaller, IsOwner, IsNote, IsEntry, AreEntries};
 
 use crate::key_out::{put_id, put_place, put_tx};
 use crate::number_out::{put_byte, put_count, put_truth, put_two};

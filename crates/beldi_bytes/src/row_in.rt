@@ -1,5 +1,5 @@
 // Reading rows.
-ghost use Rattle.std.specs.Prelude.{◌≡◌, ◌∷◌, IfOk};
+ghost use Rattle.std.specs.Prelude.{IfOk};
 ghost use Rattle.beldi_bytes.specs.Coding.{Reads, option_bytes, IfThere};
 ghost use Rattle.beldi_bytes.specs.Reading.{links_bytes, AreLinks, IsIntentInTime, IsCellInTime, IsRowInTime};
 ghost use Rattle.beldi_bytes.specs.RowBytes.{body_bytes, intent_bytes, invoke_bytes, cell_bytes, row_then, IsBody, IsInvoke, ReadsRow};

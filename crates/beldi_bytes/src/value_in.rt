@@ -1,6 +1,5 @@
 // Reading values.
-ghost use Rattle.std.specs.Prelude.{◌≡◌, ◌<◌, ◌^◌, IsTrue, IsUtf8, ◌↔◌};
-ghost use lib.Signed.{mag};
+ghost use Rattle.std.specs.Prelude.{IsTrue, ◌↔◌};
 ghost use Rattle.beldi_value.specs.Datum.{IsRecord};
 ghost use Rattle.beldi_bytes.specs.Coding.{Reads};
 ghost use Rattle.beldi_bytes.specs.Reading.{ReadsValue, ReadsField, counted_items, counted_fields, AreItems, AreFields, IsNext};

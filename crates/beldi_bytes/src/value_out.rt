@@ -1,10 +1,9 @@
 // Writing values.
-ghost use Rattle.std.specs.Prelude.{◌≡◌, OnOk, IsTrue, length};
+ghost use Rattle.std.specs.Prelude.{OnOk, IsTrue};
 ghost use Rattle.beldi_value.specs.Datum.{list, fields, items_of, fields_of, IsRecord};
 ghost use Rattle.beldi_value.specs.Formed.{IsFormed};
 ghost use Rattle.beldi_value.specs.Value.{fields_view};
 ghost use Rattle.beldi_bytes.specs.Coding.{Adds};
-ghost use Rattle.beldi_bytes.specs.Reading.{field_bytes};
 ghost use Rattle.beldi_bytes.specs.RowBytes.{datum_bytes, value_bytes, IsValue};
 
 use crate::number_out::{put_byte, put_count, put_int, put_str, put_truth};
