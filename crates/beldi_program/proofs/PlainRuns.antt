@@ -10,7 +10,7 @@ use Rattle.beldi_plain.specs.{Legal.run_of, Listing.listing_of, Plain.PlainState
 use Rattle.beldi_step.specs.{Tables.tables_text, Told.told_outcome}
 use Rattle.beldi_host.specs.Survey.{latest_of, opened_core, reply_seen}
 use Rattle.beldi_joined.specs.Joined.{behind, joined, raised_answer, raised_seen}
-use Rattle.beldi_joined.proofs.{After.told_same, RaisedEvents.step_behind, Reopened.first_right, Reopened.opens_again}
+use Rattle.beldi_joined.proofs.{After.told_same, Books.joined_nothing, Books.starts_joined, RaisedEvents.step_behind, Reopened.first_right, Reopened.opens_again}
 use Rattle.beldi_program.specs.PlainRun.{alone}
 use Rattle.beldi_program.specs.Hosted.{Left, no_session, one_more}
 
@@ -23,6 +23,7 @@ pub record Lifts (d : Deployment) (lift : Core → Core) (history : List Entry �
   pub event : (room f g : ℕ) (e : Event) (c b : Core) (m n : Rows) (r : Result Seen AllocError) → EventOn d room f g e c m b n r → EventOn d room f g e (lift c) m (lift b) n (answer r)
   pub told : (x : Seen) → (y : Seen) × (answer (Ok x) ≡ Ok y) × (told_outcome y ≡ told_outcome x)
   pub book : (c : Core) → (lift c).book ≡ history c.book
+  pub starts : (book : List Entry) → starts_of (history book) ≡ starts_of (history []) ++ starts_of book
   pub cursor : (k : RowKey) (c : Core) → lift (at_key k c) ≡ at_key k (lift c)
   pub newest : (c : Core) → (lift c).newest ≡ c.newest
 
@@ -33,6 +34,7 @@ first_lifts d = record {
   event = λ room f g e c b m n r o. o;
   told = λ x. (x, refl, refl);
   book = λ c. refl;
+  starts = λ book. refl;
   cursor = λ k c. refl;
   newest = λ c. refl;
 }
@@ -44,6 +46,7 @@ behind_lifts d base = record {
   event = λ room f g e c b m n r o. step_behind base d room f g e c b m n r o;
   told = λ x. (raised_seen (count_changes base) x, refl, told_same (count_changes base) x);
   book = λ c. refl;
+  starts = λ book. starts_joined base book ∙ ap (λ z. starts_of z ++ starts_of book) (sym (joined_nothing base));
   cursor = λ k c. refl;
   newest = λ c. refl;
 }
@@ -260,7 +263,7 @@ module _ (d : Deployment) (lift : Core → Core) (history : List Entry → List 
         record {
           moments = moments ys (opened_at m now opened) t h x;
           legal = subst (λ b. IsLegal d (history b)) last_is (legal_at d d.room lift history lifts t k.right);
-          bound = ap starts_of (sym last_is) ∙ k.starts ∙ ap bound_in same_responses;
+          bound = ap (λ b. starts_of (history b)) (sym last_is) ∙ lifts.starts t.core.book ∙ ap (λ z. starts_of (history []) ++ z) (k.starts ∙ ap bound_in same_responses);
           replies = subst (λ b. TellOutcomes d (history b) (responses_in zs)) last_is (subst (TellOutcomes d (history t.core.book)) same_responses (told_all d d.room lift history lifts ys (opened_at m now opened) t h x));
           tables = subst (λ b. RowsStandFor d t.rows (history b)) last_is (stands_for d d.room lift history lifts t k.right);
         }

@@ -99,12 +99,13 @@ TellOutcomes d book (y ∷ ys) = ((t : ℕ) (o : Outcome) → outcome_in y ≡ S
 
 -- after each response the history is legal, what was said is so in its run, and the rows stand for it. At the end it is legal, so that
 -- each step of an instance acts once and in its order, each transaction that committed is one entry, whole, and each that was aborted
--- one that leaves no item changed (`after` of `beldi_plain/specs/Entries`); the book starts exactly the requests that were answered
--- bound, in order; every outcome that was told is its root's; and the rows stand for the history's run.
+-- one that leaves no item changed (`after` of `beldi_plain/specs/Entries`); the history starts what it had started before the session, and
+-- then exactly the requests that were answered bound, in order; every outcome that was told is its root's; and the rows stand for the
+-- history's run.
 pub record IsPlainRun (d : Deployment) (history : List Entry → List Entry) (rows : Rows) (ys : List Booked) : Type 0 where
   pub moments : Moments d history [] ys
   pub legal : IsLegal d (history (last_book [] ys))
-  pub bound : starts_of (last_book [] ys) ≡ bound_in (responses_in ys)
+  pub bound : starts_of (history (last_book [] ys)) ≡ starts_of (history []) ++ bound_in (responses_in ys)
   pub replies : TellOutcomes d (history (last_book [] ys)) (responses_in ys)
   pub tables : RowsStandFor d rows (history (last_book [] ys))
 

@@ -32,7 +32,8 @@
 //!   instance acts once and in its order, each committed transaction in one piece, and each aborted one reads one state
 //!   and leaves no item changed (`legal`), it starts exactly the requests that were answered `bound`, in order (`bound`),
 //!   each outcome that was told is the root's in its run (`replies`), and the rows stand for that run (`tables`). So are the host's
-//!   responses in all connections of a service, and in its listings (`plain` of `Service`).
+//!   responses in all connections of a service, and in its listings (`plain` of `Service`). Over rows that sessions left it is so of their
+//!   books, joined, and its own: the joined book starts what theirs start, and then the requests that were bound in this one (`joins`).
 //! - A line `settle` has a response for each of its events, and for each time that it passes over rows (`WentOn`); all this is so after
 //!   each. Each response is that of one step of the host, and its book and its rows are that step's (`Hosted`; of a service `LeadsTo`, and
 //!   `Course` for its connections); over a table without rows the rows are listed as the run is (`listing`).
