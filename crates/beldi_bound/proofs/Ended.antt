@@ -39,7 +39,7 @@ kind_is d c m h k i there = by_kind k.kind refl (subst (RowMatches d h.known k.h
     by_kind (Kind.Invoke a) at f = absurd f
     by_kind (Kind.Lockset j b t x) at f = absurd f
     by_kind (Kind.Data t x n) at f = let y : Item = record { func = k.home; table = t; key = x } in absurd (cell (chain m (head_key y)) (h.rows.chains y) n (at_kind (Kind.Data t x n) at))
-    by_kind (Kind.Shadow s t x n) at f = let y : Item = record { func = k.home; table = t; key = x } in absurd (cell (chain m (shadow_key s y)) (h.rows.asides s y) n (at_kind (Kind.Shadow s t x n) at))
+    by_kind (Kind.Shadow s t x n) at f = let y : Item = record { func = k.home; table = t; key = x } in absurd (cell (chain m (shadow_key s y)) (h.rows.asides s y).sound n (at_kind (Kind.Shadow s t x n) at))
 
 abbrev AllEnded : Rows → Type 0
 AllEnded m = (k : RowKey) (i : IntentRow) (b : Body) → map.get m k ≡ Some (Row.Intent i) → i.body ≡ Some b → is_ended i ≡ true

@@ -15,7 +15,7 @@ use Rattle.beldi_bound.specs.Ends.{Sound}
 -- ---- where the intent collector stands
 pub at_cursor : {d : Deployment} {c : Core} {m : Rows} (k : RowKey) → Sound d c m → Sound d (record c { cursor = k }) m
 at_cursor {d} {c} {m} k h = let u = h.upkeep in record {
-  upkeep = record { right = with_runs u.right (record c { cursor = k }) refl refl u.right.runs; seats = u.seats; owe = record { each = u.owe.each }; past = u.past; passes = record { each = u.passes.each }; near = record { soon = u.near.soon; near = u.near.near }; free = u.free; started = u.started };
+  upkeep = record { right = with_runs u.right (record c { cursor = k }) refl refl u.right.runs; seats = u.seats; owe = record { each = u.owe.each }; past = u.past; passes = record { each = u.passes.each }; near = record { soon = u.near.soon; near = u.near.near }; started = u.started };
   rules = h.rules;
   starts = h.starts;
 }

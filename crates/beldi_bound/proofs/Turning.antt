@@ -18,8 +18,8 @@ use Rattle.beldi_step.specs.{Host.Core, Run.asks_at, Run.place_of, Run.run_asks,
 use Rattle.beldi_known.specs.Contents.{head_key, shadow_key}
 use Rattle.beldi_known.proofs.Cases.{by_cases}
 use Rattle.beldi_laws.specs.{OneAnswer.IsBegun, Right.AtStage, Right.Knows, Right.Right}
-use Rattle.beldi_upkeep.specs.Checked.{ShadowsAreFree, is_of_lock, is_own_note, is_shadow_note, next_says, works_on}
-use Rattle.beldi_upkeep.proofs.{Notes.knows, Notes.notes_are_own, Notes.shadow_notes_are_own, Still.called_there}
+use Rattle.beldi_upkeep.specs.Checked.{is_of_lock, is_own_note, is_shadow_note, next_says, works_on}
+use Rattle.beldi_upkeep.proofs.{Notes.first_row_free, Notes.knows, Notes.notes_are_own, Notes.shadow_notes_are_own, Still.called_there}
 use Rattle.beldi_bound.specs.{Ends.Sound, Left.CanWork, Left.Needs, Left.OfLock, Left.OfWrite, Left.SaysLower, Left.aside_there, Left.end_left, Left.item_there, Left.left_at, Left.stage_left}
 use Rattle.beldi_bound.proofs.{Facts.TurnsLower, Stages.stages_lower}
 
@@ -37,7 +37,7 @@ of_write (Effect.CondWrite t k r o v) (Some (Note.Cond b)) own = tt
 of_write e (Some w) own = let clash = own w refl in cc
 
 -- ---- a live run has what its stage needs
-module _ (d : Deployment) (c : Core) (m : Rows) (r : Run) (g : Begun) (h : Right d c m) (free : ShadowsAreFree m) (b : IsBegun c r.id r g) (k : Knows d h.known r g) where
+module _ (d : Deployment) (c : Core) (m : Rows) (r : Run) (g : Begun) (h : Right d c m) (b : IsBegun c r.id r g) (k : Knows d h.known r g) where
   can_work : (o : RunTx) (e : Effect) (a : TxAt) (t : ℕ) (key : List ℕ) → g.tx ≡ Some o → g.machine.effect ≡ e → works_on e ≡ true → Fits e a
       → let x : Item = record { func = r.func; table = t; key = key } in CanWork e a (place_of r.id g.machine.steps) (map.get m (head_key x)) (map.get m (shadow_key (tx_of r.id r.func o) x))
   can_work o e a t key in_it is works fits =
@@ -46,10 +46,10 @@ module _ (d : Deployment) (c : Core) (m : Rows) (r : Run) (g : Begun) (h : Right
       let p = place_of r.id g.machine.steps in
       record {
         item = (h.rows.chains x).head;
-        shadow = (h.rows.asides (tx_of r.id r.func o) x).head;
-        unowned = free side refl;
+        shadow = (h.rows.asides (tx_of r.id r.func o) x).sound.head;
+        unowned = first_row_free d c m (tx_of r.id r.func o) x h;
         lock = of_lock (note_at (content_in (map.get m (head_key x))).notes p) (λ w there. own w (notes_are_own d c m r g x w h b (ap works_on is ∙ works) (ap (λ z. note_at z.notes p) (one_content (chain m (head_key x)) (h.rows.chains x)) ∙ there)));
-        write = of_write e (note_at (content_in (map.get m side)).notes p) (λ w there. ap (λ z. is_shadow_note z w) (sym is) ∙ shadow_notes_are_own d c m r g (tx_of r.id r.func o) x w h b (ap (λ z. note_at z.notes p) (one_content (chain m side) (h.rows.asides (tx_of r.id r.func o) x)) ∙ there));
+        write = of_write e (note_at (content_in (map.get m side)).notes p) (λ w there. ap (λ z. is_shadow_note z w) (sym is) ∙ shadow_notes_are_own d c m r g (tx_of r.id r.func o) x w h b (ap (λ z. note_at z.notes p) (one_content (chain m side) (h.rows.asides (tx_of r.id r.func o) x).sound) ∙ there));
         fits = fits;
       }
     where
@@ -77,7 +77,7 @@ module _ (d : Deployment) (c : Core) (m : Rows) (r : Run) (g : Begun) (h : Right
   by_stage (Stage.Tx a) e (Some o) apart is in_it here = by_tx e o a is in_it here.0
   by_stage (Stage.Async AsyncAt.Open) (Effect.Async f a) None apart is in_it here = tt
   by_stage (Stage.Async AsyncAt.Register) (Effect.Async f a) None apart is in_it here = tt
-  by_stage (Stage.Async AsyncAt.Note) (Effect.Async f a) None apart is in_it here = (here.0, ap (λ z. is_some (call_in z)) (called_there d c m r g h free b k (here.1 refl)).1)
+  by_stage (Stage.Async AsyncAt.Note) (Effect.Async f a) None apart is in_it here = (here.0, ap (λ z. is_some (call_in z)) (called_there d c m r g h b k (here.1 refl)).1)
   by_stage (Stage.Call w) (Effect.Call f a) None apart is in_it here = tt
   by_stage (Stage.Call w) (Effect.Call f a) (Some o) apart is in_it here = tt
   by_stage Stage.Back (Effect.Return x) None apart is in_it here = tt
@@ -94,7 +94,7 @@ has_needs d c m i r g sound live begun apart =
     let h = sound.upkeep.right in
     let b : IsBegun c r.id r g = record { number = i; live = live; same_id = refl; begun = begun } in
     let k = knows d c m h r g b in
-    by_stage d c m r g h sound.upkeep.free b k.0 g.stage g.machine.effect g.tx apart refl refl k.1.here
+    by_stage d c m r g h b k.0 g.stage g.machine.effect g.tx apart refl refl k.1.here
 
 -- ---- its turn
 -- what is left at a stage that is no end looks at no visit

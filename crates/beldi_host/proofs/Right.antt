@@ -30,7 +30,7 @@ pub at_cursor : (d : Deployment) (c : Core) (k : RowKey) (m : Rows) → Right d 
 at_cursor d c k m h = with_runs h (record c { cursor = k }) refl refl h.runs
 
 kept_at_cursor : (d : Deployment) (c : Core) (k : RowKey) (m : Rows) → Upkeep d c m → Upkeep d (record c { cursor = k }) m
-kept_at_cursor d c k m u = record { right = at_cursor d c k m u.right; seats = u.seats; owe = record { each = u.owe.each }; past = u.past; passes = record { each = u.passes.each }; near = record { soon = u.near.soon; near = u.near.near }; free = u.free; started = u.started }
+kept_at_cursor d c k m u = record { right = at_cursor d c k m u.right; seats = u.seats; owe = record { each = u.owe.each }; past = u.past; passes = record { each = u.passes.each }; near = record { soon = u.near.soon; near = u.near.near }; started = u.started }
 
 pub moved_cursor : (d : Deployment) (c : Core) (k : RowKey) (told : Option Rows) → IfSome told (Upkeep d c) → IfSome told (Upkeep d (record c { cursor = k }))
 moved_cursor d c k told h = if_told {P = Upkeep d c} {Q = Upkeep d (record c { cursor = k })} told (kept_at_cursor d c k) h

@@ -134,8 +134,8 @@ module _ (d : Deployment) (c : Core) (m : Rows) (h : Right d c m) where
 
   -- a shadow has one row at most, and that only where its transaction got the item
   shadow_named : (home : ℕ) (t : TxId) (table : ℕ) (key : List ℕ) (n : ℕ) → is_some (map.get m (record { home = home; kind = Kind.Shadow t table key n })) ≡ true → t.intent.ticket ≤ c.newest
-  shadow_named home t table key zero there = let x : Item = record { func = home; table = table; key = key } in got_named t x (h.shadows.got t x (ap is_some (one_tail (shadow_chain m t x) (h.rows.asides t x)) ∙ there))
-  shadow_named home t table key (suc n) there = let x : Item = record { func = home; table = table; key = key } in absurd (not_true (sym (ap is_some ((h.rows.asides t x).alone n)) ∙ there))
+  shadow_named home t table key zero there = let x : Item = record { func = home; table = table; key = key } in got_named t x (h.shadows.got t x (ap is_some (one_tail (shadow_chain m t x) (h.rows.asides t x).sound) ∙ there))
+  shadow_named home t table key (suc n) there = let x : Item = record { func = home; table = table; key = key } in absurd (not_true (sym (ap is_some ((h.rows.asides t x).sound.alone n)) ∙ there))
 
   kind_named : (home : ℕ) (k : Kind) → RowMatches d h.known home k (map.get m (record { home = home; kind = k })) → is_some (map.get m (record { home = home; kind = k })) ≡ true → ticket_of k ≤ c.newest
   kind_named home (Kind.Intent id) w there = intent_named (has_no_hops id.hops) home id refl w there

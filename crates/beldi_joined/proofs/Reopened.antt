@@ -37,7 +37,6 @@ reopened_upkept d c m now u = record {
   past = u.past;
   passes = record { each = λ n r g is. absurd (no_run n r is) };
   near = record { soon = λ n r is. absurd (no_run n r is); near = λ n r i home is. absurd (no_run n r is) };
-  free = u.free;
   started = u.started;
 }
 

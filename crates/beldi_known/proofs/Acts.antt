@@ -1,5 +1,5 @@
 -- What the acts at the front leave: rows that match, and chains that are as before.
-use Rattle.beldi_known.proofs.Names.{Answer, AnswersOne, Bool, ChangedAlone, Content, Deployment, Instance, IntentId, IsHead, IsSoundChain, Item, ItemMatches, Kind, Known, List, LockedOut, Matches, None, Note, Option, Place, Row, RowKey, RowMatches, Rows, SameShadows, ShadowMatches, Some, Sound, Tx, TxId, TxsMatch, Value, [], and_parts, ap, asks_lock, at_row, begins_at, chain, chain_off, chain_other, content, content_of, effect_of, eq_by_cmp_equiv, eqb-true, false, false_from_ne_true, head_key, id_cmp, id_same, is_aborted, is_eq, is_item, is_row_of, item_cmp, item_same, item_total, key_cmp, key_same, key_self, kind_at, length, lock_in, lockset_key, log_key, note_at, other_owner, owed_read, place_of, refl, row_added, set_row, shadow_by, shadow_chain, shadow_key, shadow_of, subst, sym, touched, true, tx_eq, tx_now, txs_after, with_note, ℕ, ◌&&◌, ◌++◌, ◌==◌, ◌∙◌, ◌∷◌, ◌≡◌}
+use Rattle.beldi_known.proofs.Names.{Answer, AnswersOne, Bool, ChangedAlone, Content, Deployment, Instance, IntentId, IsAside, IsHead, IsSoundChain, Item, ItemMatches, Kind, Known, List, LockedOut, Matches, None, Note, Option, Place, Row, RowKey, RowMatches, Rows, SameShadows, ShadowMatches, Some, Sound, Tx, TxId, TxsMatch, Value, [], and_parts, ap, asks_lock, at_row, begins_at, chain, chain_off, chain_other, content, content_of, effect_of, eq_by_cmp_equiv, eqb-true, false, false_from_ne_true, head_key, id_cmp, id_same, is_aborted, is_eq, is_item, is_row_of, item_cmp, item_same, item_total, key_cmp, key_same, key_self, kind_at, length, lock_in, lockset_key, log_key, note_at, other_owner, owed_read, place_of, refl, row_added, set_row, shadow_by, shadow_chain, shadow_key, shadow_of, subst, sym, touched, true, tx_eq, tx_now, txs_after, with_note, ℕ, ◌&&◌, ◌++◌, ◌==◌, ◌∙◌, ◌∷◌, ◌≡◌}
 use Rattle.beldi_known.proofs.Fronts.{read_elsewhere, row_by, locksets_answered, items_answered, txs_answered, item_died, item_kept, txs_died, shadow_kept, shadow_noted}
 use Rattle.beldi_known.proofs.{Answers.true_false, Rows.head_order, Rows.keys_set, Rows.set_others, FrameAt.read_none, FrameAt.read_here, Locks.lock_taken, Locks.lock_kept, Locks.txs_taken, Locks.txs_kept, Locks.tx_same, Cases.by_cases}
 use Rattle.beldi_known.proofs.Names.map
@@ -69,12 +69,12 @@ module _ (m : Rows) (k : RowKey) (v : Option Row) where
 -- ---- rows that match, after one was set that is no cell's
 module _ (d : Deployment) (known : Known) (locked : IntentId → Bool) (m : Rows) where
   pub log_set : (k : RowKey) (v : Option Row) → is_cell k.kind ≡ false → RowMatches d known k.home k.kind v → ((l : RowKey) → is_eq (key_cmp l k) ≡ false → RowMatches d known l.home l.kind (map.get m l))
-      → ((x : Item) → IsSoundChain m x) → ((t : TxId) (x : Item) → Sound (shadow_chain m t x))
+      → ((x : Item) → IsSoundChain m x) → ((t : TxId) (x : Item) → IsAside (shadow_chain m t x))
       → ((x : Item) → ItemMatches d known locked x (content_of m x)) → ((t : TxId) (x : Item) → ShadowMatches d known t x (shadow_of m t x)) → ((x : Item) → TxsMatch d known locked x (content_of m x).owner) → Matches d (set_row m k v) known locked
   log_set k v kind here others chains asides items shadows txs = record {
     keys = keys_set m k v (λ l z. RowMatches d known l.home l.kind z) here others;
     chains = λ x. subst Sound (sym (item_as x)) (chains x);
-    asides = λ t x. subst Sound (sym (aside_as t x)) (asides t x);
+    asides = λ t x. subst IsAside (sym (aside_as t x)) (asides t x);
     items = λ x. subst (λ z. ItemMatches d known locked x (content z)) (sym (item_as x)) (items x);
     shadows = λ t x. subst (λ z. ShadowMatches d known t x (content z)) (sym (aside_as t x)) (shadows t x);
     txs = λ x. subst (λ z. TxsMatch d known locked x (content z).owner) (sym (item_as x)) (txs x);
@@ -138,8 +138,8 @@ module _ (m n : Rows) (s : TxId) (x : Item) (alone : ChangedAlone (shadow_key s 
   by_aside P here other t y = by_cases (is_eq (key_cmp (shadow_key t y) (shadow_key s x)))
       (λ e. let p = shadow_same t s y x (key_same (shadow_key t y) (shadow_key s x) e) in subst (λ z. P z y) (sym p.0) (subst (P s) (sym p.1) here)) (other t y)
 
-  pub asides_alone : Sound (shadow_chain n s x) → ((t : TxId) (y : Item) → Sound (shadow_chain m t y)) → (t : TxId) (y : Item) → Sound (shadow_chain n t y)
-  asides_alone sound asides = by_aside (λ t y. Sound (shadow_chain n t y)) sound (λ t y off. subst Sound (sym (other_aside t y off)) (asides t y))
+  pub asides_alone : IsAside (shadow_chain n s x) → ((t : TxId) (y : Item) → IsAside (shadow_chain m t y)) → (t : TxId) (y : Item) → IsAside (shadow_chain n t y)
+  asides_alone free asides = by_aside (λ t y. IsAside (shadow_chain n t y)) free (λ t y off. subst IsAside (sym (other_aside t y off)) (asides t y))
 
 -- ---- rows that match, where those of one item or of one shadow changed
 module _ (d : Deployment) (known : Known) where
@@ -157,13 +157,13 @@ module _ (d : Deployment) (known : Known) where
 
 module _ (d : Deployment) (known : Known) (locked : IntentId → Bool) (m : Rows) where
   -- .. those of an item
-  pub head_at : (n : Rows) (x : Item) (c : Content) → ChangedAlone (head_key x) m n → content_of n x ≡ c → IsSoundChain n x → ((l : RowKey) → RowMatches d known l.home l.kind (map.get m l)) → ((y : Item) → IsSoundChain m y) → ((t : TxId) (y : Item) → Sound (shadow_chain m t y))
+  pub head_at : (n : Rows) (x : Item) (c : Content) → ChangedAlone (head_key x) m n → content_of n x ≡ c → IsSoundChain n x → ((l : RowKey) → RowMatches d known l.home l.kind (map.get m l)) → ((y : Item) → IsSoundChain m y) → ((t : TxId) (y : Item) → IsAside (shadow_chain m t y))
       → ItemMatches d known locked x c → ((y : Item) → is_eq (item_cmp x y) ≡ false → ItemMatches d known locked y (content_of m y)) → ((t : TxId) (y : Item) → ShadowMatches d known t y (shadow_of m t y))
       → TxsMatch d known locked x c.owner → ((y : Item) → is_eq (item_cmp x y) ≡ false → TxsMatch d known locked y (content_of m y).owner) → Matches d n known locked
   head_at n x c alone here sound keys chains asides own items shadows own_txs txs = record {
     keys = keys_alone d known m n (head_key x) refl alone keys;
     chains = chains_alone m n x alone sound chains;
-    asides = λ t y. subst Sound (sym (other_shadows m n x alone t y)) (asides t y);
+    asides = λ t y. subst IsAside (sym (other_shadows m n x alone t y)) (asides t y);
     items = λ y. by_item x y (λ y. ItemMatches d known locked y (content_of n y)) (subst (ItemMatches d known locked x) (sym here) own)
         (λ other. subst (λ z. ItemMatches d known locked y (content z)) (sym (other_item m n x alone y other)) (items y other));
     shadows = λ t y. subst (λ z. ShadowMatches d known t y (content z)) (sym (other_shadows m n x alone t y)) (shadows t y);
@@ -172,12 +172,12 @@ module _ (d : Deployment) (known : Known) (locked : IntentId → Bool) (m : Rows
   }
 
   -- .. and those of a shadow
-  pub shadow_at : (n : Rows) (s : TxId) (x : Item) → ChangedAlone (shadow_key s x) m n → Sound (shadow_chain n s x) → ((l : RowKey) → RowMatches d known l.home l.kind (map.get m l)) → ((y : Item) → IsSoundChain m y) → ((t : TxId) (y : Item) → Sound (shadow_chain m t y))
+  pub shadow_at : (n : Rows) (s : TxId) (x : Item) → ChangedAlone (shadow_key s x) m n → IsAside (shadow_chain n s x) → ((l : RowKey) → RowMatches d known l.home l.kind (map.get m l)) → ((y : Item) → IsSoundChain m y) → ((t : TxId) (y : Item) → IsAside (shadow_chain m t y))
       → ((y : Item) → ItemMatches d known locked y (content_of m y)) → ((t : TxId) (y : Item) → ShadowMatches d known t y (shadow_of n t y)) → ((y : Item) → TxsMatch d known locked y (content_of m y).owner) → Matches d n known locked
-  shadow_at n s x alone sound keys chains asides items shadows txs = record {
+  shadow_at n s x alone free keys chains asides items shadows txs = record {
     keys = keys_alone d known m n (shadow_key s x) refl alone keys;
     chains = λ y. subst Sound (sym (item_aside m n s x alone y)) (chains y);
-    asides = asides_alone m n s x alone sound asides;
+    asides = asides_alone m n s x alone free asides;
     items = λ y. subst (λ z. ItemMatches d known locked y (content z)) (sym (item_aside m n s x alone y)) (items y);
     shadows = shadows;
     txs = λ y. subst (λ z. TxsMatch d known locked y (content z).owner) (sym (item_aside m n s x alone y)) (txs y);
@@ -238,7 +238,7 @@ module _ (d : Deployment) (known : Known) (locked unlocked : IntentId → Bool) 
       → shadow_by s own q.func (tx_now d id q) (effect_of d q) a ≡ Some w → ((t : TxId) (x : Item) → (tx_eq t s && is_eq (item_cmp own x)) ≡ false → shadow_by t x q.func (tx_now d id q) (effect_of d q) a ≡ None)
       → note_at (shadow_of m s own).notes here ≡ None → (u : Value) → shadow_of n s own ≡ record { value = u; owner = (shadow_of m s own).owner; notes = (shadow_of m s own).notes ++ (here, w) ∷ [] }
       → Matches d n after unlocked
-  write_answered n w alone sound added was lives noted apart none u same = shadow_at d after unlocked m n s own alone sound (λ l. row_answered l (λ b kind. read_none d known id q r a is one added l.home b) (h.keys l)) h.chains h.asides
+  write_answered n w alone sound added was lives noted apart none u same = shadow_at d after unlocked m n s own alone (record { sound = sound; unowned = ap (λ (c : Content). c.owner) same ∙ (h.asides s own).unowned }) (λ l. row_answered l (λ b kind. read_none d known id q r a is one added l.home b) (h.keys l)) h.chains h.asides
       (λ x. items_answered d known locked unlocked id q r a is one out s inside o touch was lives x (content_of m x) (h.items x))
       (by_aside m n s own alone (λ t x. ShadowMatches d after t x (shadow_of n t x)) (subst (ShadowMatches d after s own) (sym same) (shadow_noted d known locked unlocked id q r a is one out s own (shadow_of m s own) w u noted none (h.shadows s own)))
       (λ t x off. subst (λ z. ShadowMatches d after t x (content z)) (sym (other_aside m n s own alone t x off)) (shadow_kept d known locked unlocked id q r a is one out t x (shadow_of m t x) (apart t x (away t x off)) (h.shadows t x))))

@@ -1,5 +1,5 @@
 -- The front acts of operations inside, by their effects; and a release.
-use Rattle.beldi_known.proofs.Names.{Answer, Bool, ChangedAlone, Content, Deployment, Effect, Instance, Intent, IntentId, IsSoundChain, Item, ItemMatches, Known, List, LockedOut, Matches, None, Note, Option, Place, Rel, Row, Rows, ShadowMatches, Some, Sound, Tx, TxId, TxsMatch, Value, [], ap, arith, begins_at, content, content_in, content_of, effect_of, eq-eqb, false, head_key, if◌then◌else◌, is_eq, is_item, is_mark, is_none, is_open, is_owner, is_some, is_tx, item_cmp, item_total, length, lockset_ahead, lockset_key, log_key, moved, no_content, not, note_at, note_of, note_pushed, one_tail, or_right, owed_lockset, place_eq, place_of, place_same, refl, row_added, set_row, shadow_by, shadow_chain, shadow_key, shadow_of, shadow_row, subst, sym, tied_itself, touched, true, tx_end, tx_eq, tx_now, txs_after, with_note, write_op, ℕ, ◌&&◌, ◌++◌, ◌==◌, ◌∙◌, ◌∷◌, ◌≡◌}
+use Rattle.beldi_known.proofs.Names.{Answer, Bool, ChangedAlone, Content, Deployment, Effect, Instance, Intent, IntentId, IsAside, IsSoundChain, Item, ItemMatches, Known, List, LockedOut, Matches, None, Note, Option, Place, Rel, Row, Rows, ShadowMatches, Some, Sound, Tx, TxId, TxsMatch, Value, [], ap, arith, begins_at, content, content_in, content_of, effect_of, eq-eqb, false, head_key, if◌then◌else◌, is_eq, is_item, is_mark, is_none, is_open, is_owner, is_some, is_tx, item_cmp, item_total, length, lockset_ahead, lockset_key, log_key, moved, no_content, not, note_at, note_of, note_pushed, one_tail, or_right, owed_lockset, place_eq, place_of, place_same, refl, row_added, set_row, shadow_by, shadow_chain, shadow_key, shadow_of, shadow_row, subst, sym, tied_itself, touched, true, tx_end, tx_eq, tx_now, txs_after, with_note, write_op, ℕ, ◌&&◌, ◌++◌, ◌==◌, ◌∙◌, ◌∷◌, ◌≡◌}
 use Rattle.beldi_known.proofs.Acts.{read_answered, write_answered, lock_died, log_set, head_at, other_aside, by_aside, shadow_at}
 use Rattle.beldi_known.proofs.{Answers.true_false, Frame.moved_one, Frame.no_shadow, Locks.tx_self, Cases.if_is, Cases.if_same}
 use Rattle.beldi_known.proofs.Names.map
@@ -109,11 +109,11 @@ module _ (d : Deployment) (known : Known) (locked : IntentId → Bool) (m : Rows
           ∙ ap (λ b. b && is_item (record { func = q.func; table = o.0; key = o.1 }) q.func (touched (effect_of d q))) (eq-eqb s.begin s.begin refl)
           ∙ ap (is_item (record { func = q.func; table = o.0; key = o.1 }) q.func) touch ∙ ap is_eq (tied_itself item_total (record { func = q.func; table = o.0; key = o.1 }))
 
-  -- the first row of a shadow, without notes
-  pub shadow_made : (s : TxId) (x : Item) (n : Rows) → ChangedAlone (shadow_key s x) m n → Sound (shadow_chain n s x) → shadow_row m s x ≡ None → (shadow_of n s x).notes ≡ [] → Matches d n known locked
-  shadow_made s x n alone sound absent empty = shadow_at d known locked m n s x alone sound h.keys h.chains h.asides h.items
+  -- the first row of a shadow, without notes, and nobody's
+  pub shadow_made : (s : TxId) (x : Item) (n : Rows) → ChangedAlone (shadow_key s x) m n → IsAside (shadow_chain n s x) → shadow_row m s x ≡ None → (shadow_of n s x).notes ≡ [] → Matches d n known locked
+  shadow_made s x n alone free absent empty = shadow_at d known locked m n s x alone free h.keys h.chains h.asides h.items
       (by_aside m n s x alone (λ t y. ShadowMatches d known t y (shadow_of n t y)) (λ a. ap (λ ns. note_at ns a) (empty ∙ sym (ap (λ (c : Content). c.notes) none)) ∙ h.shadows s x a)
       (λ t y off. subst (λ z. ShadowMatches d known t y (content z)) (sym (other_aside m n s x alone t y off)) (h.shadows t y))) h.txs
     where
       none : shadow_of m s x ≡ content_in None
-      none = no_content (shadow_chain m s x) (sym (one_tail (shadow_chain m s x) (h.asides s x)) ∙ absent)
+      none = no_content (shadow_chain m s x) (sym (one_tail (shadow_chain m s x) (h.asides s x).sound) ∙ absent)

@@ -46,5 +46,5 @@ pub use Rattle.beldi_known.specs.Known.{Got, Known, Prefix, ahead_by, ahead_note
 pub use Rattle.beldi_known.specs.Matches.{ItemMatches, LockedAt, LockedAtEnds, LockedIf, LocksetMatches, Matches, RowMatches, ShadowMatches, TxsMatch, has_ended, is_open, lockset_ahead}
 pub use Rattle.beldi_known.specs.Rows.{BodyMatches, CallMatches, CalleeBodyMatches, CalleeMatches, EndsRow, FinishMatches, IntentMatches, IsBodyOf, IsCalleeRow, IsRootRow, LogMatches, OutcomeMatches, RootMatches, tx_in}
 pub use Rattle.beldi_known.specs.Shadows.{AllGot, AllShow, ShadowShows, Shadows, Shows, is_writing, writes_on, writing_at}
-pub use Rattle.beldi_known.specs.{Behind.IsFront, Beside.Beside, Beside.IsKept, Beside.OpenTx, Beside.PlainOwner, Beside.begins, Beside.is_begin, Contents.IsSoundChain, Contents.SameShadows, Contents.content_of, Contents.head_key, Contents.is_owner, Contents.lockset_key, Contents.shadow_chain, Contents.shadow_key, Contents.shadow_of, Contents.shadow_row, Listed.listed, Listed.listed_under, Operations.DoneRows, Operations.cell_of, Owed.called_by, Owed.note_of, Owed.noted, Owed.noted as noted_by, Owed.result_of, Owed.value_for, Sane.Closed, Sane.Sane, Sane.SaneInstance, Stands.body_of}
+pub use Rattle.beldi_known.specs.{Behind.IsFront, Beside.Beside, Beside.IsKept, Beside.OpenTx, Beside.PlainOwner, Beside.begins, Beside.is_begin, Contents.IsAside, Contents.IsSoundChain, Contents.SameShadows, Contents.content_of, Contents.head_key, Contents.is_owner, Contents.lockset_key, Contents.shadow_chain, Contents.shadow_key, Contents.shadow_of, Contents.shadow_row, Listed.listed, Listed.listed_under, Operations.DoneRows, Operations.cell_of, Owed.called_by, Owed.note_of, Owed.noted, Owed.noted as noted_by, Owed.result_of, Owed.value_for, Sane.Closed, Sane.Sane, Sane.SaneInstance, Stands.body_of}
 pub use Rattle.beldi_known.specs.InsideLaws as laws

@@ -50,7 +50,7 @@ pub nothing_matches : (d : Deployment) → Matches d map.empty none unlocked
 nothing_matches d = record {
   keys = λ k. subst (RowMatches d none k.home k.kind) (sym (get-empty key_cmp k)) (no_row d k.home k.kind);
   chains = λ x. sound_none (head_key x);
-  asides = λ t x. sound_none (shadow_key t x);
+  asides = λ t x. record { sound = sound_none (shadow_key t x); unowned = ap (λ (c : Content). c.owner) (no_chain (shadow_key t x)) };
   items = λ x. subst (ItemMatches d none unlocked x) (sym (no_chain (head_key x)))
       (record { owner = λ j. sym (ap (holds d x) (absent j)); notes = λ a other. sym (ap (owed_note d x a.intent false a.step) (absent a.intent)) });
   shadows = λ t x. subst (ShadowMatches d none t x) (sym (no_chain (shadow_key t x))) (λ a. sym (ap (owed_shadow d t x a.intent a.step) (absent a.intent)));

@@ -110,7 +110,7 @@ module _ (d : Deployment) (p : PlainState) (known : Known) (sane : Sane d known)
           let z = w.before in
           let note = noted_at d t x w.id z w.step.instance w.given w.step.grown w.step.inside (plain_note w.items x z.func (effect_of d z) w.given w.plainly w.item) in
           let bare : None ≡ shadow_at d t x w.id (length z.answers) w.step.instance =
-          sym (ap (λ (c : Content). note_at c.notes (place_of w.id (length z.answers))) (no_content (shadow_chain m t x) (sym (one_tail (shadow_chain m t x) (matches.asides t x)) ∙ none))) ∙ matches.shadows t x (place_of w.id (length z.answers)) ∙ ap (owed_shadow d t x w.id (length z.answers)) (tx.whole w.id w.step.member ∙ w.step.made) in
+          sym (ap (λ (c : Content). note_at c.notes (place_of w.id (length z.answers))) (no_content (shadow_chain m t x) (sym (one_tail (shadow_chain m t x) (matches.asides t x).sound) ∙ none))) ∙ matches.shadows t x (place_of w.id (length z.answers)) ∙ ap (owed_shadow d t x w.id (length z.answers)) (tx.whole w.id w.step.member ∙ w.step.made) in
           let clash = ap is_some bare ∙ note in cc
 
       unwritten_kept : (WrittenIn d t (opened p id q) tx.moves x → ⊥) → value_at tx.going.state x ≡ value_at p x
@@ -125,7 +125,7 @@ module _ (d : Deployment) (p : PlainState) (known : Known) (sane : Sane d known)
 
       -- what a read is to find
       pub seen : ShadowShows (is_writing d locked x tx.going) (shadow_row m t x) (value_at tx.going.state x) → is_writing d locked x tx.going ≡ false → value_in (shadow_row m t x) (value_at p x) ≡ value_at tx.going.state x
-      seen shows off = by_row (shadow_row m t x) refl (subst SoundAt (sym (one_tail (shadow_chain m t x) (matches.asides t x))) (matches.asides t x).head) shows
+      seen shows off = by_row (shadow_row m t x) refl (subst SoundAt (sym (one_tail (shadow_chain m t x) (matches.asides t x).sound)) (matches.asides t x).sound.head) shows
         where
           by_row : (o : Option Row) → shadow_row m t x ≡ o → SoundAt o → ShadowShows (is_writing d locked x tx.going) o (value_at tx.going.state x) → value_in o (value_at p x) ≡ value_at tx.going.state x
           by_row None is fits h = sym (unwritten is)

@@ -37,6 +37,11 @@ shadow_of m t x = content (shadow_chain m t x)
 abbrev pub shadow_row : Rows → TxId → Item → Option Row
 shadow_row m t x = tail (shadow_chain m t x)
 
+-- its chain is sound, and nobody owns it
+pub record IsAside (f : Chain) : Type 0 where
+  pub sound : Sound f
+  pub unowned : (content f).owner ≡ None
+
 -- the shadows have the same rows
 abbrev pub SameShadows : Rows → Rows → Type 0
 SameShadows m n = (t : TxId) (x : Item) → shadow_chain n t x ≡ shadow_chain m t x

@@ -59,7 +59,7 @@ pub use Rattle.beldi_known.proofs.Lists.{did_lists, died_lists, lists_same, log_
 pub use Rattle.beldi_known.proofs.Outsides.{Apart, MaySet, callee_apart, goes_one, goes_set, got_ended, got_new, got_next, known_none_after, outside_no_end, root_apart, set_after_callee, set_agrees, set_new, set_next, set_over, value_of}
 pub use Rattle.beldi_known.proofs.Rows.{head_order, is_intent_key, keys_set, no_root, no_root as no_root_key, set_here, set_others}
 pub use Rattle.beldi_known.proofs.Sanes.{death_answer, last, not_waited, sane_answered, sane_bound, sane_called, sane_decided, sane_died, sane_ended, sane_read, sane_returned, sane_sent, sane_tested, sane_wrote, stands as stands_at_call, tx_here}
-pub use Rattle.beldi_known.specs.Contents.{IsSoundChain, SameShadows, shadow_chain, shadow_row}
+pub use Rattle.beldi_known.specs.Contents.{IsAside, IsSoundChain, SameShadows, shadow_chain, shadow_row}
 pub use Rattle.beldi_laws.specs.Inside.{Found, Frame, InItem, InOperation, IsFreePlace, IsOf, IsWriting, OfBegin, OwnedAreUnmarked, OwnersCallNobody, OwnersHaveNotEnded, ParticipantsAreReleased, ParticipantsHaveRows, Released, StillOwns, TookPart, end_walk, has_asked, has_finish}
 pub use Rattle.beldi_laws.specs.Laws.{BookGrew, ChangesOneRow, DropsHaveCause, HeldAnswersStay, InstancesGoOn, KeepsRight, KeepsRoom, OneRowChanged, OutcomesStay, RepliesAreOutcomes, RightHasOneAnswer, RightIsLegal, StartsAreBound, WritesWhatIsTold, bound_by, is_gone}
 pub use Rattle.beldi_laws.specs.Right.{AtStage, Inside, Keeps, Knows, KnowsAt, KnowsBody, Right, RunAt, RunsMatch, StandsAt, WasThere, is_opened, is_past, is_sent, open_of}

@@ -196,7 +196,7 @@ module _ (d : Deployment) (c : Core) (m n : Rows) (h : Right d c m) (q : PlainSt
         where
           -- a shadow that is there stays
           there_still : is_some (shadow_row m tx item) ≡ true → is_some (shadow_row n tx item) ≡ true
-          there_still was = let head = aside_head tx item in ap is_some (head_tail n (shadow_key tx item) head (shows.rows.asides tx item)) ∙ frame.rows (shadow_key tx item) (sym (ap is_some (head_tail m (shadow_key tx item) head (h.rows.asides tx item))) ∙ was)
+          there_still was = let head = aside_head tx item in ap is_some (head_tail n (shadow_key tx item) head (shows.rows.asides tx item).sound) ∙ frame.rows (shadow_key tx item) (sym (ap is_some (head_tail m (shadow_key tx item) head (h.rows.asides tx item).sound)) ∙ was)
 
           front : (y : Instance) → map.get next r.id ≡ Some y → length y.answers ≡ g.machine.steps → k.answers ≡ j.answers
           front y there short =

@@ -245,7 +245,7 @@ module _ (d : Deployment) (m : Rows) (p : PlainState) (known : Known) (locked : 
     locks = holder_owns d m p known locked h;
     owned = λ x t own. owned_so d m p known locked h x legal t own;
     sound = h.rows.chains;
-    shadows = h.rows.asides;
+    shadows = λ t x. (h.rows.asides t x).sound;
   }
 
 -- the run of the book is one

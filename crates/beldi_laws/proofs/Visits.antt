@@ -16,7 +16,7 @@ no_outcome d q none over = none_by q.outcome (λ o e. none o (over o e))
 
 module _ (d : Deployment) (m : Rows) (known : Known) (locked : IntentId → Bool) (h : Matches d m known locked) (sane : Sane d known) where
   pub sound_rows : (w : EndWalk) → AreSound w m
-  sound_rows w f i = let x : Item = record { func = f; table = i.0; key = i.1 } in (h.chains x, h.asides w.tx x)
+  sound_rows w f i = let x : Item = record { func = f; table = i.0; key = i.1 } in (h.chains x, (h.asides w.tx x).sound)
 
   module _ (t : TxId) (z : ℕ × Bool) (ended : tx_end d known t ≡ Some z) (marks : OwnedAreUnmarked d m known) where
     -- an item with a note at a place where it is given back is not the transaction's

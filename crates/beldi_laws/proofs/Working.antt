@@ -252,7 +252,7 @@ module _ (d : Deployment) (c : Core) (m : Rows) (i : ℕ) (r : Run) (g : Begun) 
             as_its (λ y q. (writes_on y y.func e ≡ true) ⊎ ((shadow_of n own y).value ≡ value_at h.plain y)) (subst (λ (s : Content). (writes_on item r.func e ≡ true) ⊎ (s.value ≡ value_at h.plain item)) (sym holds) by) in
             let shadows = first_rows_go d m h.plain h.known h.locked r.id k.instance own x.0 x.1 n opened stands was alone (as_its (λ y q. shadow_row m own y ≡ None) none)
             (subst (λ z. (writes_on its_item k.instance.func z ≡ true) ⊎ ((shadow_of n own its_item).value ≡ value_at h.plain its_item)) (sym now_is) its_values) in
-            let matches = shadow_made d h.known h.locked m h.rows own item n (as_ran (λ y q. ChangedAlone (shadow_key own y) m n) alone) sound none (ap (λ (s : Content). s.notes) holds) in
+            let matches = shadow_made d h.known h.locked m h.rows own item n (as_ran (λ y q. ChangedAlone (shadow_key own y) m n) alone) (record { sound = sound; unowned = ap (λ (s : Content). s.owner) holds }) none (ap (λ (s : Content). s.notes) holds) in
             goes_at d c m i r g h live k finds o tx here e is x touch (TxAt.Write Try) n h.locked roots
             (kept_moving h n h.plain h.known h.locked (record { beside = h.beside; shadows = shadows }) h.locked_at_ends h.sane matches (λ y. lists y ∙ h.values y) (settled h) (grows_self h.known) (frame h.known (nobody_new d h.known)) (unfinished h.known))
             fits (record {
@@ -268,7 +268,7 @@ module _ (d : Deployment) (c : Core) (m : Rows) (i : ℕ) (r : Run) (g : Begun) 
 
   -- the last row of its shadow, where a Look or an act finds the first
   last_row : (y : Item) → shadow_row m own y ≡ map.get m (shadow_key own y)
-  last_row y = head_tail m (shadow_key own y) (aside_head own y) (h.rows.asides own y)
+  last_row y = head_tail m (shadow_key own y) (aside_head own y) (h.rows.asides own y).sound
 
   -- ---- a read
   module _ (t : ℕ) (key : List ℕ) (is : g.machine.effect ≡ Effect.Read t key) (l : HasLocked m r o g.machine.steps (t, key)) where
@@ -288,7 +288,7 @@ module _ (d : Deployment) (c : Core) (m : Rows) (i : ℕ) (r : Run) (g : Begun) 
     shadow_turn : Turn read TxAt.Shadow
     unfolding Leaves
     shadow_turn = looked_at read is (t, key) refl l (tx_says TxAt.Shadow (shadow_read (read_goes None (said (act Look c.now (map.get m aside)).1)))) aside
-        (subst (λ z. Leaves (tx_says TxAt.Shadow (shadow_read z)) m) (sym (shadow_told c.now (map.get m aside) (h.rows.asides own read_item).head)) (by_row (map.get m aside) (last_row read_item) (h.rows.asides own read_item).head))
+        (subst (λ z. Leaves (tx_says TxAt.Shadow (shadow_read z)) m) (sym (shadow_told c.now (map.get m aside) (h.rows.asides own read_item).sound.head)) (by_row (map.get m aside) (last_row read_item) (h.rows.asides own read_item).sound.head))
       where
         by_row : (v : Option Row) → shadow_row m own read_item ≡ v → SoundAt v → Leaves (tx_says TxAt.Shadow (shadow_read (ReadGoes.Got (shadow_value v)))) m
         by_row None there sound = moves_on read is (t, key) refl l TxAt.Item tt (record { begin = tt; asked = λ u. l.asked; locked = l.got; found = λ q made same. there })
@@ -376,11 +376,11 @@ module _ (d : Deployment) (c : Core) (m : Rows) (i : ℕ) (r : Run) (g : Begun) 
       makes_by : (z : Option Row) → map.get m its ≡ z → (later : List Answer) → k.later ≡ later → Leaves (s z) with_first
       makes_by (Some z) there later left = subst (Leaves (s (Some z))) (sym (unchanged m its (made (map.get m its)).0 (ap (λ q. (made q).0) there ∙ sym there))) (subst (λ q. Leaves q m) (sym (said_some z))
           (moves_on e is x touch l (TxAt.Write Try) (fits Try) (record { begin = tt; asked = λ u. l.asked; locked = l.got; found = λ q made same. found (shadow_row m own aside_of) (ap is_some (last_row aside_of ∙ there)) })))
-      makes_by None none (b ∷ rest) left = let clash = sym (has_note b rest left).1 ∙ ap (λ (s : Content). note_at s.notes place) (head_content m its (aside_head own aside_of) (h.rows.asides own aside_of) ∙ ap content_in none) in cc
+      makes_by None none (b ∷ rest) left = let clash = sym (has_note b rest left).1 ∙ ap (λ (s : Content). note_at s.notes place) (head_content m its (aside_head own aside_of) (h.rows.asides own aside_of).sound ∙ ap content_in none) in cc
       makes_by None none [] left =
           let others = set_others m its (made (map.get m its)).0 in
           let row : map.get with_first its ≡ Some (fresh v) = set_here m its (made (map.get m its)).0 ∙ ap (λ q. (made q).0) none in
-          let sound = sound_after m with_first its (aside_head own aside_of) others (h.rows.asides own aside_of) (subst SoundAt (sym row) (refl, tt, refl, refl)) in
+          let sound = sound_after m with_first its (aside_head own aside_of) others (h.rows.asides own aside_of).sound (subst SoundAt (sym row) (refl, tt, refl, refl)) in
           let alone = as_its e is x touch l left (λ y q. ChangedAlone (shadow_key own y) m with_first) (alone_by m with_first its refl others) in
           subst (λ q. Leaves q with_first) (sym said_none) (first_made e is x touch l left with_first alone (query_keeps (Query.Act its (MakeCell v None)) c.now m) (ap is_some writes) v row sound (last_row aside_of ∙ none) (by left (last_row aside_of ∙ none)) (fits Try)
           (found (shadow_row with_first own aside_of) (ap is_some (head_tail with_first its (aside_head own aside_of) sound ∙ row))))
@@ -419,7 +419,7 @@ module _ (d : Deployment) (c : Core) (m : Rows) (i : ℕ) (r : Run) (g : Begun) 
       try_turn =
           let q = Query.Act its (op_act place (ByTx own) op) in
           let v = (act (op_act place (ByTx own) op) c.now (map.get m its)).0 in
-          let logged = by_op (record { home = r.func; item = Shadow own x.0 x.1; place = place; who = ByTx own; op = op; at = Try }) m (rows_after q c.now m) (h.rows.asides own aside_of) Try c.now refl in
+          let logged = by_op (record { home = r.func; item = Shadow own x.0 x.1; place = place; who = ByTx own; op = op; at = Try }) m (rows_after q c.now m) (h.rows.asides own aside_of).sound Try c.now refl in
           by_goes (rows_after q c.now m) logged.others logged.sound (query_keeps q c.now m) (write_goes (done_note op) (told_by q c.now m)) (λ other. unchanged m its v (undone place (ByTx own) op c.now (map.get m its) other)) logged.logs
 
   -- ---- a write

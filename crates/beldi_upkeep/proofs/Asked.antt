@@ -1,5 +1,5 @@
--- What a run may ask in its stages: it gives no shadow an owner, and no root a body.
-use Rattle.std.proofs.Common.{Bool, ap, List, None, Option, Some, [], false, refl, sym, true, ℕ, ◌&&◌, ◌∙◌, ◌∷◌, ◌≡◌}
+-- What a run may ask in its stages: it gives no root a body.
+use Rattle.std.proofs.Common.{Bool, ap, List, None, Option, Some, [], false, refl, sym, true, ℕ, ◌∙◌, ◌∷◌, ◌≡◌}
 use Rattle.beldi_value.specs.{Id.has_callees, declared.id.IntentId.IntentId, declared.place.Caller.Caller, declared.place.Owner.Owner, declared.place.Place.Place, declared.place.TxId.TxId, declared.value.Value.Value}
 use Rattle.beldi_lang.specs.declared.effect.Effect.{Effect}
 use Rattle.beldi_order.proofs.Called.{not_root}
@@ -12,15 +12,8 @@ use Rattle.beldi_txn.specs.{End.free_asks, End.first_visit, End.free_place, End.
 use Rattle.beldi_call.specs.{Async.async_asks, declared.async_call.AsyncAt.AsyncAt, declared.call.CallAt.CallAt}
 use Rattle.beldi_step.specs.{declared.run.RunTx.RunTx, declared.run.Stage.Stage, Run.OnCell, Run.async_here_asks, Run.back_to_asks, Run.call_here_asks, Run.callee_body, Run.cell_op, Run.close_asks, Run.end_by_asks, Run.end_here_asks, Run.place_of, Run.put_asks, Run.stage_asks, Run.own_tx, Run.tell_asks, Run.tx_here_asks, Run.tx_of, Run.walk_asks}
 use Rattle.beldi_laws.proofs.Moves.{if_plan}
-use Rattle.beldi_upkeep.specs.Checked.{is_shadow}
 
--- an act that may give a row an owner
-abbrev pub gives_owner : Act → Bool
-gives_owner (Act.MakeCell v (Some o)) = true
-gives_owner (Act.LockCell p w s) = true
-gives_owner a = false
-
--- .. or a body
+-- an act that may give a row a body
 abbrev pub sets_body : Act → Bool
 sets_body (Act.Bind f a) = true
 sets_body (Act.Register b) = true
@@ -32,12 +25,12 @@ id_or id (Kind.Intent i) = i
 id_or id kind = id
 
 abbrev pub Tame : Query → Type 0
-Tame (Query.Act k a) = ((is_shadow k.kind && gives_owner a) ≡ false) × (sets_body a ≡ true → (t : ℕ) → k ≡ root_key t → ⊥)
+Tame (Query.Act k a) = sets_body a ≡ true → (t : ℕ) → k ≡ root_key t → ⊥
 Tame (Query.After k) = Unit {0}
 
 -- an act that sets no body
-mild : (k : RowKey) (a : Act) → (is_shadow k.kind && gives_owner a) ≡ false → sets_body a ≡ false → Tame (Query.Act k a)
-mild k a none other = (none, λ sets. let clash = sym other ∙ sets in cc)
+mild : (k : RowKey) (a : Act) → sets_body a ≡ false → Tame (Query.Act k a)
+mild k a other sets t e = let clash = sym other ∙ sets in cc
 
 op_sets : (p : Place) (w : Owner) (op : CellOp) → sets_body (op_act p w op) ≡ false
 op_sets p w (CellOp.Write v) = refl
@@ -47,53 +40,45 @@ op_sets p w (CellOp.Free v) = refl
 
 -- of a row of an item
 item_tame : (home t : ℕ) (k : List ℕ) (p : Place) (w : Owner) (op : CellOp) (at : WriteAt) → Tame (write_asks (cell_key home t k) p w op at)
-item_tame home t k p w op Try = mild (cell_key home t k) (op_act p w op) refl (op_sets p w op)
-item_tame home t k p w op Make = mild (cell_key home t k) (Act.MakeCell Value.Null None) refl refl
-
-and_false : (b : Bool) → (b && false) ≡ false
-and_false true = refl
-and_false false = refl
-
--- .. and of any row, but for one that gives an owner
-no_owner : (k : RowKey) (a : Act) → gives_owner a ≡ false → sets_body a ≡ false → Tame (Query.Act k a)
-no_owner k a none other = mild k a (ap (λ b. is_shadow k.kind && b) none ∙ and_false (is_shadow k.kind)) other
+item_tame home t k p w op Try = mild (cell_key home t k) (op_act p w op) (op_sets p w op)
+item_tame home t k p w op Make = mild (cell_key home t k) (Act.MakeCell Value.Null None) refl
 
 -- ---- inside a transaction
 aside_tame : (home : ℕ) (p : Place) (x : TxId) (k : RowKey) (w : WriteAt) (e : Effect) → Tame (aside_asks home p x k w (op_of e))
-aside_tame home p x k Try (Effect.Write t j v) = no_owner k (op_act p (Owner.Tx x) (CellOp.Write v)) refl refl
-aside_tame home p x k Try (Effect.CondWrite t j r o v) = no_owner k (op_act p (Owner.Tx x) (CellOp.Cond r o v)) refl refl
-aside_tame home p x k Make (Effect.Write t j v) = no_owner k (Act.MakeCell Value.Null None) refl refl
-aside_tame home p x k Make (Effect.CondWrite t j r o v) = no_owner k (Act.MakeCell Value.Null None) refl refl
-aside_tame home p x k w e = (refl, λ s t e. cc)
+aside_tame home p x k Try (Effect.Write t j v) = mild k (op_act p (Owner.Tx x) (CellOp.Write v)) refl
+aside_tame home p x k Try (Effect.CondWrite t j r o v) = mild k (op_act p (Owner.Tx x) (CellOp.Cond r o v)) refl
+aside_tame home p x k Make (Effect.Write t j v) = mild k (Act.MakeCell Value.Null None) refl
+aside_tame home p x k Make (Effect.CondWrite t j r o v) = mild k (Act.MakeCell Value.Null None) refl
+aside_tame home p x k w e = λ s t e. cc
 
 lock_tame : (home t : ℕ) (k : List ℕ) (p : Place) (w : Owner) (l : LockAt) → Tame (asks_at home t k p w l)
-lock_tame home t k p w (LockAt.Lockset b) = (refl, λ s t e. cc)
+lock_tame home t k p w (LockAt.Lockset b) = λ s t e. cc
 lock_tame home t k p w (LockAt.Item at) = item_tame home t k p w CellOp.Lock at
 
 at_item_tame : (home : ℕ) (p : Place) (x : TxId) (e : Effect) (t : ℕ) (k : List ℕ) (a : TxAt) → Tame (item_asks home p x e t k a)
-at_item_tame home p x e t k TxAt.Log = (refl, λ s t e. cc)
+at_item_tame home p x e t k TxAt.Log = λ s t e. cc
 at_item_tame home p x e t k (TxAt.Lock l) = lock_tame home t k p (Owner.Tx x) l
-at_item_tame home p x e t k TxAt.Shadow = (refl, λ s t e. cc)
-at_item_tame home p x e t k TxAt.Item = (refl, λ s t e. cc)
-at_item_tame home p x e t k (TxAt.Keep v) = (refl, λ s t e. cc)
-at_item_tame home p x e t k (TxAt.Head v) = no_owner (shadow_key home x t k) (Act.MakeCell v None) refl refl
+at_item_tame home p x e t k TxAt.Shadow = λ s t e. cc
+at_item_tame home p x e t k TxAt.Item = λ s t e. cc
+at_item_tame home p x e t k (TxAt.Keep v) = λ s t e. cc
+at_item_tame home p x e t k (TxAt.Head v) = mild (shadow_key home x t k) (Act.MakeCell v None) refl
 at_item_tame home p x e t k (TxAt.Write w) = aside_tame home p x (shadow_key home x t k) w e
 
 tx_tame : (home : ℕ) (p : Place) (x : TxId) (e : Effect) (a : TxAt) (i : Option (ℕ × List ℕ)) → Tame (asks_of home p x e a i)
-tx_tame home p x e a None = (refl, λ s t e. cc)
+tx_tame home p x e a None = λ s t e. cc
 tx_tame home p x e a (Some i) = at_item_tame home p x e i.0 i.1 a
 
 -- ---- at an end
 shadow_tame : (x : TxId) (p : Member) (i : Option (ℕ × List ℕ)) → Tame (shadow_asks x p i)
 shadow_tame x p None = tt
-shadow_tame x p (Some i) = (refl, λ s t e. cc)
+shadow_tame x p (Some i) = λ s t e. cc
 
 give_tame : (x : TxId) (p : Member) (at : Place) (v : Option Value) (w : WriteAt) (i : Option (ℕ × List ℕ)) → Tame (free_asks x p at v w i)
 give_tame x p at v w None = tt
 give_tame x p at v w (Some i) = item_tame p.1 i.0 i.1 at (Owner.Tx x) (CellOp.Free v) w
 
 visit_tame : (x : TxId) (end : ℕ) (commit : Bool) (cs : List Called) (after : Option ℕ) (i : Option (ℕ × List ℕ)) (v : Option Value) (at : EndAt) → Tame (visit_asks x end commit cs after i v at)
-visit_tame x end commit cs after i v EndAt.Decide = (refl, λ s t e. cc)
+visit_tame x end commit cs after i v EndAt.Decide = λ s t e. cc
 visit_tame x end commit cs (Some n) i v EndAt.Callees = tt
 visit_tame x end commit [] None i v EndAt.Callees = tt
 visit_tame x end commit (c ∷ cs) None i v EndAt.Callees = tt
@@ -101,61 +86,61 @@ visit_tame x end commit cs after (Some j) v EndAt.Next = tt
 visit_tame x end commit cs after None v EndAt.Next = tt
 visit_tame x end commit cs after i v EndAt.Shadow = shadow_tame x (visited_by x cs) i
 visit_tame x end commit cs after i v (EndAt.Free w) = give_tame x (visited_by x cs) (free_place x end cs) v w i
-visit_tame x end commit cs after i v EndAt.Stamp = (refl, λ s t e. cc)
+visit_tame x end commit cs after i v EndAt.Stamp = λ s t e. cc
 
 -- ---- a stage
 module _ (id : IntentId) (func : ℕ) (c : Option Caller) (o : Option RunTx) (step : ℕ) where
   walk_tame : (e : Effect) → Tame (walk_asks id func e)
-  walk_tame (Effect.Read t k) = (refl, λ s t e. cc)
-  walk_tame e = (refl, λ s t e. cc)
+  walk_tame (Effect.Read t k) = λ s t e. cc
+  walk_tame e = λ s t e. cc
 
   put_tame : (at : WriteAt) (x : Option OnCell) → Tame (put_asks id func step at x)
-  put_tame at None = (refl, λ s t e. cc)
+  put_tame at None = λ s t e. cc
   put_tame at (Some x) = item_tame func x.table x.key (place_of id step) (Owner.Intent id) x.op at
 
   here_tame : (e : Effect) (at : TxAt) (x : Option RunTx) → Tame (tx_here_asks id func step e at x)
-  here_tame e at None = (refl, λ s t e. cc)
+  here_tame e at None = λ s t e. cc
   here_tame e at (Some x) = tx_tame func (place_of id step) (tx_of id func x) e at (item_of e)
 
   end_tame : (commit : Bool) (v : Visit) (x : Option RunTx) → Tame (end_by_asks id func step commit v x)
-  end_tame commit v None = (refl, λ s t e. cc)
-  end_tame commit v (Some (RunTx.Inherited x)) = (refl, λ s t e. cc)
+  end_tame commit v None = λ s t e. cc
+  end_tame commit v (Some (RunTx.Inherited x)) = λ s t e. cc
   end_tame commit v (Some (RunTx.Own x)) = visit_tame (own_tx id func x) step commit v.way v.after v.item v.value v.at
 
   end_here_tame : (e : Effect) (v : Visit) → Tame (end_here_asks id func step e v o)
   end_here_tame (Effect.End commit) v = end_tame commit v o
-  end_here_tame e v = (refl, λ s t e. cc)
+  end_here_tame e v = λ s t e. cc
 
   call_tame : (e : Effect) (at : CallAt) → Tame (call_here_asks id func step e at)
-  call_tame (Effect.Call f a) CallAt.Open = (refl, λ s t e. cc)
-  call_tame (Effect.Call f a) CallAt.Look = (refl, λ s t e. cc)
-  call_tame e at = (refl, λ s t e. cc)
+  call_tame (Effect.Call f a) CallAt.Open = λ s t e. cc
+  call_tame (Effect.Call f a) CallAt.Look = λ s t e. cc
+  call_tame e at = λ s t e. cc
 
   async_tame : (e : Effect) (at : AsyncAt) → Tame (async_here_asks id func step e at)
-  async_tame (Effect.Async f a) at = if_plan Tame (has_callees id) _ _ (λ t. by_at at) (λ t. (refl, λ s u e. cc))
+  async_tame (Effect.Async f a) at = if_plan Tame (has_callees id) _ _ (λ t. by_at at) (λ t s u e. cc)
     where
       by_at : (at : AsyncAt) → Tame (async_asks func (place_of id step) (callee_body id func step f a None false) at)
-      by_at AsyncAt.Open = (refl, λ s t e. cc)
-      by_at AsyncAt.Register = (refl, λ s t e. not_root id step t (ap (λ (k : RowKey). id_or id k.kind) e))
-      by_at AsyncAt.Note = (refl, λ s t e. cc)
-  async_tame e at = (refl, λ s t e. cc)
+      by_at AsyncAt.Open = λ s t e. cc
+      by_at AsyncAt.Register = λ s t e. not_root id step t (ap (λ (k : RowKey). id_or id k.kind) e)
+      by_at AsyncAt.Note = λ s t e. cc
+  async_tame e at = λ s t e. cc
 
   tell_tame : (x : Option Caller) → Tame (tell_asks id func x)
-  tell_tame None = (refl, λ s t e. cc)
-  tell_tame (Some x) = (refl, λ s t e. cc)
+  tell_tame None = λ s t e. cc
+  tell_tame (Some x) = λ s t e. cc
 
   back_tame : (x : Option Caller) (e : Effect) → Tame (back_to_asks id func x e)
-  back_tame (Some x) (Effect.Return u) = (refl, λ s t e. cc)
-  back_tame x e = (refl, λ s t e. cc)
+  back_tame (Some x) (Effect.Return u) = λ s t e. cc
+  back_tame x e = λ s t e. cc
 
   close_tame : (e : Effect) → Tame (close_asks id func o e)
-  close_tame (Effect.Return u) = (refl, λ s t e. cc)
-  close_tame e = (refl, λ s t e. cc)
+  close_tame (Effect.Return u) = λ s t e. cc
+  close_tame e = λ s t e. cc
 
   pub stage_tame : (e : Effect) (s : Stage) → Tame (stage_asks id func c o step e s)
-  stage_tame e Stage.Ask = (refl, λ s t e. cc)
+  stage_tame e Stage.Ask = λ s t e. cc
   stage_tame e Stage.Walk = walk_tame e
-  stage_tame e (Stage.Keep v seen) = (refl, λ s t e. cc)
+  stage_tame e (Stage.Keep v seen) = λ s t e. cc
   stage_tame e (Stage.Write at) = put_tame at (cell_op e)
   stage_tame e (Stage.Tx at) = here_tame e at o
   stage_tame e (Stage.Decide m) = end_here_tame e first_visit

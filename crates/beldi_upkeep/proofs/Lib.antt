@@ -9,7 +9,6 @@ mod EndsLast
 mod Finishes
 mod FirstTurns
 mod Firsts
-mod FreeShadows
 mod Frees
 pub mod FromRight
 mod Functions

@@ -33,7 +33,7 @@ module _ (d : Deployment) (O : ℕ → ℕ → Type 0) where
   asks_keeps now k a false e other r h t same b is = mild_keeps now k a e r h t same b is
 
   tame_keeps : (now : ℕ) (q : Query) → Tame q → KeepsAt P now q
-  tame_keeps now (Query.Act k a) h = asks_keeps now k a (sets_body a) refl h.1
+  tame_keeps now (Query.Act k a) h = asks_keeps now k a (sets_body a) refl h
   tame_keeps now (Query.After k) h = tt
 
   -- what a request binds

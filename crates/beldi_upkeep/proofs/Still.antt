@@ -21,8 +21,8 @@ use Rattle.beldi_step.specs.{declared.run.Begun.Begun, declared.run.Mark.Mark, d
 use Rattle.beldi_known.specs.{Contents.head_key, Contents.shadow_key, Operations.cell_of, Owed.called_by, Owed.result_of, Rows.CallMatches}
 use Rattle.beldi_known.proofs.Cases.{by_option}
 use Rattle.beldi_laws.specs.{OneAnswer.IsBegun, Right.AtStage, Right.Knows, Right.Right, Right.is_sent}
-use Rattle.beldi_upkeep.specs.Checked.{IsStill, NoTurnStays, ShadowsAreFree, is_of_lock, is_own_note, is_shadow_note, is_visit, works_on}
-use Rattle.beldi_upkeep.proofs.{Notes.decisions_are_own, Notes.knows, Notes.notes_are_own, Notes.shadow_notes_are_own, Overs.its_cell}
+use Rattle.beldi_upkeep.specs.Checked.{IsStill, NoTurnStays, is_of_lock, is_own_note, is_shadow_note, is_visit, works_on}
+use Rattle.beldi_upkeep.proofs.{Notes.decisions_are_own, Notes.first_row_free, Notes.knows, Notes.notes_are_own, Notes.shadow_notes_are_own, Overs.its_cell}
 
 -- ---- an act on a cell, by what is so of each thing that it may tell
 module _ (P : Tell → Type 0) where
@@ -264,7 +264,7 @@ aside_test p who now t k u o v (Some (Row.Cell c)) sound free own = test_off p w
 aside_test p who now t k u o v (Some r) sound free own = absurd sound
 
 -- ---- a live run
-module _ (d : Deployment) (c : Core) (m : Rows) (r : Run) (g : Begun) (h : Right d c m) (free : ShadowsAreFree m) (b : IsBegun c r.id r g) (k : Knows d h.known r g) where
+module _ (d : Deployment) (c : Core) (m : Rows) (r : Run) (g : Begun) (h : Right d c m) (b : IsBegun c r.id r g) (k : Knows d h.known r g) where
   abbrev step : ℕ
   step = g.machine.steps
 
@@ -296,24 +296,24 @@ module _ (d : Deployment) (c : Core) (m : Rows) (r : Run) (g : Begun) (h : Right
       aside = map.get m (shadow_key own x)
 
       aside_note : (w : Note) → note_at (content_in aside).notes place ≡ Some w → is_shadow_note e w ≡ true
-      aside_note w there = ap (λ z. is_shadow_note z w) (sym is) ∙ shadow_notes_are_own d c m r g own x w h b (ap (λ z. note_at z.notes place) (one_content (chain m (shadow_key own x)) (h.rows.asides own x)) ∙ there)
+      aside_note w there = ap (λ z. is_shadow_note z w) (sym is) ∙ shadow_notes_are_own d c m r g own x w h b (ap (λ z. note_at z.notes place) (one_content (chain m (shadow_key own x)) (h.rows.asides own x).sound) ∙ there)
 
     by_tx : (e : Effect) (a : TxAt) → g.machine.effect ≡ e → Fits e a → InTx e a
     by_tx (Effect.Read t key) TxAt.Log is fits still = log_moves (begin_of o) (given_of (told_by (tx_asks r.func place own (Effect.Read t key) TxAt.Log) c.now m)) still
     by_tx (Effect.Read t key) (TxAt.Lock l) is fits still = by_lock (Effect.Read t key) is t key refl l fits still
-    by_tx (Effect.Read t key) TxAt.Shadow is fits still = shadow_read_moves c.now (aside (Effect.Read t key) is t key) (h.rows.asides own (record { func = r.func; table = t; key = key })).head still
+    by_tx (Effect.Read t key) TxAt.Shadow is fits still = shadow_read_moves c.now (aside (Effect.Read t key) is t key) (h.rows.asides own (record { func = r.func; table = t; key = key })).sound.head still
     by_tx (Effect.Read t key) TxAt.Item is fits still = item_moves (Effect.Read t key) c.now (map.get m (head_key (record { func = r.func; table = t; key = key }))) (h.rows.chains (record { func = r.func; table = t; key = key })).head fits still
     by_tx (Effect.Read t key) (TxAt.Keep v) is fits still = keep_moves v (told_by (tx_asks r.func place own (Effect.Read t key) (TxAt.Keep v)) c.now m) still
     by_tx (Effect.Write t key v) (TxAt.Lock l) is fits still = by_lock (Effect.Write t key v) is t key refl l fits still
     by_tx (Effect.Write t key v) (TxAt.Write Try) is fits still = aside_moves (Effect.Write t key v) (write_goes Note.Wrote (said (act (op_act place (Owner.Tx own) (CellOp.Write v)) c.now (aside (Effect.Write t key v) is t key)).1))
-        (aside_write place (Owner.Tx own) c.now t key v (aside (Effect.Write t key v) is t key) (h.rows.asides own (record { func = r.func; table = t; key = key })).head (free (shadow_key own (record { func = r.func; table = t; key = key })) refl) (aside_note (Effect.Write t key v) is t key)) still
+        (aside_write place (Owner.Tx own) c.now t key v (aside (Effect.Write t key v) is t key) (h.rows.asides own (record { func = r.func; table = t; key = key })).sound.head (first_row_free d c m own (record { func = r.func; table = t; key = key }) h) (aside_note (Effect.Write t key v) is t key)) still
     by_tx (Effect.Write t key v) (TxAt.Write Make) is fits still = aside_made_moves (Effect.Write t key v) Note.Wrote c.now (aside (Effect.Write t key v) is t key) still
     by_tx (Effect.CondWrite t key u w v) (TxAt.Lock l) is fits still = by_lock (Effect.CondWrite t key u w v) is t key refl l fits still
     by_tx (Effect.CondWrite t key u w v) TxAt.Shadow is fits still = head_moves c.now (aside (Effect.CondWrite t key u w v) is t key) still
     by_tx (Effect.CondWrite t key u w v) TxAt.Item is fits still = item_moves (Effect.CondWrite t key u w v) c.now (map.get m (head_key (record { func = r.func; table = t; key = key }))) (h.rows.chains (record { func = r.func; table = t; key = key })).head fits still
     by_tx (Effect.CondWrite t key u w v) (TxAt.Head y) is fits still = first_moves y c.now (aside (Effect.CondWrite t key u w v) is t key) still
     by_tx (Effect.CondWrite t key u w v) (TxAt.Write Try) is fits still = aside_moves (Effect.CondWrite t key u w v) (write_goes (Note.Cond true) (said (act (op_act place (Owner.Tx own) (CellOp.Cond u w v)) c.now (aside (Effect.CondWrite t key u w v) is t key)).1))
-        (aside_test place (Owner.Tx own) c.now t key u w v (aside (Effect.CondWrite t key u w v) is t key) (h.rows.asides own (record { func = r.func; table = t; key = key })).head (free (shadow_key own (record { func = r.func; table = t; key = key })) refl) (aside_note (Effect.CondWrite t key u w v) is t key)) still
+        (aside_test place (Owner.Tx own) c.now t key u w v (aside (Effect.CondWrite t key u w v) is t key) (h.rows.asides own (record { func = r.func; table = t; key = key })).sound.head (first_row_free d c m own (record { func = r.func; table = t; key = key }) h) (aside_note (Effect.CondWrite t key u w v) is t key)) still
     by_tx (Effect.CondWrite t key u w v) (TxAt.Write Make) is fits still = aside_made_moves (Effect.CondWrite t key u w v) (Note.Cond true) c.now (aside (Effect.CondWrite t key u w v) is t key) still
     by_tx e a is fits still = fits
 
@@ -370,4 +370,4 @@ module _ (d : Deployment) (c : Core) (m : Rows) (r : Run) (g : Begun) (h : Right
   by_stage s e o is in_it near here still = here
 
 pub no_turn_stays : NoTurnStays
-no_turn_stays d c m r g h free b near still = let k = knows d c m h r g b in by_stage d c m r g h free b k.0 g.stage g.machine.effect g.tx refl refl near k.1.here still
+no_turn_stays d c m r g h b near still = let k = knows d c m h r g b in by_stage d c m r g h b k.0 g.stage g.machine.effect g.tx refl refl near k.1.here still

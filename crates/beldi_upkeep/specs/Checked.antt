@@ -9,30 +9,17 @@ use Rattle.beldi_lang.specs.{Wants.wants_answer, declared.effect.Answer.Answer, 
 use Rattle.beldi_book.specs.{Order.count_changes, declared.entry.Entry.Entry}
 use Rattle.beldi_plain.specs.{Item.Item, Plain.Instance, Replies.starts_of}
 use Rattle.beldi_order.specs.{Sane.call_of, Txs.effect_after}
-use Rattle.beldi_row.specs.{Key.RowKey, Log.note_at, Table.Rows, declared.key.Kind.Kind, declared.notes.Note.Note, declared.row.Body.Body, declared.row.Row.Row}
+use Rattle.beldi_row.specs.{Log.note_at, Table.Rows, declared.notes.Note.Note, declared.row.Body.Body, declared.row.Row.Row}
 use Rattle.beldi_walk.specs.Query.{told_by}
-use Rattle.beldi_chain.specs.Content.{content_in}
 use Rattle.beldi_intent.specs.Intent.{root_key}
 use Rattle.beldi_step.specs.{declared.event.Event.Event, declared.event.Seen.Seen, declared.run.Begun.Begun, declared.run.OpenTx.OpenTx, declared.run.Run.Run, declared.run.RunAt.RunAt, declared.run.RunTx.RunTx, declared.run.Says.Says, declared.run.Stage.Stage, Host.Core, Host.EventOn, Run.answer_at_once, Run.answer_noted, Run.at_once, Run.body_found, Run.first_stage, Run.own_tx, Run.place_of, Run.run_asks, Run.run_told, Run.stage_asks, Run.stage_says, Run.takes, Run.Turned, Run.within, Tables.decision_key}
 use Rattle.beldi_known.specs.{Contents.content_of, Contents.is_owner, Contents.shadow_of, Rows.IsBodyOf}
 use Rattle.beldi_laws.specs.{OneAnswer.IsBegun, Right.Right, Right.open_of}
 
 -- ---- shadows
-abbrev pub is_shadow : Kind → Bool
-is_shadow (Kind.Shadow s t k n) = true
-is_shadow kind = false
-
--- nobody owns a row of a shadow
-abbrev pub ShadowsAreFree : Rows → Type 0
-ShadowsAreFree m = (k : RowKey) → is_shadow k.kind ≡ true → (content_in (map.get m k)).owner ≡ None
-
--- so it is over no rows ..
-abbrev pub NoShadowAtFirst : Type 0
-NoShadowAtFirst = ShadowsAreFree map.empty
-
--- .. and after every event, whether the host is right or not
-abbrev pub ShadowsStayFree : Type 0
-ShadowsStayFree = (d : Deployment) (room old new : ℕ) (e : Event) (c b : Core) (m n : Rows) (r : Result Seen AllocError) → ShadowsAreFree m → EventOn d room old new e c m b n r → ShadowsAreFree n
+-- where the host is right, nobody owns a shadow
+abbrev pub ShadowsAreFree : Type 0
+ShadowsAreFree = (d : Deployment) (c : Core) (m : Rows) (t : TxId) (x : Item) → Right d c m → (shadow_of m t x).owner ≡ None
 
 -- ---- roots
 -- the deployment has the function of this number
@@ -214,7 +201,7 @@ is_visit s = false
 
 -- at no other stage does a run stay where it stood; it waits, or goes on
 abbrev pub NoTurnStays : Type 0
-NoTurnStays = (d : Deployment) (c : Core) (m : Rows) (r : Run) (g : Begun) → Right d c m → ShadowsAreFree m → IsBegun c r.id r g → is_visit g.stage ≡ false → IsStill g.stage (next_says c m r g) → ⊥
+NoTurnStays = (d : Deployment) (c : Core) (m : Rows) (r : Run) (g : Begun) → Right d c m → IsBegun c r.id r g → is_visit g.stage ≡ false → IsStill g.stage (next_says c m r g) → ⊥
 
 -- ---- the first turn
 -- the body that a run which has not begun finds in what it is told of the next turn: that of its row, or the one that it registers

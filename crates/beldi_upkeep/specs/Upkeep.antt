@@ -6,7 +6,7 @@ use Rattle.beldi_tree.specs.declared.deployment.Deployment.{Deployment}
 use Rattle.beldi_row.specs.Table.{Rows}
 use Rattle.beldi_step.specs.{Host.Core, Host.EventOn, Host.first_core, declared.event.Event.Event, declared.event.Seen.Seen}
 use Rattle.beldi_laws.specs.Right.{Right}
-use Rattle.beldi_upkeep.specs.{Callees.RunsOwe, Callees.Seats, Checked.RootsAreStarted, Checked.ShadowsAreFree, Deadlines.Near, Passed.PastCalls, Passed.RunsPast}
+use Rattle.beldi_upkeep.specs.{Callees.RunsOwe, Callees.Seats, Checked.RootsAreStarted, Deadlines.Near, Passed.PastCalls, Passed.RunsPast}
 
 pub record Upkeep (d : Deployment) (c : Core) (m : Rows) : Type 0 where
   pub right : Right d c m
@@ -18,8 +18,6 @@ pub record Upkeep (d : Deployment) (c : Core) (m : Rows) : Type 0 where
   pub passes : RunsPast c m
   -- deadlines are near
   pub near : Near d c m
-  -- nobody owns a shadow
-  pub free : ShadowsAreFree m
   -- each root that has a body is one that the book starts
   pub started : RootsAreStarted c m
 

@@ -1,16 +1,11 @@
 // Laws.
-ghost use Rattle.beldi_upkeep.specs.Checked.{BoundsAreOwn, CallersAreShort, DecisionsAreOwn, EffectsAreCarriedOut, FoundBodiesAreKnown, InstancesAreOfIt, NoBodyIsStranded, NoFirstTurnIsOver, NoRootAtFirst, NoRunIsStranded, NoShadowAtFirst, NoTurnIsOver, NoTurnStays, NoneIsInside, NotesAreOwn, RootsStayOfIt, RootsStayStarted, ShadowNotesAreOwn, ShadowsStayFree, StartedRootsAreOfIt, UnlocksAreOwned};
+ghost use Rattle.beldi_upkeep.specs.Checked.{BoundsAreOwn, CallersAreShort, DecisionsAreOwn, EffectsAreCarriedOut, FoundBodiesAreKnown, InstancesAreOfIt, NoBodyIsStranded, NoFirstTurnIsOver, NoRootAtFirst, NoRunIsStranded, NoTurnIsOver, NoTurnStays, NoneIsInside, NotesAreOwn, RootsStayOfIt, RootsStayStarted, ShadowNotesAreOwn, ShadowsAreFree, StartedRootsAreOfIt, UnlocksAreOwned};
 ghost use Rattle.beldi_upkeep.specs.Freed.{FreesWhatItHolds};
 ghost use Rattle.beldi_upkeep.specs.Written.{WantsAreWritten};
 
-/// Over no rows, nobody owns a shadow.
-pub fn no_shadow_at_first()
-    ensures { NoShadowAtFirst }
-{}
-
-/// No event gives a shadow an owner, whether the host is right or not.
+/// Where the host is right, nobody owns a shadow.
 pub fn shadows_have_no_owner()
-    ensures { ShadowsStayFree }
+    ensures { ShadowsAreFree }
 {}
 
 /// Over no rows there is no root, so each is of the deployment, and started by the book.

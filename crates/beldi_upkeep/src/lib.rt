@@ -39,7 +39,7 @@
 //!   `StageSays`, `SaysOwe` what a run owes by its stage; `FirstTurns`, `TurnRows`, `EndRows`, `TurnKeeps` turns; `PastEnds`, `PastOwn`,
 //!   `EndsLast` that an owner ends last; `Leaving`, `FromRight`, `CallLaws`, `Upkept`; `Together` all of it.
 //! - Of deadlines: `Finishes` which rows have a finish; `Quiet` stages that call nobody, `Workers` what a turn leaves; `Nearness`.
-//! - Of deployments: `Kept` what an event keeps at each key, `Asked` what a run asks of rows, `FreeShadows`, `Roots`, `Started`;
+//! - Of deployments: `Kept` what an event keeps at each key, `Asked` what a run asks of rows, `Roots`, `Started`;
 //!   `Sites` and `Frees` by induction on the body; `Functions` the function of a name, `Edges` and `Chains` that calls lead to no
 //!   function twice; `Open` and `Notes` what a run is in and finds; `Carried`, `Stranded` the next effect; `Firsts`, `Overs`, `Still` a turn.
 #![tactic(auto)]
@@ -57,10 +57,10 @@ pub use callees::{
 pub use checked::{
     bounds_are_own, callers_are_short, decisions_are_own, effects_are_carried_out,
     found_bodies_are_known, instances_are_of_the_deployment, no_body_is_stranded,
-    no_first_turn_is_over, no_root_at_first, no_run_is_stranded, no_shadow_at_first,
-    no_turn_is_over, no_turn_stays, notes_are_own, nothing_is_locked_inside,
-    roots_are_of_the_deployment, roots_are_started, shadow_notes_are_own, shadows_have_no_owner,
-    started_roots_are_of_the_deployment, unlocks_are_owned, wants_are_written, who_frees_holds,
+    no_first_turn_is_over, no_root_at_first, no_run_is_stranded, no_turn_is_over, no_turn_stays,
+    notes_are_own, nothing_is_locked_inside, roots_are_of_the_deployment, roots_are_started,
+    shadow_notes_are_own, shadows_have_no_owner, started_roots_are_of_the_deployment,
+    unlocks_are_owned, wants_are_written, who_frees_holds,
 };
 pub use deadlines::{an_event_keeps_deadlines, begins_near};
 pub use upkeep::{an_event_keeps_upkeep, begins_upkept};
