@@ -4,8 +4,8 @@ use Rattle.std.proofs.lemmas.Bool.{false_from_ne_true}
 use Rattle.std.specs.Ordering.{is_eq}
 use Rattle.std.specs.FinMap as map
 use Rattle.beldi_value.specs.declared.place.TxId.{TxId}
-use Rattle.beldi_row.{specs.Key.RowKey, specs.Key.key_cmp, specs.Key.rank_of, specs.Key.row_of, specs.declared.key.Kind.Kind, specs.Table.Rows, proofs.Gets.key_self, proofs.Gets.key_same}
-use Rattle.beldi_chain.specs.Chain.{kind_at, at_row, is_row_of, IsHead, chain, content, tail, Sound, ChangedAlone}
+use Rattle.beldi_row.{specs.Key.RowKey, specs.Key.key_cmp, specs.Key.rank_of, specs.Key.row_of, specs.declared.key.Kind.Kind, specs.Table.Rows, proofs.Gets.key_self, proofs.Gets.key_same, specs.KeyOrder.key_exact, specs.KeyOrder.key_total}
+use Rattle.beldi_chain.specs.Chain.{kind_at, at_row, is_row_of, IsHead, chain, content, tail, Sound, ChangedAlone, Chain}
 use Rattle.beldi_chain.specs.Content.{SoundAt, content_in}
 use Rattle.beldi_chain.proofs.OneRow.{one_content, one_tail}
 
@@ -68,6 +68,29 @@ chain_kept m n head same = λ i r. same r i
 -- .. where all but one item's rows are
 pub chain_other : (m n : Rows) (head k : RowKey) → ChangedAlone head m n → IsHead k → is_eq (key_cmp k head) ≡ false → chain n k ≡ chain m k
 chain_other m n head k alone is off = chain_kept m n k (λ i. alone (at_row k i) (other_row head k is off i))
+
+-- a key is that of a row of its item with its number
+kind_is : (k : Kind) → kind_at (kind_at k 0) (row_of k) ≡ k
+kind_is (Kind.Data t k r) = refl
+kind_is (Kind.Shadow x t k r) = refl
+kind_is (Kind.Intent i) = refl
+kind_is (Kind.ReadLog a) = refl
+kind_is (Kind.Invoke a) = refl
+kind_is (Kind.Lockset i b t k) = refl
+
+row_is : (l : RowKey) → at_row (at_row l 0) (row_of l.kind) ≡ l
+row_is l = ap (λ z. record { home = l.home; kind = z }) (kind_is l.kind)
+
+-- all rows are as before but those of one item, and so are these
+pub same_rows : (m n : Rows) (head : RowKey) → ChangedAlone head m n → chain n head ≡ chain m head → n ≡ m
+same_rows m n head alone same = map.same_map key_total key_exact n m (λ l. by_row l (is_row_of head l) refl)
+  where
+    named : (l : RowKey) → is_row_of head l ≡ true → at_row head (row_of l.kind) ≡ l
+    named l e = ap (λ z. at_row z (row_of l.kind)) (sym (key_same (at_row l 0) head e)) ∙ row_is l
+
+    by_row : (l : RowKey) (b : Bool) → is_row_of head l ≡ b → map.get n l ≡ map.get m l
+    by_row l true e = sym (ap (map.get n) (named l e)) ∙ ap (λ (f : Chain). f (row_of l.kind)) same ∙ ap (map.get m) (named l e)
+    by_row l false e = alone l e
 
 -- .. or all but one row
 pub chain_off : (m n : Rows) (l k : RowKey) → ((q : RowKey) → is_eq (key_cmp q l) ≡ false → map.get n q ≡ map.get m q) → IsHead k → is_row_of k l ≡ false → chain n k ≡ chain m k

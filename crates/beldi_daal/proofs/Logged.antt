@@ -4,8 +4,8 @@ use Rattle.std.specs.Ordering.{is_eq}
 use Rattle.std.proofs.Common.{◌≡◌, ℕ, Bool, true, false, cond, if◌then◌else◌, Option, None, Some, Ok, Err, refl, ap, sym, ◌∙◌, subst}
 use Rattle.beldi_value.specs.{declared.id.IntentId.IntentId, declared.place.Owner.Owner, Id.age_of, Id.is_older, declared.place.Place.Place, declared.place.TxId.TxId, Passes.passes, declared.value.Value.TheVariants.Null}
 use Rattle.beldi_row.specs.Act.{Tell, act, did, held, died, not_owner, tested, other_owner, owns, noted_or, next_or, held_or, owned_or, at_tail, unless_held, if_owned, entered}
-use Rattle.beldi_row.{specs.declared.notes.Note.Note, specs.declared.notes.Note.TheVariants.Died, specs.declared.row.Cell.Cell, specs.declared.row.Row.Row, specs.declared.act.Act.Act, specs.declared.act.Act.TheVariants.Look, specs.declared.act.Act.TheVariants.MakeCell, specs.declared.table.TableErr.TableErr, specs.declared.table.TableErr.TheVariants.OutOfMemory, specs.declared.table.TableErr.TheVariants.Failed, specs.declared.table.TableErr.TheVariants.Full, specs.Key.RowKey, specs.Key.key_cmp, specs.Log.note_at, specs.Table.Rows, specs.Table.after_act, proofs.Gets.got, proofs.Gets.key_self, proofs.Logs.note_here, proofs.Logs.once_pushed, proofs.Tells.tells_map}
-use Rattle.beldi_chain.{specs.Chain.IsHead, specs.Chain.Sound, specs.Chain.chain, specs.Chain.content, specs.Content.SoundAt, specs.Content.content_in, proofs.Heads.alone_by, proofs.Heads.aside_head, proofs.Heads.item_head, proofs.Heads.head_content, proofs.Heads.head_sound, proofs.Heads.sound_after}
+use Rattle.beldi_row.{specs.declared.notes.Note.Note, specs.declared.notes.Note.TheVariants.Died, specs.declared.row.Cell.Cell, specs.declared.row.Row.Row, specs.declared.act.Act.Act, specs.declared.act.Act.TheVariants.Look, specs.declared.act.Act.TheVariants.MakeCell, specs.declared.table.TableErr.TableErr, specs.declared.table.TableErr.TheVariants.OutOfMemory, specs.declared.table.TableErr.TheVariants.Failed, specs.declared.table.TableErr.TheVariants.Full, specs.Key.RowKey, specs.Key.key_cmp, specs.Log.note_at, specs.Table.Rows, specs.Table.after_act, proofs.Gets.got, proofs.Gets.key_self, proofs.Logs.note_here, proofs.Logs.once_pushed, proofs.Tells.tells_map, proofs.Unchanged.left}
+use Rattle.beldi_chain.{specs.Chain.IsHead, specs.Chain.Sound, specs.Chain.chain, specs.Chain.content, specs.Content.SoundAt, specs.Content.content_in, proofs.Heads.alone_by, proofs.Heads.aside_head, proofs.Heads.item_head, proofs.Heads.head_content, proofs.Heads.head_sound, proofs.Heads.sound_after, specs.Content.Content}
 use Rattle.beldi_walk.{specs.Query.Told, specs.Query.said, specs.Query.rows_after, specs.Query.told_by, specs.Query.CameOn, proofs.Looks.look_stands, proofs.Looks.never_full}
 use Rattle.beldi_daal.specs.Cell.{op_act, done_note, write_asks, write_goes, cell_goes, got_or_held, in_the_way}
 use Rattle.beldi_daal.specs.Logged.{note_after, value_after, owner_after, waited, died_of, dies, held_by, unless_owned, barred, done_to, died_at, DidAs, Logs, LoggedTurn, WritesAreLogged, ReadsContent, ReadTurn, ReadsAreContents}
@@ -153,6 +153,39 @@ module _ (w : WriteWalk) (m n : Rows) (sound : Sound (chain m (walk_key w))) whe
       → LoggedTurn w m n (walk_so (write_goes (done_note w.op) (told_by (write_asks (walk_key w) w.place w.who w.op at) now m)))
   by_op Try now is = by_act (op_act w.place w.who w.op) now is (tried w.place w.who now w.op (map.get m (walk_key w)) fits_now)
   by_op Make now is = by_act (MakeCell Null None) now is (made w.place w.who w.op now (map.get m (walk_key w)) fits_now)
+
+-- ---- where the place has its note, no row changes
+module _ (p : Place) (who : Owner) (now : ℕ) (note : Note) where
+  noted_cell : (c : Cell) (z : Cell × Tell) → note_at c.log p ≡ Some note → (at_tail p c z).0 ≡ c
+  noted_cell c z is = ap (λ o. (noted_or c o (next_or c c.next z)).0) is
+
+  noted_entry : (op : CellOp) (c : Cell) (t : Tell) → note_at c.log p ≡ Some note → (at_tail p c (unless_held who c (entered p (note_after op c.value) (value_after op c.value) (owner_after op who c.owner) c, t))).0 ≡ c
+  noted_entry op c t is = noted_cell c (unless_held who c (entered p (note_after op c.value) (value_after op c.value) (owner_after op who c.owner) c, t)) is
+
+  on_noted : (op : CellOp) (c : Cell) → note_at c.log p ≡ Some note → (act (op_act p who op) now (Some (Row.Cell c))).0 ≡ Some (Row.Cell c)
+  on_noted (Write v) c is = ap (λ x. Some (Row.Cell x)) (noted_entry (Write v) c did is)
+  on_noted (Cond r o v) c is = ap (λ x. Some (Row.Cell x)) (noted_entry (Cond r o v) c (tested (passes c.value r o)) is)
+  on_noted Lock c is = ap (λ x. Some (Row.Cell x)) (noted_cell c (owned_or p who c (other_owner who c.owner) (entered p (note_after Lock c.value) c.value (Some who) c, did)) is)
+  on_noted (Free v) c is = ap (λ x. Some (Row.Cell x)) (noted_cell c (if_owned who c (entered p (note_after (Free v) c.value) (value_after (Free v) c.value) None c, did)) is)
+
+  try_noted : (op : CellOp) (r : Option Row) → note_at (content_in r).notes p ≡ Some note → (act (op_act p who op) now r).0 ≡ r
+  try_noted op None is = cc
+  try_noted op (Some (Row.Cell c)) is = on_noted op c is
+  try_noted op (Some r) is = cc
+
+  make_noted : (r : Option Row) → note_at (content_in r).notes p ≡ Some note → (act (MakeCell Null None) now r).0 ≡ r
+  make_noted None is = cc
+  make_noted (Some r) is = refl
+
+pub noted_stays : (w : WriteWalk) (m : Rows) → Sound (chain m (walk_key w)) → (note : Note) → note_at (content (chain m (walk_key w))).notes w.place ≡ Some note → (at : WriteAt) (now : ℕ) → rows_after (write_asks (walk_key w) w.place w.who w.op at) now m ≡ m
+noted_stays w m sound note is at now = by_at at
+  where
+    here : note_at (content_in (map.get m (walk_key w))).notes w.place ≡ Some note
+    here = ap (λ (c : Content). note_at c.notes w.place) (sym (head_content m (walk_key w) (first_head w.home w.item) sound)) ∙ is
+
+    by_at : (at : WriteAt) → rows_after (write_asks (walk_key w) w.place w.who w.op at) now m ≡ m
+    by_at Try = left (op_act w.place w.who w.op) now (walk_key w) m (map.get m (walk_key w)) refl (try_noted w.place w.who now note w.op (map.get m (walk_key w)) here)
+    by_at Make = left (MakeCell Null None) now (walk_key w) m (map.get m (walk_key w)) refl (make_noted w.place w.who now note (map.get m (walk_key w)) here)
 
 pub writes_are_logged : WritesAreLogged
 writes_are_logged w x now old new s (Ok t, h, c) = tells_map {P = λ m n. CameOn (walk_asks w) now old.room (Ok t) m n} {Q = λ m n. Sound (chain m (walk_key w)) → LoggedTurn w m n s} old.rows new.rows

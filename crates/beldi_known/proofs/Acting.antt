@@ -1,8 +1,8 @@
 -- Each act inside an open transaction, among all others: what shadows show is kept, and what is known stays beside the plain state.
 use Rattle.beldi_plain.specs.Piece.{is_owner}
-use Rattle.beldi_known.proofs.Names.{AllGot, AllShow, Answer, Bool, CallsGo, Cause, ChangedAlone, DeathsGo, Deployment, Effect, FirstRowsGo, Goes, Got, Instance, IntentId, IsAnswer, IsFront, IsIn, IsSound, Item, Items, Known, Line, List, LockedOut, Move, None, OnItem, OpenTx, Outcome, PlainState, ReadsGo, Rel, ReturnsGo, Row, Rows, RowsGo, SameShadows, Sane, ShadowShows, Shadows, Shows, Some, TestsGo, Tx, TxId, Txs, Value, WritesGo, aborted, and_right, answer_by, answer_inside, answer_of, ap, at_once, begins, callee_in, callee_of, calls_at, child_of, child_same, cond, did, effect_of, elsewhere, end_of, ended, ended_by, eq_by_cmp_equiv, equal, false, false_from_ne_true, fell, got_before, got_by, has_callees, id_cmp, id_total, if◌then◌else◌, inl, inr, is_aborted, is_edge, is_eq, is_item, is_on, is_some, is_writing, item_cmp, item_in, item_of, item_total, items_after, items_by, length, log_key, made_set, moved, new_member, none_by, not_own, not_owner, op_of, or_null, or_old, or_own, or_right, passes, place_of, plain, plain_set, refl, same_some, set_row, sets, shadow_chain, shadow_key, shadow_of, shadow_row, subst, sym, tail, tail_value, test_on, tested, tied_itself, touched, true, tx_begun, tx_by, tx_end, tx_now, txs_after, txs_by, value_at, value_in, write, write_on, writes_on, writing_at, ℕ, ◌&&◌, ◌∙◌, ◌≡◌, ◌⊎◌}
+use Rattle.beldi_known.proofs.Names.{AllGot, AllShow, Answer, Bool, CallsGo, Cause, ChangedAlone, DeathsGo, Deployment, Effect, FirstRowsGo, Goes, Got, Instance, IntentId, IsAnswer, IsFront, IsIn, IsSound, Item, Items, KeepsValue, Known, Line, List, LockedOut, Move, None, OnItem, OpenTx, Outcome, PlainState, ReadsGo, Rel, ReturnsGo, Row, Rows, RowsGo, SameShadows, Sane, ShadowShows, Shadows, Shows, Some, TestsGo, Tx, TxId, Txs, Value, WritesGo, aborted, and_right, answer_by, answer_inside, answer_of, ap, at_once, begins, callee_in, callee_of, calls_at, child_of, child_same, cond, did, effect_of, elsewhere, end_of, ended, ended_by, eq_by_cmp_equiv, equal, false, false_from_ne_true, fell, got_before, got_by, has_callees, id_cmp, id_total, if◌then◌else◌, inl, inr, is_aborted, is_edge, is_eq, is_item, is_on, is_some, is_writing, item_cmp, item_in, item_of, item_total, items_after, items_by, length, log_key, made_set, moved, new_member, none_by, not_own, not_owner, op_of, or_null, or_old, or_own, or_right, passes, place_of, plain, plain_set, refl, same_some, set_row, sets, shadow_chain, shadow_key, shadow_of, shadow_row, subst, sym, tail, tail_value, test_on, tested, tied_itself, touched, true, tx_begun, tx_by, tx_end, tx_now, txs_after, txs_by, value_at, value_in, write, write_on, writes_on, writing_at, ℕ, ◌&&◌, ◌∙◌, ◌≡◌, ◌⊎◌}
 use Rattle.beldi_known.proofs.Lines.{alone, alone_callee, called_in, front_in_tx, front_is, in_tx, known_line, member_is, owner_outside, set_cases, owner_alone}
-use Rattle.beldi_known.proofs.Shadows.{more_writes, writing_more, of_row, there_value, others_rows, row_set, got_answered, got_passed, got_still, got_set, shadows_rows}
+use Rattle.beldi_known.proofs.Shadows.{more_writes, writing_more, of_row, shown_again, there_value, others_rows, row_set, got_answered, got_passed, got_still, got_set, shadows_rows}
 use Rattle.beldi_known.proofs.{Acts.aside_apart, Acts.is_shadow, Acts.kind_off, Acts.other_shadows, Acts.same_shadow, Answers.true_false, AtOnce.origin_stays, Frame.at_once_same, Frame.moved_one, FrameAt.known_set, Callers.caller_in, Callers.waits_for, Locks.tx_self, Owns.not_ended, Owns.seen, Owns.unwritten, Steps.GoesOn, Steps.goes_answered, Steps.goes_called, Steps.goes_returned, Told.write_parts, Told.test_parts, Behind.death_of, Cases.by_cases, Operations.kept_or}
 use Rattle.beldi_known.proofs.Names.map
 use Rattle.beldi_known.proofs.Names.operation
@@ -213,9 +213,8 @@ module _ (d : Deployment) (m : Rows) (p : PlainState) (known : Known) (locked : 
     got_own : locked id ≡ true → AllGot d n known locked
     got_own was = got_set d m known locked h.shadows.got s x n own_changed (front_got was)
 
-    first_row : locked id ≡ true → shadow_row m (tx_begun o q) (item_of k t y) ≡ None → ((writes_on (item_of k t y) k.func (effect_of d k) ≡ true) ⊎ ((shadow_of n (tx_begun o q) (item_of k t y)).value ≡ value_at p (item_of k t y)))
-        → Shadows d n p known locked
-    first_row was bare by =
+    first_row : locked id ≡ true → ((writes_on (item_of k t y) k.func (effect_of d k) ≡ true) ⊎ KeepsValue m n (tx_begun o q) (item_of k t y) (value_at p (item_of k t y))) → Shadows d n p known locked
+    first_row was by =
         let one = tx d m p known locked h o q made b in
         let shows = (mine d m p known locked h o q made b).shadows in
         (all_goes d m p known locked h o q made b known n locked (changed_none d p known o q) (λ j y there c apart i is_in l. l) (λ u z other. others_rows m n s x own_changed u z other)
@@ -224,7 +223,10 @@ module _ (d : Deployment) (m : Rows) (p : PlainState) (known : Known) (locked : 
           shadows = row_set m n s x own_changed (λ z r. ShadowShows (is_writing d locked z one.going) r (value_at one.going.state z))
               (of_row (is_writing d locked x one.going) (shadow_row n s x) (value_at one.going.state x) (elim by [
                 | inl e ↦ inl (writing_is d m p known locked h o q made b id k f.made f.inside none free x ∙ (λ i. was i && e i))
-                | inr e ↦ inr (sym (tail_value (shadow_chain n s x)) ∙ e ∙ sym (unwritten d p known h.sane h.plain_sane o q made b one locked x m h.matches bare))
+                | inr z ↦ elim z [
+                  | inl e ↦ inr (sym (tail_value (shadow_chain n s x)) ∙ e.1 ∙ sym (unwritten d p known h.sane h.plain_sane o q made b one locked x m h.matches e.0))
+                  | inr e ↦ shown_again (is_writing d locked x one.going) m n s x (value_at one.going.state x) (shows x) e.0 e.1
+                ]
               ])) (λ z other. shows z);
         }) (got_own was)).shadows
 
@@ -282,9 +284,9 @@ tests_go d m p known locked after id k s t y u w v c n h f out changed was wants
     (ap (λ z. is_some (shadow_row m z x)) (sym h.is) ∙ there) (subst (λ z. test_on (place_of id (length k.answers)) (Tx z) u w v (shadow_of m z x) ≡ (shadow_of n z x, tested c)) h.is acts)
 
 pub first_rows_go : FirstRowsGo
-first_rows_go d m p known locked id k s t y n h f was changed bare by = let x = item_of k t y in
+first_rows_go d m p known locked id k s t y n h f was changed by = let x = item_of k t y in
     first_row d m p known locked h.sound s.intent h.owner h.made h.begun id k t y (subst (λ z. IsFront d known id k z t y) h.is f) n (subst (λ z. ChangedAlone (shadow_key z x) m n) h.is changed) was
-    (ap (λ z. shadow_row m z x) (sym h.is) ∙ bare) (subst (λ z. (writes_on x k.func (effect_of d k) ≡ true) ⊎ ((shadow_of n z x).value ≡ value_at p x)) h.is by)
+    (subst (λ z. (writes_on x k.func (effect_of d k) ≡ true) ⊎ KeepsValue m n z x (value_at p x)) h.is by)
 
 pub rows_go : RowsGo
 rows_go = shadows_rows

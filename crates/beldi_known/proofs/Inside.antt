@@ -109,11 +109,15 @@ module _ (d : Deployment) (known : Known) (locked : IntentId → Bool) (m : Rows
           ∙ ap (λ b. b && is_item (record { func = q.func; table = o.0; key = o.1 }) q.func (touched (effect_of d q))) (eq-eqb s.begin s.begin refl)
           ∙ ap (is_item (record { func = q.func; table = o.0; key = o.1 }) q.func) touch ∙ ap is_eq (tied_itself item_total (record { func = q.func; table = o.0; key = o.1 }))
 
-  -- the first row of a shadow, without notes, and nobody's
-  pub shadow_made : (s : TxId) (x : Item) (n : Rows) → ChangedAlone (shadow_key s x) m n → IsAside (shadow_chain n s x) → shadow_row m s x ≡ None → (shadow_of n s x).notes ≡ [] → Matches d n known locked
-  shadow_made s x n alone free absent empty = shadow_at d known locked m n s x alone free h.keys h.chains h.asides h.items
-      (by_aside m n s x alone (λ t y. ShadowMatches d known t y (shadow_of n t y)) (λ a. ap (λ ns. note_at ns a) (empty ∙ sym (ap (λ (c : Content). c.notes) none)) ∙ h.shadows s x a)
+  -- a shadow with the same notes, and nobody's
+  pub shadow_kept : (s : TxId) (x : Item) (n : Rows) → ChangedAlone (shadow_key s x) m n → IsAside (shadow_chain n s x) → (shadow_of n s x).notes ≡ (shadow_of m s x).notes → Matches d n known locked
+  shadow_kept s x n alone free same = shadow_at d known locked m n s x alone free h.keys h.chains h.asides h.items
+      (by_aside m n s x alone (λ t y. ShadowMatches d known t y (shadow_of n t y)) (λ a. ap (λ ns. note_at ns a) same ∙ h.shadows s x a)
       (λ t y off. subst (λ z. ShadowMatches d known t y (content z)) (sym (other_aside m n s x alone t y off)) (h.shadows t y))) h.txs
+
+  -- the first row of a shadow, without notes
+  pub shadow_made : (s : TxId) (x : Item) (n : Rows) → ChangedAlone (shadow_key s x) m n → IsAside (shadow_chain n s x) → shadow_row m s x ≡ None → (shadow_of n s x).notes ≡ [] → Matches d n known locked
+  shadow_made s x n alone free absent empty = shadow_kept s x n alone free (empty ∙ sym (ap (λ (c : Content). c.notes) none))
     where
       none : shadow_of m s x ≡ content_in None
       none = no_content (shadow_chain m s x) (sym (one_tail (shadow_chain m s x) (h.asides s x).sound) ∙ absent)

@@ -41,7 +41,7 @@ pub use Rattle.beldi_intent.specs.Intent.{root_key}
 pub use Rattle.beldi_step.specs.{Run.is_waited, Run.place_of, Tables.decision_key, Tables.is_committed, Tables.value_in}
 pub use Rattle.beldi_known.specs.Acts.{Told, did, died, held, held_or, lock_answer, lock_on, lock_or, noted_or, put_lockset, test_on, tested, with_note, write_on}
 pub use Rattle.beldi_known.specs.Frame.{AnswersOne, LockedOut, Owes, OwesSame, lock_in, put, row_added}
-pub use Rattle.beldi_known.specs.InsideLaws.{AbortsAreTries, CallsGo, CommitsArePieces, DeathsGo, FellAt, FirstRowsGo, Goes, HoldersInsideAreMade, IsAbort, IsCommit, IsSound, OpensAreOpen, ReadsGo, ReleasesList, ReturnsGo, RowsGo, TestsGo, WritesGo, item_of, last_answer}
+pub use Rattle.beldi_known.specs.InsideLaws.{AbortsAreTries, CallsGo, CommitsArePieces, DeathsGo, FellAt, FirstRowsGo, Goes, HoldersInsideAreMade, IsAbort, IsCommit, IsSound, KeepsValue, OpensAreOpen, ReadsGo, ReleasesList, ReturnsGo, RowsGo, TestsGo, WritesGo, item_of, last_answer}
 pub use Rattle.beldi_known.specs.Known.{Got, Known, Prefix, ahead_by, ahead_note, and_once, answer_at_once, answered_note, asks_lock, at_once, at_step, begins_at, commit_in, decision_by, ended_at, ended_by, got_before, got_by, is_decided, is_item, is_mark, is_on, is_tx, last_step, lock_note, lockset_of, moved, moved as answered_on, moved as goes_on, note_by, note_or, once, once_if, owed_call, owed_lockset, owed_note, owed_read, owed_shadow, owed_value, read_at, row_at, run_on, run_once, shadow_at, shadow_by, tx_end, tx_eq, value_or, write_op}
 pub use Rattle.beldi_known.specs.Matches.{ItemMatches, LockedAt, LockedAtEnds, LockedIf, LocksetMatches, Matches, RowMatches, ShadowMatches, TxsMatch, has_ended, is_open, lockset_ahead}
 pub use Rattle.beldi_known.specs.Rows.{BodyMatches, CallMatches, CalleeBodyMatches, CalleeMatches, EndsRow, FinishMatches, IntentMatches, IsBodyOf, IsCalleeRow, IsRootRow, LogMatches, OutcomeMatches, RootMatches, tx_in}

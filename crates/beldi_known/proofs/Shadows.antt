@@ -1,5 +1,5 @@
 -- Rows of shadows, those of one at a time, and what they show; and who got the items that have one.
-use Rattle.beldi_known.proofs.Names.{AllGot, Answer, Bool, ChangedAlone, Deployment, Got, Instance, IntentId, Item, Known, LockedOut, None, Option, PlainState, Row, RowKey, Rows, SameShadows, ShadowShows, Shadows, Some, TxId, Value, and_right, ap, arith, content_in, effect_of, false, false_from_ne_true, got_before, got_by, inl, inr, is_aborted, is_eq, is_item, is_on, is_some, is_tx, is_writing, item_cmp, item_total, key_cmp, key_same, moved, no_tail, not, refl, shadow_chain, shadow_key, shadow_row, subst, sym, tail, tied_itself, touched, true, tx_begun, tx_now, value_at, writes_on, writing_at, ◌&&◌, ◌||◌, ◌∙◌, ◌≡◌, ◌⊎◌}
+use Rattle.beldi_known.proofs.Names.{AllGot, Answer, Bool, ChangedAlone, Deployment, Got, Instance, IntentId, Item, Known, LockedOut, None, Option, PlainState, Row, RowKey, Rows, SameShadows, ShadowShows, Shadows, Some, TxId, Value, and_right, ap, arith, content_in, effect_of, false, false_from_ne_true, got_before, got_by, inl, inr, is_aborted, is_eq, is_item, is_on, is_some, is_tx, is_writing, item_cmp, item_total, key_cmp, key_same, moved, no_tail, not, refl, shadow_chain, shadow_key, shadow_of, shadow_row, subst, sym, tail, tail_value, tied_itself, touched, true, tx_begun, tx_now, value_at, writes_on, writing_at, ◌&&◌, ◌||◌, ◌∙◌, ◌≡◌, ◌⊎◌}
 use Rattle.beldi_known.proofs.{Acts.by_item, Acts.other_aside, Acts.shadow_same, Answers.true_false, Frame.moved_one, FrameAt.known_set, Cases.by_cases}
 use Rattle.beldi_known.proofs.Names.map
 
@@ -18,6 +18,15 @@ pub there_value : (o : Option Row) (v : Value) → ShadowShows false o v → is_
 there_value None v h is = cc
 there_value (Some r) v (inl e) is = cc
 there_value (Some r) v (inr e) is = e
+
+-- a shadow that is there keeps its value
+pub shown_again : (b : Bool) (m n : Rows) (t : TxId) (x : Item) (v : Value) → ShadowShows b (shadow_row m t x) v → is_some (shadow_row m t x) ≡ true → (shadow_of n t x).value ≡ (shadow_of m t x).value → (b ≡ true) ⊎ ((content_in (shadow_row n t x)).value ≡ v)
+shown_again b m n t x v shows there same = by_row (shadow_row m t x) shows there (tail_value (shadow_chain m t x))
+  where
+    by_row : (o : Option Row) → ShadowShows b o v → is_some o ≡ true → (shadow_of m t x).value ≡ (content_in o).value → (b ≡ true) ⊎ ((content_in (shadow_row n t x)).value ≡ v)
+    by_row None shows there held = cc
+    by_row (Some r) (inl e) there held = inl e
+    by_row (Some r) (inr e) there held = inr (sym (tail_value (shadow_chain n t x)) ∙ same ∙ held ∙ e)
 
 -- where locks are taken more may be written
 pub writing_more : (d : Deployment) (locked after : IntentId → Bool) (x : Item) (i : IntentId) (o : Option Instance) → (locked i ≡ true → after i ≡ true) → writing_at d locked x i o ≡ true → writing_at d after x i o ≡ true

@@ -64,10 +64,14 @@ TestsGo = (d : Deployment) (m : Rows) (p : PlainState) (known : Known) (locked a
     → ChangedAlone (shadow_key s (item_of k t y)) m n → locked id ≡ true → effect_of d k ≡ Effect.CondWrite t y u w v → is_some (shadow_row m s (item_of k t y)) ≡ true → test_on (place_of id (length k.answers)) (Tx s) u w v (shadow_of m s (item_of k t y)) ≡ (shadow_of n s (item_of k t y), tested b)
     → Goes d n p (map.insert known id (moved d id k (Answer.Value (Value.Bool b)))) after
 
--- the first row of its shadow is made: for a write, or with the plain value
+-- the first row of a shadow is made, with this value, or a shadow that is there keeps its value
+abbrev pub KeepsValue : Rows → Rows → TxId → Item → Value → Type 0
+KeepsValue m n s x v = ((shadow_row m s x ≡ None) × ((shadow_of n s x).value ≡ v)) ⊎ ((is_some (shadow_row m s x) ≡ true) × ((shadow_of n s x).value ≡ (shadow_of m s x).value))
+
+-- the rows of its shadow change before it is answered: for a write, or with the plain value
 abbrev pub FirstRowsGo : Type 0
 FirstRowsGo = (d : Deployment) (m : Rows) (p : PlainState) (known : Known) (locked : IntentId → Bool) (id : IntentId) (k : Instance) (s : TxId) (t : ℕ) (y : List ℕ) (n : Rows) → IsOpen d m p known locked s → IsFront d known id k s t y → locked id ≡ true
-    → ChangedAlone (shadow_key s (item_of k t y)) m n → shadow_row m s (item_of k t y) ≡ None → ((writes_on (item_of k t y) k.func (effect_of d k) ≡ true) ⊎ ((shadow_of n s (item_of k t y)).value ≡ value_at p (item_of k t y))) → Shadows d n p known locked
+    → ChangedAlone (shadow_key s (item_of k t y)) m n → ((writes_on (item_of k t y) k.func (effect_of d k) ≡ true) ⊎ KeepsValue m n s (item_of k t y) (value_at p (item_of k t y))) → Shadows d n p known locked
 
 -- all other rows, and locks that are taken
 abbrev pub RowsGo : Type 0

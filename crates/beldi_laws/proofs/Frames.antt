@@ -1,5 +1,5 @@
 -- What an event keeps for the runs of others: a frame, of a row that is set.
-use Rattle.beldi_laws.proofs.Names.{Bool, ByTx, CellOp, ChangedAlone, Content, Deployment, DoneRows, Frame, Instance, IntentId, IsFreeFor, IsOf, IsWriting, Item, Kind, Known, List, None, Note, Option, Place, PlainState, Query, Row, RowKey, Rows, SameShadows, Some, StillOwns, TookPart, TxId, Value, [], act, ap, arith, aside_head, by_item, chain_off, cond, content, content_of, ended, false, free_after, func_called, has_finish, head_key, if◌then◌else◌, invoke_key, is_data, is_eq, is_shadow, is_some, item_aside, item_cmp, item_head, item_same, key_cmp, key_in, key_same, key_self, kind_off, kinds_apart, known_set, lockset_key, log_key, no_tx, note_after, note_at, note_pushed, notes_stay, option_map, or_null, or_old, other_aside, other_item, other_shadows, place_eq, place_same, plain_set, refl, row_got, rows_after, same_data, same_shadow, same_some, set_if, set_others, set_row, shadow_chain, shadow_key, shadow_same, subst, sym, true, tx_end, value_at, ℕ, ◌++◌, ◌∙◌, ◌∷◌, ◌≡◌}
+use Rattle.beldi_laws.proofs.Names.{Bool, ByTx, CellOp, ChangedAlone, Content, Deployment, DoneRows, Frame, Instance, IntentId, IsFreeFor, IsOf, IsWriting, Item, Kind, Known, List, None, Note, Option, Place, PlainState, Query, Row, RowKey, Rows, SameShadows, Some, Sound, StillOwns, TookPart, TxId, Value, [], act, ap, arith, aside_head, by_item, chain_off, cond, content, content_of, ended, false, free_after, func_called, has_finish, head_key, head_tail, if◌then◌else◌, invoke_key, is_data, is_eq, is_shadow, is_some, item_aside, item_cmp, item_head, item_same, key_cmp, key_in, key_same, key_self, kind_off, kinds_apart, known_set, lockset_key, log_key, no_tx, note_after, note_at, note_pushed, notes_stay, option_map, or_null, or_old, other_aside, other_item, other_shadows, place_eq, place_same, plain_set, refl, row_got, rows_after, same_data, same_shadow, same_some, set_if, set_others, set_row, shadow_chain, shadow_key, shadow_row, shadow_same, subst, sym, true, tx_end, value_at, ℕ, ◌++◌, ◌∙◌, ◌∷◌, ◌≡◌}
 use Rattle.beldi_laws.proofs.Cases.{false_by}
 use Rattle.beldi_laws.proofs.Names.map
 
@@ -69,6 +69,10 @@ module _ (m n : Rows) (k : RowKey) (same : (l : RowKey) → is_eq (key_cmp l k) 
 -- no row goes
 abbrev pub RowsStay : Rows → Rows → Type 0
 RowsStay m n = (l : RowKey) → is_some (map.get m l) ≡ true → is_some (map.get n l) ≡ true
+
+-- a shadow that is there stays
+pub aside_stays : (m n : Rows) (t : TxId) (x : Item) → Sound (shadow_chain m t x) → Sound (shadow_chain n t x) → RowsStay m n → is_some (shadow_row m t x) ≡ true → is_some (shadow_row n t x) ≡ true
+aside_stays m n t x was now stay there = let head = aside_head t x in ap is_some (head_tail n (shadow_key t x) head now) ∙ stay (shadow_key t x) (sym (ap is_some (head_tail m (shadow_key t x) head was)) ∙ there)
 
 -- no query takes a row away
 pub query_keeps : (q : Query) (now : ℕ) (m : Rows) → RowsStay m (rows_after q now m)

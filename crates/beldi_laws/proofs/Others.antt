@@ -1,7 +1,7 @@
 -- What the runs of others have found in the rows stays, through an event that keeps its frame.
 use Rattle.beldi_txn.specs.Tx.{op_of}
-use Rattle.beldi_laws.proofs.Names.{Answer, Async, AtStage, Begun, Beside, Bool, ByTx, Call, CondWrite, Content, Core, DecidedAt, Deployment, Effect, End, EndAt, EndWalk, Entry, Found, Frame, Goes, Grown, Grows, HasLock, InItem, InOperation, Inside, Instance, IntentId, IsDecided, IsWriting, Item, Known, Knows, List, LockedAtEnds, Matches, None, Note, OpenTx, Option, Outcome, Own, Place, PlainState, Read, Released, Return, Right, Row, Rows, Run, RunTx, Sane, Some, Stage, TxAt, TxId, Txs, Value, Visit, Visited, [], ahead_by, along, along_append, ap, append-nil, append_assoc, arith, aside_head, begin_of, child_of, content_of, effect_after, effect_of, end_of, end_walk, ended_by, ended_stays, eq-eqb, false, few_answers, front_is, got_before, got_by, head_tail, if◌then◌else◌, in_tx, is_at, is_begin, is_eq, is_item, is_on, is_opened, is_past, is_sent, is_some, item_total, key_in, last_step, length, length-append, listed, lockset_key, log_key, no_decision, none_begun, note_at, note_is_ahead, now_open, place_of, plain_owner, refl, same_some, shadow_key, shadow_row, subst, sym, tail, tied_itself, touched, true, true_false, tx_after, tx_end, tx_now, tx_of, tx_self, txs_after, txs_by, txs_pushed, value_at, value_in, ℕ, ◌&&◌, ◌++◌, ◌<◌, ◌||◌, ◌∙◌, ◌∷◌, ◌≡◌}
-use Rattle.beldi_laws.proofs.{Closing.settled_after, Frames.NoFinish, Grown.tx_stays, InTx.no_begin, InTx.wants_one, Lives.PlacesOn, Lives.keeps_still, Lives.made_stays, Lives.no_more, Lives.outcome_stays, Lives.stands_still, OpenOf.open_begun, OpenOf.own_begin, OpenOf.tx_open, Moves.Kept, Shown.Settled, Shown.Shows, Shown.legal_sane, Turns.all_here, Turns.at_steps, Turns.by_answer, Turns.effect_next, Turns.step_here, Turns.wanted_here, Visits.visit_stays}
+use Rattle.beldi_laws.proofs.Names.{Answer, Async, AtStage, Begun, Beside, Bool, ByTx, Call, CondWrite, Content, Core, DecidedAt, Deployment, Effect, End, EndAt, EndWalk, Entry, Found, Frame, Goes, Grown, Grows, HasLock, InItem, InOperation, Inside, Instance, IntentId, IsDecided, IsWriting, Item, Known, Knows, List, LockedAtEnds, Matches, None, Note, OpenTx, Option, Outcome, Own, Place, PlainState, Read, Released, Return, Right, Row, Rows, Run, RunTx, Sane, Some, Stage, TxAt, TxId, Txs, Value, Visit, Visited, [], ahead_by, along, along_append, ap, append-nil, append_assoc, arith, begin_of, child_of, content_of, effect_after, effect_of, end_of, end_walk, ended_by, ended_stays, eq-eqb, false, few_answers, front_is, got_before, got_by, if◌then◌else◌, in_tx, is_at, is_begin, is_eq, is_item, is_on, is_opened, is_past, is_sent, is_some, item_total, key_in, last_step, length, length-append, listed, lockset_key, log_key, no_decision, none_begun, note_at, note_is_ahead, now_open, place_of, plain_owner, refl, same_some, shadow_row, subst, sym, tail, tied_itself, touched, true, true_false, tx_after, tx_end, tx_now, tx_of, tx_self, txs_after, txs_by, txs_pushed, value_at, value_in, ℕ, ◌&&◌, ◌++◌, ◌<◌, ◌||◌, ◌∙◌, ◌∷◌, ◌≡◌}
+use Rattle.beldi_laws.proofs.{Closing.settled_after, Frames.NoFinish, Frames.aside_stays, Grown.tx_stays, InTx.no_begin, InTx.wants_one, Lives.PlacesOn, Lives.keeps_still, Lives.made_stays, Lives.no_more, Lives.outcome_stays, Lives.stands_still, OpenOf.open_begun, OpenOf.own_begin, OpenOf.tx_open, Moves.Kept, Shown.Settled, Shown.Shows, Shown.legal_sane, Turns.all_here, Turns.at_steps, Turns.by_answer, Turns.effect_next, Turns.step_here, Turns.wanted_here, Visits.visit_stays}
 use Rattle.beldi_laws.proofs.Names.map
 use Rattle.beldi_laws.proofs.Names.plain
 
@@ -196,7 +196,7 @@ module _ (d : Deployment) (c : Core) (m n : Rows) (h : Right d c m) (q : PlainSt
         where
           -- a shadow that is there stays
           there_still : is_some (shadow_row m tx item) ≡ true → is_some (shadow_row n tx item) ≡ true
-          there_still was = let head = aside_head tx item in ap is_some (head_tail n (shadow_key tx item) head (shows.rows.asides tx item).sound) ∙ frame.rows (shadow_key tx item) (sym (ap is_some (head_tail m (shadow_key tx item) head (h.rows.asides tx item).sound)) ∙ was)
+          there_still = aside_stays m n tx item (h.rows.asides tx item).sound (shows.rows.asides tx item).sound frame.rows
 
           front : (y : Instance) → map.get next r.id ≡ Some y → length y.answers ≡ g.machine.steps → k.answers ≡ j.answers
           front y there short =

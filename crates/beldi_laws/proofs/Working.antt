@@ -1,11 +1,16 @@
--- The turns of an operation inside a transaction, past its lock: it looks at its shadow and at the item, keeps what it read, and makes and writes its shadow.
-use Rattle.beldi_chain.proofs.Heads.{sound_after}
-use Rattle.beldi_daal.specs.declared.{cell.WriteAt.TheVariants.Try, walk.Item.TheVariants.Shadow}
-use Rattle.beldi_txn.specs.Tx.{item_goes, note_goes}
-use Rattle.beldi_laws.proofs.Names.{Answer, Begun, Bool, ByTx, Cause, CellOp, ChangedAlone, Content, Core, Deployment, DidAs, Effect, Fits, Found, Frame, Goes, InItem, InOperation, Inside, IntentId, IsAnswer, IsFront, IsOpen, Item, Kind, Known, Knows, List, LockedOut, Logs, Look, Make, MakeCell, Matches, None, Note, Option, Owner, Place, PutRead, Query, ReadGoes, Rel, Right, Row, RowKey, Rows, Run, RunTx, Sane, Says, Some, Sound, SoundAt, Stage, Tell, TxAt, TxId, Value, WriteAt, WriteGoes, [], act, ahead_set, alone_by, ap, arith, aside_head, aside_key, barred, begin_of, begun_lists, behind_locks, behind_looks, behind_tests, behind_writes, by_op, content, content_in, content_of, death_in, decision_key, did, dies, done_note, done_to, effect_of, false, first_rows_go, got_begun, grows_self, head_content, head_goes, head_key, head_made, head_tail, held_by, held_or, id_cmp, id_total, if◌then◌else◌, inl, inr, is_begin, is_eq, is_some, item_aside, item_head, item_leads, keep_goes, length, listed, listed_open, listed_under, lock_answer, lock_or, lockset_key, log_key, looked, moved, no_log, no_shadow_note, note_after, note_at, note_here, noted, noted_or, op_act, other_owner, passes, place_of, read_goes, read_inside, reads_go, refl, root_key, rows_after, said, sane_read, sane_tested, sane_wrote, set_here, set_others, set_row, shadow_chain, shadow_key, shadow_lists, shadow_made, shadow_of, shadow_read, shadow_row, shadow_told, shadow_value, subst, sym, test_inside, test_on, tested, tests_go, tied_itself, told_by, touched, true, turn_next, turned_by, tx_after, tx_here_asks, tx_here_says, tx_now, tx_of, tx_says, unchanged, undecided, value_at, value_in, walk_so, write_goes, write_inside, write_leads, write_on, writes_go, writes_on, ℕ, ◌++◌, ◌∙◌, ◌∷◌, ◌≡◌, ◌⊎◌}
-use Rattle.beldi_laws.proofs.Frames.{NoFinish, NobodyJoins, RowsStay, frame_log, frame_shadow, items_stay, no_finish, nobody_new, nobody_set, none_finish, query_keeps}
+-- The turns of an operation inside a transaction, past its lock: it looks at its shadow and at the item, keeps what it read, and makes and
+-- writes its shadow. What such a turn leaves of them is the law of its turns (`Turned`): no row is opened here.
+use Rattle.beldi_row.specs.{Act.absent, Act.added, Act.here as row_here, Act.present}
+use Rattle.beldi_known.{specs.Contents.IsAside, specs.InsideLaws.KeepsValue, proofs.Inside.shadow_kept}
+use Rattle.beldi_chain.proofs.Heads.{same_rows}
+use Rattle.beldi_txn.specs.{TxTurn.AsideMoves, TxTurn.HasLock, TxTurn.ShadowMoves, TxTurn.is_going, TxTurn.key_asked, TxWalk.said_of, declared.tx.TxGoes.TxGoes}
+use Rattle.beldi_txn.proofs.TxTurn.{Leads as Turned, turns}
+use Rattle.beldi_daal.specs.declared.cell.WriteAt.TheVariants.{Try}
+use Rattle.beldi_txn.specs.Tx.{item_goes, note_goes, tx_goes}
+use Rattle.beldi_laws.proofs.Names.{Answer, Begun, Bool, ByTx, Cause, CellOp, ChangedAlone, Content, Core, Deployment, Effect, Fits, Found, Frame, Goes, InItem, InOperation, Inside, IntentId, IsAnswer, IsFront, IsOpen, Item, Kind, Known, Knows, List, LockedOut, Look, MakeCell, Matches, None, Note, Option, Owner, Place, PutRead, Query, ReadGoes, Rel, Right, Row, RowKey, Rows, Run, RunTx, Sane, Says, Some, Sound, Stage, Told, TxAt, TxId, Value, WriteAt, WriteGoes, [], act, ahead_set, ap, arith, aside_key, asked, begin_of, begun_lists, behind_locks, behind_looks, behind_tests, behind_writes, content, content_of, death_in, decision_key, did, done_to, effect_of, false, first_rows_go, got_begun, grows_self, head_goes, head_key, head_made, held_or, id_cmp, id_total, if◌then◌else◌, inl, inr, is_begin, is_eq, is_some, item_asks, item_leads, keep_goes, length, listed, listed_open, listed_under, lock_answer, lock_or, lockset_key, log_key, looked, moved, no_log, no_shadow_note, note_after, note_at, note_here, noted, noted_or, other_owner, passes, place_of, read_goes, read_inside, reads_go, refl, root_key, rows_after, said, sane_read, sane_tested, sane_wrote, set_others, set_row, shadow_chain, shadow_key, shadow_lists, shadow_made, shadow_of, shadow_read, shadow_row, shadow_value, subst, sym, test_inside, test_on, tested, tests_go, tied_itself, told_by, touched, true, turn_next, turned_by, tx_after, tx_here_asks, tx_here_says, tx_now, tx_of, tx_says, unchanged, undecided, value_at, value_in, write_asks, write_goes, write_inside, write_leads, write_on, writes_go, writes_on, ℕ, ◌++◌, ◌∙◌, ◌∷◌, ◌≡◌, ◌⊎◌}
+use Rattle.beldi_laws.proofs.Frames.{NoFinish, NobodyJoins, RowsStay, aside_stays, frame_log, frame_shadow, items_stay, no_finish, nobody_new, nobody_set, none_finish, query_keeps}
 use Rattle.beldi_laws.proofs.InTx.{frees_none, open_still, item_self, goes_at, replays, set_roots, same_item, effect_so, wants_here, short, known_answers, answers_so, at_front, now, tx_is, front, apart, opened as opened_here, owned as owned_here, was_locked}
-use Rattle.beldi_laws.proofs.{Settling.settled_operated, Grown.grown_moved, Grown.grows_moved, Grown.moved_more, Keeping.as_it_was, Moves.AfterQuery, Moves.AfterTurn, Moves.SameRoots, Moves.Kept, Others.kept_moving, Shown.settled, Turns.at_steps, Turns.sane_instance, Turns.all_here, Turns.step_here, Turns.answers_on, Turns.stays_on}
+use Rattle.beldi_laws.proofs.{Settling.settled_operated, Grown.grown_moved, Grown.grows_moved, Grown.moved_more, Keeping.as_it_was, Moves.AfterQuery, Moves.AfterTurn, Moves.SameRoots, Moves.Kept, Moves.Stays, Others.kept_moving, Shown.settled, Turns.at_steps, Turns.by_answer, Turns.sane_instance, Turns.all_here, Turns.step_here, Turns.answers_on, Turns.stays_on}
 use Rattle.beldi_laws.proofs.Names.map
 use Rattle.beldi_laws.proofs.Names.maps
 use Rattle.beldi_laws.proofs.Names.txn
@@ -32,25 +37,21 @@ locked_out locked id = record { out = ap (λ b. if is_eq b then false else locke
 note_told : (c : Content) (n : Option Note) (w : Note) → noted_or c n (c, did) ≡ (c, noted w) → n ≡ Some w
 note_told c n w h = grind arith
 
--- nothing bars a write
-unheld : (o : Option Owner) → held_by o ≡ None → o ≡ None
-unheld None h = refl
-unheld (Some o) h = cc
+-- a write that its walk says was done is what its act tells, and so is a test: nobody owns a shadow
+wrote_so : (p : Place) (w : Owner) (v : Value) (c x : Content) → note_at c.notes p ≡ None → c.owner ≡ None → x ≡ done_to p w (CellOp.Write v) c → write_on p w v c ≡ (x, did)
+wrote_so p w v c x none free is = (λ i. noted_or c (none i) (held_or c (other_owner w (free i)) (sym is i, did)))
 
--- a write that its walk says was done is what its act tells, and so is a test
-wrote_so : (p : Place) (w : Owner) (v : Value) (c x : Content) → note_at c.notes p ≡ None → barred (CellOp.Write v) w c.owner ≡ None → x ≡ done_to p w (CellOp.Write v) c → write_on p w v c ≡ (x, did)
-wrote_so p w v c x none free is = (λ i. noted_or c (none i) (held_or c (unheld (other_owner w c.owner) free i) (sym is i, did)))
+tested_so : (p : Place) (w : Owner) (u : Rel) (y v : Value) (c x : Content) → note_at c.notes p ≡ None → c.owner ≡ None → x ≡ done_to p w (CellOp.Cond u y v) c → test_on p w u y v c ≡ (x, tested (passes c.value u y))
+tested_so p w u y v c x none free is = (λ i. noted_or c (none i) (held_or c (other_owner w (free i)) (sym is i, tested (passes c.value u y))))
 
-tested_so : (p : Place) (w : Owner) (u : Rel) (y v : Value) (c x : Content) → note_at c.notes p ≡ None → barred (CellOp.Cond u y v) w c.owner ≡ None → x ≡ done_to p w (CellOp.Cond u y v) c → test_on p w u y v c ≡ (x, tested (passes c.value u y))
-tested_so p w u y v c x none free is = (λ i. noted_or c (none i) (held_or c (unheld (other_owner w c.owner) free i) (sym is i, tested (passes c.value u y))))
+-- the value of a shadow that has one
+value_found : (r : Option Row) (v u : Value) → shadow_value r ≡ Some u → value_in r v ≡ u
+value_found None v u is = cc
+value_found (Some (Row.Cell z)) v u is = maps.same_some is
+value_found (Some r) v u is = cc
 
--- an act that was not done leaves the row
-abbrev is_first : WriteGoes → Bool
-is_first (WriteGoes.Done u first) = first
-is_first s = false
-
-undone : (p : Place) (w : Owner) (op : CellOp) (t : ℕ) (r : Option Row) → is_first (write_goes (done_note op) (said (act (op_act p w op) t r).1)) ≡ false → (act (op_act p w op) t r).0 ≡ r
-undone p w op t r h = grind arith
+same_bool : {a b : Bool} → Value.Bool a ≡ Value.Bool b → a ≡ b
+same_bool same = cc
 
 -- the stages past the lock
 abbrev pub is_past : TxAt → Bool
@@ -68,12 +69,7 @@ record Wrote (m n : Rows) (s : TxId) (y : Item) (p : Place) (op : CellOp) : Type
   pub alone : ChangedAlone (shadow_key s y) m n
   pub sound : Sound (shadow_chain n s y)
   pub none : note_at (shadow_of m s y).notes p ≡ None
-  pub free : barred op (ByTx s) (shadow_of m s y).owner ≡ None
   pub so : shadow_of n s y ≡ done_to p (ByTx s) op (shadow_of m s y)
-
--- the first row of a shadow
-abbrev fresh : Value → Row
-fresh v = Row.Cell (record { value = v; owner = None; log = []; next = None; marked = false; dangled = None })
 
 module _ (d : Deployment) (c : Core) (m : Rows) (i : ℕ) (r : Run) (g : Begun) (h : Right d c m) (live : map.get c.runs i ≡ Some r) (k : Knows d h.known r g) (finds : Inside m h.plain c.book k g.stage)
     (o : RunTx) (tx : g.tx ≡ Some o) (here : tx_after d r.id k.instance k.answers ≡ Some (tx_of r.id r.func o)) where
@@ -111,25 +107,29 @@ module _ (d : Deployment) (c : Core) (m : Rows) (i : ℕ) (r : Run) (g : Begun) 
     unfolding Leaves
     known_again a rest left = replays d c m i r g h live k finds o tx here e is x touch m a rest left (λ u. refl) (as_it_was h)
 
-    -- a row that is as it was
-    still_row : (s : Says) (z : RowKey) (v : Option Row) → map.get m z ≡ v → Leaves s m → Leaves s (set_row m z v)
-    still_row s z v there a = subst (Leaves s) (sym (unchanged m z v (sym there))) a
+    -- ---- what the law of its turns says
+    abbrev Led : TxAt → Query → Rows → TxGoes → Type 0
+    Led a q n z = Turned r.func place own e x.0 x.1 a q m n z
 
-    looked_at : (s : Says) (z : RowKey) → Leaves s m → Leaves s (set_row m z (act Look c.now (map.get m z)).0)
-    looked_at s z a = subst (Leaves s) (sym (looked c.now z m)) a
+    led : (a : TxAt) → Fits e a → HasLock a place (content_of m item) → let q = item_asks r.func place own e x.0 x.1 a in Led a q (rows_after q c.now m) (tx_goes place own.begin e a (told_by q c.now m))
+    led a fits got = turns r.func place own x.0 x.1 e a c.now m (record { item = h.rows.chains item; shadow = (h.rows.asides own item).sound; unowned = (h.rows.asides own item).unowned; fits = fits; locked = got })
 
-    -- what it finds in the item is the item's own value
-    item_found : ((u : Value) → u ≡ (content_of m item).value → Leaves (tx_says TxAt.Item (item_leads e u)) m) → Leaves (tx_says TxAt.Item (item_goes e (read_goes None (said (act Look c.now (map.get m (head_key item))).1)))) (set_row m (head_key item) (act Look c.now (map.get m (head_key item))).0)
-    item_found leads = looked_at (tx_says TxAt.Item (item_goes e (read_goes None (said (act Look c.now (map.get m (head_key item))).1)))) (head_key item)
-        (subst (λ z. Leaves (tx_says TxAt.Item (item_goes e z)) m) (sym (shadow_told c.now (map.get m (head_key item)) (h.rows.chains item).head)) (by_row (map.get m (head_key item)) refl (h.rows.chains item).head))
-      where
-        holds : content_of m item ≡ content_in (map.get m (head_key item))
-        holds = head_content m (head_key item) (item_head item) (h.rows.chains item)
+    -- a Look leaves all rows
+    looks : (a : TxAt) (z : RowKey) (s : TxGoes) → Led a (Query.Act z Look) (rows_after (Query.Act z Look) c.now m) s → (Led a (Query.Act z Look) m s → Leaves (tx_says a s) m) → Leaves (tx_says a s) (rows_after (Query.Act z Look) c.now m)
+    looks a z s l by = subst (Leaves (tx_says a s)) (sym (looked c.now z m)) (by (subst (λ n. Led a (Query.Act z Look) n s) (looked c.now z m) l))
 
-        by_row : (v : Option Row) → map.get m (head_key item) ≡ v → SoundAt v → Leaves (tx_says TxAt.Item (item_goes e (ReadGoes.Got (shadow_value v)))) m
-        by_row None there sound = leads Value.Null (sym (ap (λ (w : Content). w.value) (holds ∙ ap content_in there)))
-        by_row (Some (Row.Cell z)) there sound = leads z.value (sym (ap (λ (w : Content). w.value) (holds ∙ ap content_in there)))
-        by_row (Some v) there sound = absurd sound
+    abbrev ItemLed : TxGoes → Type 0
+    ItemLed s = Led TxAt.Item (Query.Act (head_key item) Look) m s
+
+    by_item : (z : ReadGoes) → ((u : Value) → ItemLed (item_leads e u) → Leaves (tx_says TxAt.Item (item_leads e u)) m) → ItemLed (item_goes e z) → Leaves (tx_says TxAt.Item (item_goes e z)) m
+    by_item ReadGoes.On leads l = stays_here
+    by_item (ReadGoes.Got None) leads l = leads Value.Null l
+    by_item (ReadGoes.Got (Some u)) leads l = leads u l
+    by_item (ReadGoes.Held w) leads l = stays_here
+
+    -- rows of its shadow that it leaves before its answer: of a write, or with the plain value
+    abbrev Changes : Rows → Type 0
+    Changes n = (writes_on item r.func e ≡ true) ⊎ KeepsValue m n own item (value_at h.plain item)
 
     -- ---- behind: the answer that is known
     module _ (a : Answer) (rest : List Answer) (left : k.later ≡ a ∷ rest) where
@@ -204,7 +204,7 @@ module _ (d : Deployment) (c : Core) (m : Rows) (i : ℕ) (r : Run) (g : Begun) 
       plain_there = as_ran (λ y q. (content_of m y).value ≡ value_at h.plain y)
           (sym (listed_open d h.known h.sane m h.locked h.rows r.id k.instance own k.made going off_begin inside its_item (content_of m its_item).value) ∙ ap (λ w. listed_under m its_item w (content_of m its_item).value) (sym owned) ∙ h.values its_item)
 
-      -- ---- what an answer keeps, and the first row of the shadow
+      -- ---- what an answer keeps
       answers_now : (a : Answer) (n : Rows) → SameRoots m n → Kept h n h.plain (next a) after → Leaves (Says.Answers a None) n
       unfolding Leaves
       answers_now a n roots kept =
@@ -242,33 +242,16 @@ module _ (d : Deployment) (c : Core) (m : Rows) (i : ℕ) (r : Run) (g : Begun) 
         written : (a : Answer) → ((z : Cause) → a ≡ Answer.Aborted z → ⊥) → Goes d n h.plain (next a) after → Sane d (next a) → Matches d n (next a) after → Leaves (Says.Answers a None) n
         written a lives goes sane matches = answers_now a n roots (answer_keeps a n lives goes sane matches lists (frame (next a) (joins_none a)) (unfinished (next a)))
 
-        -- it has its first row: for a write, or with the plain value
-        first_made : (v : Value) → map.get n (shadow_key own item) ≡ Some (fresh v) → Sound (shadow_chain n own item) → shadow_row m own item ≡ None → ((writes_on item r.func e ≡ true) ⊎ (v ≡ value_at h.plain item)) → Fits e (TxAt.Write Try)
-            → Found e (TxAt.Write Try) (shadow_row n own item) (value_at h.plain item) → Leaves (Says.On (Stage.Tx (TxAt.Write Try)) None) n
-        unfolding Leaves
-        first_made v row sound none by fits found =
-            let holds : shadow_of n own item ≡ content_in (Some (fresh v)) = head_content n (shadow_key own item) (aside_head own item) sound ∙ ap content_in row in
-            let its_values : (writes_on its_item k.instance.func e ≡ true) ⊎ ((shadow_of n own its_item).value ≡ value_at h.plain its_item) =
-            as_its (λ y q. (writes_on y y.func e ≡ true) ⊎ ((shadow_of n own y).value ≡ value_at h.plain y)) (subst (λ (s : Content). (writes_on item r.func e ≡ true) ⊎ (s.value ≡ value_at h.plain item)) (sym holds) by) in
-            let shadows = first_rows_go d m h.plain h.known h.locked r.id k.instance own x.0 x.1 n opened stands was alone (as_its (λ y q. shadow_row m own y ≡ None) none)
-            (subst (λ z. (writes_on its_item k.instance.func z ≡ true) ⊎ ((shadow_of n own its_item).value ≡ value_at h.plain its_item)) (sym now_is) its_values) in
-            let matches = shadow_made d h.known h.locked m h.rows own item n (as_ran (λ y q. ChangedAlone (shadow_key own y) m n) alone) (record { sound = sound; unowned = ap (λ (s : Content). s.owner) holds }) none (ap (λ (s : Content). s.notes) holds) in
-            goes_at d c m i r g h live k finds o tx here e is x touch (TxAt.Write Try) n h.locked roots
-            (kept_moving h n h.plain h.known h.locked (record { beside = h.beside; shadows = shadows }) h.locked_at_ends h.sane matches (λ y. lists y ∙ h.values y) (settled h) (grows_self h.known) (frame h.known (nobody_new d h.known)) (unfinished h.known))
-            fits (record {
-              begin = tt;
-              asked = λ t. ap is_some (aside_key m n own its_item alone (lockset_key r.id (begin_of o) item) refl) ∙ l.asked;
-              locked = ap (λ f. note_at (content f).notes place) (item_aside m n own its_item alone item) ∙ l.got;
-              found = λ q made there. found;
-            })
+        -- it is not answered yet
+        unanswered : Changes n → Matches d n h.known h.locked → Stays h n
+        unanswered by matches =
+            let goes = subst (λ z. (writes_on its_item k.instance.func z ≡ true) ⊎ KeepsValue m n own its_item (value_at h.plain its_item)) (sym now_is) (as_its (λ y q. (writes_on y y.func e ≡ true) ⊎ KeepsValue m n own y (value_at h.plain y)) by) in
+            kept_moving h n h.plain h.known h.locked (record { beside = h.beside; shadows = first_rows_go d m h.plain h.known h.locked r.id k.instance own x.0 x.1 n opened stands was alone goes }) h.locked_at_ends h.sane matches
+            (λ y. lists y ∙ h.values y) (settled h) (grows_self h.known) (frame h.known (nobody_new d h.known)) (unfinished h.known)
 
   -- ---- a turn
   abbrev Turn : Effect → TxAt → Type 0
   Turn e a = AfterQuery d h.plain c.now m (λ u. turn_next c i r (turned_by d r g (tx_here_says r.id g.machine.steps e a (Some o) u))) (tx_here_asks r.id r.func g.machine.steps e a (Some o))
-
-  -- the last row of its shadow, where a Look or an act finds the first
-  last_row : (y : Item) → shadow_row m own y ≡ map.get m (shadow_key own y)
-  last_row y = head_tail m (shadow_key own y) (aside_head own y) (h.rows.asides own y).sound
 
   -- ---- a read
   module _ (t : ℕ) (key : List ℕ) (is : g.machine.effect ≡ Effect.Read t key) (l : HasLocked m r o g.machine.steps (t, key)) where
@@ -278,32 +261,33 @@ module _ (d : Deployment) (c : Core) (m : Rows) (i : ℕ) (r : Run) (g : Begun) 
     abbrev read_item : Item
     read_item = record { func = r.func; table = t; key = key }
 
-    abbrev aside : RowKey
-    aside = shadow_key own read_item
-
     abbrev log : RowKey
     log = log_key r.func place
 
     -- it looks at its shadow
     shadow_turn : Turn read TxAt.Shadow
     unfolding Leaves
-    shadow_turn = looked_at read is (t, key) refl l (tx_says TxAt.Shadow (shadow_read (read_goes None (said (act Look c.now (map.get m aside)).1)))) aside
-        (subst (λ z. Leaves (tx_says TxAt.Shadow (shadow_read z)) m) (sym (shadow_told c.now (map.get m aside) (h.rows.asides own read_item).sound.head)) (by_row (map.get m aside) (last_row read_item) (h.rows.asides own read_item).sound.head))
+    shadow_turn =
+        let z : ReadGoes = read_goes None (told_by (Query.Act (shadow_key own read_item) Look) c.now m) in
+        looks read is (t, key) refl l TxAt.Shadow (shadow_key own read_item) (shadow_read z) (led read is (t, key) refl l TxAt.Shadow tt l.got) (by z)
       where
-        by_row : (v : Option Row) → shadow_row m own read_item ≡ v → SoundAt v → Leaves (tx_says TxAt.Shadow (shadow_read (ReadGoes.Got (shadow_value v)))) m
-        by_row None there sound = moves_on read is (t, key) refl l TxAt.Item tt (record { begin = tt; asked = λ u. l.asked; locked = l.got; found = λ q made same. there })
-        by_row (Some (Row.Cell z)) there sound = moves_on read is (t, key) refl l (TxAt.Keep z.value) tt (record { begin = tt; asked = λ u. l.asked; locked = l.got; found = λ q made same. ap (λ w. value_in w (value_at h.plain read_item)) there })
-        by_row (Some v) there sound = absurd sound
+        by : (z : ReadGoes) → Led read is (t, key) refl l TxAt.Shadow (Query.Act (shadow_key own read_item) Look) m (shadow_read z) → Leaves (tx_says TxAt.Shadow (shadow_read z)) m
+        by ReadGoes.On s = stays_here read is (t, key) refl l
+        by (ReadGoes.Got None) s = moves_on read is (t, key) refl l TxAt.Item tt (record { begin = tt; asked = λ u. l.asked; locked = l.got; found = λ q made same. s.finds })
+        by (ReadGoes.Got (Some v)) s = moves_on read is (t, key) refl l (TxAt.Keep v) tt (record { begin = tt; asked = λ u. l.asked; locked = l.got; found = λ q made same. value_found (shadow_row m own read_item) (value_at h.plain read_item) v s.finds })
+        by (ReadGoes.Held w) s = stays_here read is (t, key) refl l
 
     -- it looks at the item, where it has no shadow
     item_turn : (k.later ≡ [] → shadow_row m own read_item ≡ None) → Turn read TxAt.Item
     unfolding Leaves
-    item_turn none = item_found read is (t, key) refl l (λ u same. moves_on read is (t, key) refl l (TxAt.Keep u) tt (record {
-      begin = tt;
-      asked = λ w. l.asked;
-      locked = l.got;
-      found = λ q made step. let left = (at_front d c m r g h k o here read is (t, key) refl) q made step in ap (λ w. value_in w (value_at h.plain read_item)) (none left) ∙ sym (plain_there read is (t, key) refl l left) ∙ sym same;
-    }))
+    item_turn none =
+        let z : ReadGoes = read_goes None (told_by (Query.Act (head_key read_item) Look) c.now m) in
+        looks read is (t, key) refl l TxAt.Item (head_key read_item) (item_goes read z) (led read is (t, key) refl l TxAt.Item tt l.got) (by_item read is (t, key) refl l z (λ u s. moves_on read is (t, key) refl l (TxAt.Keep u) tt (record {
+          begin = tt;
+          asked = λ w. l.asked;
+          locked = l.got;
+          found = λ q made step. let left = (at_front d c m r g h k o here read is (t, key) refl) q made step in ap (λ w. value_in w (value_at h.plain read_item)) (none left) ∙ sym (plain_there read is (t, key) refl l left) ∙ sym s.finds;
+        })))
 
     -- it keeps what it found
     module _ (v : Value) (saw : k.later ≡ [] → value_in (shadow_row m own read_item) (value_at h.plain read_item) ≡ v) where
@@ -341,7 +325,7 @@ module _ (d : Deployment) (c : Core) (m : Rows) (i : ℕ) (r : Run) (g : Begun) 
           let there : map.get m log ≡ Some (Row.ReadLog z.0) = as_run read is (t, key) refl l b rest left (λ y p. map.get m (log_key y.func p) ≡ Some (Row.ReadLog z.0))
           (behind_looks d m h.known h.locked h.rows r.id k.instance k.made (sane_instance h k) k.answers b rest (all_known read is (t, key) refl l b rest left) (short d c m r g h k o here read is (t, key) refl) t key z.0
           (effect_so d c m r g h k o here read is (t, key) refl) z.1) in
-          subst Keeps (sym there) (still_row read is (t, key) refl l (Says.Answers (Answer.Value z.0) None) log (Some (Row.ReadLog z.0)) there (subst (λ y. Leaves (Says.Answers y None) m) z.1 (known_again read is (t, key) refl l b rest left)))
+          subst Keeps (sym there) (subst (Leaves (Says.Answers (Answer.Value z.0) None)) (sym (unchanged m log (Some (Row.ReadLog z.0)) (sym there))) (subst (λ y. Leaves (Says.Answers y None) m) z.1 (known_again read is (t, key) refl l b rest left)))
 
       keep_turn : Turn read (TxAt.Keep v)
       unfolding Leaves
@@ -350,82 +334,92 @@ module _ (d : Deployment) (c : Core) (m : Rows) (i : ℕ) (r : Run) (g : Begun) 
   -- ---- a write of the shadow, plain or tested: by its operation, and the answer where it is done
   -- what its shadow has of the known answer, and how that is told
   abbrev HasNote : Effect → ℕ × List ℕ → Answer → Type 0
-  HasNote e x b = (w : Note) × (note_at (shadow_of m own (record { func = r.func; table = x.0; key = x.1 })).notes place ≡ Some w) × (tx_says (TxAt.Write Try) (note_goes e w) ≡ Says.Answers b None)
+  HasNote e x b = (w : Note) × (note_at (shadow_of m own (record { func = r.func; table = x.0; key = x.1 })).notes place ≡ Some w) × ((a : WriteAt) → tx_says (TxAt.Write a) (note_goes e w) ≡ Says.Answers b None)
 
   -- what it does to the shadow, as its instance has that
-  abbrev DoneAt : Effect → ℕ × List ℕ → CellOp → Rows → Type 0
-  DoneAt e x op n = let y : Item = record { func = k.instance.func; table = x.0; key = x.1 } in RowsStay m n → Wrote m n own y (place_of r.id (length k.instance.answers)) op → Leaves (tx_says (TxAt.Write Try) (note_goes e (note_after op (shadow_of m own y).value))) n
+  abbrev DoneAt : Effect → ℕ × List ℕ → CellOp → WriteAt → Rows → Type 0
+  DoneAt e x op w n = let y : Item = record { func = k.instance.func; table = x.0; key = x.1 } in RowsStay m n → Wrote m n own y (place_of r.id (length k.instance.answers)) op → Leaves (tx_says (TxAt.Write w) (note_goes e (note_after op (shadow_of m own y).value))) n
 
-  module _ (e : Effect) (is : g.machine.effect ≡ e) (x : ℕ × List ℕ) (touch : touched e ≡ Some x) (l : HasLocked m r o g.machine.steps x) (op : CellOp) (writes : txn.op_of e ≡ Some op) (alive : (q : Option Owner) → dies (ByTx own) op q ≡ None) (fits : (w : WriteAt) → Fits e (TxAt.Write w))
-      (has_note : (b : Answer) (rest : List Answer) → k.later ≡ b ∷ rest → HasNote e x b) where
+  module _ (e : Effect) (is : g.machine.effect ≡ e) (x : ℕ × List ℕ) (touch : touched e ≡ Some x) (l : HasLocked m r o g.machine.steps x) (op : CellOp) (writes : txn.op_of e ≡ Some op) (has_note : (b : Answer) (rest : List Answer) → k.later ≡ b ∷ rest → HasNote e x b) where
     abbrev aside_of : Item
     aside_of = record { func = r.func; table = x.0; key = x.1 }
 
-    abbrev its : RowKey
-    its = shadow_key own aside_of
+    -- without its note it is at the front, and has none there
+    at_front_by : {P : Type 0} → note_at (shadow_of m own aside_of).notes place ≡ None → (k.later ≡ [] → P) → P
+    at_front_by none new = by_answer k new (λ b rest left. let clash = sym (has_note b rest left).1 ∙ none in cc)
 
-    -- ---- its first row is made, with this value; where it had one, that is left
-    module _ (v : Value) (by : k.later ≡ [] → shadow_row m own aside_of ≡ None → (writes_on aside_of r.func e ≡ true) ⊎ (v ≡ value_at h.plain aside_of)) (found : (z : Option Row) → is_some z ≡ true → Found e (TxAt.Write Try) z (value_at h.plain aside_of))
-        (s : Option Row → Says) (said_none : s None ≡ Says.On (Stage.Tx (TxAt.Write Try)) None) (said_some : (z : Row) → s (Some z) ≡ Says.On (Stage.Tx (TxAt.Write Try)) None) where
-      abbrev made : Option Row → Option Row × Tell
-      made = act (MakeCell v None) c.now
+    none_yet : k.later ≡ [] → note_at (shadow_of m own aside_of).notes place ≡ None
+    none_yet left = as_ran e is x touch l left (λ y p. note_at (shadow_of m own y).notes p ≡ None) (no_shadow_note d m h.known h.locked h.rows r.id k.instance k.made own (record { func = k.instance.func; table = x.0; key = x.1 }))
 
-      abbrev with_first : Rows
-      with_first = set_row m its (made (map.get m its)).0
+    -- a turn that asks its shadow, and changes it
+    module _ (a : TxAt) (q : Query) (asks : key_asked q ≡ shadow_key own aside_of) (s : TxGoes) (t : Led e is x touch l a q (rows_after q c.now m) s) where
+      abbrev left_rows : Rows
+      left_rows = rows_after q c.now m
 
-      makes_by : (z : Option Row) → map.get m its ≡ z → (later : List Answer) → k.later ≡ later → Leaves (s z) with_first
-      makes_by (Some z) there later left = subst (Leaves (s (Some z))) (sym (unchanged m its (made (map.get m its)).0 (ap (λ q. (made q).0) there ∙ sym there))) (subst (λ q. Leaves q m) (sym (said_some z))
-          (moves_on e is x touch l (TxAt.Write Try) (fits Try) (record { begin = tt; asked = λ u. l.asked; locked = l.got; found = λ q made same. found (shadow_row m own aside_of) (ap is_some (last_row aside_of ∙ there)) })))
-      makes_by None none (b ∷ rest) left = let clash = sym (has_note b rest left).1 ∙ ap (λ (s : Content). note_at s.notes place) (head_content m its (aside_head own aside_of) (h.rows.asides own aside_of).sound ∙ ap content_in none) in cc
-      makes_by None none [] left =
-          let others = set_others m its (made (map.get m its)).0 in
-          let row : map.get with_first its ≡ Some (fresh v) = set_here m its (made (map.get m its)).0 ∙ ap (λ q. (made q).0) none in
-          let sound = sound_after m with_first its (aside_head own aside_of) others (h.rows.asides own aside_of).sound (subst SoundAt (sym row) (refl, tt, refl, refl)) in
-          let alone = as_its e is x touch l left (λ y q. ChangedAlone (shadow_key own y) m with_first) (alone_by m with_first its refl others) in
-          subst (λ q. Leaves q with_first) (sym said_none) (first_made e is x touch l left with_first alone (query_keeps (Query.Act its (MakeCell v None)) c.now m) (ap is_some writes) v row sound (last_row aside_of ∙ none) (by left (last_row aside_of ∙ none)) (fits Try)
-          (found (shadow_row with_first own aside_of) (ap is_some (head_tail with_first its (aside_head own aside_of) sound ∙ row))))
+      alone : ChangedAlone (shadow_key own aside_of) m left_rows
+      alone = subst (λ y. ChangedAlone y m left_rows) asks t.others
 
-      makes : Leaves (s (map.get m its)) with_first
-      makes = makes_by (map.get m its) refl k.later refl
+      aside : IsAside (shadow_chain left_rows own aside_of)
+      aside = record { sound = t.stands.shadow; unowned = t.stands.unowned }
 
-    -- ---- it writes: what is said of the shadow, and of its answer
-    module _ (finds_it : (w : WriteAt) → k.later ≡ [] → Found e (TxAt.Write w) (shadow_row m own aside_of) (value_at h.plain aside_of))
-        (done : (left : k.later ≡ []) (n : Rows) → DoneAt e x op n) where
-      -- its place has the note: that is the known answer's
-      was_noted : (u : Note) (later : List Answer) → k.later ≡ later → note_at (shadow_of m own aside_of).notes place ≡ Some u → Leaves (tx_says (TxAt.Write Try) (note_goes e u)) m
-      was_noted u [] left has = let clash = sym has ∙ as_ran e is x touch l left (λ y p. note_at (shadow_of m own y).notes p ≡ None) (no_shadow_note d m h.known h.locked h.rows r.id k.instance k.made own (record { func = k.instance.func; table = x.0; key = x.1 })) in cc
-      was_noted u (b ∷ rest) left has = let q = has_note b rest left in
-          subst (λ s. Leaves s m) (sym q.2 ∙ ap (λ z. tx_says (TxAt.Write Try) (note_goes e z)) (maps.same_some (sym q.1 ∙ has))) (known_again e is x touch l b rest left)
+      same_roots : SameRoots m left_rows
+      same_roots u = ap is_some (aside_key m left_rows own aside_of alone (root_key u) refl)
 
-      module _ (n : Rows) (alone : ChangedAlone its m n) (sound : Sound (shadow_chain n own aside_of)) (stay : RowsStay m n) where
-        -- it had none, and is done
-        is_done : (u : Note) (later : List Answer) → k.later ≡ later → note_at (shadow_of n own aside_of).notes place ≡ Some u → note_at (shadow_of m own aside_of).notes place ≡ None → DidAs place (ByTx own) op None (shadow_of m own aside_of) (shadow_of n own aside_of) → Leaves (tx_says (TxAt.Write Try) (note_goes e u)) n
-        is_done u (b ∷ rest) left has none so = let clash = sym (has_note b rest left).1 ∙ none in cc
-        is_done u [] left has none so =
-            let s : Content = shadow_of m own aside_of in
-            let note : u ≡ note_after op s.value = maps.same_some (sym has ∙ ap (λ (c : Content). note_at c.notes place) so.1 ∙ note_here s.notes place (note_after op s.value) none) in
-            subst (λ z. Leaves (tx_says (TxAt.Write Try) (note_goes e z)) n) (sym (as_its e is x touch l left (λ y p. u ≡ note_after op (shadow_of m own y).value) note))
-            (done left n stay (as_its e is x touch l left (λ y p. Wrote m n own y p op) (record { alone = alone; sound = sound; none = none; free = so.0; so = so.1 })))
+      -- it is not answered: no row changed ..
+      unmoved : shadow_chain left_rows own aside_of ≡ shadow_chain m own aside_of → left_rows ≡ m
+      unmoved = same_rows m left_rows (shadow_key own aside_of) alone
 
-        by_goes : (s : WriteGoes) → (is_first s ≡ false → n ≡ m) → Logs place (ByTx own) op (walk_so s) (shadow_of m own aside_of) (shadow_of n own aside_of) → Leaves (tx_says (TxAt.Write Try) (write_leads e s)) n
-        by_goes (WriteGoes.On w) as_was logs = subst (Leaves (Says.On (Stage.Tx (TxAt.Write w)) None)) (sym (as_was refl))
-            (moves_on e is x touch l (TxAt.Write w) (fits w) (record { begin = tt; asked = λ u. l.asked; locked = l.got; found = λ q made same. finds_it w (at_front d c m r g h k o here e is x touch q made same) }))
-        by_goes (WriteGoes.Done u true) as_was logs = is_done u k.later refl logs.0 logs.1.0 (subst (λ z. DidAs place (ByTx own) op z (shadow_of m own aside_of) (shadow_of n own aside_of)) (alive (shadow_of m own aside_of).owner) logs.1.1)
-        by_goes (WriteGoes.Done u false) as_was logs = subst (Leaves (tx_says (TxAt.Write Try) (note_goes e u))) (sym (as_was refl)) (was_noted u k.later refl (ap (λ (c : Content). note_at c.notes place) (sym logs.1) ∙ logs.0))
-        by_goes WriteGoes.NotOwner as_was logs = subst (Leaves Says.Stays) (sym (as_was refl)) (stays_here e is x touch l)
-        by_goes (WriteGoes.Held u) as_was logs = subst (Leaves Says.Stays) (sym (as_was refl)) (stays_here e is x touch l)
+      stays_unmoved : shadow_chain left_rows own aside_of ≡ shadow_chain m own aside_of → Stays h left_rows
+      stays_unmoved still = subst (Stays h) (sym (unmoved still)) (as_it_was h)
 
-      try_turn : Leaves (tx_says (TxAt.Write Try) (write_leads e (write_goes (done_note op) (said (act (op_act place (ByTx own) op) c.now (map.get m its)).1)))) (set_row m its (act (op_act place (ByTx own) op) c.now (map.get m its)).0)
-      try_turn =
-          let q = Query.Act its (op_act place (ByTx own) op) in
-          let v = (act (op_act place (ByTx own) op) c.now (map.get m its)).0 in
-          let logged = by_op (record { home = r.func; item = Shadow own x.0 x.1; place = place; who = ByTx own; op = op; at = Try }) m (rows_after q c.now m) (h.rows.asides own aside_of).sound Try c.now refl in
-          by_goes (rows_after q c.now m) logged.others logged.sound (query_keeps q c.now m) (write_goes (done_note op) (told_by q c.now m)) (λ other. unchanged m its v (undone place (ByTx own) op c.now (map.get m its) other)) logged.logs
+      -- .. or its shadow has the notes that it had
+      stays_moved : note_at (shadow_of m own aside_of).notes place ≡ None → Matches d left_rows h.known h.locked → (k.later ≡ [] → Changes e is x touch l left_rows) → Stays h left_rows
+      stays_moved none matches by = at_front_by none (λ left. unanswered e is x touch l left left_rows (as_its e is x touch l left (λ y p. ChangedAlone (shadow_key own y) m left_rows) alone) (query_keeps q c.now m) (ap is_some writes) (by left) matches)
+
+      -- how the shadow changed, as the law of the turn says it
+      abbrev Moves : Type 0
+      Moves = (shadow_chain left_rows own aside_of ≡ shadow_chain m own aside_of) ⊎ ((note_at (shadow_of m own aside_of).notes place ≡ None) × AsideMoves (Some op) place (ByTx own) (said_of a s) (shadow_of m own aside_of) (shadow_of left_rows own aside_of))
+
+      stays_by : is_going (said_of a s) ≡ true → (k.later ≡ [] → (shadow_of left_rows own aside_of).value ≡ (shadow_of m own aside_of).value → Changes e is x touch l left_rows) → Moves → Stays h left_rows
+      stays_by on by (inl still) = stays_unmoved still
+      stays_by on by (inr (none, inl still)) = stays_moved none (shadow_kept d h.known h.locked m h.rows own aside_of left_rows alone aside (ap (λ (z : Content). z.notes) still)) (λ left. by left (ap (λ (z : Content). z.value) still))
+      stays_by on by (inr (none, inr wrote)) = let clash = sym on ∙ wrote.1 in cc
+
+      -- so it goes on to a write of its shadow, or stays
+      goes_to : (b : WriteAt) → Stays h left_rows → Fits e (TxAt.Write b) → note_at (content_of left_rows aside_of).notes place ≡ Some Note.Got → (k.later ≡ [] → Found e (TxAt.Write b) (shadow_row left_rows own aside_of) (value_at h.plain aside_of)) → Leaves (Says.On (Stage.Tx (TxAt.Write b)) None) left_rows
+      unfolding Leaves
+      goes_to b kept fits got found = goes_at d c m i r g h live k finds o tx here e is x touch (TxAt.Write b) left_rows h.locked same_roots kept fits (record {
+        begin = tt;
+        asked = λ z. ap is_some (aside_key m left_rows own aside_of alone (lockset_key r.id (begin_of o) aside_of) refl) ∙ l.asked;
+        locked = got;
+        found = λ y made step. found (at_front d c m r g h k o here e is x touch y made step);
+      })
+
+      stays_so : Stays h left_rows → Leaves Says.Stays left_rows
+      unfolding Leaves
+      stays_so = stays_on d c m i r g h live k finds left_rows same_roots
+
+      -- it is answered by the note that its place has then: that of the known answer, or its own
+      answers_by : (w : WriteAt) (u : Note) → note_at (shadow_of left_rows own aside_of).notes place ≡ Some u → ((left : k.later ≡ []) → DoneAt e x op w left_rows) → Moves → Leaves (tx_says (TxAt.Write w) (note_goes e u)) left_rows
+      answers_by w u has done (inl still) = by_answer k
+          (λ left. let clash = sym has ∙ ap (λ f. note_at (content f).notes place) still ∙ none_yet left in cc)
+          (λ b rest left. let z = has_note b rest left in
+          let note : z.0 ≡ u = maps.same_some (sym z.1 ∙ ap (λ f. note_at (content f).notes place) (sym still) ∙ has) in
+          subst (Leaves (tx_says (TxAt.Write w) (note_goes e u))) (sym (unmoved still)) (subst (λ y. Leaves y m) (sym (z.2 w) ∙ ap (λ y. tx_says (TxAt.Write w) (note_goes e y)) note) (known_again e is x touch l b rest left)))
+      answers_by w u has done (inr (none, inl still)) = let clash = sym has ∙ ap (λ (z : Content). note_at z.notes place) still ∙ none in cc
+      answers_by w u has done (inr (none, inr wrote)) = at_front_by none (λ left.
+          let z : Content = shadow_of m own aside_of in
+          let note : u ≡ note_after op z.value = maps.same_some (sym has ∙ ap (λ (y : Content). note_at y.notes place) wrote.0 ∙ note_here z.notes place (note_after op z.value) none) in
+          subst (λ y. Leaves (tx_says (TxAt.Write w) (note_goes e y)) left_rows) (sym (as_its e is x touch l left (λ y p. u ≡ note_after op (shadow_of m own y).value) note))
+          (done left (query_keeps q c.now m) (as_its e is x touch l left (λ y p. Wrote m left_rows own y p op) (record { alone = alone; sound = aside.sound; none = none; so = wrote.0 }))))
 
   -- ---- a write
   module _ (t : ℕ) (key : List ℕ) (v : Value) (is : g.machine.effect ≡ Effect.Write t key v) (l : HasLocked m r o g.machine.steps (t, key)) where
     abbrev write : Effect
     write = Effect.Write t key v
+
+    abbrev write_row : RowKey
+    write_row = shadow_key own (record { func = r.func; table = t; key = key })
 
     write_note : (b : Answer) (rest : List Answer) → k.later ≡ b ∷ rest → HasNote write (t, key) b
     write_note b rest left =
@@ -435,25 +429,40 @@ module _ (d : Deployment) (c : Core) (m : Rows) (i : ℕ) (r : Run) (g : Begun) 
           as_run write is (t, key) refl l b rest left (λ y p. note_at (shadow_of m own y).notes p ≡ Some Note.Wrote) (note_told s (note_at s.notes (place_of r.id (length k.answers))) Note.Wrote
               (behind_writes d m h.known h.locked h.rows r.id k.instance k.made (sane_instance h k) k.answers b rest (all_known write is (t, key) refl l b rest left) (short d c m r g h k o here write is (t, key) refl) own here (t, key)
               (ap touched (effect_so d c m r g h k o here write is (t, key) refl)) t key v (s, did) (effect_so d c m r g h k o here write is (t, key) refl) done)),
-          ap (λ z. Says.Answers z None) (sym done),
+          λ a. ap (λ z. Says.Answers z None) (sym done),
         )
 
-    write_done : (left : k.later ≡ []) (n : Rows) → DoneAt write (t, key) (CellOp.Write v) n
-    write_done left n stay z =
+    write_done : (w : WriteAt) (n : Rows) (left : k.later ≡ []) → DoneAt write (t, key) (CellOp.Write v) w n
+    write_done w n left stay z =
         let y : Item = record { func = k.instance.func; table = t; key = key } in
         let wants = now_is write is (t, key) refl l left in
         written write is (t, key) refl l left n z.alone stay refl Answer.Done (λ z e. cc)
         (writes_go d m h.plain h.known h.locked (after write is (t, key) refl l) r.id k.instance own t key v n (opened write is (t, key) refl l left) (stands write is (t, key) refl l left) (out write is (t, key) refl l) z.alone (was write is (t, key) refl l left) wants
-        (wrote_so (place_of r.id (length k.instance.answers)) (ByTx own) v (shadow_of m own y) (shadow_of n own y) z.none z.free z.so))
+        (wrote_so (place_of r.id (length k.instance.answers)) (ByTx own) v (shadow_of m own y) (shadow_of n own y) z.none (h.rows.asides own y).unowned z.so))
         (sane_wrote d h.known h.sane r.id k.instance k.made t key v wants)
         (write_inside d h.known h.locked (after write is (t, key) refl l) r.id k.instance k.made (out write is (t, key) refl l) own (inside write is (t, key) refl l left) m h.rows t key v n wants (lockset write is (t, key) refl l left) (was write is (t, key) refl l left)
         z.alone z.sound z.none z.so)
 
+    abbrev write_query : WriteAt → Query
+    write_query w = write_asks write_row place (ByTx own) (CellOp.Write v) w
+
+    abbrev WriteLed : WriteAt → TxGoes → Type 0
+    WriteLed w s = Led write is (t, key) refl l (TxAt.Write w) (write_query w) (rows_after (write_query w) c.now m) s
+
     write_turn : (w : WriteAt) → Turn write (TxAt.Write w)
     unfolding Leaves
-    write_turn Try = try_turn write is (t, key) refl l (CellOp.Write v) refl (λ q. refl) (λ w. tt) write_note (λ w left. tt) write_done
-    write_turn Make = makes write is (t, key) refl l (CellOp.Write v) refl (λ q. refl) (λ w. tt) write_note Value.Null (λ left none. inl (item_self r.func t key)) (λ z there. tt)
-        (λ z. tx_says (TxAt.Write Make) (write_leads write (write_goes Note.Wrote (said (act (MakeCell Value.Null None) c.now z).1)))) refl (λ z. refl)
+    write_turn w = by (write_goes Note.Wrote (told_by (write_query w) c.now m)) (led write is (t, key) refl l (TxAt.Write w) tt l.got)
+      where
+        its : key_asked (write_query w) ≡ write_row
+        its = asked write_row place (ByTx own) (CellOp.Write v) w
+
+        kept : (s : TxGoes) (a : WriteLed w s) → is_going (said_of (TxAt.Write w) s) ≡ true → Stays h (rows_after (write_query w) c.now m)
+        kept s a on = stays_by write is (t, key) refl l (CellOp.Write v) refl write_note (TxAt.Write w) (write_query w) its s a on (λ left same. inl (item_self r.func t key)) a.shadow
+
+        by : (z : WriteGoes) → WriteLed w (write_leads write z) → Leaves (tx_says (TxAt.Write w) (write_leads write z)) (rows_after (write_query w) c.now m)
+        by (WriteGoes.On b) a = goes_to write is (t, key) refl l (CellOp.Write v) refl write_note (TxAt.Write w) (write_query w) its (TxGoes.On (TxAt.Write b)) a b (kept (TxGoes.On (TxAt.Write b)) a refl) tt a.stands.locked (λ left. tt)
+        by (WriteGoes.Done Note.Wrote first) a = answers_by write is (t, key) refl l (CellOp.Write v) refl write_note (TxAt.Write w) (write_query w) its TxGoes.Done a w Note.Wrote a.so (write_done w (rows_after (write_query w) c.now m)) a.shadow
+        by z a = stays_so write is (t, key) refl l (CellOp.Write v) refl write_note (TxAt.Write w) (write_query w) its TxGoes.Stays a (kept TxGoes.Stays a refl)
 
   -- ---- a write of which a condition is tested
   module _ (t : ℕ) (key : List ℕ) (u : Rel) (y v : Value) (is : g.machine.effect ≡ Effect.CondWrite t key u y v) (l : HasLocked m r o g.machine.steps (t, key)) where
@@ -469,21 +478,24 @@ module _ (d : Deployment) (c : Core) (m : Rows) (i : ℕ) (r : Run) (g : Begun) 
     -- it looks for its shadow
     seek_turn : Turn test TxAt.Shadow
     unfolding Leaves
-    seek_turn = looked_at test is (t, key) refl l (tx_says TxAt.Shadow (head_goes (said (act Look c.now (map.get m test_row)).1))) test_row (by_row (map.get m test_row) (last_row test_item))
+    seek_turn = let u : Told = told_by (Query.Act test_row Look) c.now m in looks test is (t, key) refl l TxAt.Shadow test_row (head_goes u) (led test is (t, key) refl l TxAt.Shadow tt l.got) (by u)
       where
-        by_row : (w : Option Row) → shadow_row m own test_item ≡ w → Leaves (tx_says TxAt.Shadow (head_goes (said (act Look c.now w).1))) m
-        by_row None there = moves_on test is (t, key) refl l TxAt.Item tt (record { begin = tt; asked = λ z. l.asked; locked = l.got; found = λ q made same. tt })
-        by_row (Some w) there = moves_on test is (t, key) refl l (TxAt.Write Try) tt (record { begin = tt; asked = λ z. l.asked; locked = l.got; found = λ q made same. ap is_some there })
+        by : (u : Told) → Led test is (t, key) refl l TxAt.Shadow (Query.Act test_row Look) m (head_goes u) → Leaves (tx_says TxAt.Shadow (head_goes u)) m
+        by (said absent) s = moves_on test is (t, key) refl l TxAt.Item tt (record { begin = tt; asked = λ z. l.asked; locked = l.got; found = λ q made same. tt })
+        by (said (row_here w)) s = moves_on test is (t, key) refl l (TxAt.Write Try) tt (record { begin = tt; asked = λ z. l.asked; locked = l.got; found = λ q made same. s.finds })
+        by u s = stays_here test is (t, key) refl l
 
     -- it looks at the item
     value_turn : Turn test TxAt.Item
     unfolding Leaves
-    value_turn = item_found test is (t, key) refl l (λ w same. moves_on test is (t, key) refl l (TxAt.Head w) tt (record {
-      begin = tt;
-      asked = λ z. l.asked;
-      locked = l.got;
-      found = λ q made step none. sym (plain_there test is (t, key) refl l (at_front d c m r g h k o here test is (t, key) refl q made step)) ∙ sym same;
-    }))
+    value_turn =
+        let z : ReadGoes = read_goes None (told_by (Query.Act (head_key test_item) Look) c.now m) in
+        looks test is (t, key) refl l TxAt.Item (head_key test_item) (item_goes test z) (led test is (t, key) refl l TxAt.Item tt l.got) (by_item test is (t, key) refl l z (λ w s. moves_on test is (t, key) refl l (TxAt.Head w) tt (record {
+          begin = tt;
+          asked = λ z. l.asked;
+          locked = l.got;
+          found = λ q made step none. sym (plain_there test is (t, key) refl l (at_front d c m r g h k o here test is (t, key) refl q made step)) ∙ sym s.finds;
+        })))
 
     test_note : (b : Answer) (rest : List Answer) → k.later ≡ b ∷ rest → HasNote test (t, key) b
     test_note b rest left =
@@ -493,32 +505,69 @@ module _ (d : Deployment) (c : Core) (m : Rows) (i : ℕ) (r : Run) (g : Begun) 
           as_run test is (t, key) refl l b rest left (λ z p. note_at (shadow_of m own z).notes p ≡ Some (Note.Cond told.0)) (note_told s (note_at s.notes (place_of r.id (length k.answers))) (Note.Cond told.0)
               (behind_tests d m h.known h.locked h.rows r.id k.instance k.made (sane_instance h k) k.answers b rest (all_known test is (t, key) refl l b rest left) (short d c m r g h k o here test is (t, key) refl) own here (t, key)
               (ap touched (effect_so d c m r g h k o here test is (t, key) refl)) t key u y v told.0 (s, did) (effect_so d c m r g h k o here test is (t, key) refl) told.1)),
-          ap (λ z. Says.Answers z None) (sym told.1),
+          λ a. ap (λ z. Says.Answers z None) (sym told.1),
         )
 
     -- it makes its shadow, with the value that it found
+    abbrev head_query : Value → Query
+    head_query w = Query.Act test_row (MakeCell w None)
+
+    abbrev HeadLed : Value → TxGoes → Type 0
+    HeadLed w s = Led test is (t, key) refl l (TxAt.Head w) (head_query w) (rows_after (head_query w) c.now m) s
+
     head_turn : (w : Value) → (k.later ≡ [] → shadow_row m own test_item ≡ None → value_at h.plain test_item ≡ w) → Turn test (TxAt.Head w)
     unfolding Leaves
-    head_turn w saw = makes test is (t, key) refl l (CellOp.Cond u y v) refl (λ q. refl) (λ w. tt) test_note w (λ left none. inr (sym (saw left none))) (λ z there. there) (λ z. tx_says (TxAt.Head w) (head_made (said (act (MakeCell w None) c.now z).1))) refl (λ z. refl)
+    head_turn w saw = by (told_by (head_query w) c.now m) (led test is (t, key) refl l (TxAt.Head w) tt l.got)
+      where
+        kept : (s : TxGoes) (a : HeadLed w s) → ShadowMoves test (TxAt.Head w) place (ByTx own) (said_of (TxAt.Head w) s) (shadow_chain m own test_item) (shadow_chain (rows_after (head_query w) c.now m) own test_item) → Stays h (rows_after (head_query w) c.now m)
+        kept s a (inl same) = stays_unmoved test is (t, key) refl l (CellOp.Cond u y v) refl test_note (TxAt.Head w) (head_query w) refl s a same
+        kept s a (inr made) = stays_moved test is (t, key) refl l (CellOp.Cond u y v) refl test_note (TxAt.Head w) (head_query w) refl s a made.0
+            (shadow_made d h.known h.locked m h.rows own test_item (rows_after (head_query w) c.now m) a.others (record { sound = a.stands.shadow; unowned = a.stands.unowned }) made.1 (ap (λ (z : Content). z.notes) made.2))
+            (λ left. inr (inl (made.1, ap (λ (z : Content). z.value) made.2 ∙ sym (saw left made.1))))
+
+        goes : HeadLed w (TxGoes.On (TxAt.Write Try)) → Leaves (Says.On (Stage.Tx (TxAt.Write Try)) None) (rows_after (head_query w) c.now m)
+        goes a = goes_to test is (t, key) refl l (CellOp.Cond u y v) refl test_note (TxAt.Head w) (head_query w) refl (TxGoes.On (TxAt.Write Try)) a Try (kept (TxGoes.On (TxAt.Write Try)) a a.shadow) tt a.stands.locked (λ left. a.finds)
+
+        by : (z : Told) → HeadLed w (head_made z) → Leaves (tx_says (TxAt.Head w) (head_made z)) (rows_after (head_query w) c.now m)
+        by (said added) a = goes a
+        by (said present) a = goes a
+        by z a = stays_so test is (t, key) refl l (CellOp.Cond u y v) refl test_note (TxAt.Head w) (head_query w) refl TxGoes.Stays a (kept TxGoes.Stays a a.shadow)
 
     module _ (has : k.later ≡ [] → is_some (shadow_row m own test_item) ≡ true) where
-      test_done : (left : k.later ≡ []) (n : Rows) → DoneAt test (t, key) (CellOp.Cond u y v) n
-      test_done left n stay z =
+      test_done : (w : WriteAt) (n : Rows) (left : k.later ≡ []) → DoneAt test (t, key) (CellOp.Cond u y v) w n
+      test_done w n left stay z =
           let a : Item = record { func = k.instance.func; table = t; key = key } in
           let b : Bool = passes (shadow_of m own a).value u y in
           let wants = now_is test is (t, key) refl l left in
           written test is (t, key) refl l left n z.alone stay refl (Answer.Value (Value.Bool b)) (λ z e. cc)
           (tests_go d m h.plain h.known h.locked (after test is (t, key) refl l) r.id k.instance own t key u y v b n (opened test is (t, key) refl l left) (stands test is (t, key) refl l left) (out test is (t, key) refl l) z.alone (was test is (t, key) refl l left) wants
-          (as_its test is (t, key) refl l left (λ a p. is_some (shadow_row m own a) ≡ true) (has left)) (tested_so (place_of r.id (length k.instance.answers)) (ByTx own) u y v (shadow_of m own a) (shadow_of n own a) z.none z.free z.so))
+          (as_its test is (t, key) refl l left (λ a p. is_some (shadow_row m own a) ≡ true) (has left)) (tested_so (place_of r.id (length k.instance.answers)) (ByTx own) u y v (shadow_of m own a) (shadow_of n own a) z.none (h.rows.asides own a).unowned z.so))
           (sane_tested d h.known h.sane r.id k.instance k.made t key u y v b wants)
           (test_inside d h.known h.locked (after test is (t, key) refl l) r.id k.instance k.made (out test is (t, key) refl l) own (inside test is (t, key) refl l left) m h.rows t key u y v n b wants (lockset test is (t, key) refl l left) (was test is (t, key) refl l left)
           z.alone z.sound z.none _ z.so)
 
+      abbrev test_query : WriteAt → Query
+      test_query w = write_asks test_row place (ByTx own) (CellOp.Cond u y v) w
+
+      abbrev TestLed : WriteAt → TxGoes → Type 0
+      TestLed w s = Led test is (t, key) refl l (TxAt.Write w) (test_query w) (rows_after (test_query w) c.now m) s
+
       test_turn : (w : WriteAt) → Turn test (TxAt.Write w)
       unfolding Leaves
-      test_turn Try = try_turn test is (t, key) refl l (CellOp.Cond u y v) refl (λ q. refl) (λ w. tt) test_note (λ w left. has left) test_done
-      test_turn Make = makes test is (t, key) refl l (CellOp.Cond u y v) refl (λ q. refl) (λ w. tt) test_note Value.Null (λ left none. let clash = sym (has left) ∙ ap is_some none in cc) (λ z there. there)
-          (λ z. tx_says (TxAt.Write Make) (write_leads test (write_goes (Note.Cond true) (said (act (MakeCell Value.Null None) c.now z).1)))) refl (λ z. refl)
+      test_turn w = by (write_goes (Note.Cond true) (told_by (test_query w) c.now m)) (led test is (t, key) refl l (TxAt.Write w) tt l.got)
+        where
+          its : key_asked (test_query w) ≡ test_row
+          its = asked test_row place (ByTx own) (CellOp.Cond u y v) w
+
+          kept : (s : TxGoes) (a : TestLed w s) → is_going (said_of (TxAt.Write w) s) ≡ true → Stays h (rows_after (test_query w) c.now m)
+          kept s a on = stays_by test is (t, key) refl l (CellOp.Cond u y v) refl test_note (TxAt.Write w) (test_query w) its s a on (λ left same. inr (inr (has left, same))) a.shadow
+
+          by : (z : WriteGoes) → TestLed w (write_leads test z) → Leaves (tx_says (TxAt.Write w) (write_leads test z)) (rows_after (test_query w) c.now m)
+          by (WriteGoes.On b) a = goes_to test is (t, key) refl l (CellOp.Cond u y v) refl test_note (TxAt.Write w) (test_query w) its (TxGoes.On (TxAt.Write b)) a b (kept (TxGoes.On (TxAt.Write b)) a refl) tt a.stands.locked
+              (λ left. aside_stays m (rows_after (test_query w) c.now m) own test_item (h.rows.asides own test_item).sound a.stands.shadow (query_keeps (test_query w) c.now m) (has left))
+          by (WriteGoes.Done (Note.Cond b) first) a = answers_by test is (t, key) refl l (CellOp.Cond u y v) refl test_note (TxAt.Write w) (test_query w) its (TxGoes.Value (Value.Bool b)) a w (Note.Cond b)
+              (a.so.2 ∙ ap (λ z. Some (Note.Cond z)) (sym (same_bool a.so.1))) (test_done w (rows_after (test_query w) c.now m)) a.shadow
+          by z a = stays_so test is (t, key) refl l (CellOp.Cond u y v) refl test_note (TxAt.Write w) (test_query w) its TxGoes.Stays a (kept TxGoes.Stays a refl)
 
   -- ---- every stage past the lock
   pub working_turn : (e : Effect) (a : TxAt) → g.machine.effect ≡ e → is_past a ≡ true → Fits e a → InItem d m h.plain h.known r.id r.func o g.machine.steps e a (touched e) → Turn e a

@@ -1,6 +1,10 @@
 -- What a turn of an operation of a transaction leaves.
 use Rattle.beldi_txn.specs.{Tx.item_of, TxWalk.walk_asks, TxWalk.walk_next, TxWalk.walk_says, TxWalk.said_of}
-use Rattle.beldi_txn.proofs.Names.{Act, AsideMoves, AtItem, CellOp, Chain, ChangedAlone, CondWrite, Content, DidAs, Effect, Finds, Fits, HasLock, IsHead, IsSo, ItemMoves, List, LockAt, LockMoves, Lockset, LoggedTurn, Logs, Look, Make, MakeCell, None, OperationsAreSo, OperationsBegin, Option, Owner, Place, Plain, PutLockset, PutRead, Query, Read, Rel, Row, RowKey, Rows, Shadow, ShadowMoves, Some, Sound, SoundAt, Stands, Try, TxAt, TxGoes, TxId, TxTurn, TxWalk, Value, Write, WriteAt, WriteGoes, WriteSays, WriteWalk, act, alone_by, ap, asks_of, at_row, by_op, cell_goes, cell_key, chain, chain_off, chain_other, cond, content, content_in, dies, false, given, given_in, gone, got, head_content, head_tail, inl, inr, is_eq, is_row_of, item_asks, item_goes, item_leads, key_asked, key_cmp, key_same, key_self, left_row, lock_item, lock_leads, locked_goes, lockset_key, log_key, logged_so, looked, no_tail, note_at, op_of, option_map, other_owner, owner_after, rank_of, read_goes, refl, rows_after, said, set_row, shadow_key, shadow_read, shadow_value, sound_after, subst, sym, tail, taken, told_by, true, turned, tx_goes, waited, write_asks, write_goes, write_leads, [], ℕ, ◌∙◌, ◌≡◌, Note, ReadGoes, kind_rank, item_head, aside_head}
+use Rattle.beldi_txn.proofs.Names.{Act, AsideMoves, AtItem, CellOp, Chain, ChangedAlone, CondWrite, Content, DidAs, Effect, Finds, Fits, HasLock, IsHead, IsSo, ItemMoves, List, LockAt, LockMoves, Lockset, LoggedTurn, Logs, Look, Make, MakeCell, None, OperationsAreSo, OperationsBegin, Option, Owner, Place, Plain, PutLockset, PutRead, Query, Read, Rel, Row, RowKey, Rows, Shadow, ShadowMoves, Some, Sound, SoundAt, Stands, Try, TxAt, TxGoes, TxId, TxTurn, TxWalk, Value, Write, WriteAt, WriteGoes, WriteSays, WriteWalk, act, alone_by, ap, asks_of, at_row, by_op, cell_goes, cell_key, chain, chain_off, chain_other, cond, content, content_in, dies, false, given, given_in, gone, got, head_content, head_tail, inl, inr, is_eq, is_row_of, item_asks, item_goes, item_leads, key_asked, key_cmp, key_same, key_self, left_row, lock_item, lock_leads, locked_goes, lockset_key, log_key, logged_so, looked, no_tail, note_at, op_of, option_map, other_owner, owner_after, rank_of, read_goes, refl, rows_after, said, set_row, shadow_key, shadow_read, shadow_value, sound_after, subst, sym, tail, taken, told_by, true, turned, tx_goes, waited, write_asks, write_goes, write_leads, [], ℕ, ◌∙◌, ◌≡◌, Note, ReadGoes, kind_rank, item_head, aside_head, is_some}
+use Rattle.std.specs.Prelude.{◌⊎◌}
+use Rattle.beldi_row.proofs.Logs.{note_here}
+use Rattle.beldi_daal.{specs.Logged.note_after, proofs.Logged.noted_stays}
+use Rattle.beldi_txn.specs.{TxTurn.is_going, declared.tx.TxSays.TxSays}
 use Rattle.beldi_txn.proofs.Names.map
 
 -- ---- rows at other keys
@@ -53,18 +57,22 @@ item_same (TxAt.Keep v) p who c d h = h
 item_same (TxAt.Head v) p who c d h = h
 item_same (TxAt.Write w) p who c d h = h
 
-aside_same : (o : Option CellOp) (p : Place) (who : Owner) (c d : Content) → d ≡ c → AsideMoves o p who c d
-aside_same None p who c d h = h
-aside_same (Some o) p who c d h = inl h
+shadow_same : (e : Effect) (a : TxAt) (p : Place) (who : Owner) (s : TxSays) (f g : Chain) → g ≡ f → ShadowMoves e a p who s f g
+shadow_same e TxAt.Log p who s f g h = h
+shadow_same e (TxAt.Lock l) p who s f g h = h
+shadow_same e TxAt.Shadow p who s f g h = h
+shadow_same e TxAt.Item p who s f g h = h
+shadow_same e (TxAt.Keep v) p who s f g h = h
+shadow_same e (TxAt.Head v) p who s f g h = inl h
+shadow_same e (TxAt.Write w) p who s f g h = inl h
 
-shadow_same : (e : Effect) (a : TxAt) (p : Place) (who : Owner) (f g : Chain) → g ≡ f → ShadowMoves e a p who f g
-shadow_same e TxAt.Log p who f g h = h
-shadow_same e (TxAt.Lock l) p who f g h = h
-shadow_same e TxAt.Shadow p who f g h = h
-shadow_same e TxAt.Item p who f g h = h
-shadow_same e (TxAt.Keep v) p who f g h = h
-shadow_same e (TxAt.Head v) p who f g h = inl h
-shadow_same e (TxAt.Write w) p who f g h = aside_same (op_of e) p who (content f) (content g) (ap content h)
+-- a place has its note, or has none
+by_note : {A B : Type 0} (o : Option Note) → ((u : Note) → o ≡ Some u → A) → (o ≡ None → B) → A ⊎ ((o ≡ None) × B)
+by_note None there none = inr (refl, none refl)
+by_note (Some u) there none = inl (there u refl)
+
+some_note : {a b : Note} → Some a ≡ Some b → a ≡ b
+some_note same = cc
 
 -- ---- what the walks of a cell did
 -- a lock changes the item only by itself
@@ -77,23 +85,29 @@ lock_moved p who c d (WriteSays.Held o) l = inl l.2
 lock_moved p who c d WriteSays.Worn l = absurd l
 
 -- the shadow changes only by its operation, and stays without an owner
-abbrev Aside : Place → Owner → CellOp → Content → Content → Type 0
-Aside p who o c d = AsideMoves (Some o) p who c d × (d.owner ≡ None)
+abbrev Aside : Place → Owner → CellOp → TxSays → Content → Content → Type 0
+Aside p who o y c d = AsideMoves (Some o) p who y c d × (d.owner ≡ None)
+
+-- the note of the operation is an answer
+abbrev Answers : CellOp → Content → TxSays → WriteSays → Type 0
+Answers o c y (WriteSays.Done n first) = n ≡ note_after o c.value → is_going y ≡ false
+Answers o c y s = Unit {0}
 
 -- .. where the operation leaves the owner, and nobody dies of it
 module _ (p : Place) (who : Owner) (o : CellOp) (c d : Content) (alive : dies who o c.owner ≡ None) (keeps : owner_after o who c.owner ≡ c.owner) (unowned : c.owner ≡ None) where
-  as_before : d ≡ c → Aside p who o c d
-  as_before is = (inl is, ap (λ (z : Content). z.owner) is ∙ unowned)
+  as_before : (y : TxSays) → d ≡ c → Aside p who o y c d
+  as_before y is = (inl is, ap (λ (z : Content). z.owner) is ∙ unowned)
 
-  aside_moved : (s : WriteSays) → Logs p who o s c d → Aside p who o c d
-  aside_moved WriteSays.Going l = as_before l
-  aside_moved (WriteSays.Done n true) l =
+  aside_moved : (y : TxSays) (s : WriteSays) → Answers o c y s → Logs p who o s c d → Aside p who o y c d
+  aside_moved y WriteSays.Going answers l = as_before y l
+  aside_moved y (WriteSays.Done n true) answers l =
       let did = (subst (λ z. DidAs p who o z c d) alive l.1.1).1 in
-      (inr (l.1.0, did), ap (λ (z : Content). z.owner) did ∙ keeps ∙ unowned)
-  aside_moved (WriteSays.Done n false) l = as_before l.1
-  aside_moved WriteSays.NotOwner l = as_before l.2
-  aside_moved (WriteSays.Held w) l = as_before l.2
-  aside_moved WriteSays.Worn l = absurd l
+      let note : n ≡ note_after o c.value = some_note (sym l.0 ∙ ap (λ (z : Content). note_at z.notes p) did ∙ note_here c.notes p (note_after o c.value) l.1.0) in
+      (inr (did, answers note), ap (λ (z : Content). z.owner) did ∙ keeps ∙ unowned)
+  aside_moved y (WriteSays.Done n false) answers l = as_before y l.1
+  aside_moved y WriteSays.NotOwner answers l = as_before y l.2
+  aside_moved y (WriteSays.Held w) answers l = as_before y l.2
+  aside_moved y WriteSays.Worn answers l = absurd l
 
 module _ (home : ℕ) (p : Place) (x : TxId) (e : Effect) (t : ℕ) (k : List ℕ) where
   abbrev who : Owner
@@ -115,8 +129,8 @@ module _ (home : ℕ) (p : Place) (x : TxId) (e : Effect) (t : ℕ) (k : List �
   pub record Leads (a : TxAt) (q : Query) (m n : Rows) (g : TxGoes) : Type 0 where
     pub others : ChangedAlone (key_asked q) m n
     pub item : ItemMoves a p who (content (chain m ck)) (content (chain n ck))
-    pub shadow : ShadowMoves e a p who (chain m sk) (chain n sk)
-    pub finds : Finds a (gone a g) (tail (chain m sk)) (content (chain m ck)).value
+    pub shadow : ShadowMoves e a p who (said_of a g) (chain m sk) (chain n sk)
+    pub finds : Finds a (gone a g) (tail (chain n sk)) (content (chain m ck)).value
     pub so : IsSo e p who (said_of a g) (given n lk) (content (chain n ck)) (content (chain n sk))
     pub stands : Stands (walk (gone a g)) t k n
 
@@ -134,8 +148,8 @@ module _ (home : ℕ) (p : Place) (x : TxId) (e : Effect) (t : ℕ) (k : List �
     beside q n g others item shadow finds so onto = record {
       others = others;
       item = item_same a p who (content (chain m ck)) (content (chain n ck)) (ap content item);
-      shadow = shadow_same e a p who (chain m sk) (chain n sk) shadow;
-      finds = finds;
+      shadow = shadow_same e a p who (said_of a g) (chain m sk) (chain n sk) shadow;
+      finds = subst (λ f. Finds a (gone a g) (tail f) (content (chain m ck)).value) (sym shadow) finds;
       so = so;
       stands = standing n g (subst Sound (sym item) h.item) (subst Sound (sym shadow) h.shadow) (ap (λ f. (content f).owner) shadow ∙ h.unowned)
           (subst (λ f. Onto a (content f) g) (sym item) onto);
@@ -260,7 +274,7 @@ module _ (home : ℕ) (p : Place) (x : TxId) (t : ℕ) (k : List ℕ) where
       where
         by : (o : Option Row) → map.get m aside_row ≡ o → Looks cond_op TxAt.Shadow aside_row now m (tx_goes p x.begin cond_op TxAt.Shadow (said (act Look now o).1))
         by None is = look home p x cond_op t k TxAt.Shadow m h aside_row now (TxGoes.On TxAt.Item) (no_tail (chain m aside_row) is) tt (tt, h.locked)
-        by (Some c) is = look home p x cond_op t k TxAt.Shadow m h aside_row now (TxGoes.On (TxAt.Write Try)) tt tt (tt, h.locked)
+        by (Some c) is = look home p x cond_op t k TxAt.Shadow m h aside_row now (TxGoes.On (TxAt.Write Try)) (ap is_some (head_tail m aside_row ahead h.shadow ∙ is)) tt (tt, h.locked)
 
     found_turn : (now : ℕ) (m : Rows) → Stands (start cond_op TxAt.Item) t k m → Turns cond_op TxAt.Item now m
     found_turn now m h = item_found cond_op now m h (λ c is. look home p x cond_op t k TxAt.Item m h item_row now (TxGoes.On (TxAt.Head c)) is tt (tt, h.locked))
@@ -291,8 +305,8 @@ module _ (home : ℕ) (p : Place) (x : TxId) (t : ℕ) (k : List ℕ) where
           record {
             others = alone_by m made_after aside_row refl others;
             item = ap content not_item;
-            shadow = inr (no_tail (chain m aside_row) is, holds);
-            finds = tt;
+            shadow = inr (ap (λ (z : Content). note_at z.notes p) (head_content m aside_row ahead h.shadow ∙ ap content_in is), no_tail (chain m aside_row) is, holds);
+            finds = ap is_some (head_tail made_after aside_row ahead sound ∙ made_there None is);
             so = tt;
             stands = record {
               item = subst Sound (sym not_item) h.item;
@@ -303,7 +317,7 @@ module _ (home : ℕ) (p : Place) (x : TxId) (t : ℕ) (k : List ℕ) where
             };
           }
       by_made (Some c) is = subst (λ n. Leads home p x cond_op t k (TxAt.Head first) (Query.Act aside_row put) m n (TxGoes.On (TxAt.Write Try))) (sym (left_row put now aside_row m (Some c) is refl))
-          (beside home p x cond_op t k (TxAt.Head first) m h (Query.Act aside_row put) m (TxGoes.On (TxAt.Write Try)) (λ z off. refl) refl refl tt tt (tt, h.locked))
+          (beside home p x cond_op t k (TxAt.Head first) m h (Query.Act aside_row put) m (TxGoes.On (TxAt.Write Try)) (λ z off. refl) refl refl (ap is_some (head_tail m aside_row ahead h.shadow ∙ is)) tt (tt, h.locked))
 
       made_turn : Turns cond_op (TxAt.Head first) now m
       made_turn = by_made (map.get m aside_row) refl
@@ -373,21 +387,22 @@ module _ (home : ℕ) (p : Place) (x : TxId) (t : ℕ) (k : List ℕ) where
       (h.fits, tt)
 
   -- ---- the write of the shadow
-  module _ (e : Effect) (o : CellOp) (w : WriteAt) (m : Rows) (h : Stands (start e (TxAt.Write w)) t k m) (n : Rows) where
+  module _ (e : Effect) (o : CellOp) (w : WriteAt) (m : Rows) (h : Stands (start e (TxAt.Write w)) t k m) (n : Rows) (stays : (u : Note) → note_at (content (chain m aside_row)).notes p ≡ Some u → n ≡ m) where
     abbrev as_write : WriteWalk
     as_write = record { home = home; item = Shadow x t k; place = p; who = me; op = o; at = w }
 
     abbrev Writes : TxGoes → Type 0
     Writes g = Leads home p x e t k (TxAt.Write w) (write_asks aside_row p me o w) m n g
 
-    write_to : (s : WriteSays) (g : TxGoes) → op_of e ≡ Some o → Aside p me o (content (chain m aside_row)) (content (chain n aside_row)) → LoggedTurn as_write m n s
+    write_to : (s : WriteSays) (g : TxGoes) → op_of e ≡ Some o → Aside p me o (said_of (TxAt.Write w) g) (content (chain m aside_row)) (content (chain n aside_row)) → LoggedTurn as_write m n s
         → IsSo e p me (said_of (TxAt.Write w) g) (given n log_row) (content (chain n item_row)) (content (chain n aside_row)) → Onto home p x e t k (TxAt.Write w) (content (chain m item_row)) g → Writes g
     write_to s g is moved l so onto =
         let item : chain n item_row ≡ chain m item_row = item_kept m n aside_row l.others (λ z. cc) home t k in
         record {
           others = subst (λ y. ChangedAlone y m n) (sym (asked aside_row p me o w)) l.others;
           item = ap content item;
-          shadow = subst (λ z. AsideMoves z p me (content (chain m aside_row)) (content (chain n aside_row))) (sym is) moved.0;
+          shadow = by_note (note_at (content (chain m aside_row)).notes p) (λ u there. ap (λ l. chain l aside_row) (stays u there))
+              (λ none. subst (λ z. AsideMoves z p me (said_of (TxAt.Write w) g) (content (chain m aside_row)) (content (chain n aside_row))) (sym is) moved.0);
           finds = tt;
           so = so;
           stands = standing home p x e t k (TxAt.Write w) m h n g (subst Sound (sym item) h.item) l.sound moved.1 (subst (λ f. Onto home p x e t k (TxAt.Write w) (content f) g) (sym item) onto);
@@ -396,47 +411,53 @@ module _ (home : ℕ) (p : Place) (x : TxId) (t : ℕ) (k : List ℕ) where
   abbrev Content_at : RowKey → Rows → Content
   Content_at z m = content (chain m z)
 
-  module _ (u : ℕ) (j : List ℕ) (v : Value) (w : WriteAt) (m : Rows) (h : Stands (start (Write u j v) (TxAt.Write w)) t k m) (n : Rows) where
+  module _ (u : ℕ) (j : List ℕ) (v : Value) (w : WriteAt) (m : Rows) (h : Stands (start (Write u j v) (TxAt.Write w)) t k m) (n : Rows) (stays : (z : Note) → note_at (content (chain m aside_row)).notes p ≡ Some z → n ≡ m) where
     abbrev we : Effect
     we = Write u j v
 
     abbrev wo : CellOp
     wo = CellOp.Write v
 
-    wrote_to : (s : WriteSays) (y : TxGoes) → LoggedTurn (as_write we wo w m h n) m n s
-        → IsSo we p me (said_of (TxAt.Write w) y) (given n log_row) (content (chain n item_row)) (content (chain n aside_row)) → Onto home p x we t k (TxAt.Write w) (content (chain m item_row)) y → Writes we wo w m h n y
-    wrote_to s y l so onto = write_to we wo w m h n s y refl (aside_moved p me wo (Content_at aside_row m) (Content_at aside_row n) refl refl h.unowned s l.logs) l so onto
+    wrote_to : (s : WriteSays) (y : TxGoes) → Answers wo (Content_at aside_row m) (said_of (TxAt.Write w) y) s → LoggedTurn (as_write we wo w m h n stays) m n s
+        → IsSo we p me (said_of (TxAt.Write w) y) (given n log_row) (content (chain n item_row)) (content (chain n aside_row)) → Onto home p x we t k (TxAt.Write w) (content (chain m item_row)) y → Writes we wo w m h n stays y
+    wrote_to s y answers l so onto = write_to we wo w m h n stays s y refl (aside_moved p me wo (Content_at aside_row m) (Content_at aside_row n) refl refl h.unowned (said_of (TxAt.Write w) y) s answers l.logs) l so onto
 
-    write_by : (g : WriteGoes) → LoggedTurn (as_write we wo w m h n) m n (logged_so g) → Writes we wo w m h n (write_leads we g)
-    write_by (WriteGoes.On i) l = wrote_to WriteSays.Going (TxGoes.On (TxAt.Write i)) l tt (tt, h.locked)
-    write_by (WriteGoes.Done Note.Wrote f) l = wrote_to (WriteSays.Done Note.Wrote f) TxGoes.Done l l.logs.0 (tt, h.locked)
-    write_by (WriteGoes.Done (Note.Cond b) f) l = wrote_to (WriteSays.Done (Note.Cond b) f) TxGoes.Stays l tt (tt, h.locked)
-    write_by (WriteGoes.Done Note.Got f) l = wrote_to (WriteSays.Done Note.Got f) TxGoes.Stays l tt (tt, h.locked)
-    write_by (WriteGoes.Done (Note.Died a) f) l = wrote_to (WriteSays.Done (Note.Died a) f) TxGoes.Stays l tt (tt, h.locked)
-    write_by (WriteGoes.Done Note.Freed f) l = wrote_to (WriteSays.Done Note.Freed f) TxGoes.Stays l tt (tt, h.locked)
-    write_by WriteGoes.NotOwner l = wrote_to WriteSays.NotOwner TxGoes.Stays l tt (tt, h.locked)
-    write_by (WriteGoes.Held o) l = wrote_to (WriteSays.Held o) TxGoes.Stays l tt (tt, h.locked)
+    answered : (z : Note) → z ≡ note_after wo (Content_at aside_row m).value → is_going (said_of (TxAt.Write w) (write_leads we (WriteGoes.Done z true))) ≡ false
+    answered z same = subst (λ y. is_going (said_of (TxAt.Write w) (write_leads we (WriteGoes.Done y true))) ≡ false) (sym same) refl
 
-  module _ (u : ℕ) (j : List ℕ) (r : Rel) (c v : Value) (w : WriteAt) (m : Rows) (h : Stands (start (CondWrite u j r c v) (TxAt.Write w)) t k m) (n : Rows) where
+    write_by : (g : WriteGoes) → LoggedTurn (as_write we wo w m h n stays) m n (logged_so g) → Writes we wo w m h n stays (write_leads we g)
+    write_by (WriteGoes.On i) l = wrote_to WriteSays.Going (TxGoes.On (TxAt.Write i)) tt l tt (tt, h.locked)
+    write_by (WriteGoes.Done Note.Wrote f) l = wrote_to (WriteSays.Done Note.Wrote f) TxGoes.Done (answered Note.Wrote) l l.logs.0 (tt, h.locked)
+    write_by (WriteGoes.Done (Note.Cond b) f) l = wrote_to (WriteSays.Done (Note.Cond b) f) TxGoes.Stays (answered (Note.Cond b)) l tt (tt, h.locked)
+    write_by (WriteGoes.Done Note.Got f) l = wrote_to (WriteSays.Done Note.Got f) TxGoes.Stays (answered Note.Got) l tt (tt, h.locked)
+    write_by (WriteGoes.Done (Note.Died a) f) l = wrote_to (WriteSays.Done (Note.Died a) f) TxGoes.Stays (answered (Note.Died a)) l tt (tt, h.locked)
+    write_by (WriteGoes.Done Note.Freed f) l = wrote_to (WriteSays.Done Note.Freed f) TxGoes.Stays (answered Note.Freed) l tt (tt, h.locked)
+    write_by WriteGoes.NotOwner l = wrote_to WriteSays.NotOwner TxGoes.Stays tt l tt (tt, h.locked)
+    write_by (WriteGoes.Held o) l = wrote_to (WriteSays.Held o) TxGoes.Stays tt l tt (tt, h.locked)
+
+  module _ (u : ℕ) (j : List ℕ) (r : Rel) (c v : Value) (w : WriteAt) (m : Rows) (h : Stands (start (CondWrite u j r c v) (TxAt.Write w)) t k m) (n : Rows) (stays : (z : Note) → note_at (content (chain m aside_row)).notes p ≡ Some z → n ≡ m) where
     abbrev ce : Effect
     ce = CondWrite u j r c v
 
     abbrev co : CellOp
     co = CellOp.Cond r c v
 
-    cond_to : (s : WriteSays) (y : TxGoes) → LoggedTurn (as_write ce co w m h n) m n s
-        → IsSo ce p me (said_of (TxAt.Write w) y) (given n log_row) (content (chain n item_row)) (content (chain n aside_row)) → Onto home p x ce t k (TxAt.Write w) (content (chain m item_row)) y → Writes ce co w m h n y
-    cond_to s y l so onto = write_to ce co w m h n s y refl (aside_moved p me co (Content_at aside_row m) (Content_at aside_row n) refl refl h.unowned s l.logs) l so onto
+    cond_to : (s : WriteSays) (y : TxGoes) → Answers co (Content_at aside_row m) (said_of (TxAt.Write w) y) s → LoggedTurn (as_write ce co w m h n stays) m n s
+        → IsSo ce p me (said_of (TxAt.Write w) y) (given n log_row) (content (chain n item_row)) (content (chain n aside_row)) → Onto home p x ce t k (TxAt.Write w) (content (chain m item_row)) y → Writes ce co w m h n stays y
+    cond_to s y answers l so onto = write_to ce co w m h n stays s y refl (aside_moved p me co (Content_at aside_row m) (Content_at aside_row n) refl refl h.unowned (said_of (TxAt.Write w) y) s answers l.logs) l so onto
 
-    cond_by : (g : WriteGoes) → LoggedTurn (as_write ce co w m h n) m n (logged_so g) → Writes ce co w m h n (write_leads ce g)
-    cond_by (WriteGoes.On i) l = cond_to WriteSays.Going (TxGoes.On (TxAt.Write i)) l tt (tt, h.locked)
-    cond_by (WriteGoes.Done (Note.Cond b) f) l = cond_to (WriteSays.Done (Note.Cond b) f) (TxGoes.Value (Value.Bool b)) l (b, refl, l.logs.0) (tt, h.locked)
-    cond_by (WriteGoes.Done Note.Wrote f) l = cond_to (WriteSays.Done Note.Wrote f) TxGoes.Stays l tt (tt, h.locked)
-    cond_by (WriteGoes.Done Note.Got f) l = cond_to (WriteSays.Done Note.Got f) TxGoes.Stays l tt (tt, h.locked)
-    cond_by (WriteGoes.Done (Note.Died a) f) l = cond_to (WriteSays.Done (Note.Died a) f) TxGoes.Stays l tt (tt, h.locked)
-    cond_by (WriteGoes.Done Note.Freed f) l = cond_to (WriteSays.Done Note.Freed f) TxGoes.Stays l tt (tt, h.locked)
-    cond_by WriteGoes.NotOwner l = cond_to WriteSays.NotOwner TxGoes.Stays l tt (tt, h.locked)
-    cond_by (WriteGoes.Held o) l = cond_to (WriteSays.Held o) TxGoes.Stays l tt (tt, h.locked)
+    tested : (z : Note) → z ≡ note_after co (Content_at aside_row m).value → is_going (said_of (TxAt.Write w) (write_leads ce (WriteGoes.Done z true))) ≡ false
+    tested z same = subst (λ y. is_going (said_of (TxAt.Write w) (write_leads ce (WriteGoes.Done y true))) ≡ false) (sym same) refl
+
+    cond_by : (g : WriteGoes) → LoggedTurn (as_write ce co w m h n stays) m n (logged_so g) → Writes ce co w m h n stays (write_leads ce g)
+    cond_by (WriteGoes.On i) l = cond_to WriteSays.Going (TxGoes.On (TxAt.Write i)) tt l tt (tt, h.locked)
+    cond_by (WriteGoes.Done (Note.Cond b) f) l = cond_to (WriteSays.Done (Note.Cond b) f) (TxGoes.Value (Value.Bool b)) (tested (Note.Cond b)) l (b, refl, l.logs.0) (tt, h.locked)
+    cond_by (WriteGoes.Done Note.Wrote f) l = cond_to (WriteSays.Done Note.Wrote f) TxGoes.Stays (tested Note.Wrote) l tt (tt, h.locked)
+    cond_by (WriteGoes.Done Note.Got f) l = cond_to (WriteSays.Done Note.Got f) TxGoes.Stays (tested Note.Got) l tt (tt, h.locked)
+    cond_by (WriteGoes.Done (Note.Died a) f) l = cond_to (WriteSays.Done (Note.Died a) f) TxGoes.Stays (tested (Note.Died a)) l tt (tt, h.locked)
+    cond_by (WriteGoes.Done Note.Freed f) l = cond_to (WriteSays.Done Note.Freed f) TxGoes.Stays (tested Note.Freed) l tt (tt, h.locked)
+    cond_by WriteGoes.NotOwner l = cond_to WriteSays.NotOwner TxGoes.Stays tt l tt (tt, h.locked)
+    cond_by (WriteGoes.Held o) l = cond_to (WriteSays.Held o) TxGoes.Stays tt l tt (tt, h.locked)
 
   -- ---- all stages
   lock_stage_turn : (e : Effect) (l : LockAt) (now : ℕ) (m : Rows) → Stands (start e (TxAt.Lock l)) t k m → Turns e (TxAt.Lock l) now m
@@ -446,7 +467,7 @@ module _ (home : ℕ) (p : Place) (x : TxId) (t : ℕ) (k : List ℕ) where
       let n = rows_after q now m in
       lock_turn e m w h n (write_goes Note.Got (told_by q now m)) (by_op (as_lock e m w h n) m n h.item w now refl)
 
-  turns : (e : Effect) (a : TxAt) (now : ℕ) (m : Rows) → Stands (start e a) t k m → Turns e a now m
+  pub turns : (e : Effect) (a : TxAt) (now : ℕ) (m : Rows) → Stands (start e a) t k m → Turns e a now m
   turns e (TxAt.Lock l) now m h = lock_stage_turn e l now m h
   turns (Read u j) TxAt.Log now m h = log_turn u j now m h
   turns (Read u j) TxAt.Shadow now m h = shadow_turn u j now m h
@@ -456,7 +477,8 @@ module _ (home : ℕ) (p : Place) (x : TxId) (t : ℕ) (k : List ℕ) where
   turns (Write u j v) (TxAt.Write w) now m h =
       let q = write_asks aside_row p me (CellOp.Write v) w in
       let n = rows_after q now m in
-      write_by u j v w m h n (write_goes Note.Wrote (told_by q now m)) (by_op (as_write (Write u j v) (CellOp.Write v) w m h n) m n h.shadow w now refl)
+      let its : WriteWalk = record { home = home; item = Shadow x t k; place = p; who = me; op = CellOp.Write v; at = w } in
+      write_by u j v w m h n (λ z there. noted_stays its m h.shadow z there w now) (write_goes Note.Wrote (told_by q now m)) (by_op its m n h.shadow w now refl)
   turns (Write u j v) a now m h = absurd h.fits
   turns (CondWrite u j r c v) TxAt.Shadow now m h = head_turn u j r c v now m h
   turns (CondWrite u j r c v) TxAt.Item now m h = found_turn u j r c v now m h
@@ -464,7 +486,8 @@ module _ (home : ℕ) (p : Place) (x : TxId) (t : ℕ) (k : List ℕ) where
   turns (CondWrite u j r c v) (TxAt.Write w) now m h =
       let q = write_asks aside_row p me (CellOp.Cond r c v) w in
       let n = rows_after q now m in
-      cond_by u j r c v w m h n (write_goes (Note.Cond true) (told_by q now m)) (by_op (as_write (CondWrite u j r c v) (CellOp.Cond r c v) w m h n) m n h.shadow w now refl)
+      let its : WriteWalk = record { home = home; item = Shadow x t k; place = p; who = me; op = CellOp.Cond r c v; at = w } in
+      cond_by u j r c v w m h n (λ z there. noted_stays its m h.shadow z there w now) (write_goes (Note.Cond true) (told_by q now m)) (by_op its m n h.shadow w now refl)
   turns (CondWrite u j r c v) a now m h = absurd h.fits
   turns e a now m h = absurd h.fits
 

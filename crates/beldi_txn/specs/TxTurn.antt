@@ -1,5 +1,5 @@
 -- What a turn of an operation of a transaction leaves, and that what it answers is so of the rows.
-use Rattle.std.specs.Prelude.{◌≡◌, ◌⊎◌, ℕ, Bool, List, [], Option, Some, None, Ok}
+use Rattle.std.specs.Prelude.{◌≡◌, ◌⊎◌, ℕ, Bool, true, false, is_some, List, [], Option, Some, None, Ok}
 use Rattle.beldi_value.specs.declared.{id.IntentId.IntentId, outcome.Cause.Cause, place.Owner.Owner, place.Place.Place, place.TxId.TxId, value.Value.Value}
 use Rattle.beldi_lang.specs.declared.effect.Effect.{Effect, TheVariants.Read, TheVariants.Write, TheVariants.CondWrite}
 use Rattle.beldi_row.specs.{declared.row.Row.Row, Act.other_owner, Key.RowKey, Log.note_at, Table.Rows, Table.TableState, Table.Tells, declared.notes.Note.Note}
@@ -57,19 +57,25 @@ abbrev pub ItemMoves : TxAt → Place → Owner → Content → Content → Type
 ItemMoves (TxAt.Lock l) p who c d = LockMoves p who c d
 ItemMoves a p who c d = d ≡ c
 
--- the shadow changes only by this operation, where the place had no note ..
-abbrev pub AsideMoves : Option CellOp → Place → Owner → Content → Content → Type 0
-AsideMoves None p who c d = d ≡ c
-AsideMoves (Some o) p who c d = (d ≡ c) ⊎ ((note_at c.notes p ≡ None) × (d ≡ done_to p who o c))
+-- nothing is answered yet
+abbrev pub is_going : TxSays → Bool
+is_going TxSays.Going = true
+is_going s = false
 
--- .. or by a first row, with the value that was found and no notes
-abbrev pub ShadowMoves : Effect → TxAt → Place → Owner → Chain → Chain → Type 0
-ShadowMoves e (TxAt.Head v) p who f g = (g ≡ f) ⊎ ((tail f ≡ None) × (content g ≡ record { value = v; owner = None; notes = [] }))
-ShadowMoves e (TxAt.Write w) p who f g = AsideMoves (op_of e) p who (content f) (content g)
-ShadowMoves e a p who f g = g ≡ f
+-- what the shadow holds changes only by this operation, which is answered at once
+abbrev pub AsideMoves : Option CellOp → Place → Owner → TxSays → Content → Content → Type 0
+AsideMoves None p who s c d = d ≡ c
+AsideMoves (Some o) p who s c d = (d ≡ c) ⊎ ((d ≡ done_to p who o c) × (is_going s ≡ false))
 
--- a read and a condition find the shadow's value, or, where there is no shadow, the item's: by where the operation stood, where it
--- stands then, and the last row of the shadow and the value of the item
+-- the shadow's rows change only where its place had no note: by the operation, or by a first row, with the value that was found and no
+-- notes; by what is said, and the shadow before and after
+abbrev pub ShadowMoves : Effect → TxAt → Place → Owner → TxSays → Chain → Chain → Type 0
+ShadowMoves e (TxAt.Head v) p who s f g = (g ≡ f) ⊎ ((note_at (content f).notes p ≡ None) × (tail f ≡ None) × (content g ≡ record { value = v; owner = None; notes = [] }))
+ShadowMoves e (TxAt.Write w) p who s f g = (g ≡ f) ⊎ ((note_at (content f).notes p ≡ None) × AsideMoves (op_of e) p who s (content f) (content g))
+ShadowMoves e a p who s f g = g ≡ f
+
+-- a read and a condition find the shadow's value, or, where there is no shadow, the item's, and a condition is tested on a shadow that is
+-- there: by where the operation stood, where it stands then, the last row of the shadow then, and the value of the item
 abbrev pub shadow_value : Option Row → Option Value
 shadow_value (Some (Row.Cell c)) = Some c.value
 shadow_value r = None
@@ -77,6 +83,8 @@ shadow_value r = None
 abbrev pub Finds : TxAt → TxAt → Option Row → Value → Type 0
 Finds TxAt.Shadow (TxAt.Keep v) r w = shadow_value r ≡ Some v
 Finds TxAt.Shadow TxAt.Item r w = r ≡ None
+Finds TxAt.Shadow (TxAt.Write u) r w = is_some r ≡ true
+Finds (TxAt.Head v) (TxAt.Write u) r w = is_some r ≡ true
 Finds TxAt.Item (TxAt.Keep v) r w = v ≡ w
 Finds TxAt.Item (TxAt.Head v) r w = v ≡ w
 Finds a b r w = Unit {0}
@@ -109,8 +117,8 @@ pub record TxTurn (w x : TxWalk) (t : ℕ) (k : List ℕ) (m n : Rows) (s : TxSa
   -- all rows are as before but the one, or those of the item, that it asks for
   pub others : ChangedAlone (key_asked (walk_asks w)) m n
   pub item : ItemMoves w.at w.place (Owner.Tx w.tx) (content (chain m (item_key w t k))) (content (chain n (item_key w t k)))
-  pub shadow : ShadowMoves w.effect w.at w.place (Owner.Tx w.tx) (chain m (aside_key w t k)) (chain n (aside_key w t k))
-  pub finds : Finds w.at x.at (tail (chain m (aside_key w t k))) (content (chain m (item_key w t k))).value
+  pub shadow : ShadowMoves w.effect w.at w.place (Owner.Tx w.tx) s (chain m (aside_key w t k)) (chain n (aside_key w t k))
+  pub finds : Finds w.at x.at (tail (chain n (aside_key w t k))) (content (chain m (item_key w t k))).value
   -- what it says is so
   pub so : IsSo w.effect w.place (Owner.Tx w.tx) s (given n (log_key w.home w.place)) (content (chain n (item_key w t k))) (content (chain n (aside_key w t k)))
   -- it goes on in the same operation, from where it may stand
