@@ -5,3 +5,4 @@ pub mod RaisedEvents
 pub mod RaisedRuns
 pub mod RaisedTurns
 pub mod Reopened
+pub mod Settlings

@@ -16,7 +16,7 @@ if_mapped f true x y = refl
 if_mapped f false x y = refl
 
 module _ (n : ℕ) where
-  abbrev lifted : List (ℕ × Run) → List (ℕ × Run)
+  abbrev pub lifted : List (ℕ × Run) → List (ℕ × Run)
   lifted es = map (λ e. (e.0, raised_run n e.1)) es
 
   below_lifted : (k : ℕ) (es : List (ℕ × Run)) → below_all nat_cmp k (lifted es) ≡ below_all nat_cmp k es
@@ -36,7 +36,7 @@ module _ (n : ℕ) where
   any_lifted id (e ∷ es) = ap (λ b. is_eq (id_cmp e.1.id id) || b) (any_lifted id es)
 
   module _ (runs : FinMap nat_cmp Run) where
-    entries_raised : finite.entries (raised_runs n runs) ≡ lifted (finite.entries runs)
+    pub entries_raised : finite.entries (raised_runs n runs) ≡ lifted (finite.entries runs)
     entries_raised = entries-from_sorted nat_cmp (lifted (finite.entries runs)) (subst T (sym (sorted_lifted (finite.entries runs))) (entries_sorted runs))
 
     pub get_raised : (i : ℕ) → finite.get (raised_runs n runs) i ≡ option_map (raised_run n) (finite.get runs i)

@@ -1,5 +1,5 @@
 -- A host that was opened again, over the rows that an earlier one left.
-use Rattle.std.specs.Prelude.{ℕ, ◌≡◌, ◌≤◌, List, [], false, is_some, IsTrue, Some, refl}
+use Rattle.std.specs.Prelude.{ℕ, ◌≡◌, ◌≤◌, List, [], false, is_some, max, IsTrue, Some, refl}
 use Rattle.std.specs.{FinMap.get-empty, FinMap.len-empty, Ordering.nat_cmp}
 use Rattle.std.specs.FinMap as map
 use Rattle.std.proofs.Common.{arith, subst, sym, ◌∙◌}
@@ -10,7 +10,7 @@ use Rattle.beldi_step.specs.{Host.Core, Host.first_core, Host.most_runs, Next.at
 use Rattle.beldi_laws.specs.Right.{Right, RunAt}
 use Rattle.beldi_laws.proofs.Moves.{with_runs}
 use Rattle.beldi_upkeep.specs.Upkeep.{Upkeep}
-use Rattle.beldi_host.specs.Survey.{newest_of}
+use Rattle.beldi_host.specs.Survey.{latest_of, newest_of, opened_core}
 use Rattle.beldi_joined.specs.Joined.{behind, joined, reopened}
 use Rattle.beldi_joined.proofs.{Books.joined_nothing, Books.nothing_joined, Newest.newest_named, RaisedRuns.empty_raised, RaisedRuns.none_raised}
 
@@ -50,6 +50,9 @@ opens_right d c m now h = subst (λ z. Right d z m) (sym (opened_behind c.book (
 
 pub opens_upkept : (d : Deployment) (c : Core) (m : Rows) (now : ℕ) → Upkeep d c m → Upkeep d (behind c.book (first_core (newest_of m) now)) m
 opens_upkept d c m now u = subst (λ z. Upkeep d z m) (sym (opened_behind c.book (newest_of m) now)) (subst (λ n. Upkeep d (reopened n c.book now) m) (sym (newest_named d c m u.right)) (reopened_upkept d c m now u))
+
+pub opened_upkept : (d : Deployment) (c : Core) (m : Rows) (now : ℕ) → Upkeep d c m → Upkeep d (behind c.book (opened_core m now)) m
+opened_upkept d c m now u = opens_upkept d c m (max now (latest_of m)) u
 
 -- .. and over those that a session left which was itself behind others
 pub opens_again : (d : Deployment) (base : List Entry) (c : Core) (m : Rows) (now : ℕ) → Right d (behind base c) m → Right d (behind (joined base c.book) (first_core (newest_of m) now)) m

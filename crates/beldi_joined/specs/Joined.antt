@@ -1,10 +1,14 @@
 -- Sessions one after another over the same rows: the book that they make together, and a host that comes after others.
-use Rattle.std.specs.Prelude.{ℕ, ◌+◌, List, ◌++◌, map, Result, Ok, Err}
+use Rattle.std.specs.Prelude.{ℕ, ◌+◌, List, ◌++◌, map, IfSome, Result, Ok, Err}
 use Rattle.std.specs.{FinMap.FinMap, Option.option_map, Ordering.nat_cmp, declared.alloc.AllocError.AllocError}
 use Rattle.std.specs.FinMap as finite
 use Rattle.beldi_book.specs.{declared.entry.Entry.Entry, declared.entry.Entry.TheVariants.Start, declared.entry.Entry.TheVariants.Read, declared.entry.Entry.TheVariants.Step, declared.entry.Entry.TheVariants.Tx, declared.entry.Entry.TheVariants.Try, Order.count_changes}
 use Rattle.beldi_step.specs.declared.{event.Seen.Seen, event.Seen.TheVariants.Acted, run.Mark.Mark, run.Run.Run, run.RunAt.RunAt, run.RunAt.TheVariants.Looks, run.RunAt.TheVariants.Registers, run.RunAt.TheVariants.Begins, run.Stage.Stage, run.Stage.TheVariants.Keep, run.Stage.TheVariants.Decide}
 use Rattle.beldi_step.specs.Host.{Core, first_core}
+use Rattle.beldi_row.specs.declared.table.Table.{Ghosts}
+use Rattle.beldi_schedule.specs.Settles.{State}
+use Rattle.beldi_upkeep.specs.Upkeep.{Upkeep}
+use Rattle.beldi_host.specs.{declared.host.Host.Host, Host.core_of, Right.rows_of}
 
 -- ---- books
 -- an entry behind so many changes: a read had seen these as well
@@ -53,6 +57,14 @@ behind base c = record c { book = joined base c.book; runs = raised_runs (count_
 -- a host that was opened over rows whose newest ticket is this one, with the book of the sessions before it
 abbrev pub reopened : ℕ → List Entry → ℕ → Core
 reopened newest book now = record (first_core newest now) { book = book }
+
+-- a host as it stands, with the book of the sessions before it and its own
+abbrev pub with_joined : List Entry → State → State
+with_joined base s = record s { core = record s.core { book = joined base s.core.book } }
+
+-- the host and its rows are right behind the book of the sessions before it, and keep what is kept beside
+abbrev pub IsRightAfter : {T : Type 0} {G : Ghosts T} → List Entry → Host T G → Type 0
+IsRightAfter base h = IfSome (rows_of h) (Upkeep h.code (behind base (core_of h)))
 
 -- ---- answers: of how many changes had been made, an answer tells what the entry of a read has
 abbrev pub raised_seen : ℕ → Seen → Seen

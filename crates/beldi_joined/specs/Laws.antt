@@ -1,14 +1,16 @@
 -- What holds of sessions one after another.
-use Rattle.std.specs.Prelude.{◌≡◌, ℕ, List, Result}
+use Rattle.std.specs.Prelude.{◌≡◌, ◌≤◌, ℕ, List, Result}
 use Rattle.std.specs.declared.alloc.AllocError.{AllocError}
 use Rattle.beldi_tree.specs.declared.deployment.Deployment.{Deployment}
 use Rattle.beldi_book.specs.{declared.entry.Entry.Entry, Order.count_changes}
 use Rattle.beldi_row.specs.Table.{Rows}
-use Rattle.beldi_step.specs.{declared.event.Event.Event, declared.event.Seen.Seen, Host.Core, Host.EventOn}
+use Rattle.beldi_step.specs.{declared.event.Event.Event, declared.event.Seen.Seen, Host.Core, Host.EventOn, Host.last_moment}
 use Rattle.beldi_laws.specs.Right.{Right}
 use Rattle.beldi_upkeep.specs.Upkeep.{Upkeep}
-use Rattle.beldi_host.specs.Survey.{newest_of}
-use Rattle.beldi_joined.specs.Joined.{behind, raised_answer, reopened}
+use Rattle.beldi_schedule.specs.{Settle.first_at, Settle.go_on, Settles.Settles, Settles.State, declared.machine.Settled.Settled, declared.machine.Standing.TheVariants.Over}
+use Rattle.beldi_bound.specs.Ends.{Promises, Sound}
+use Rattle.beldi_host.specs.Survey.{newest_of, opened_core}
+use Rattle.beldi_joined.specs.Joined.{behind, raised_answer, reopened, with_joined}
 
 -- where a host and its rows are right, so is a host of the same book that is opened over them, at any moment
 abbrev pub ReopenedIsRight : Type 0
@@ -18,6 +20,14 @@ ReopenedIsRight = (d : Deployment) (c : Core) (m : Rows) (now : ℕ) → Right d
 abbrev pub ReopenedIsUpkept : Type 0
 ReopenedIsUpkept = (d : Deployment) (c : Core) (m : Rows) (now : ℕ) → Upkeep d c m → Upkeep d (reopened c.newest c.book now) m
 
+-- so is one that is opened over them knowing nothing of that book, behind it
+abbrev pub OpenedIsUpkept : Type 0
+OpenedIsUpkept = (d : Deployment) (c : Core) (m : Rows) (now : ℕ) → Upkeep d c m → Upkeep d (behind c.book (opened_core m now)) m
+
+-- .. and stays so by every event, behind the same book
+abbrev pub StaysUpkeptBehind : Type 0
+StaysUpkeptBehind = (d : Deployment) (base : List Entry) (room old new : ℕ) (e : Event) (c b : Core) (m n : Rows) (r : Result Seen AllocError) → Upkeep d (behind base c) m → EventOn d room old new e c m b n r → Upkeep d (behind base b) n
+
 -- where they are right, the newest ticket is the greatest that a key names
 abbrev pub NewestIsInTheRows : Type 0
 NewestIsInTheRows = (d : Deployment) (c : Core) (m : Rows) → Right d c m → newest_of m ≡ c.newest
@@ -26,3 +36,8 @@ NewestIsInTheRows = (d : Deployment) (c : Core) (m : Rows) → Right d c m → n
 abbrev pub StepsOverLongerBook : Type 0
 StepsOverLongerBook = (d : Deployment) (base : List Entry) (room old new : ℕ) (e : Event) (c b : Core) (m n : Rows) (r : Result Seen AllocError) → EventOn d room old new e c m b n r
     → EventOn d room old new e (behind base c) m (behind base b) n (raised_answer (count_changes base) r)
+
+-- a settling after other sessions keeps its promises, by the book of them all
+abbrev pub SettlesAsPromisedAfter : Type 0
+SettlesAsPromisedAfter = (d : Deployment) (base : List Entry) (room budget : ℕ) (s t : State) (x : Settled) → Sound d (behind base s.core) s.rows → s.core.now ≤ last_moment → Settles d room budget (go_on budget first_at) s (Over x) t
+    → Promises d budget (with_joined base s) (with_joined base t) x

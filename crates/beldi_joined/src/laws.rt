@@ -1,5 +1,7 @@
 // The laws of sessions one after another.
-ghost use Rattle.beldi_joined.specs.Laws.{ReopenedIsRight, ReopenedIsUpkept, NewestIsInTheRows, StepsOverLongerBook};
+ghost use Rattle.beldi_joined.specs.Laws.{ReopenedIsRight, ReopenedIsUpkept, OpenedIsUpkept, StaysUpkeptBehind, NewestIsInTheRows, StepsOverLongerBook, SettlesAsPromisedAfter};
+
+use beldi_bound::settlings_are_as_promised;
 
 /// Where a host and its rows are right, so is a host of the same book that is opened over them, at any moment.
 pub fn a_reopened_host_is_right()
@@ -11,6 +13,16 @@ pub fn a_reopened_host_is_upkept()
     ensures { ReopenedIsUpkept }
 {}
 
+/// A host that is opened over the rows of such a host has it behind that host's book.
+pub fn an_opened_host_is_upkept_behind()
+    ensures { OpenedIsUpkept }
+{}
+
+/// It has it so after every event.
+pub fn a_host_stays_upkept_behind()
+    ensures { StaysUpkeptBehind }
+{}
+
 /// Where a host and its rows are right, its newest ticket is the greatest that a key of a row names, 0 where none names one.
 pub fn the_newest_ticket_is_in_the_rows()
     ensures { NewestIsInTheRows }
@@ -20,3 +32,10 @@ pub fn the_newest_ticket_is_in_the_rows()
 pub fn a_step_over_a_longer_book()
     ensures { StepsOverLongerBook }
 {}
+
+/// A settling of a host that is right behind the book of earlier sessions keeps its promises, by their book and its own.
+pub fn settlings_after_sessions_are_as_promised()
+    ensures { SettlesAsPromisedAfter }
+{
+    settlings_are_as_promised();
+}

@@ -6,21 +6,26 @@
 //!
 //! Proved (`specs/Laws`):
 //! - Where a host and its rows are right, a host of the same book that is opened over these rows is right, at any moment
-//!   (`a_reopened_host_is_right`), and has what every event keeps beside (`a_reopened_host_is_upkept`).
+//!   (`a_reopened_host_is_right`), and has what every event keeps beside (`a_reopened_host_is_upkept`). So has one that is opened over them
+//!   with an empty book, behind the book of the first (`an_opened_host_is_upkept_behind`), and after every event
+//!   (`a_host_stays_upkept_behind`).
 //! - Its newest ticket is the greatest that a key of a row names (`the_newest_ticket_is_in_the_rows`).
 //! - What an event does, it does behind a longer book as well (`a_step_over_a_longer_book`): the same becomes of the rows, and the answer
 //!   differs at most in how many changes a read had seen.
+//! - A settling of a host that is right behind the book of earlier sessions keeps the promises of `beldi_bound`, of its own runs, its rows and
+//!   the joined book (`settlings_after_sessions_are_as_promised`).
 //!
 //! Files:
 //! - Code (`src/`): `laws` one function a law, with no body.
 //! - Lemmas (`proofs/`): `Books` books of sessions one after another; `RaisedRuns` live runs behind a longer book, `RaisedTurns` their
 //!   turns, `RaisedEvents` events; `Newest` the tickets that keys name; `Reopened` a host that was opened again; `After` what a host has
-//!   that is right behind the book of earlier sessions, and what an event leaves of it.
+//!   that is right behind the book of earlier sessions, and what an event leaves of it; `Settlings` its settlings.
 #![tactic(auto)]
 
 mod laws;
 
 pub use laws::{
-    a_reopened_host_is_right, a_reopened_host_is_upkept, a_step_over_a_longer_book,
-    the_newest_ticket_is_in_the_rows,
+    a_host_stays_upkept_behind, a_reopened_host_is_right, a_reopened_host_is_upkept,
+    a_step_over_a_longer_book, an_opened_host_is_upkept_behind,
+    settlings_after_sessions_are_as_promised, the_newest_ticket_is_in_the_rows,
 };

@@ -1,6 +1,6 @@
 -- The events of a settling lead on, and its promises follow from them.
 use Rattle.std.specs.Prelude.{IfSome}
-use Rattle.beldi_session.proofs.Names.{At, Collect, Core, Deployment, Err, Event, EventOn, Goes, IfOk, Next, None, Ok, Option, Over, Result, Rows, Seen, Some, Standing, State, Stepped, Stop, TableState, Tells, Turn, ap, ic_heard, next_of, next_run, over_any_table, over_rows, refl, reset, subst, sym, tells_map, turn_heard, ℕ, ◌∙◌, ◌≡◌}
+use Rattle.beldi_session.proofs.Names.{At, Collect, Core, Deployment, Err, Event, EventOn, Goes, IfOk, List, Next, None, Ok, Option, Over, Result, Rows, Seen, Some, Standing, State, Stepped, Stop, TableState, Tells, Turn, ap, ic_heard, next_of, next_run, over_any_table, over_rows, refl, reset, subst, sym, tells_map, turn_heard, ℕ, ◌∙◌, ◌≡◌}
 use Rattle.std.proofs.Common.{◌≤◌}
 use Rattle.beldi_check.specs.Keeps.{KeepsRules}
 use Rattle.beldi_row.specs.Key.{RowKey}
@@ -9,7 +9,9 @@ use Rattle.beldi_host.specs.Survey.{PassesToldOpen}
 use Rattle.beldi_schedule.specs.{Settle.core_for, Settle.event_of, Settle.first_at, Settle.go_on, Settle.heard_of, Settles.Advances, Settles.MaySkip, Settles.Settles, Settles.goes, Settles.skips, Settles.stands, declared.machine.Settled.Settled}
 use Rattle.beldi_upkeep.specs.{Checked.StartsAreOfIt, Upkeep.Upkeep}
 use Rattle.beldi_bound.specs.Ends.{Promises, SettlesAsPromised, Sound}
-use Rattle.beldi_session.specs.Settling.{Collected, Heard, KeepsPromises, Led, state_with}
+use Rattle.beldi_book.specs.declared.entry.Entry.{Entry}
+use Rattle.beldi_joined.specs.{Joined.behind, Joined.with_joined, Laws.SettlesAsPromisedAfter}
+use Rattle.beldi_session.specs.Settling.{Collected, Heard, KeepsPromises, KeepsPromisesAfter, Led, state_with}
 
 -- ---- one after another
 tells_then : {P Q R : Rows → Rows → Type 0} (x y z : Option Rows) → ((m n o : Rows) → P m n → Q n o → R m o) → Tells x y P → Tells y z Q → Tells x z R
@@ -111,3 +113,13 @@ promised law d budget c b old new x early sound led = by_rows old.rows new.rows 
     by_rows None q h k = k
     by_rows (Some m) None h k = k
     by_rows (Some m) (Some n) h k = law d old.room budget (state_with c old m) (state_with b new n) x h early k
+
+pub promised_after : SettlesAsPromisedAfter → (base : List Entry) (d : Deployment) (budget : ℕ) (c b : Core) (old new : TableState) (x : Settled) → c.now ≤ last_moment → IfSome old.rows (λ m. Sound d (behind base c) m) → Led d budget (go_on budget first_at) (Over x) c b old new
+    → KeepsPromisesAfter base d budget c b old new x
+promised_after law base d budget c b old new x early sound led = by_rows old.rows new.rows sound led
+  where
+    by_rows : (p q : Option Rows) → IfSome p (λ m. Sound d (behind base c) m) → Tells p q (λ m n. Settles d old.room budget (go_on budget first_at) (state_with c old m) (Over x) (state_with b new n))
+        → Tells p q (λ m n. Promises d budget (with_joined base (state_with c old m)) (with_joined base (state_with b new n)) x)
+    by_rows None q h k = k
+    by_rows (Some m) None h k = k
+    by_rows (Some m) (Some n) h k = law d base old.room budget (state_with c old m) (state_with b new n) x h early k

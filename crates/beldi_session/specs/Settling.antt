@@ -1,11 +1,13 @@
 -- The events of a settling, where the table tells its rows, and what is promised of them.
-use Rattle.std.specs.Prelude.{◌≡◌, ℕ, Ok}
+use Rattle.std.specs.Prelude.{◌≡◌, ℕ, List, Ok}
 use Rattle.beldi_tree.specs.declared.deployment.Deployment.{Deployment}
 use Rattle.beldi_row.specs.{Key.RowKey, Table.Rows, Table.TableState, Table.Tells}
 use Rattle.beldi_step.specs.{declared.event.Event.Event, declared.event.Seen.Seen, Host.Core, Host.Stepped, Next.at_key, Next.next_run}
 use Rattle.beldi_host.specs.Survey.{PassesToldOpen}
 use Rattle.beldi_schedule.specs.{Settle.ic_heard, Settles.Settles, Settles.State, declared.machine.At.At, declared.machine.Settled.Settled, declared.machine.Standing.Standing}
 use Rattle.beldi_bound.specs.Ends.{Promises}
+use Rattle.beldi_book.specs.declared.entry.Entry.{Entry}
+use Rattle.beldi_joined.specs.Joined.{with_joined}
 
 -- an event was answered, and this followed
 pub record Heard (d : Deployment) (e : Event) (follows : Core → Seen → Standing) (c z : Core) (old new : TableState) (next : Standing) : Type 0 where
@@ -29,3 +31,7 @@ Led d budget y z c b old new = Tells old.rows new.rows (λ m n. Settles d old.ro
 -- what is promised of it at its end
 abbrev pub KeepsPromises : Deployment → ℕ → Core → Core → TableState → TableState → Settled → Type 0
 KeepsPromises d budget c b old new x = Tells old.rows new.rows (λ m n. Promises d budget (state_with c old m) (state_with b new n) x)
+
+-- .. of a host that comes after other sessions, by their book and its own
+abbrev pub KeepsPromisesAfter : List Entry → Deployment → ℕ → Core → Core → TableState → TableState → Settled → Type 0
+KeepsPromisesAfter base d budget c b old new x = Tells old.rows new.rows (λ m n. Promises d budget (with_joined base (state_with c old m)) (with_joined base (state_with b new n)) x)

@@ -7,9 +7,11 @@ ghost use Rattle.beldi_schedule.specs.Settle.{HasTurns, WasTaken, first_at, go_o
 ghost use Rattle.beldi_schedule.specs.declared.machine.Next.TheVariants.{Turn, Collect};
 ghost use Rattle.beldi_schedule.specs.declared.machine.Standing.TheVariants.{Goes, Over};
 ghost use Rattle.beldi_upkeep.specs.Checked.{StartsAreOfIt};
+ghost use Rattle.beldi_book.specs.declared.entry.Entry.{Entry};
+ghost use Rattle.beldi_joined.specs.Joined.{IsRightAfter, joined};
 ghost use Rattle.beldi_session.specs.Script.{Action, Settle};
 ghost use Rattle.beldi_session.specs.Session.{Does, DoesTo, left_by, sight};
-ghost use Rattle.beldi_session.specs.Settling.{Collected, Heard, KeepsPromises, Led};
+ghost use Rattle.beldi_session.specs.Settling.{Collected, Heard, KeepsPromises, KeepsPromisesAfter, Led};
 ghost use Rattle.beldi_session.specs.Settled.{settled_text, wait_text};
 
 use crate::answer::{write_answer, write_numbered, write_reply_told};
@@ -17,6 +19,7 @@ use crate::session::{Stop, appended};
 use beldi_bound::settlings_are_as_promised;
 use beldi_check::Checked;
 use beldi_host::Host;
+use beldi_joined::settlings_after_sessions_are_as_promised;
 use beldi_row::Table;
 use beldi_schedule::{
     At, Next, Settled, Standing, Waits, begun, first_at, go_on, ic_heard, turn_heard, unparked,
@@ -178,7 +181,8 @@ fn tell_settled<T: Table>(
 
 /// Gives turns until all live runs wait or are over, at most the budget, and appends the lines of replies and of how it ended. Of a right
 /// host whose book starts functions of its deployment alone it keeps its promises: its turns are at most the work, it is settled only where
-/// all have ended, and stuck only with a cause, and with a budget above the work what can end ends.
+/// all have ended, and stuck only with a cause, and with a budget above the work what can end ends. So it does of one that is right behind the
+/// book of sessions that left its rows, by their book and its own.
 pub fn settle<T: Table>(
     alloc: Global,
     host: &mut Host<T>,
@@ -187,8 +191,10 @@ pub fn settle<T: Table>(
 ) -> Result<Settled, Stop>
     ensures does { (held : Option (List ℕ)) (faults : ℕ) → Does (Settle budget (go_on budget first_at) ∷ []) (sight host.old out.old held faults) (sight host.new out.new held faults) result }
     ensures promises { IsRight host.old → StartsAreOfIt host.old.code (core_of host.old).book → IfOk result (λ x. KeepsPromises host.old.code budget (core_of host.old) (core_of host.new) (T.state host.old.table) (T.state host.new.table) x) }
+    ensures joins { (base : List Entry) → IsRightAfter base host.old → StartsAreOfIt host.old.code (joined base (core_of host.old).book) → IfOk result (λ x. KeepsPromisesAfter base host.old.code budget (core_of host.old) (core_of host.new) (T.state host.old.table) (T.state host.new.table) x) }
 {
     settlings_are_as_promised();
+    settlings_after_sessions_are_as_promised();
     host.keeps_rules();
     let mut standing = go_on(budget, first_at(alloc));
     loop {

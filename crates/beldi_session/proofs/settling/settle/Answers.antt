@@ -1,7 +1,8 @@
 use Rattle.beldi_session.proofs.Names.{DoesTo, Goes, None, Over, Settle, Standing, [], ap, core_of, first_at, go_on, sight, subst, sym, ◌∙◌, ◌∷◌}
 use Rattle.beldi_session.proofs.{Calls.does_nothing, Calls.does_on, Calls.does_so, Calls.does_stop, Went.fine}
 use Rattle.beldi_session.specs.Settling.{Led}
-use Rattle.beldi_session.proofs.Led.{if_sound, led_nowhere, led_on, promised}
+use Rattle.beldi_joined.specs.Joined.{behind}
+use Rattle.beldi_session.proofs.Led.{if_sound, led_nowhere, led_on, promised, promised_after}
 use Rattle.beldi_session.proofs.settling.settle.Goals as goal
 
 pub loop-standing-init : goal.loop-standing-init
@@ -40,6 +41,14 @@ returns-in-Ok-tell_settled-clause-promises g c = λ right starts.
     let here = c.loop-standing.host in
     promised c.settlings_are_as_promised.ensures old.code c.args.budget (core_of old) (core_of here) (t.state old.table) (t.state here.table) c.in-Over.settled c.keeps_rules.ensures.early
     (if_sound old.code (core_of old) c.keeps_rules.ensures.rules starts (t.state old.table).rows right) (rw c.in-Over.is at c.loop-standing.invariant.led)
+
+pub returns-in-Ok-tell_settled-clause-joins : goal.returns-in-Ok-tell_settled-clause-joins
+returns-in-Ok-tell_settled-clause-joins g c = λ base right starts.
+    let t = g.T.Table in
+    let old = c.args.host.now in
+    let here = c.loop-standing.host in
+    promised_after c.settlings_after_sessions_are_as_promised.ensures base old.code c.args.budget (core_of old) (core_of here) (t.state old.table) (t.state here.table) c.in-Over.settled c.keeps_rules.ensures.early
+    (if_sound old.code (behind base (core_of old)) c.keeps_rules.ensures.rules starts (t.state old.table).rows right) (rw c.in-Over.is at c.loop-standing.invariant.led)
 
 pub returns-in-Err-tell_settled-clause-does : goal.returns-in-Err-tell_settled-clause-does
 returns-in-Err-tell_settled-clause-does g c = λ held faults. does_on {gs = Settle c.args.budget (Over c.in-Over.settled) ∷ []} (rw c.in-Over.is at c.loop-standing.invariant.did held faults) (does_stop (c.in-Err-tell_settled.ensures held faults))
