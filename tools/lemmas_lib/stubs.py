@@ -10,7 +10,7 @@ pub fn never() ensures { ⊥ } { NAME_never(); }
 """
 CLAUSE = re.compile(r"(?:\b(?:requires|ensures)\s*\*?(?:\s+\w+)?|\bghost\s+\w+\s*:)\s*$")
 BLOCK = re.compile(r"(?m)^[ \t]*(?:pub(?:\([^)]*\))?\s+)?(?:unsafe\s+)?(impl|trait)\b([^{]*)")
-GONE = re.compile(r"(?m)^[ \t]*(?://.*|#\[cycle\([^)]*\)\](?=[^{;]*?\bfn\b))\n")
+GONE = re.compile(r"(?m)^[ \t]*(?://.*|#\[(?:cycle|tactic)\(.*\)\](?=[^{;]*?\bfn\b))\n")
 
 
 def plain_texts(rattle, files):
