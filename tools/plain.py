@@ -4,6 +4,8 @@ import json
 OPERATIONS = ("read", "write", "condwrite", "lock", "unlock")
 RELATIONS = ("==", "!=", "<", "<=", ">", ">=")
 MOST_BYTES, MOST_DEEP, MOST_KEY, MOST_EFFECTS, MOST_NUMBER = 4096, 32, 256, 10_000, 2 ** 63
+# How many entries the log of a row has at most.
+MOST_ENTRIES = 8
 DONE, ABORTED = ("value", None), ("aborted", None)
 
 
@@ -447,18 +449,20 @@ class Body:
 
 # ---- the book on plain maps
 class Asked:
-    """An effect that an instance was led to by the answers before it; of an end also what it has to visit."""
+    """An effect that an instance of a function was led to by the answers before it; of an operation also its item, of an end what it has
+    to visit; and the transaction that it is of."""
 
-    def __init__(self, is_inside, effect):
+    def __init__(self, name, is_inside, effect):
         self.is_inside, self.effect, self.form = is_inside, effect, effect[0]
-        self.died, self.locks, self.members = False, set(), []
+        self.item = (name, *effect[1:3]) if self.form in OPERATIONS else None
+        self.tx, self.died, self.locks, self.members = None, False, set(), []
 
 
 class Instance:
     def __init__(self, id, name, function, arguments, is_member, is_waited_for=False):
         self.id, self.name, self.is_waited_for = id, name, is_waited_for
         self.body = Body(function, arguments, is_member)
-        self.asked = [Asked(*next(self.body.effects))]
+        self.asked = [Asked(name, *next(self.body.effects))]
         self.outcome = None
 
     @property
@@ -471,13 +475,8 @@ class Instance:
         """How many answers it was given."""
         return len(self.asked) - 1
 
-    @property
-    def item(self):
-        """The item that its next effect is on."""
-        return (self.name, *self.next.effect[1:3])
-
     def answer(self, answer):
-        self.asked.append(Asked(*self.body.effects.send(answer)))
+        self.asked.append(Asked(self.name, *self.body.effects.send(answer)))
 
 
 class Plain:
@@ -485,7 +484,15 @@ class Plain:
     among them."""
 
     def __init__(self, functions):
-        self.functions, self.items, self.made = functions, {}, {}
+        self.functions, self.items, self.made, self.entries = functions, {}, {}, {}
+
+    def noted(self, item, tx=None):
+        """The log of an item, or of the copy that a transaction has of one, gets an entry."""
+        self.entries[item, tx] = self.entries.get((item, tx), 0) + 1
+
+    def rows(self, item, tx=None):
+        """How many rows it has, or will have once there is a further entry."""
+        return self.entries.get((item, tx), 0) // MOST_ENTRIES + 1
 
     def make(self, id, name, *rest):
         if name not in self.functions or id in self.made:
@@ -512,7 +519,10 @@ class Plain:
         """A step outside of transactions, or of who takes part in one."""
         form, effect = instance.next.form, instance.next.effect
         if form in OPERATIONS:
-            instance.answer(("value", self.operate(instance.item, form, effect[3:])))
+            item = instance.next.item
+            if form != "read" and not instance.next.is_inside:
+                self.noted(item)
+            instance.answer(("value", self.operate(item, form, effect[3:])))
         elif form in ("call", "async"):
             self.make(f"{instance.id}/{instance.step}", *effect[1:], instance.next.is_inside, form == "call")
             if form == "async":
@@ -543,17 +553,23 @@ class Plain:
         so at a place."""
         if owner.next.form != "begin":
             raise Unknown(f"{owner.id} begins no transaction")
-        items, locks, members = dict(self.items), set(), []
+        items, locks, owned, members, tx = dict(self.items), set(), set(), [], (owner.id, owner.step)
         owner.answer(DONE)
         stack = [owner]
         while stack[-1].next.form != "end":
             one, form = stack[-1], stack[-1].next.form
+            one.next.died = form in OPERATIONS and place == f"{one.id}:{one.step}"
             if form in OPERATIONS:
-                locks.add((one.id, one.item))
+                one.next.tx = tx
+                locks.add((one.id, one.next.item))
+                self.noted(one.next.item)
             if place == f"{one.id}:{one.step}":
-                one.next.died = form in OPERATIONS
                 one.answer(ABORTED)
                 continue
+            if form in OPERATIONS:
+                owned.add(one.next.item)
+            if form in ("write", "condwrite"):
+                self.noted(one.next.item, tx)
             step = one.step
             self.change(one)
             if form == "call":
@@ -566,7 +582,9 @@ class Plain:
             raise Unknown(f"the transaction of {owner.id} ends otherwise")
         if not commits:
             self.items = items
-        owner.next.locks, owner.next.members = locks, members
+        for it in owned:
+            self.noted(it)
+        owner.next.tx, owner.next.locks, owner.next.members = tx, locks, members
         owner.answer(DONE)
 
 

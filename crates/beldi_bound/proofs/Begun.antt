@@ -402,6 +402,7 @@ module _ (d : Deployment) (room : ℕ) (e : Rows) (asked : IntentId → List Ans
 
   pub waits_so : (w : Wait) → next_says c m r g ≡ Says.Waits w → ((j : IntentId) → w ≡ Wait.Result j → Awaits j) → Turn (turned_by d r g (Says.Waits w))
   waits_so (Wait.Held o) says awaits sb = still_waits (Wait.Held o) says
+  waits_so Wait.Worn says awaits sb = still_waits Wait.Worn says
   waits_so (Wait.Result j) says awaits sb = either Answered (has_run (put_run c.runs i (Some r)) j) _ _ (λ t. still_waits (Wait.Result j) says)
       (λ none. either Answered (is_crowded (Same (Wait.Result j) says)) _ _ (λ t. still_waits (Wait.Result j) says) (λ t. by_callee (callee_of r) (awaits j refl).is none))
     where

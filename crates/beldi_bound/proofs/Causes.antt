@@ -209,6 +209,7 @@ module _ (d : Deployment) (c : Core) (m : Rows) (waiting : List (ℕ × Seen)) (
 
           by_wait : (y : Wait) → b.its.wait ≡ y → has_run c.runs id ≡ true
           by_wait (Wait.Held o) e = absurd ((why (Wait.Held o) e).apart f v effect)
+          by_wait Wait.Worn e = absurd (why Wait.Worn e)
           by_wait (Wait.Result j) e = subst (λ z. has_run c.runs z ≡ true) ((why (Wait.Result j) e).callee ∙ (λ i. child_of (b.same i) (at_step i)) ∙ sym w.is) (b.its.runs j e)
 
       waited_run : Cause ⊎ (has_run c.runs id ≡ true)
@@ -327,6 +328,7 @@ module _ (d : Deployment) (c : Core) (m : Rows) (waiting : List (ℕ × Seen)) (
 
     by_wait : (z : Wait) → w.wait ≡ z → Why m r.id w.begun.machine.steps mine w.begun.machine.effect z → Next i
     by_wait (Wait.Held o) e why = by_owner o why
+    by_wait Wait.Worn e why = absurd why
     by_wait (Wait.Result j) e why = let l = live_run c.runs j (w.runs j e) in elim (waits d c m waiting s all l.number l.run l.live) [ inl cause ↦ inl cause | inr y ↦ to_callee j why l y ]
 
     goes_on : Next i

@@ -103,7 +103,7 @@ module _ (d : Deployment) (c : Core) (m : Rows) (h : Right d c m) (i : ℕ) (r :
 
   other_stage : (id : IntentId) (func : ℕ) (c : Option Caller) (o : Option RunTx) (step : ℕ) (e : Effect) (w : Stage) → is_back_stage w ≡ false → query_backs (stage_asks id func c o step e w) ≡ false
   other_stage id func c o step e Stage.Ask h = refl
-  other_stage id func c o step e Stage.Walk h = grind arith
+  other_stage id func c o step e (Stage.Walk r) h = grind arith
   other_stage id func c o step e (Stage.Keep v seen) h = refl
   other_stage id func c o step e (Stage.Write at) h = grind arith
   other_stage id func c o step e (Stage.Tx at) h = grind arith

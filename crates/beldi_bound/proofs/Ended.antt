@@ -8,13 +8,13 @@ use Rattle.beldi_step.specs.{Host.has_run, declared.run.Run.Run}
 use Rattle.beldi_intent.specs.Intent.{is_ended}
 use Rattle.beldi_order.proofs.Line.{longer}
 use Rattle.beldi_known.proofs.{Callers.root_or_called, Cases.by_cases, Cases.by_option}
-use Rattle.beldi_chain.specs.Chain.{Chain, Sound, chain}
-use Rattle.beldi_chain.specs.Content.{SoundAt}
+use Rattle.beldi_chain.specs.Chain.{Chain, chain}
+use Rattle.beldi_links.specs.Links.{FitsAt, IsLinked}
 use Rattle.beldi_laws.proofs.Names.{Answer, Beside, Body, BodyMatches, Bool, Core, Deployment, FinishMatches, Instance, IntentId, IntentMatches, IntentRow, IsCalled, Item, Kind, List, None, Option, Outcome, Right, RootMatches, Row, RowKey, RowMatches, Rows, Some, TxId, Value, [], answer_given, answer_of, ap, append-nil, arith, call_of, child_of, effect_before, effect_of, false, has_ended, has_no_hops, head_key, inl, inr, is_some, key_in, length, option_map, refl, root_key, root_of, row_of, same_some, shadow_key, slice_get, subst, suc, sym, take, take_front, true, tx_at, tx_in, within_by, zero, ℕ, ◌<◌, ◌==◌, ◌||◌, ◌∙◌, ◌∷◌, ◌≡◌}
 use Rattle.beldi_laws.proofs.Names.map
 use Rattle.beldi_laws.proofs.{Outside.known_of, Standing.same_run}
 use Rattle.beldi_upkeep.{proofs.PastLaws.known_registered, specs.Callees.Seats, specs.Passed.PastCalls}
-use Rattle.beldi_bound.proofs.Facts.{EachHasRun, SettledHaveEnded}
+use Rattle.beldi_bound.proofs.{Facts.EachHasRun, Facts.SettledHaveEnded, Lengths.linked_by}
 
 -- ---- intents
 -- nothing has a run where none is live
@@ -28,10 +28,9 @@ kind_is d c m h k i there = by_kind k.kind refl (subst (RowMatches d h.known k.h
     at_kind : (kind : Kind) → k.kind ≡ kind → map.get m (record { home = k.home; kind = kind }) ≡ Some (Row.Intent i)
     at_kind kind at = (λ j. map.get m (record { home = k.home; kind = sym at j })) ∙ there
 
-    -- no row of a sound chain is one
-    cell : (f : Chain) → Sound f → (n : ℕ) → f n ≡ Some (Row.Intent i) → ⊥
-    cell f sound zero is = subst SoundAt is sound.head
-    cell f sound (suc n) is = let clash = sym is ∙ sound.alone n in cc
+    -- no row of an item is one
+    cell : (f : Chain) → IsLinked f → (n : ℕ) → f n ≡ Some (Row.Intent i) → ⊥
+    cell f linked n is = subst FitsAt is ((linked_by f (f 0) n (Row.Intent i) linked is).fits n)
 
     by_kind : (kind : Kind) → k.kind ≡ kind → RowMatches d h.known k.home kind (Some (Row.Intent i)) → (id : IntentId) × (k.kind ≡ Kind.Intent id)
     by_kind (Kind.Intent id) at f = (id, at)
@@ -39,7 +38,7 @@ kind_is d c m h k i there = by_kind k.kind refl (subst (RowMatches d h.known k.h
     by_kind (Kind.Invoke a) at f = absurd f
     by_kind (Kind.Lockset j b t x) at f = absurd f
     by_kind (Kind.Data t x n) at f = let y : Item = record { func = k.home; table = t; key = x } in absurd (cell (chain m (head_key y)) (h.rows.chains y) n (at_kind (Kind.Data t x n) at))
-    by_kind (Kind.Shadow s t x n) at f = let y : Item = record { func = k.home; table = t; key = x } in absurd (cell (chain m (shadow_key s y)) (h.rows.asides s y).sound n (at_kind (Kind.Shadow s t x n) at))
+    by_kind (Kind.Shadow s t x n) at f = let y : Item = record { func = k.home; table = t; key = x } in absurd (cell (chain m (shadow_key s y)) (h.rows.asides s y).linked n (at_kind (Kind.Shadow s t x n) at))
 
 abbrev AllEnded : Rows → Type 0
 AllEnded m = (k : RowKey) (i : IntentRow) (b : Body) → map.get m k ≡ Some (Row.Intent i) → i.body ≡ Some b → is_ended i ≡ true

@@ -35,6 +35,7 @@ module _ (d : Deployment) where
   after_now : (c : Core) (o : Option Run) (id : IntentId) (x : TurnSays) (w : Option Wait) → (after_turn c o id x w).0.now ≡ c.now
   after_now c o id x None = either (λ (p : Core × Option ℕ). p.0.now ≡ c.now) x.starts _ _ (λ t. may_now c o) (λ t. refl)
   after_now c o id x (Some (Wait.Held w)) = refl
+  after_now c o id x (Some Wait.Worn) = refl
   after_now c o id x (Some (Wait.Result j)) = either (λ (p : Core × Seen). p.0.now ≡ c.now) (has_run c.runs j) _ _ (λ t. refl) (λ t. either (λ (p : Core × Seen). p.0.now ≡ c.now) (is_crowded c) _ _ (λ u. refl) (λ u. started_now c o))
 
   run_now : (c : Core) (i : ℕ) (t : Told) (o : Option Run) → (run_next d c i t o).0.now ≡ c.now

@@ -3,11 +3,8 @@ use Rattle.beldi_laws.proofs.Names.{Async, AsyncAt, Bool, Call, CallAt, Caller, 
 use Rattle.beldi_laws.proofs.Names.map
 use Rattle.beldi_laws.proofs.{Cases.by_option, OpenOf.open_tx, OpenOf.tx_open}
 use Rattle.beldi_daal.specs.declared.cell.WriteAt.TheVariants.{Try}
-use Rattle.beldi_bound.specs.{Cost.effect_cost, Cost.with_answers, Left.decided_visit, Left.left_at, Visits.end_cost, Visits.end_row_cost, Visits.is_ahead, Visits.put_left, Visits.row_left, Visits.sum_by, Visits.visit_left}
-use Rattle.beldi_bound.proofs.Facts.{FirstStagesAreFew}
-
-put_few : (b : Bool) → put_left b Try ≤ 3
-put_few b = grind arith
+use Rattle.beldi_bound.specs.{Cost.aside_length, Cost.effect_cost, Cost.item_length, Cost.with_answers, Left.aside_there, Left.decided_visit, Left.item_there, Left.left_at, Visits.end_cost, Visits.end_row_cost, Visits.is_ahead, Visits.row_left, Visits.sum_by, Visits.visit_left}
+use Rattle.beldi_bound.proofs.{Facts.FirstStagesAreFew, Lengths.aside_some, Lengths.item_some, Puts.put_few}
 
 sum_most : {K X : Type 0} (f g : K → X → ℕ) → ((k : K) (x : X) → f k x ≤ g k x) → (es : List (K × X)) → sum_by f es ≤ sum_by g es
 sum_most f g most [] = omega arith
@@ -43,13 +40,21 @@ module _ (e m : Rows) (q : Instance) (id : IntentId) (c : Option Caller) (step :
 
   few_first : (f : Effect) (o : Option RunTx) (w : Stage) → first_stage id c o step f ≡ Some w → IsFew f o w
   few_first (Read t k) None w is = first (Read t k) None is (omega arith)
-  few_first (Read t k) (Some o) w is = first (Read t k) (Some o) is (omega (arith, put_few))
-  few_first (Write t k v) None w is = first (Write t k v) None is (omega (arith, put_few))
-  few_first (Write t k v) (Some o) w is = first (Write t k v) (Some o) is (omega (arith, put_few))
-  few_first (CondWrite t k r u v) None w is = first (CondWrite t k r u v) None is (omega (arith, put_few))
-  few_first (CondWrite t k r u v) (Some o) w is = first (CondWrite t k r u v) (Some o) is (omega (arith, put_few))
-  few_first (Effect.Lock t k) None w is = first (Effect.Lock t k) None is (omega (arith, put_few))
-  few_first (Unlock t k) None w is = first (Unlock t k) None is (omega (arith, put_few))
+  few_first (Read t k) (Some o) w is =
+      let f = Read t k in let few = put_few (item_length e q.func f) (item_there m q.func f) (Try 0) (item_some e q.func f) in
+      first f (Some o) is (omega (arith, few))
+  few_first (Write t k v) None w is = first (Write t k v) None is (put_few (item_length e q.func (Write t k v)) (item_there m q.func (Write t k v)) (Try 0) (item_some e q.func (Write t k v)))
+  few_first (Write t k v) (Some o) w is =
+      let f = Write t k v in let t = run_tx id q.func (Some o) in
+      let few = put_few (item_length e q.func f) (item_there m q.func f) (Try 0) (item_some e q.func f) in
+      let more = put_few (aside_length e q.func t f) (aside_there m q.func id (Some o) f) (Try 0) (aside_some e q.func t f) in
+      first f (Some o) is (omega (arith, few, more))
+  few_first (CondWrite t k r u v) None w is = first (CondWrite t k r u v) None is (put_few (item_length e q.func (CondWrite t k r u v)) (item_there m q.func (CondWrite t k r u v)) (Try 0) (item_some e q.func (CondWrite t k r u v)))
+  few_first (CondWrite t k r u v) (Some o) w is =
+      let f = CondWrite t k r u v in let few = put_few (item_length e q.func f) (item_there m q.func f) (Try 0) (item_some e q.func f) in
+      first f (Some o) is (omega (arith, few))
+  few_first (Effect.Lock t k) None w is = first (Effect.Lock t k) None is (put_few (item_length e q.func (Effect.Lock t k)) (item_there m q.func (Effect.Lock t k)) (Try 0) (item_some e q.func (Effect.Lock t k)))
+  few_first (Unlock t k) None w is = first (Unlock t k) None is (put_few (item_length e q.func (Unlock t k)) (item_there m q.func (Unlock t k)) (Try 0) (item_some e q.func (Unlock t k)))
   few_first (Call f a) None w is = by_hops (Stage.Call CallAt.Open) (Call f a) None (has_callees id) is (omega arith)
   few_first (Call f a) (Some o) w is = by_hops (Stage.Call CallAt.Open) (Call f a) (Some o) (has_callees id) is (omega arith)
   few_first (Async f a) None w is = by_hops (Stage.Async AsyncAt.Open) (Async f a) None (has_callees id) is (omega arith)

@@ -10,7 +10,7 @@ use Rattle.beldi_lang.specs.declared.machine.Machine.{Machine}
 use Rattle.beldi_book.specs.{Order.count_changes, declared.entry.Entry.Entry}
 use Rattle.beldi_plain.specs.Plain.{PlainState}
 use Rattle.beldi_order.proofs.Maps.{same_some}
-use Rattle.beldi_row.{proofs.Unchanged.looked, specs.Key.RowKey, specs.Table.Rows, specs.declared.act.Act.Act, specs.declared.row.IntentRow.IntentRow, specs.declared.row.Row.Row}
+use Rattle.beldi_row.{proofs.Unchanged.looked, specs.Key.RowKey, specs.Key.at_row, specs.Table.Rows, specs.declared.act.Act.Act, specs.declared.row.IntentRow.IntentRow, specs.declared.row.Row.Row}
 use Rattle.beldi_walk.specs.{Query.Told, Query.rows_after, Query.told_by, declared.query.Query.Query}
 use Rattle.beldi_daal.specs.Cell.{cell_key}
 use Rattle.beldi_readlog.specs.ReadLog.{log_key}
@@ -20,7 +20,7 @@ use Rattle.beldi_step.specs.{Host.Core, Run.asks_at, Run.place_of, Run.run_asks,
 use Rattle.beldi_schedule.specs.{Settle.first_at, Settle.go_on, Settles.Advances, Settles.Settles, Settles.State, Settles.set_to, Settle.core_for, Settle.event_of, Settle.next_of, declared.machine.At.At, declared.machine.Standing.Standing, declared.machine.Standing.TheVariants.Over}
 use Rattle.beldi_laws.specs.{Right.AtStage, Right.Inside, Right.Knows, Right.Right, Right.StandsAt}
 use Rattle.beldi_upkeep.{proofs.Overs.no_turn_over, proofs.Started.started_of_it, specs.Checked.Checked, specs.Checked.next_says, specs.Checked.next_turn}
-use Rattle.beldi_bound.specs.{Ends.IsBelowEnd, Ends.IsLate, Ends.Sound, Work.has_ended, Work.seat}
+use Rattle.beldi_bound.specs.{Ends.IsBelowEnd, Ends.IsLate, Ends.Sound, Ends.is_walk, Work.has_ended, Work.seat}
 use Rattle.beldi_bound.proofs.{Facts.GoesOn, Facts.LatesAreFollowed, LogRows.OwnLog, LogRows.first_puts, LogRows.log_put, LogRows.new_log, LogRows.stage_puts, Steps.Stays, Steps.Turns, Steps.next_steps}
 use Rattle.beldi_bound.proofs.Lates.{GoesFrom, IsRead, StoodAt, answer_goes, begin_here, begin_no_walk, close_ends, few_steps, is_answer, same_effect, same_open, same_seat, told_there, turn_goes, turn_is, walk_stood, walks_read}
 
@@ -85,21 +85,21 @@ module _ {d : Deployment} (m : Rows) (p : PlainState) (book : List Entry) {known
   -- who puts its value is answered
   puts_answered : (w : Stage) (t : ℕ) (x : List ℕ) (changes : ℕ) (q : Told) (y : ℕ × Place) → AtStage m p book k w (Effect.Read t x) None → log_put (stage_asks id home c None s.steps (Effect.Read t x) w) ≡ Some y → is_answer (stage_says id home c None changes s.steps (Effect.Read t x) w q) ≡ true
   puts_answered Stage.Ask t x changes q y here h = cc
-  puts_answered Stage.Walk t x changes q y here h = cc
+  puts_answered (Stage.Walk r) t x changes q y here h = cc
   puts_answered (Stage.Keep v seen) t x changes q y here h = refl
-  puts_answered (Stage.Write at) t x changes q y here h = let clash = here in cc
+  puts_answered (Stage.Write at) t x changes q y here h = let clash = here.0 in cc
   puts_answered w t x changes q y here h = absurd here
 
   -- who is not answered asks for its row or looks for its value
   data Looking (w : Stage) : Type 0 where
     asking : w ≡ Stage.Ask → Looking w
-    walking : w ≡ Stage.Walk → Looking w
+    walking : (r : ℕ) → w ≡ Stage.Walk r → Looking w
 
   is_looking : (w : Stage) (t : ℕ) (x : List ℕ) (changes : ℕ) (q : Told) → AtStage m p book k w (Effect.Read t x) None → is_answer (stage_says id home c None changes s.steps (Effect.Read t x) w q) ≡ false → Looking w
   is_looking Stage.Ask t x changes q here h = Looking.asking refl
-  is_looking Stage.Walk t x changes q here h = Looking.walking refl
+  is_looking (Stage.Walk r) t x changes q here h = Looking.walking r refl
   is_looking (Stage.Keep v seen) t x changes q here h = let clash = h in cc
-  is_looking (Stage.Write at) t x changes q here h = let clash = here in cc
+  is_looking (Stage.Write at) t x changes q here h = let clash = here.0 in cc
   is_looking w t x changes q here h = absurd here
 
 -- ---- a run made its turn
@@ -151,7 +151,7 @@ module _ (d : Deployment) (c b : Core) (m n : Rows) (sound : Sound d c m) (then_
       mine = knows_it h i r f live late.at
 
       reads : IsRead f.machine.effect f.tx
-      reads = walks_read m h.plain c.book mine.0 f.machine.effect f.tx (subst (λ w. AtStage m h.plain c.book mine.0 w f.machine.effect f.tx) late.walks mine.1.here)
+      reads = walks_read m h.plain c.book mine.0 f.stage f.machine.effect f.tx late.walks mine.1.here
 
       not_over : (g : Begun) (at : t.run.at ≡ RunAt.Begins g) → t.run.id ≡ r.id → (next_turn d c m t.run).next ≡ None → ⊥
       not_over g at ids over = let clash : true ≡ false = sym (over_ends g at over) ∙ ap (λ k. has_ended (map.get n k)) (same_seat h t.run r g f (knows g at).0 mine.0 ids) ∙ ended in cc
@@ -205,7 +205,7 @@ module _ (d : Deployment) (c b : Core) (m n : Rows) (sound : Sound d c m) (then_
       then_knows = knows_it then_sound.upkeep.right t.number r f there late.at
 
       then_reads : IsRead f.machine.effect f.tx
-      then_reads = walks_read n then_sound.upkeep.right.plain b.book then_knows.0 f.machine.effect f.tx (subst (λ w. AtStage n then_sound.upkeep.right.plain b.book then_knows.0 w f.machine.effect f.tx) late.walks then_knows.1.here)
+      then_reads = walks_read n then_sound.upkeep.right.plain b.book then_knows.0 f.stage f.machine.effect f.tx late.walks then_knows.1.here
 
       module _ (g : Begun) (at : t.run.at ≡ RunAt.Begins g) where
         abbrev e : Effect
@@ -255,9 +255,9 @@ module _ (d : Deployment) (c b : Core) (m n : Rows) (sound : Sound d c m) (then_
             by_option (map.get m (its_log t.run g)) (λ none. let clash : false ≡ true = sym (ap is_some none) ∙ kept in cc)
             (λ v found. let says : is_answer (next_says c m t.run g) ≡ true = ap (λ w. is_answer (stage_says t.run.id t.run.func g.caller g.tx (count_changes c.book) g.machine.steps g.machine.effect w (told_by (stage_asks t.run.id t.run.func g.caller g.tx g.machine.steps g.machine.effect w) c.now m))) is ∙ told_there (its_log t.run g) c.now m v found in
             let clash : true ≡ false = sym says ∙ stood.unanswered in cc)
-        by_looking (Looking.walking is) =
-            let same = rows_by (cell_key t.run.func then_reads.table then_reads.key) (asks_as Stage.Walk is) in
-            let was : IsLate m t.run = record { begun = g; at = at; walks = is; kept = kept_before same } in
+        by_looking (Looking.walking w is) =
+            let same = rows_by (at_row (cell_key t.run.func then_reads.table then_reads.key) w) (asks_as (Stage.Walk w) is) in
+            let was : IsLate m t.run = record { begun = g; at = at; walks = ap is_walk is; kept = kept_before same } in
             let y = all t.number t.run was t.live (open_before m n goes (seat t.run) (ap (λ k. has_ended (map.get n k)) (sym seats) ∙ ended)) in
             let steps : f.machine.steps ≡ g.machine.steps = ap (λ (z : Machine). z.steps) stood.machine in
             by_cases (y.number == t.number)

@@ -21,7 +21,7 @@ use Rattle.beldi_laws.specs.Right.{AtStage, Inside, Knows, Right, StandsAt}
 use Rattle.beldi_laws.proofs.{Cases.by_list, Cases.false_by, Passing.tx_step_is, Standing.held_here, Turns.answer_here, Turns.effect_here}
 use Rattle.beldi_upkeep.specs.{Checked.next_turn, Upkeep.Upkeep}
 use Rattle.beldi_upkeep.proofs.{FromRight.row_at, Notes.knows}
-use Rattle.beldi_bound.specs.{Ends.HasCause, Ends.IsIn, Work.has_ended, Work.seat}
+use Rattle.beldi_bound.specs.{Ends.HasCause, Ends.IsIn, Ends.is_walk, Work.has_ended, Work.seat}
 use Rattle.beldi_bound.proofs.{Chain.Greatest, Chain.LiveRun, Chain.greatest, Chain.in_numbers, Chain.live_run, Chain.numbers, Facts.AllWait, Facts.EachHasRun, Facts.WaitsNow, Waits.Called, Waits.Stopped, Waits.Why, Waits.stopped, Waited.waits_begun}
 
 -- ---- no run stands at a Begin
@@ -30,13 +30,14 @@ begin_only e h = grind arith
 
 module _ {d : Deployment} (m : Rows) (p : PlainState) (book : List Entry) {known : Known} {id : IntentId} {home : ℕ} {c : _} {s : _} {o : Option RunTx} (k : StandsAt d known id home c s o) where
   no_begin : (w : Stage) (z : Option RunTx) → AtStage m p book k w Effect.Begin z → ⊥
-  no_begin (Stage.Write at) None here = cc
+  no_begin (Stage.Write at) None here = let none = here.0 in cc
   no_begin (Stage.Tx a) (Some x) here = here.0
   no_begin w z here = here
 
   -- nor does one walk at a call
-  no_walk : (f : ℕ) (v : Value) (z : Option RunTx) → AtStage m p book k Stage.Walk (Effect.Call f v) z → ⊥
-  no_walk f v z here = here
+  no_walk : (w : Stage) (f : ℕ) (v : Value) (z : Option RunTx) → is_walk w ≡ true → AtStage m p book k w (Effect.Call f v) z → ⊥
+  no_walk (Stage.Walk r) f v z is here = here
+  no_walk w f v z is here = cc
 
 -- ---- the live runs of an intent
 abbrev pub is_of : IntentId → Option Run → Bool
@@ -141,11 +142,11 @@ module _ (d : Deployment) (c : Core) (m : Rows) (waiting : List (ℕ × Seen)) (
     pub stopped_so : Stopped m r.id r.func begun.machine.steps (tx_at r.id r.func begun.tx) begun.machine.effect begun.stage wait
 
   module _ (i : ℕ) (r : Run) (live : map.get c.runs i ≡ Some r) where
-    waits_by : (w : Wait) → (next_turn d c m r).wait ≡ Some w → ((o : Owner) → w ≡ Wait.Held o → IsIn (i, Seen.Held o) waiting) → ((j : IntentId) → w ≡ Wait.Result j → has_run c.runs j ≡ true) → Waits i r
-    waits_by w is told runs =
+    waits_by : (w : Wait) → (w ≡ Wait.Worn → ⊥) → (next_turn d c m r).wait ≡ Some w → ((o : Owner) → w ≡ Wait.Held o → IsIn (i, Seen.Held o) waiting) → ((j : IntentId) → w ≡ Wait.Result j → has_run c.runs j ≡ true) → Waits i r
+    waits_by w apart is told runs =
         let b = waits_begun d c m r w is in
         let k = knows d c m h r b.begun (record { number = i; live = live; same_id = refl; begun = b.at }) in
-        record { live = live; wait = w; told = told; runs = runs; begun = b.begun; at = b.at; known = k.0; inside = k.1; stopped_so = stopped d c m r b.begun h k.0 w k.1.here b.says }
+        record { live = live; wait = w; told = told; runs = runs; begun = b.begun; at = b.at; known = k.0; inside = k.1; stopped_so = stopped d c m r b.begun h k.0 w apart k.1.here b.says }
 
     held_one : (o u : Owner) → Wait.Held o ≡ Wait.Held u → o ≡ u
     held_one o u e = cc
@@ -155,8 +156,8 @@ module _ (d : Deployment) (c : Core) (m : Rows) (waiting : List (ℕ × Seen)) (
 
     by_now : (x : Seen) → IsIn (i, x) waiting → WaitsNow d c m i x → Cause ⊎ Waits i r
     by_now _ at (WaitsNow.hindered x is) = inl (HasCause.hindered (i, x) at is)
-    by_now _ at (WaitsNow.held z o there is) = inr (waits_by (Wait.Held o) (subst (λ y. (next_turn d c m y).wait ≡ Some (Wait.Held o)) (same_some (sym there ∙ live)) is) (λ u e. subst (λ y. IsIn (i, Seen.Held y) waiting) (held_one o u e) at) (λ j e. cc))
-    by_now _ at (WaitsNow.not_yet z j there is has) = inr (waits_by (Wait.Result j) (subst (λ y. (next_turn d c m y).wait ≡ Some (Wait.Result j)) (same_some (sym there ∙ live)) is) (λ o e. absurd (apart o e)) (λ k e. subst (λ y. has_run c.runs y ≡ true) (result_one j k e) has))
+    by_now _ at (WaitsNow.held z o there is) = inr (waits_by (Wait.Held o) (λ e. cc) (subst (λ y. (next_turn d c m y).wait ≡ Some (Wait.Held o)) (same_some (sym there ∙ live)) is) (λ u e. subst (λ y. IsIn (i, Seen.Held y) waiting) (held_one o u e) at) (λ j e. cc))
+    by_now _ at (WaitsNow.not_yet z j there is has) = inr (waits_by (Wait.Result j) (λ e. cc) (subst (λ y. (next_turn d c m y).wait ≡ Some (Wait.Result j)) (same_some (sym there ∙ live)) is) (λ o e. absurd (apart o e)) (λ k e. subst (λ y. has_run c.runs y ≡ true) (result_one j k e) has))
       where
         apart : (o : Owner) → Wait.Result j ≡ Wait.Held o → ⊥
         apart o e = cc
@@ -220,11 +221,11 @@ module _ (d : Deployment) (c : Core) (m : Rows) (waiting : List (ℕ × Seen)) (
       ]
 
   -- one that is late is a cause
-  pub left_of : (id : IntentId) (b : Best id) → has_ended (map.get m (seat b.run)) ≡ false → b.its.begun.stage ≡ Stage.Walk → is_some (map.get m (log_key b.run.func (place_of b.run.id b.its.begun.machine.steps))) ≡ true → Cause
+  pub left_of : (id : IntentId) (b : Best id) → has_ended (map.get m (seat b.run)) ≡ false → is_walk b.its.begun.stage ≡ true → is_some (map.get m (log_key b.run.func (place_of b.run.id b.its.begun.machine.steps))) ≡ true → Cause
   left_of id b open_still walks kept = by_wait b.its.wait refl
     where
       called : (j : IntentId) → Called b.run.id b.its.begun.machine.steps b.its.begun.machine.effect j → ⊥
-      called j z = no_walk m h.plain c.book b.its.known z.func z.args b.its.begun.tx (subst (λ e. AtStage m h.plain c.book b.its.known Stage.Walk e b.its.begun.tx) z.call (subst (λ w. AtStage m h.plain c.book b.its.known w b.its.begun.machine.effect b.its.begun.tx) walks b.its.inside.here))
+      called j z = no_walk m h.plain c.book b.its.known b.its.begun.stage z.func z.args b.its.begun.tx walks (subst (λ e. AtStage m h.plain c.book b.its.known b.its.begun.stage e b.its.begun.tx) z.call b.its.inside.here)
 
       by_wait : (w : Wait) → b.its.wait ≡ w → Cause
       by_wait (Wait.Held o) e = HasCause.left (record {
@@ -237,6 +238,7 @@ module _ (d : Deployment) (c : Core) (m : Rows) (waiting : List (ℕ × Seen)) (
         unended = open_still;
         furthest = λ j r g live same at. b.furthest j r g live (same ∙ b.same) at;
       })
+      by_wait Wait.Worn e = absurd (subst (Why m b.run.id b.its.begun.machine.steps (tx_at b.run.id b.run.func b.its.begun.tx) b.its.begun.machine.effect) e b.its.stopped_so.why)
       by_wait (Wait.Result j) e = absurd (called j (subst (Why m b.run.id b.its.begun.machine.steps (tx_at b.run.id b.run.func b.its.begun.tx) b.its.begun.machine.effect) e b.its.stopped_so.why))
 
   -- of an intent that has not ended it is one, or at the front

@@ -9,7 +9,7 @@ use Rattle.beldi_value.specs.declared.{id.IntentId.IntentId, outcome.Outcome.Out
 use Rattle.beldi_tree.specs.{Names.func_at, declared.deployment.Deployment.Deployment, declared.deployment.Func.Func}
 use Rattle.beldi_lang.specs.{declared.effect.Effect.Effect, declared.machine.Machine.Machine, Machine.begun as machine_begun}
 use Rattle.beldi_book.specs.Order.{count_changes}
-use Rattle.beldi_row.{proofs.Unchanged.left, proofs.Unchanged.looked, specs.Act.Tell, specs.Act.act, specs.Act.held, specs.Act.off, specs.Key.RowKey, specs.KeyOrder.key_total, specs.Table.Rows, specs.Table.set_row, specs.declared.act.Act.Act, specs.declared.act.Act.TheVariants.Look, specs.declared.row.Body.Body, specs.declared.row.IntentRow.IntentRow, specs.declared.row.Row.Row, specs.declared.table.TableErr.TableErr}
+use Rattle.beldi_row.{proofs.Unchanged.left, proofs.Unchanged.looked, specs.Act.Tell, specs.Act.act, specs.Act.held, specs.Act.packed, specs.Act.off, specs.Key.RowKey, specs.KeyOrder.key_total, specs.Table.Rows, specs.Table.set_row, specs.declared.act.Act.Act, specs.declared.act.Act.TheVariants.Look, specs.declared.row.Body.Body, specs.declared.row.IntentRow.IntentRow, specs.declared.row.Row.Row, specs.declared.table.TableErr.TableErr}
 use Rattle.beldi_walk.{proofs.Lent.refused_stand, proofs.Lent.stands, proofs.Promises.at_each, specs.declared.query.Query.Query, specs.Query.CameOn, specs.Query.Told, specs.Query.is_death, specs.Query.lent, specs.Query.query_adds, specs.Query.rows_after, specs.Query.said, specs.Query.told_by}
 use Rattle.beldi_intent.{proofs.Intents.intents_stay, specs.Intent.GoesOn as IntentStays, specs.Intent.IntentGoesOn, specs.Intent.body_told, specs.Intent.intent_in, specs.Intent.is_ended}
 use Rattle.beldi_step.specs.{declared.event.Event.Event, declared.event.Seen.Seen, declared.run.Begun.Begun, declared.run.Mark.Mark, declared.run.Run.Run, declared.run.RunAt.RunAt, declared.run.RunTx.RunTx, declared.run.Says.Says, declared.run.Stage.Stage, declared.run.Wait.Wait, Host.Core, Host.EventBy, Host.EventOn, Host.Plan, Host.at_once as answered, Host.asks, Host.counted, Host.plan}
@@ -137,13 +137,14 @@ module _ {m n : Rows} (g : GoesOn m n) (k : RowKey) where
   pub unended_before : has_ended (map.get n k) ≡ false → has_ended (map.get m k) ≡ false
   unended_before unended = by_cases (has_ended (map.get m k)) (λ is. let clash = sym (ends_stay is) ∙ unended in cc) (λ is. is)
 
--- ---- where a run waits, its turn looked, or was told of an owner; so it left the rows
+-- ---- where a run waits, its turn looked, or was told of an owner, or of a full row; so it left the rows
 abbrev is_look : Query → Bool
 is_look (Query.Act k Look) = true
 is_look q = false
 
 abbrev is_held : Told → Bool
 is_held (said (held o)) = true
+is_held (said (packed v o)) = true
 is_held t = false
 
 abbrev Stands : Query → Told → Type 0
@@ -163,7 +164,7 @@ WaitsSo q t s = Unit {0}
 
 stage_waits : (id : IntentId) (func : ℕ) (c : Option Caller) (o : Option RunTx) (changes step : ℕ) (e : Effect) (s : Stage) (t : Told) → WaitsSo (stage_asks id func c o step e s) t (stage_says id func c o changes step e s t)
 stage_waits id func c o changes step e Stage.Ask t = grind arith
-stage_waits id func c o changes step e Stage.Walk t = grind arith
+stage_waits id func c o changes step e (Stage.Walk r) t = grind arith
 stage_waits id func c o changes step e (Stage.Keep v seen) t = tt
 stage_waits id func c o changes step e (Stage.Write at) t = grind arith
 stage_waits id func c o changes step e (Stage.Tx at) t = grind arith

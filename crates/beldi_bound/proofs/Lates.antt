@@ -19,7 +19,7 @@ use Rattle.beldi_step.specs.{Host.Core, declared.run.Begun.Begun, declared.run.M
 use Rattle.beldi_laws.specs.{Right.AtStage, Right.Inside, Right.Knows, Right.Right, Right.StandsAt, Right.open_of}
 use Rattle.beldi_laws.proofs.{OpenOf.open_begun, OpenOf.own_begin, Turns.at_steps, Turns.effect_here, Turns.front_here, Turns.wanted_here, Widths.answered_small}
 use Rattle.beldi_upkeep.specs.Checked.{has_begun, is_close, next_says, next_turn}
-use Rattle.beldi_bound.specs.Work.{has_ended, seat}
+use Rattle.beldi_bound.specs.{Ends.is_walk, Work.has_ended, Work.seat}
 use Rattle.beldi_bound.proofs.Standing.{its_row}
 
 -- ---- two runs of one intent
@@ -161,51 +161,51 @@ module _ (d : Deployment) (r : Run) (g : Begun) (at : r.at ≡ RunAt.Begins g) (
   turn_goes (Says.Ends k o) is = absurd (none_some is)
 
 -- ---- who stands at a look for its value after a turn stood there before, and was not answered
-no_walk_of : (id : IntentId) (c : Option Caller) (o : Option RunTx) (step : ℕ) (e : Effect) → first_stage id c o step e ≡ Some Stage.Walk → ⊥
-no_walk_of id c None step (Effect.Read t k) h = cc
-no_walk_of id c (Some o) step (Effect.Read t k) h = cc
-no_walk_of id c None step (Effect.Write t k v) h = cc
-no_walk_of id c (Some o) step (Effect.Write t k v) h = cc
-no_walk_of id c None step (Effect.CondWrite t k r u v) h = cc
-no_walk_of id c (Some o) step (Effect.CondWrite t k r u v) h = cc
-no_walk_of id c None step (Effect.Lock t k) h = cc
-no_walk_of id c (Some o) step (Effect.Lock t k) h = cc
-no_walk_of id c None step (Effect.Unlock t k) h = cc
-no_walk_of id c (Some o) step (Effect.Unlock t k) h = cc
-no_walk_of id c o step (Effect.Call f a) h = by_test (has_callees id) h
+no_walk_of : (id : IntentId) (c : Option Caller) (o : Option RunTx) (step : ℕ) (e : Effect) (s : Stage) → first_stage id c o step e ≡ Some s → is_walk s ≡ true → ⊥
+no_walk_of id c None step (Effect.Read t k) s h walks = cc
+no_walk_of id c (Some o) step (Effect.Read t k) s h walks = cc
+no_walk_of id c None step (Effect.Write t k v) s h walks = cc
+no_walk_of id c (Some o) step (Effect.Write t k v) s h walks = cc
+no_walk_of id c None step (Effect.CondWrite t k r u v) s h walks = cc
+no_walk_of id c (Some o) step (Effect.CondWrite t k r u v) s h walks = cc
+no_walk_of id c None step (Effect.Lock t k) s h walks = cc
+no_walk_of id c (Some o) step (Effect.Lock t k) s h walks = cc
+no_walk_of id c None step (Effect.Unlock t k) s h walks = cc
+no_walk_of id c (Some o) step (Effect.Unlock t k) s h walks = cc
+no_walk_of id c o step (Effect.Call f a) s h walks = by_test (has_callees id) h
   where
-    by_test : (b : Bool) → (if b then Some (Stage.Call CallAt.Open) else None) ≡ Some Stage.Walk → ⊥
+    by_test : (b : Bool) → (if b then Some (Stage.Call CallAt.Open) else None) ≡ Some s → ⊥
     by_test true h = cc
     by_test false h = cc
-no_walk_of id c None step (Effect.Async f a) h = by_test (has_callees id) h
+no_walk_of id c None step (Effect.Async f a) s h walks = by_test (has_callees id) h
   where
-    by_test : (b : Bool) → (if b then Some (Stage.Async AsyncAt.Open) else None) ≡ Some Stage.Walk → ⊥
+    by_test : (b : Bool) → (if b then Some (Stage.Async AsyncAt.Open) else None) ≡ Some s → ⊥
     by_test true h = cc
     by_test false h = cc
-no_walk_of id c (Some o) step (Effect.Async f a) h = cc
-no_walk_of id c None step (Effect.End commit) h = cc
-no_walk_of id c (Some (RunTx.Own o)) step (Effect.End commit) h = cc
-no_walk_of id c (Some (RunTx.Inherited t)) step (Effect.End commit) h = cc
-no_walk_of id None o step (Effect.Return u) h = cc
-no_walk_of id (Some b) o step (Effect.Return u) h = by_test b.waits h
+no_walk_of id c (Some o) step (Effect.Async f a) s h walks = cc
+no_walk_of id c None step (Effect.End commit) s h walks = cc
+no_walk_of id c (Some (RunTx.Own o)) step (Effect.End commit) s h walks = cc
+no_walk_of id c (Some (RunTx.Inherited t)) step (Effect.End commit) s h walks = cc
+no_walk_of id None o step (Effect.Return u) s h walks = cc
+no_walk_of id (Some b) o step (Effect.Return u) s h walks = by_test b.waits h
   where
-    by_test : (w : Bool) → Some (if w then Stage.Back else Stage.Tell) ≡ Some Stage.Walk → ⊥
+    by_test : (w : Bool) → Some (if w then Stage.Back else Stage.Tell) ≡ Some s → ⊥
     by_test true h = cc
     by_test false h = cc
-no_walk_of id c o step e h = cc
+no_walk_of id c o step e s h walks = cc
 
-comes_no_walk : (r : Run) (z : Machine × Option RunTx) (c : Option Caller) (k : Option Mark) (w : Option Stage) (s : Run) (f : Begun) → (w ≡ Some Stage.Walk → ⊥) → (goes_from r z c k w).next ≡ Some s → s.at ≡ RunAt.Begins f → f.stage ≡ Stage.Walk → ⊥
+comes_no_walk : (r : Run) (z : Machine × Option RunTx) (c : Option Caller) (k : Option Mark) (w : Option Stage) (s : Run) (f : Begun) → ((x : Stage) → w ≡ Some x → is_walk x ≡ true → ⊥) → (goes_from r z c k w).next ≡ Some s → s.at ≡ RunAt.Begins f → is_walk f.stage ≡ true → ⊥
 comes_no_walk r z c k None s f never is at walks = none_some is
 comes_no_walk r z c k (Some w) s f never is at walks =
     let same : record { machine = z.0; caller = c; tx = z.1; stage = w } ≡ f = same_begun (ap (λ (x : Run). x.at) (same_some is) ∙ at) in
-    never (ap Some (ap (λ (x : Begun). x.stage) same ∙ walks))
+    never w refl (ap (λ (x : Begun). is_walk x.stage) same ∙ walks)
 
 pub record StoodAt (g : Begun) (x : Says) (f : Begun) : Type 0 where
   pub machine : f.machine ≡ g.machine
   pub tx : f.tx ≡ g.tx
   pub unanswered : is_answer x ≡ false
 
-module _ (d : Deployment) (r : Run) (g : Begun) (at : r.at ≡ RunAt.Begins g) (s : Run) (f : Begun) (then_at : s.at ≡ RunAt.Begins f) (walks : f.stage ≡ Stage.Walk) where
+module _ (d : Deployment) (r : Run) (g : Begun) (at : r.at ≡ RunAt.Begins g) (s : Run) (f : Begun) (then_at : s.at ≡ RunAt.Begins f) (walks : is_walk f.stage ≡ true) where
   stood_so : (x : Says) (w : Stage) → is_answer x ≡ false → Some (record r { at = RunAt.Begins (at_stage g w) }) ≡ Some s → StoodAt g x f
   stood_so x w un is =
       let same : f ≡ at_stage g w = sym (same_begun (ap (λ (z : Run). z.at) (same_some is) ∙ then_at)) in
@@ -234,7 +234,7 @@ module _ (d : Deployment) (r : Run) (g : Begun) (at : r.at ≡ RunAt.Begins g) (
   walk_stood (Says.Ends k o) is = absurd (none_some is)
 
 -- no body begins there
-module _ (d : Deployment) (r s : Run) (f : Begun) (at : s.at ≡ RunAt.Begins f) (walks : f.stage ≡ Stage.Walk) where
+module _ (d : Deployment) (r s : Run) (f : Begun) (at : s.at ≡ RunAt.Begins f) (walks : is_walk f.stage ≡ true) where
   body_no_walk : (func : Option Func) (b : Option Body) → (begin_in d r func b).next ≡ Some s → ⊥
   body_no_walk func None is = none_some is
   body_no_walk None (Some b) is = none_some is
@@ -256,9 +256,10 @@ pub record IsRead (e : Effect) (z : Option RunTx) : Type 0 where
 
 module _ {d : Deployment} (m : Rows) (p : PlainState) (book : List Entry) {known : Known} {id : IntentId} {home : ℕ} {c : Option Caller} {s : Machine} {o : Option RunTx} (k : StandsAt d known id home c s o) where
   -- who looks for its value is to read, outside a transaction
-  pub walks_read : (e : Effect) (z : Option RunTx) → AtStage m p book k Stage.Walk e z → IsRead e z
-  walks_read (Effect.Read t x) None h = record { table = t; key = x; effect = refl; out = refl }
-  walks_read e z h = absurd h
+  pub walks_read : (w : Stage) (e : Effect) (z : Option RunTx) → is_walk w ≡ true → AtStage m p book k w e z → IsRead e z
+  walks_read (Stage.Walk r) (Effect.Read t x) None is h = record { table = t; key = x; effect = refl; out = refl }
+  walks_read (Stage.Walk r) e z is h = absurd h
+  walks_read w e z is h = cc
 
   -- who closes returns
   pub closes_return : (e : Effect) (z : Option RunTx) → AtStage m p book k Stage.Close e z → (u : Outcome) × (e ≡ Effect.Return u)

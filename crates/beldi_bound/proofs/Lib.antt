@@ -29,6 +29,7 @@ mod Knowing
 mod KnownAsked
 mod Lates
 mod Ledger
+mod Lengths
 mod Lists
 mod LogRows
 mod Machine

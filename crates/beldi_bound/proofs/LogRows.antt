@@ -60,24 +60,31 @@ module _ (id : IntentId) (func : ℕ) (c : Option Caller) (step : ℕ) where
   -- an operation outside a transaction works on its item's rows
   by_put : (o : Option RunTx) (at : WriteAt) (z : Option OnCell) → Puts o (put_asks id func step at z)
   by_put o at None x h = cc
-  by_put o WriteAt.Try (Some z) x h = cc
+  by_put o (WriteAt.Try r) (Some z) x h = cc
   by_put o WriteAt.Make (Some z) x h = cc
+  by_put o (WriteAt.Append n t) (Some z) x h = cc
+  by_put o (WriteAt.Link n) (Some z) x h = cc
 
   -- inside one it keeps a value at its own place
   by_item : (o : RunTx) (e : Effect) (t : ℕ) (k : List ℕ) (a : TxAt) → Puts (Some o) (item_asks func (place_of id step) (tx_of id func o) e t k a)
   by_item o e t k TxAt.Log x h = cc
   by_item o e t k (TxAt.Lock (LockAt.Lockset b)) x h = cc
-  by_item o e t k (TxAt.Lock (LockAt.Item WriteAt.Try)) x h = cc
+  by_item o e t k (TxAt.Lock (LockAt.Item (WriteAt.Try r))) x h = cc
   by_item o e t k (TxAt.Lock (LockAt.Item WriteAt.Make)) x h = cc
-  by_item o e t k TxAt.Shadow x h = cc
-  by_item o e t k TxAt.Item x h = cc
+  by_item o e t k (TxAt.Lock (LockAt.Item (WriteAt.Append n u))) x h = cc
+  by_item o e t k (TxAt.Lock (LockAt.Item (WriteAt.Link n))) x h = cc
+  by_item o e t k TxAt.Seek x h = cc
+  by_item o e t k (TxAt.Shadow r) x h = cc
+  by_item o e t k (TxAt.Item r) x h = cc
   by_item o e t k (TxAt.Keep v) x h = OwnLog.here (same_place h)
   by_item o e t k (TxAt.Head v) x h = cc
   by_item o e t k (TxAt.Write w) x h = by_write w (op_of e) h
     where
       by_write : (w : WriteAt) (z : Option CellOp) → log_put (aside_asks func (place_of id step) (tx_of id func o) (shadow_key func (tx_of id func o) t k) w z) ≡ Some x → OwnLog id func (Some o) step x
-      by_write WriteAt.Try (Some z) h = cc
+      by_write (WriteAt.Try r) (Some z) h = cc
       by_write WriteAt.Make (Some z) h = cc
+      by_write (WriteAt.Append n u) (Some z) h = cc
+      by_write (WriteAt.Link n) (Some z) h = cc
       by_write w None h = cc
 
   by_tx : (o : RunTx) (e : Effect) (a : TxAt) (i : Option (ℕ × List ℕ)) → Puts (Some o) (asks_of func (place_of id step) (tx_of id func o) e a i)
@@ -89,11 +96,13 @@ module _ (id : IntentId) (func : ℕ) (c : Option Caller) (step : ℕ) where
   by_visit o commit cs after i v EndAt.Decide x h = OwnLog.at_begin o refl (same_place h)
   by_visit o commit cs after i v EndAt.Callees x h = cc
   by_visit o commit cs after i v EndAt.Next x h = cc
-  by_visit o commit cs after None v EndAt.Shadow x h = cc
-  by_visit o commit cs after (Some i) v EndAt.Shadow x h = cc
+  by_visit o commit cs after None v (EndAt.Shadow r) x h = cc
+  by_visit o commit cs after (Some i) v (EndAt.Shadow r) x h = cc
   by_visit o commit cs after None v (EndAt.Free w) x h = cc
-  by_visit o commit cs after (Some i) v (EndAt.Free WriteAt.Try) x h = cc
+  by_visit o commit cs after (Some i) v (EndAt.Free (WriteAt.Try r)) x h = cc
   by_visit o commit cs after (Some i) v (EndAt.Free WriteAt.Make) x h = cc
+  by_visit o commit cs after (Some i) v (EndAt.Free (WriteAt.Append n u)) x h = cc
+  by_visit o commit cs after (Some i) v (EndAt.Free (WriteAt.Link n)) x h = cc
   by_visit o commit cs after i v EndAt.Stamp x h = cc
 
   by_end : (o : Option RunTx) (e : Effect) (v : Visit) → Puts o (end_here_asks id func step e v o)
@@ -120,8 +129,8 @@ module _ (id : IntentId) (func : ℕ) (c : Option Caller) (step : ℕ) where
 
   pub stage_puts : (o : Option RunTx) (e : Effect) (s : Stage) → Puts o (stage_asks id func c o step e s)
   stage_puts o e Stage.Ask x h = cc
-  stage_puts o (Effect.Read t k) Stage.Walk x h = cc
-  stage_puts o e Stage.Walk x h = cc
+  stage_puts o (Effect.Read t k) (Stage.Walk r) x h = cc
+  stage_puts o e (Stage.Walk r) x h = cc
   stage_puts o e (Stage.Keep v seen) x h = OwnLog.here (same_place h)
   stage_puts o e (Stage.Write at) x h = by_put o at (cell_op e) x h
   stage_puts None e (Stage.Tx a) x h = cc

@@ -116,6 +116,7 @@ module _ (d : Deployment) (c : Core) (m : Rows) (i : ℕ) (r : Run) (live : map.
   by_wait : (n : Rows) → n ≡ rows_after (run_asks r) c.now m → (o : Option Wait) → s.wait ≡ o → Came n (after_turn core (callee_of r) r.id (says_of s) o)
   by_wait n n_is None is = made_comes n (says_of s) _ (either (λ (p : Core × Option ℕ). Leaves c p.0 i) s.starts _ _ (λ t. start_leaves (callee_of r)) (λ t. core_leaves))
   by_wait n n_is (Some (Wait.Held o)) is = waits_comes (Wait.Held o) is n n_is (Seen.Held o) (WaitsNow.held r o live is)
+  by_wait n n_is (Some Wait.Worn) is = waits_comes Wait.Worn is n n_is Seen.Worn (WaitsNow.hindered Seen.Worn refl)
   by_wait n n_is (Some (Wait.Result j)) is = either (Came n) (has_run core.runs j) _ _
       (λ t. waits_comes (Wait.Result j) is n n_is (Seen.NotYet j) (WaitsNow.not_yet r j live is (sym (ap (λ z. has_run z j) (runs_same (Wait.Result j) is n n_is)) ∙ t)))
       (λ t. either (Came n) (is_crowded core) _ _ (λ u. waits_comes (Wait.Result j) is n n_is Seen.Crowded (WaitsNow.hindered Seen.Crowded refl)) (λ u. made_comes n (says_of s) _ (started_leaves (callee_of r))))

@@ -1,48 +1,91 @@
--- What an act on an item is told, by what is so of each thing that it may be told; and which rows are there then.
+-- What a turn of a walk over the rows of an item is told, by what is so of each thing that it may be told; and what is left of the walk then.
 use Rattle.std.specs.FinMap as map
-use Rattle.std.proofs.Common.{arith, ◌≡◌, ℕ, ◌≤◌, Bool, true, false, cond, is_some, Option, None, Some, refl, ap, sym, ◌∙◌, subst}
-use Rattle.beldi_value.specs.{Id.age_of, Passes.passes, declared.id.IntentId.IntentId, declared.place.Owner.Owner, declared.place.Place.Place, declared.value.Value.Value}
-use Rattle.beldi_row.{proofs.Gets.got, proofs.Gets.key_self, specs.Key.RowKey, specs.Log.note_at, specs.Table.Rows, specs.declared.act.Act.Act, specs.declared.notes.Note.Note, specs.declared.row.Cell.Cell, specs.declared.row.Row.Row}
-use Rattle.beldi_row.specs.Act.{Tell, act, added, cond_to, did, died, entered, given_or, held, if_owned, no_row, not_owner, noted, other_owner, owned_or, owns, present, tested, unless_held, waits_for}
-use Rattle.beldi_walk.{proofs.Promises.at_each, specs.Query.rows_after, specs.Query.said, specs.declared.query.Query.Query}
-use Rattle.beldi_chain.specs.Content.{SoundAt, content_in}
-use Rattle.beldi_daal.specs.{Cell.cell_goes, Cell.got_or_held, Cell.in_the_way, Cell.op_act, Cell.read_goes, declared.cell.CellOp.CellOp, declared.cell.ReadGoes.ReadGoes, declared.cell.WriteAt.WriteAt, declared.cell.WriteAt.TheVariants.Make, declared.cell.WriteAt.TheVariants.Try}
-use Rattle.beldi_upkeep.proofs.Still.{held_says, if_says, tail_says}
-use Rattle.beldi_bound.specs.Visits.{put_left}
+use Rattle.std.proofs.Common.{arith, ◌≡◌, ◌⊎◌, inl, inr, ℕ, suc, ◌+◌, ◌-◌, ◌*◌, ◌<◌, ◌≤◌, ◌==◌, Bool, true, false, cond, if◌then◌else◌, is_some, length, Option, None, Some, eq-eqb, refl, ap, sym, ◌∙◌, subst}
+use Rattle.beldi_value.specs.{Id.age_of, Passes.passes, declared.id.IntentId.IntentId, declared.place.Owner.Owner, declared.place.Place.Place, declared.value.Value.Value, declared.value.Value.TheVariants.Null}
+use Rattle.beldi_row.{proofs.Gets.got, proofs.Gets.key_self, specs.Key.RowKey, specs.Key.at_row, specs.Log.most_entries, specs.Log.note_at, specs.Table.Rows, specs.declared.act.Act.Act, specs.declared.notes.Note.Note, specs.declared.row.Cell.Cell, specs.declared.row.Row.Row}
+use Rattle.beldi_row.specs.Act.{Tell, act, added, cond_to, did, died, entered, given_or, held, held_or, if_owned, if_room, is_full, next, next_or, no_row, not_full, not_owner, noted, noted_or, other_owner, owned_or, owns, packed, present, tested, unless_held, waits_for}
+use Rattle.beldi_walk.{proofs.Promises.at_each, specs.Query.rows_after, specs.Query.said, specs.Query.told_by, specs.declared.query.Query.Query}
+use Rattle.beldi_chain.specs.{Chain.Chain, Chain.chain, Chain.content, Chain.most_rows, Content.Content}
+use Rattle.beldi_links.specs.Links.{At, FitsAt, IsLinked, LeadsTo, Linked, Meets, Passed, ReadsAt, SeesAt, StandsAt}
+use Rattle.beldi_links.proofs.{Meets.last_is_last, Meets.next_is_read, Meets.none_noted, Meets.noted_is_noted, Meets.walks_end, Ways.content_is, Ways.few, Ways.one_cell, Ways.same_or}
+use Rattle.beldi_daal.specs.{Cell.cell_goes, Cell.done_note, Cell.got_or_held, Cell.in_the_way, Cell.last_row, Cell.op_act, Cell.read_goes, Cell.write_asks, Cell.write_goes, Logged.at_of, declared.cell.CellOp.CellOp, declared.cell.FullRow.FullRow, declared.cell.ReadGoes.ReadGoes, declared.cell.WriteAt.WriteAt, declared.cell.WriteAt.TheVariants.Append, declared.cell.WriteAt.TheVariants.Link, declared.cell.WriteAt.TheVariants.Make, declared.cell.WriteAt.TheVariants.Try, declared.cell.WriteGoes.WriteGoes}
+use Rattle.beldi_txn.specs.Visited.{RowsStay}
+use Rattle.beldi_bound.specs.Visits.{chain_length, put_left}
+use Rattle.beldi_bound.proofs.Lengths.{all_below, counts_row, is_counted, length_some, linked_by}
 
--- ---- an operation on a row that is there or not
--- what it is told where no note and no owner stands in its way: a lock may die, and what is given back may not be owned
-abbrev pub OnceDone : CellOp → (Tell → Type 0) → Type 0
+-- ---- an operation on a row that is there
+-- what it is told where nothing stands in its way: a lock may die, and what is given back may not be owned
+abbrev OnceDone : CellOp → (Tell → Type 0) → Type 0
 OnceDone (CellOp.Write v) P = P did
 OnceDone (CellOp.Cond r o v) P = (b : Bool) → P (tested b)
 OnceDone CellOp.Lock P = P did × ((a : IntentId) → P (died a))
 OnceDone (CellOp.Free v) P = P did × P not_owner
 
--- of a predicate on what is told, and on whether the row is there
-module _ (P : Bool → Tell → Type 0) (p : Place) (who : Owner) (now : ℕ) where
-  owned_tells : (c : Cell) (o : Option Owner) (r : Cell × Tell) → ((w : Owner) → o ≡ Some w → P true (held w)) → ((a : IntentId) → P true (died a)) → P true r.1 → P true (owned_or p who c o r).1
-  owned_tells c None r waits dies h = h
-  owned_tells c (Some w) r waits dies h = if_says (P true) (waits_for who w) (c, held w) (entered p (Note.Died (age_of w)) c.value c.owner c, died (age_of w)) (waits w refl) (dies (age_of w))
+-- what is given back waits for nobody
+abbrev pub MayWait : CellOp → Type 0
+MayWait (CellOp.Free v) = ⊥
+MayWait op = Unit {0}
 
-  cell_tells : (op : CellOp) (c : Cell) → c.next ≡ None → ((w : Note) → note_at c.log p ≡ Some w → P true (noted w)) → ((w : Owner) → other_owner who c.owner ≡ Some w → P true (held w)) → OnceDone op (P true) → P true (act (op_act p who op) now (Some (Row.Cell c))).1
-  cell_tells (CellOp.Write v) c last own waits once = let z : Cell × Tell = (entered p Note.Wrote v c.owner c, did) in tail_says (P true) p c (unless_held who c z) last own (held_says (P true) c (other_owner who c.owner) z waits once)
-  cell_tells (CellOp.Cond k o v) c last own waits once = let b = passes c.value k o in tail_says (P true) p c (unless_held who c (cond_to b p v c)) last own (held_says (P true) c (other_owner who c.owner) (cond_to b p v c) waits (once b))
-  cell_tells CellOp.Lock c last own waits once = let z : Cell × Tell = (entered p Note.Got c.value (Some who) c, did) in tail_says (P true) p c (owned_or p who c (other_owner who c.owner) z) last own (owned_tells c (other_owner who c.owner) z waits once.1 once.0)
-  cell_tells (CellOp.Free v) c last own waits once = let z : Cell × Tell = (entered p Note.Freed (given_or v c.value) None c, did) in tail_says (P true) p c (if_owned who c z) last own (if_says (P true) (owns who c.owner) z (c, not_owner) once.0 once.1)
+if_tells : (P : Tell → Type 0) (b : Bool) (y z : Cell × Tell) → P y.1 → P z.1 → P (if b then y else z).1
+if_tells P true y z h k = h
+if_tells P false y z h k = k
 
-  none_tells : (op : CellOp) → P false no_row → P false (act (op_act p who op) now None).1
-  none_tells (CellOp.Write v) h = h
-  none_tells (CellOp.Cond k o v) h = h
-  none_tells CellOp.Lock h = h
-  none_tells (CellOp.Free v) h = h
+if_by : (P : Tell → Type 0) (b : Bool) (y z : Cell × Tell) → (b ≡ true → P y.1) → P z.1 → P (if b then y else z).1
+if_by P true y z h k = h refl
+if_by P false y z h k = k
 
-  pub try_tells : (op : CellOp) (r : Option Row) → SoundAt r → P false no_row → ((w : Note) → note_at (content_in r).notes p ≡ Some w → P true (noted w)) → ((w : Owner) → other_owner who (content_in r).owner ≡ Some w → P true (held w))
-      → OnceDone op (P true) → P (is_some r) (act (op_act p who op) now r).1
-  try_tells op None sound none own waits once = none_tells op none
-  try_tells op (Some (Row.Cell c)) sound none own waits once = cell_tells op c sound.0 own waits once
-  try_tells op (Some r) sound none own waits once = absurd sound
+if_so : (P : Tell → Type 0) (b : Bool) (y z : Cell × Tell) → b ≡ true → P y.1 → P (if b then y else z).1
+if_so P true y z is h = h
+if_so P false y z is h = cc
 
--- ---- a first row that is made, a lock that is asked for, and a read of a sound row
+-- of a predicate on what is told
+module _ (P : Tell → Type 0) (p : Place) (who : Owner) (now : ℕ) (c : Cell) where
+  record OnCell (op : CellOp) : Type 0 where
+    its : (w : Note) → note_at c.log p ≡ Some w → P (noted w)
+    goes : (k : ℕ) → c.next ≡ Some k → P (next k)
+    waits : (o : Owner) → note_at c.log p ≡ None → c.next ≡ None → other_owner who c.owner ≡ Some o → (op ≡ CellOp.Lock → waits_for who o ≡ true) → MayWait op → P (held o)
+    full : P (packed c.value c.owner)
+    once : OnceDone op P
+
+  tail_tells : (n : Option Note) (x : Option ℕ) (z : Cell × Tell) → ((w : Note) → n ≡ Some w → P (noted w)) → ((k : ℕ) → x ≡ Some k → P (next k)) → (n ≡ None → x ≡ None → P z.1) → P (noted_or c n (next_or c x z)).1
+  tail_tells (Some w) x z its goes last = its w refl
+  tail_tells None (Some k) z its goes last = goes k refl
+  tail_tells None None z its goes last = last refl refl
+
+  held_tells : (o : Option Owner) (z : Cell × Tell) → ((w : Owner) → o ≡ Some w → P (held w)) → P z.1 → P (held_or c o z).1
+  held_tells None z waits h = h
+  held_tells (Some w) z waits h = waits w refl
+
+  room_tells : (z : Cell × Tell) → P (packed c.value c.owner) → P z.1 → P (if_room c z).1
+  room_tells z full h = if_tells P (is_full c) (c, packed c.value c.owner) z full h
+
+  owned_tells : (o : Option Owner) (z : Cell × Tell) → ((w : Owner) → o ≡ Some w → waits_for who w ≡ true → P (held w)) → ((a : IntentId) → P (died a)) → P (packed c.value c.owner) → P z.1 → P (owned_or p who c o z).1
+  owned_tells None z waits dies full h = h
+  owned_tells (Some w) z waits dies full h = let y : Cell × Tell = (entered p (Note.Died (age_of w)) c.value c.owner c, died (age_of w)) in if_by P (waits_for who w) (c, held w) (if_room c y) (waits w refl) (room_tells y full (dies (age_of w)))
+
+  cell_tells : (op : CellOp) → OnCell op → P (act (op_act p who op) now (Some (Row.Cell c))).1
+  cell_tells (CellOp.Write v) h = let z : Cell × Tell = (entered p Note.Wrote v c.owner c, did) in
+      tail_tells (note_at c.log p) c.next (unless_held who c (if_room c z)) h.its h.goes (λ none last. held_tells (other_owner who c.owner) (if_room c z) (λ w is. h.waits w none last is (λ e. cc) tt) (room_tells z h.full h.once))
+  cell_tells (CellOp.Cond k o v) h = let b = passes c.value k o in
+      tail_tells (note_at c.log p) c.next (unless_held who c (if_room c (cond_to b p v c))) h.its h.goes (λ none last. held_tells (other_owner who c.owner) (if_room c (cond_to b p v c)) (λ w is. h.waits w none last is (λ e. cc) tt) (room_tells (cond_to b p v c) h.full (h.once b)))
+  cell_tells CellOp.Lock h = let z : Cell × Tell = (entered p Note.Got c.value (Some who) c, did) in
+      tail_tells (note_at c.log p) c.next (owned_or p who c (other_owner who c.owner) (if_room c z)) h.its h.goes
+      (λ none last. owned_tells (other_owner who c.owner) (if_room c z) (λ w is older. h.waits w none last is (λ e. older) tt) h.once.1 h.full (room_tells z h.full h.once.0))
+  cell_tells (CellOp.Free v) h = let z : Cell × Tell = (entered p Note.Freed (given_or v c.value) None c, did) in
+      tail_tells (note_at c.log p) c.next (if_owned who c (if_room c z)) h.its h.goes (λ none last. if_tells P (owns who c.owner) (if_room c z) (c, not_owner) (room_tells z h.full h.once.0) h.once.1)
+
+  -- a full cell is linked, or was
+  link_tells : (n : ℕ) (x : Option ℕ) → is_full c ≡ true → ((k : ℕ) → x ≡ Some k → P (next k)) → P (next n) → P (next_or c x (if is_full c then (record c { next = Some n }, next n) else (c, not_full))).1
+  link_tells n (Some k) full goes h = goes k refl
+  link_tells n None full goes h = if_so P (is_full c) (record c { next = Some n }, next n) (c, not_full) full h
+
+none_tells : (P : Tell → Type 0) (p : Place) (who : Owner) (now : ℕ) (op : CellOp) → P no_row → P (act (op_act p who op) now None).1
+none_tells P p who now (CellOp.Write v) h = h
+none_tells P p who now (CellOp.Cond k o v) h = h
+none_tells P p who now CellOp.Lock h = h
+none_tells P p who now (CellOp.Free v) h = h
+
+-- ---- a row that is made, and a lock that is asked for
 module _ (P : Tell → Type 0) (now : ℕ) where
   pub made_tells : (v : Value) (o : Option Owner) (r : Option Row) → P added → P present → P (act (Act.MakeCell v o) now r).1
   made_tells v o None new old = new
@@ -51,16 +94,6 @@ module _ (P : Tell → Type 0) (now : ℕ) where
   pub asked_tells : (r : Option Row) → P added → P present → P (act Act.PutLockset now r).1
   asked_tells None new old = new
   asked_tells (Some r) new old = old
-
-module _ (P : ReadGoes → Type 0) (who : Option Owner) (now : ℕ) where
-  found_tells : (c : Cell) (o : Option Owner) → P (ReadGoes.Got (Some c.value)) → ((w : Owner) → o ≡ Some w → P (ReadGoes.Held w)) → P (got_or_held c o)
-  found_tells c None some waits = some
-  found_tells c (Some w) some waits = waits w refl
-
-  pub read_tells : (r : Option Row) → SoundAt r → P (ReadGoes.Got None) → ((v : Value) → P (ReadGoes.Got (Some v))) → ((w : Owner) → in_the_way who (content_in r).owner ≡ Some w → P (ReadGoes.Held w)) → P (read_goes who (said (act Act.Look now r).1))
-  read_tells None sound none some waits = none
-  read_tells (Some (Row.Cell c)) sound none some waits = subst (λ n. P (cell_goes who c n)) (sym sound.0) (found_tells c (in_the_way who c.owner) (some c.value) waits)
-  read_tells (Some r) sound none some waits = absurd sound
 
 -- ---- rows only come, so less is left of a walk over them
 abbrev pub Comes : Bool → Bool → Type 0
@@ -73,21 +106,259 @@ there_stays = at_each (λ r s. Comes (is_some r) (is_some s)) (λ r h. h) stays_
     stays_so a now None h = cc
     stays_so a now (Some r) h = refl
 
-pub put_most : (b : Bool) → put_left b Try ≤ 3
-put_most true = omega arith
-put_most false = omega arith
-
-pub put_falls : (b c : Bool) (w : WriteAt) → Comes b c → put_left c w ≤ put_left b w
-put_falls b c Make h = omega arith
-put_falls false false Try h = omega arith
-put_falls false true Try h = omega arith
-put_falls true true Try h = omega arith
-put_falls true false Try h = let clash = h refl in cc
-
--- a first row that was made is there
-pub made_less : (now : ℕ) (m : Rows) (k : RowKey) (v : Value) (o : Option Owner) → put_left (is_some (map.get (rows_after (Query.Act k (Act.MakeCell v o)) now m) k)) Try ≡ 1
-made_less now m k v o = let z : Option Row = (act (Act.MakeCell v o) now (map.get m k)).0 in ap (λ r. put_left (is_some r) Try) (got m k k z ∙ ap (λ b. cond b z (map.get m k)) (key_self k)) ∙ by_row (map.get m k)
+-- a row that was made is there
+pub made_there : (now : ℕ) (m : Rows) (k : RowKey) (v : Value) (o : Option Owner) → is_some (map.get (rows_after (Query.Act k (Act.MakeCell v o)) now m) k) ≡ true
+made_there now m k v o = let z : Option Row = (act (Act.MakeCell v o) now (map.get m k)).0 in ap is_some (got m k k z ∙ ap (λ b. cond b z (map.get m k)) (key_self k)) ∙ by_row (map.get m k)
   where
-    by_row : (r : Option Row) → put_left (is_some (act (Act.MakeCell v o) now r).0) Try ≡ 1
+    by_row : (r : Option Row) → is_some (act (Act.MakeCell v o) now r).0 ≡ true
     by_row None = refl
     by_row (Some r) = refl
+
+-- ---- a turn of a write
+-- the notes that an operation leaves
+abbrev pub Leaves : CellOp → Note → Type 0
+Leaves (CellOp.Write v) Note.Wrote = Unit {0}
+Leaves (CellOp.Cond r o v) (Note.Cond b) = Unit {0}
+Leaves CellOp.Lock Note.Got = Unit {0}
+Leaves CellOp.Lock (Note.Died a) = Unit {0}
+Leaves (CellOp.Free v) Note.Freed = Unit {0}
+Leaves op w = ⊥
+
+-- what is so where another owner is in the way: the place has no note, and who asks for a lock waits for that owner
+pub record IsHeld (f : Chain) (p : Place) (who : Owner) (op : CellOp) (o : Owner) : Type 0 where
+  pub other : other_owner who (content f).owner ≡ Some o
+  pub note : note_at (content f).notes p ≡ None
+  pub older : op ≡ CellOp.Lock → waits_for who o ≡ true
+  pub waits : MayWait op
+
+-- what is so where it goes: less is left of it, by how much was left, and what is; or what is said of its place and of the owner is so
+abbrev pub Turned : (WriteAt → ℕ) → ℕ → Chain → Place → Owner → CellOp → WriteGoes → Type 0
+Turned after n f p who op (WriteGoes.On w) = suc (after w) ≤ n
+Turned after n f p who op WriteGoes.Stays = ⊥
+Turned after n f p who op (WriteGoes.Done w true) = Leaves op w
+Turned after n f p who op (WriteGoes.Done w false) = note_at (content f).notes p ≡ Some w
+Turned after n f p who op WriteGoes.NotOwner = MayWait op → ⊥
+Turned after n f p who op (WriteGoes.Held o) = IsHeld f p who op o
+Turned after n f p who op WriteGoes.Worn = Unit {0}
+
+-- ---- what a row says of the chain
+module _ (f : Chain) (l : Linked f) (r : ℕ) (c : Cell) (meets : Meets f r) (is : f r ≡ Some (Row.Cell c)) where
+  note_counts : (p : Place) (w : Note) → Passed f p r → note_at c.log p ≡ Some w → note_at (content f).notes p ≡ Some w
+  note_counts p w passed note = by_rest (l.rest r c is)
+    where
+      by_rest : (r ≡ l.last + 1) ⊎ (LeadsTo f 0 r × LeadsTo f r l.last) → note_at (content f).notes p ≡ Some w
+      by_rest (inl at) = let none = ap (λ z. note_at z p) (l.spare c (ap f (sym at) ∙ is)).log in let clash = sym none ∙ note in cc
+      by_rest (inr on) = noted_is_noted f l p r c w on.0 on.1 passed is note
+
+  none_counts : (p : Place) → Passed f p r → c.next ≡ None → note_at c.log p ≡ None → note_at (content f).notes p ≡ None
+  none_counts p passed ends none =
+      let at = last_is_last f l.last l.tail l.way l.there l.ends r c meets is ends in
+      let same = one_cell c l.tail (sym is ∙ ap f at ∙ l.there) in
+      none_noted f l p (subst (Passed f p) at passed) (ap (λ (z : Cell). note_at z.log p) (sym same) ∙ none)
+
+  owner_counts : c.next ≡ None → c.owner ≡ (content f).owner
+  owner_counts none =
+      let at = last_is_last f l.last l.tail l.way l.there l.ends r c meets is none in
+      let same = one_cell c l.tail (sym is ∙ ap f at ∙ l.there) in
+      ap (λ (z : Cell). z.owner) same ∙ sym (ap (λ (z : Content). z.owner) (content_is f l.way.0 l.last l.tail l.way.1 l.there l.ends l.few))
+
+-- .. and where a walk stands is a number of a row
+pub meets_few : (f : Chain) (l : Linked f) (r : ℕ) → Meets f r → r < most_rows
+meets_few f l r meets = let way = walks_end f l.last l.tail l.way l.there l.ends r meets in let most = few f r way.0 l.last way.1 in let last = l.few in omega (arith, most, last)
+
+-- the row that is next is there, and has the next number
+pub next_stands : (f : Chain) (l : Linked f) (r : ℕ) (c : Cell) (k : ℕ) → f r ≡ Some (Row.Cell c) → c.next ≡ Some k → (k ≡ r + 1) × Meets f k × (y : Row) × (f k ≡ Some y)
+next_stands f l r c k is to = let at = l.numbers r c k is to in let reads = next_is_read f l r c k is to in let row = by_row (f k) refl reads.1 in (at, reads.0, row.0, row.1)
+  where
+    by_row : (o : Option Row) → f k ≡ o → StandsAt o k → (y : Row) × (f k ≡ Some y)
+    by_row None none zero = let at = l.numbers r c k is to in absurd (omega (arith, at, zero))
+    by_row (Some y) some h = (y, some)
+
+-- ---- the turn of a write, over the rows of an item that go on to those in the end
+module _ (e m : Rows) (now : ℕ) (head : RowKey) (first : at_row head 0 ≡ head) (p : Place) (who : Owner) (op : CellOp) (linked : IsLinked (chain m head)) where
+  abbrev f : Chain
+  f = chain m head
+
+  abbrev c : ℕ
+  c = chain_length e head
+
+  abbrev asks : WriteAt → Query
+  asks w = write_asks head p who op w
+
+  abbrev late : WriteAt → Rows
+  late w = rows_after (asks w) now m
+
+  -- whether its first row is there
+  abbrev there : Rows → Bool
+  there n = is_some (map.get n head)
+
+  abbrev Turns : WriteAt → Type 0
+  Turns w = Turned (put_left c (there (late w))) (put_left c (there m) w) f p who op (write_goes (done_note op) w (told_by (asks w) now m))
+
+  some : 1 ≤ c
+  some = length_some e head
+
+  first_row : (r : ℕ) (x : Row) → f r ≡ Some x → there m ≡ true
+  first_row r x is = ap (λ k. is_some (map.get m k)) (sym first) ∙ all_below f r x linked is 0 (omega arith)
+
+  -- at a row ..
+  abbrev Tried : ℕ → Bool → Tell → Type 0
+  Tried r b t = Turned (put_left c (there (late (Try r)))) (put_left c b (Try r)) f p who op (write_goes (done_note op) (Try r) (said t))
+
+  once : (op : CellOp) (r : ℕ) (n : ℕ) (after : WriteAt → ℕ) → OnceDone op (λ t. Turned after n f p who op (write_goes (done_note op) (Try r) (said t)))
+  once (CellOp.Write v) r n after = tt
+  once (CellOp.Cond k o v) r n after = λ b. tt
+  once CellOp.Lock r n after = (tt, λ a. tt)
+  once (CellOp.Free v) r n after = (tt, λ h. h)
+
+  full_goes_on : (r : ℕ) (v : Value) (o : Option Owner) → Tried r true (packed v o)
+  full_goes_on r v o = by_last (r == last_row)
+    where
+      by_last : (b : Bool) → Turned (put_left c (there (late (Try r)))) (put_left c true (Try r)) f p who op (if b then WriteGoes.Worn else WriteGoes.On (Append (r + 1) (record { value = v; owner = o })))
+      by_last true = tt
+      by_last false = omega arith
+
+  on_row : (r : ℕ) (x : Cell) → SeesAt f p (At.Try r) → f r ≡ Some (Row.Cell x) → RowsStay (late (Try r)) e → Tried r true (act (op_act p who op) now (Some (Row.Cell x))).1
+  on_row r x sees is stay = cell_tells (Tried r true) p who now x op (record {
+    its = λ w note. note_counts f l r x sees.0 is p w sees.1 note;
+    goes = λ k to. goes k (next_stands f l r x k is to);
+    waits = λ o none last other older waits. record {
+      other = subst (λ z. other_owner who z ≡ Some o) (owner_counts f l r x sees.0 is last) other;
+      note = none_counts f l r x sees.0 is p sees.1 last none;
+      older = older;
+      waits = waits;
+    };
+    full = full_goes_on r x.value x.owner;
+    once = once op r (put_left c true (Try r)) (put_left c (there (late (Try r))));
+  })
+    where
+      l : Linked f
+      l = linked_by f (f 0) r (Row.Cell x) linked is
+
+      stays : RowsStay m e
+      stays k h = stay k (there_stays (asks (Try r)) now m k h)
+
+      still : there (late (Try r)) ≡ true
+      still = there_stays (asks (Try r)) now m head (first_row r (Row.Cell x) is)
+
+      goes : (k : ℕ) → (k ≡ r + 1) × Meets f k × (y : Row) × (f k ≡ Some y) → suc (put_left c (there (late (Try r))) (Try k)) ≤ put_left c true (Try r)
+      goes k (at, meets, y, row) =
+          let few = is_counted e m head k y stays linked row (meets_few f l k meets) in
+          let less = ap (λ b. put_left c b (Try k)) still in
+          omega (arith, at, few, less)
+
+  tries : (r : ℕ) → SeesAt f p (At.Try r) → RowsStay (late (Try r)) e → Turns (Try r)
+  tries r sees stay = by_row (f r) refl sees.2
+    where
+      by_row : (o : Option Row) → f r ≡ o → StandsAt o r → Tried r (there m) (act (op_act p who op) now (f r)).1
+      by_row None none zero =
+          let absent : there m ≡ false = ap (λ k. is_some (map.get m k)) (sym first) ∙ ap (λ k. is_some (f k)) (sym zero) ∙ ap is_some none in
+          let less = ap (λ b. put_left c b (Try r)) absent in
+          subst (λ y. Tried r (there m) (act (op_act p who op) now y).1) (sym none) (none_tells (Tried r (there m)) p who now op (omega (arith, less, zero, some)))
+      by_row (Some (Row.Cell x)) is stands = subst (λ y. Tried r (there m) (act (op_act p who op) now y).1) (sym is) (subst (λ b. Tried r b (act (op_act p who op) now (Some (Row.Cell x))).1) (sym (first_row r (Row.Cell x) is)) (on_row r x sees is stay))
+      by_row (Some y) is stands = absurd (subst FitsAt is ((linked_by f (f 0) r y linked is).fits r))
+
+  -- .. or where it makes one ..
+  makes : Turns Make
+  makes =
+      let less = ap (λ b. put_left c b (Try 0)) (made_there now m head Null None) in
+      made_tells (λ t. Turned (put_left c (there (late Make))) (put_left c (there m) Make) f p who op (write_goes (done_note op) Make (said t))) now Null None (map.get m head) (omega (arith, less, some)) (omega (arith, less, some))
+
+  appends : (n : ℕ) (t : FullRow) → SeesAt f p (At.Append n t.value t.owner) → RowsStay (late (Append n t)) e → Turns (Append n t)
+  appends n t (r, after, meets, passed, told) stay =
+      made_tells (λ z. Turned (put_left c (there (late (Append n t)))) (put_left c (there m) (Append n t)) f p who op (write_goes (done_note op) (Append n t) (said z))) now t.value t.owner (map.get m (at_row head n)) (omega (arith, few)) (omega (arith, few))
+    where
+      made : is_some (chain e head n) ≡ true
+      made = stay (at_row head n) (made_there now m (at_row head n) t.value t.owner)
+
+      before_it : (i : ℕ) → i ≤ r → is_some (chain e head i) ≡ true
+      before_it i low = stay (at_row head i) (there_stays (asks (Append n t)) now m (at_row head i) (all_below f r (Row.Cell told.cell) linked told.there i low))
+
+      below : (i : ℕ) → i ≤ n → is_some (chain e head i) ≡ true
+      below i low = same_or i n (λ same. subst (λ j. is_some (chain e head j) ≡ true) (sym same) made)
+          (λ apart. before_it i (let next = after.next in let differs : i ≡ n → ⊥ = λ same. (let yes = eq-eqb i n same in let clash = sym apart ∙ yes in cc) in omega (arith, next, low, differs)))
+
+      few : n < c
+      few = counts_row e head n below after.few
+
+  -- .. or links it
+  abbrev Linking : ℕ → Tell → Type 0
+  Linking n t = Turned (put_left c (there (late (Link n)))) (put_left c (there m) (Link n)) f p who op (write_goes (done_note op) (Link n) (said t))
+
+  links : (n : ℕ) → SeesAt f p (At.Link n) → RowsStay (late (Link n)) e → Turns (Link n)
+  links n (r, after, meets, passed, row) stay = by_key (n - 1) (let next = after.next in omega (arith, next))
+    where
+      still : there (late (Link n)) ≡ true
+      still = there_stays (asks (Link n)) now m head (first_row r (Row.Cell row.cell) row.there)
+
+      full : is_full row.cell ≡ true
+      full = eq-eqb (length row.cell.log) most_entries row.full
+
+      goes : (k : ℕ) → k ≡ n → Linking n (next k)
+      goes k at = let less = ap (λ b. put_left c b (Try k)) still in omega (arith, less, at)
+
+      by_key : (k : ℕ) → k ≡ r → Linking n (act (Act.LinkCell n) now (f k)).1
+      by_key k at = subst (λ z. Linking n (act (Act.LinkCell n) now z).1) (sym (ap f at ∙ row.there))
+          (link_tells (Linking n) p who now row.cell n row.cell.next full (λ k to. goes k (let next = after.next in let number = (linked_by f (f 0) r (Row.Cell row.cell) linked row.there).numbers r row.cell k row.there to in omega (arith, next, number))) (goes n refl))
+
+  pub put_turn : (w : WriteAt) → SeesAt f p (at_of w) → RowsStay (late w) e → Turns w
+  put_turn (Try r) sees stay = tries r sees stay
+  put_turn Make sees stay = makes
+  put_turn (Append n t) sees stay = appends n t sees stay
+  put_turn (Link n) sees stay = links n sees stay
+
+-- ---- the turn of a read
+abbrev pub ReadOn : ℕ → ℕ → Option Owner → Chain → ReadGoes → Type 0
+ReadOn c r who f (ReadGoes.On k) = (k ≡ r + 1) × (k < c)
+ReadOn c r who f ReadGoes.Stays = ⊥
+ReadOn c r who f (ReadGoes.Got v) = Unit {0}
+ReadOn c r who f (ReadGoes.Held o) = in_the_way who (content f).owner ≡ Some o
+
+module _ (e m : Rows) (now : ℕ) (head : RowKey) (who : Option Owner) (r : ℕ) (linked : IsLinked (chain m head)) (reads : ReadsAt (chain m head) r) where
+  abbrev Reads : ReadGoes → Type 0
+  Reads g = ReadOn (chain_length e head) r who (chain m head) g
+
+  pub read_turn : let q = Query.Act (at_row head r) Act.Look in RowsStay (rows_after q now m) e → Reads (read_goes who (told_by q now m))
+  read_turn stay = by_row (chain m head r) refl
+    where
+      found : (x : Cell) (o : Option Owner) → ((w : Owner) → o ≡ Some w → Reads (ReadGoes.Held w)) → Reads (got_or_held x o)
+      found x None waits = tt
+      found x (Some w) waits = waits w refl
+
+      by_next : (x : Cell) (n : Option ℕ) → chain m head r ≡ Some (Row.Cell x) → x.next ≡ n → Reads (cell_goes who x n)
+      by_next x None is last = let l = linked_by (chain m head) (chain m head 0) r (Row.Cell x) linked is in
+          found x (in_the_way who x.owner) (λ w other. subst (λ z. in_the_way who z ≡ Some w) (owner_counts (chain m head) l r x reads.0 is last) other)
+      by_next x (Some k) is to =
+          let l = linked_by (chain m head) (chain m head 0) r (Row.Cell x) linked is in
+          let there = next_stands (chain m head) l r x k is to in
+          (there.0, is_counted e m head k there.2 (λ k h. stay k (there_stays (Query.Act (at_row head r) Act.Look) now m k h)) linked there.3 (meets_few (chain m head) l k there.1))
+
+      by_row : (o : Option Row) → chain m head r ≡ o → Reads (read_goes who (said (act Act.Look now (chain m head r)).1))
+      by_row None none = subst (λ y. Reads (read_goes who (said (act Act.Look now y).1))) (sym none) tt
+      by_row (Some (Row.Cell x)) is = subst (λ y. Reads (read_goes who (said (act Act.Look now y).1))) (sym is) (by_next x x.next is refl)
+      by_row (Some y) is = absurd (subst FitsAt is ((linked_by (chain m head) (chain m head 0) r y linked is).fits r))
+
+-- ---- how much is left of a write
+pub put_falls : (c : ℕ) (a b : Bool) (w : WriteAt) → Comes a b → put_left c b w ≤ put_left c a w
+put_falls c a b Make h = omega arith
+put_falls c a b (Append n t) h = omega arith
+put_falls c a b (Link n) h = omega arith
+put_falls c false false (Try r) h = omega arith
+put_falls c false true (Try r) h = omega arith
+put_falls c true true (Try r) h = omega arith
+put_falls c true false (Try r) h = let clash = h refl in cc
+
+pub put_some : (c : ℕ) (b : Bool) (w : WriteAt) → 1 ≤ c → 1 ≤ put_left c b w
+put_some c true (Try r) some = omega arith
+put_some c false (Try r) some = omega arith
+put_some c b Make some = omega (arith, some)
+put_some c b (Append n t) some = omega arith
+put_some c b (Link n) some = omega arith
+
+-- .. wherever it stands
+pub put_few : (c : ℕ) (b : Bool) (w : WriteAt) → 1 ≤ c → put_left c b w ≤ 3 * c + 1
+put_few c true (Try r) some = omega (arith, some)
+put_few c false (Try r) some = omega (arith, some)
+put_few c b Make some = omega arith
+put_few c b (Append n t) some = omega arith
+put_few c b (Link n) some = omega (arith, some)

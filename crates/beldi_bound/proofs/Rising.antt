@@ -87,7 +87,7 @@ module _ {d : Deployment} (m : Rows) (p : PlainState) (book : List Entry) {known
   at_return Stage.Back u z h = refl
   at_return Stage.Tell u z h = refl
   at_return Stage.Close u z h = refl
-  at_return (Stage.Write w) u None h = absurd (no_op h)
+  at_return (Stage.Write w) u None h = absurd (no_op h.0)
     where
       no_op : false ≡ true → ⊥
       no_op h = cc

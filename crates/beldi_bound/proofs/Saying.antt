@@ -5,7 +5,7 @@ use Rattle.beldi_value.specs.{Id.has_callees, declared.id.IntentId.IntentId, dec
 use Rattle.beldi_lang.specs.declared.effect.{Answer.Answer, Effect.Effect}
 use Rattle.beldi_row.specs.{Act.act, declared.act.Act.Act, declared.notes.Note.Note, declared.row.Row.Row}
 use Rattle.beldi_walk.specs.{Query.Told, Query.said}
-use Rattle.beldi_daal.specs.{Cell.write_goes, declared.cell.ReadGoes.ReadGoes, declared.cell.WriteGoes.WriteGoes}
+use Rattle.beldi_daal.specs.{Cell.write_goes, declared.cell.ReadGoes.ReadGoes, declared.cell.WriteAt.WriteAt, declared.cell.WriteGoes.WriteGoes}
 use Rattle.beldi_readlog.specs.ReadLog.{given_of}
 use Rattle.beldi_invokelog.specs.{InvokeLog.back_of, InvokeLog.call_in, InvokeLog.invoked_of, InvokeLog.registered_in, InvokeLog.result_in, declared.invoke_log.Back.Back}
 use Rattle.beldi_intent.specs.Intent.{is_did}
@@ -27,6 +27,7 @@ is_async s = false
 abbrev pub WaitsPlain : Wait → Type 0
 WaitsPlain (Wait.Result j) = ⊥
 WaitsPlain (Wait.Held o) = Unit {0}
+WaitsPlain Wait.Worn = Unit {0}
 
 abbrev pub IsPlain : Says → Type 0
 IsPlain (Says.On w m) = is_async w ≡ false
@@ -40,7 +41,8 @@ ask_plain None = refl
 ask_plain (Some v) = tt
 
 walk_plain : (n : ℕ) (z : ReadGoes) → IsPlain (walk_says n z)
-walk_plain n ReadGoes.On = refl
+walk_plain n (ReadGoes.On r) = refl
+walk_plain n ReadGoes.Stays = tt
 walk_plain n (ReadGoes.Got v) = refl
 walk_plain n (ReadGoes.Held o) = tt
 
@@ -50,13 +52,15 @@ done_plain b (Some a) = tt
 
 write_plain : (e : Effect) (z : WriteGoes) → IsPlain (write_says e z)
 write_plain e (WriteGoes.On at) = refl
+write_plain e WriteGoes.Stays = tt
 write_plain e (WriteGoes.Done n first) = done_plain first (answer_noted e n)
 write_plain e WriteGoes.NotOwner = tt
 write_plain e (WriteGoes.Held w) = tt
+write_plain e WriteGoes.Worn = tt
 
-put_plain : (e : Effect) (o : Option Note) (t : Told) → IsPlain (put_says e o t)
-put_plain e None t = tt
-put_plain e (Some n) t = write_plain e (write_goes n t)
+put_plain : (e : Effect) (at : WriteAt) (o : Option Note) (t : Told) → IsPlain (put_says e at o t)
+put_plain e at None t = tt
+put_plain e at (Some n) t = write_plain e (write_goes n at t)
 
 answer_plain : (a : TxAt) → IsPlain (put_answer a)
 answer_plain (TxAt.Keep v) = tt
@@ -68,6 +72,7 @@ tx_plain a TxGoes.Stays = tt
 tx_plain a TxGoes.Put = answer_plain a
 tx_plain a (TxGoes.Died c) = tt
 tx_plain a (TxGoes.Held o) = tt
+tx_plain a TxGoes.Worn = tt
 tx_plain a (TxGoes.Value v) = tt
 tx_plain a TxGoes.Done = tt
 
@@ -81,6 +86,7 @@ decided_plain b m z = refl
 
 visit_plain : (b : Bool) (v : Visit) (z : EndGoes) → IsPlain (visit_says b v z)
 visit_plain b v EndGoes.Done = tt
+visit_plain b v EndGoes.Worn = tt
 visit_plain b v z = refl
 
 decide_plain : (id : IntentId) (func step : ℕ) (b : Bool) (m : Mark) (o : Option RunTx) (t : Told) → IsPlain (decide_by_says id func step b m o t)
@@ -113,9 +119,9 @@ close_plain id c e b = tt
 
 pub stage_plain : (id : IntentId) (func : ℕ) (c : Option Caller) (o : Option RunTx) (changes step : ℕ) (e : Effect) (w : Stage) (t : Told) → is_calling w ≡ false → IsPlain (stage_says id func c o changes step e w t)
 stage_plain id func c o changes step e Stage.Ask t h = ask_plain (given_of t)
-stage_plain id func c o changes step e Stage.Walk t h = walk_plain changes _
+stage_plain id func c o changes step e (Stage.Walk r) t h = walk_plain changes _
 stage_plain id func c o changes step e (Stage.Keep v seen) t h = tt
-stage_plain id func c o changes step e (Stage.Write at) t h = put_plain e (note_done e) t
+stage_plain id func c o changes step e (Stage.Write at) t h = put_plain e at (note_done e) t
 stage_plain id func c o changes step e (Stage.Tx at) t h = tx_here_plain id step e at o t
 stage_plain id func c o changes step e (Stage.Decide m) t h = decide_here_plain id func step e m o t
 stage_plain id func c o changes step e (Stage.End v) t h = end_here_plain id func step e v o t
@@ -164,6 +170,7 @@ async_here_not id e at t h = h
 plain_not : (y : Says) → IsPlain y → SaysCall y → ⊥
 plain_not (Says.Opens m) p h = p
 plain_not (Says.Waits (Wait.Result j)) p h = p
+plain_not (Says.Waits w) p h = h
 plain_not y p h = h
 
 pub record AtCall (id : IntentId) (func : ℕ) (c : Option Caller) (o : Option RunTx) (changes step : ℕ) (e : Effect) (w : Stage) (t : Told) (y : Says) : Type 0 where

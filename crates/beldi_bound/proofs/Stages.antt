@@ -1,24 +1,24 @@
 -- Each stage that is no end, by what it is told: a turn that does not wait leaves less.
 use Rattle.std.specs.FinMap as map
-use Rattle.std.proofs.Common.{arith, List, ◌≡◌, ℕ, suc, ◌≤◌, Bool, true, false, if◌then◌else◌, is_some, Option, None, Some, refl}
+use Rattle.std.proofs.Common.{arith, List, ◌≡◌, ℕ, suc, ◌+◌, ◌≤◌, Bool, true, false, if◌then◌else◌, is_some, Option, None, Some, refl}
 use Rattle.beldi_value.specs.{Id.has_callees, declared.id.IntentId.IntentId, declared.outcome.Outcome.Outcome, declared.place.Caller.Caller, declared.place.Owner.Owner, declared.value.Value.Value}
 use Rattle.beldi_lang.specs.declared.effect.{Answer.Answer, Effect.Effect}
-use Rattle.beldi_row.specs.{Act.act, Act.register_to, Table.Rows, declared.act.Act.Act, declared.notes.Note.Note, declared.row.Row.Row}
-use Rattle.beldi_walk.specs.{Query.rows_after, Query.said, Query.told_by}
-use Rattle.beldi_chain.specs.Content.{SoundAt}
-use Rattle.beldi_daal.specs.{Cell.cell_key, Cell.done_note, Cell.write_asks, Cell.write_goes, declared.cell.CellOp.CellOp, declared.cell.WriteAt.WriteAt, declared.cell.WriteAt.TheVariants.Make, declared.cell.WriteAt.TheVariants.Try}
+use Rattle.beldi_row.specs.{Act.act, Act.register_to, Key.RowKey, Key.at_row, Table.Rows, declared.act.Act.Act, declared.row.Row.Row}
+use Rattle.beldi_walk.specs.{declared.query.Query.Query, Query.rows_after, Query.said, Query.told_by}
+use Rattle.beldi_chain.specs.Chain.{chain}
+use Rattle.beldi_daal.specs.{Cell.cell_key, Cell.done_note, Cell.read_goes, Cell.write_asks, Cell.write_goes, declared.cell.CellOp.CellOp, declared.cell.ReadGoes.ReadGoes, declared.cell.WriteAt.WriteAt, declared.cell.WriteGoes.WriteGoes}
 use Rattle.beldi_readlog.specs.ReadLog.{given_of}
 use Rattle.beldi_invokelog.specs.{InvokeLog.back_of, InvokeLog.call_in, InvokeLog.invoke_key, InvokeLog.invoked_of, InvokeLog.registered_asks, InvokeLog.result_of, declared.invoke_log.Back.Back}
 use Rattle.beldi_intent.specs.Intent.{is_did, look_asks}
-use Rattle.beldi_txn.specs.declared.end.Visit.{Visit}
+use Rattle.beldi_txn.specs.{Visited.RowsStay, declared.end.Visit.Visit}
 use Rattle.beldi_call.specs.{Async.note_says, Async.open_says, Call.look_says, Call.open_says as call_opens, declared.async_call.AsyncAt.AsyncAt, declared.call.CallAt.CallAt}
-use Rattle.beldi_step.specs.{Run.answer_noted, Run.ask_says, Run.async_answer, Run.back_says, Run.call_answer, Run.close_says, Run.done_says, Run.place_of, Run.stage_asks, Run.walk_says, Run.write_says, declared.run.RunTx.RunTx, declared.run.Says.Says, declared.run.Says.TheVariants.Ends, declared.run.Stage.Stage}
-use Rattle.beldi_bound.specs.{Left.SaysLower, Left.StagesLower, Left.aside_there, Left.item_there, Left.stage_left, Visits.put_left}
-use Rattle.beldi_bound.proofs.{Inside.cond_stage, Inside.read_stage, Inside.write_stage, Puts.OnceDone, Puts.made_less, Puts.made_tells, Puts.read_tells, Puts.try_tells}
+use Rattle.beldi_step.specs.{Run.answer_noted, Run.ask_says, Run.async_answer, Run.back_says, Run.call_answer, Run.close_says, Run.done_says, Run.place_of, Run.stage_asks, Run.tx_at, Run.walk_says, Run.write_says, declared.run.RunTx.RunTx, declared.run.Says.Says, declared.run.Says.TheVariants.Ends, declared.run.Stage.Stage}
+use Rattle.beldi_bound.specs.{Cost.aside_length, Left.CanPut, Left.CanRead, Left.SaysLower, Left.StagesLower, Left.aside_there, Left.item_there, Left.read_left, Left.stage_left, Visits.chain_length, Visits.put_left}
+use Rattle.beldi_bound.proofs.{Inside.cond_stage, Inside.read_stage, Inside.write_stage, Lengths.length_some, Puts.ReadOn, Puts.Turned, Puts.put_some, Puts.put_turn, Puts.read_turn}
 
 -- ---- what is said, by what is left after each stage
 module _ (after : Stage → ℕ) (n : ℕ) where
-  ask_lowers : suc (after Stage.Walk) ≤ n → (x : Option Value) → SaysLower after n (ask_says x)
+  ask_lowers : suc (after (Stage.Walk 0)) ≤ n → (x : Option Value) → SaysLower after n (ask_says x)
   ask_lowers h None = h
   ask_lowers h (Some v) = omega (arith, h)
 
@@ -66,61 +66,75 @@ told_there now (Some (Row.Invoke i)) h = by_flag i.registered
     by_flag false e = cc
 told_there now (Some r) h = cc
 
--- ---- the turn of a write outside a transaction
-module _ (v : Visit → ℕ) (m : Rows) (now : ℕ) (id : IntentId) (func step : ℕ) (e : Effect) (t : ℕ) (k : List ℕ) (u : CellOp) where
-  abbrev there : Bool
-  there = is_some (map.get m (cell_key func t k))
+-- ---- the turns of a write and of a read outside a transaction
+module _ (v : Visit → ℕ) (e m : Rows) (now : ℕ) (id : IntentId) (func step : ℕ) (f : Effect) (y t : ℕ) (k : List ℕ) where
+  abbrev key : RowKey
+  key = cell_key func t k
 
-  wrote : (aside : Bool) (w : WriteAt) → SoundAt (map.get m (cell_key func t k)) → let q = write_asks (cell_key func t k) (place_of id step) (Owner.Intent id) u w in
-      SaysLower (stage_left (is_some (map.get (rows_after q now m) (cell_key func t k))) aside v e) (put_left there w) (write_says e (write_goes (done_note u) (told_by q now m)))
-  wrote aside Make sound =
-      let key = cell_key func t k in let q = write_asks key (place_of id step) (Owner.Intent id) u Make in let less = made_less now m key Value.Null None in
-      made_tells (λ z. SaysLower (stage_left (is_some (map.get (rows_after q now m) key)) aside v e) 2 (write_says e (write_goes (done_note u) (said z)))) now Value.Null None (map.get m key) (omega (arith, less)) (omega (arith, less))
-  wrote aside Try sound = try_tells (λ b z. SaysLower f (put_left b Try) (write_says e (write_goes (done_note u) (said z)))) (place_of id step) (Owner.Intent id) now u (map.get m (cell_key func t k)) sound
-      (omega arith) (λ w is. noted w false) (λ w is. tt) (once u)
+  abbrev x : ℕ
+  x = chain_length e key
+
+  abbrev there : Rows → Bool
+  there n = is_some (map.get n key)
+
+  wrote : (aside : Bool) (u : CellOp) (w : WriteAt) → CanPut (chain m key) (place_of id step) w → let q = write_asks key (place_of id step) (Owner.Intent id) u w in let n = rows_after q now m in RowsStay n e
+      → SaysLower (stage_left x y (there n) aside v f) (put_left x (there m) w) (write_says f (write_goes (done_note u) w (told_by q now m)))
+  wrote aside u w can stay = goes (write_goes (done_note u) w (told_by q now m)) (put_turn e m now key refl (place_of id step) (Owner.Intent id) u can.0 w can.1 stay)
     where
-      f : Stage → ℕ
-      f = stage_left (is_some (map.get (rows_after (write_asks (cell_key func t k) (place_of id step) (Owner.Intent id) u Try) now m) (cell_key func t k))) aside v e
+      q : Query
+      q = write_asks key (place_of id step) (Owner.Intent id) u w
 
-      noted : (w : Note) (first : Bool) → SaysLower f 1 (done_says first (answer_noted e w))
-      noted w first = done_lowers f 1 first (omega arith) (answer_noted e w)
+      some : 1 ≤ put_left x (there m) w
+      some = put_some x (there m) w (length_some e key)
 
-      once : (x : CellOp) → OnceDone x (λ z. SaysLower f 1 (write_says e (write_goes (done_note x) (said z))))
-      once (CellOp.Write y) = noted Note.Wrote true
-      once (CellOp.Cond r x y) = λ b. noted (Note.Cond b) true
-      once CellOp.Lock = (noted Note.Got true, λ a. noted (Note.Died a) true)
-      once (CellOp.Free y) = (noted Note.Freed true, omega arith)
+      goes : (g : WriteGoes) → Turned (put_left x (there (rows_after q now m))) (put_left x (there m) w) (chain m key) (place_of id step) (Owner.Intent id) u g
+          → SaysLower (stage_left x y (there (rows_after q now m)) aside v f) (put_left x (there m) w) (write_says f g)
+      goes (WriteGoes.On z) h = h
+      goes WriteGoes.Stays h = absurd h
+      goes (WriteGoes.Done z first) h = done_lowers _ (put_left x (there m) w) first some (answer_noted f z)
+      goes WriteGoes.NotOwner h = some
+      goes (WriteGoes.Held z) h = tt
+      goes WriteGoes.Worn h = tt
+
+  read : (there aside : Bool) (changes r : ℕ) → CanRead (chain m key) r → let q = Query.Act (at_row key r) Act.Look in RowsStay (rows_after q now m) e
+      → SaysLower (stage_left x y there aside v f) (read_left x r) (walk_says changes (read_goes (Some (Owner.Intent id)) (told_by q now m)))
+  read there aside changes r can stay = goes (read_goes (Some (Owner.Intent id)) (told_by (Query.Act (at_row key r) Act.Look) now m)) (read_turn e m now key (Some (Owner.Intent id)) r can.0 can.1 stay)
+    where
+      goes : (g : ReadGoes) → ReadOn x r (Some (Owner.Intent id)) (chain m key) g → SaysLower (stage_left x y there aside v f) (read_left x r) (walk_says changes g)
+      goes (ReadGoes.On n) h = let at = h.0 in let less = h.1 in omega (arith, at, less)
+      goes ReadGoes.Stays h = absurd h
+      goes (ReadGoes.Got z) h = omega arith
+      goes (ReadGoes.Held z) h = tt
 
 -- ---- all stages
 pub stages_lower : StagesLower
-stages_lower v m now id func c None changes step (Effect.Read t k) Stage.Ask needs = ask_lowers _ 3 (omega arith) (given_of (told_by (stage_asks id func c None step (Effect.Read t k) Stage.Ask) now m))
-stages_lower v m now id func c None changes step (Effect.Read t k) Stage.Walk needs =
-    let n = rows_after (stage_asks id func c None step (Effect.Read t k) Stage.Walk) now m in
-    read_tells (λ z. SaysLower (stage_left (item_there n func (Effect.Read t k)) false v (Effect.Read t k)) 2 (walk_says changes z)) (Some (Owner.Intent id)) now (map.get m (cell_key func t k)) needs (omega arith) (λ x. omega arith) (λ w is. tt)
-stages_lower v m now id func c None changes step (Effect.Read t k) (Stage.Keep u seen) needs = omega arith
-stages_lower v m now id func c None changes step (Effect.Write t k u) (Stage.Write w) needs = wrote v m now id func step (Effect.Write t k u) t k (CellOp.Write u) false w needs
-stages_lower v m now id func c None changes step (Effect.CondWrite t k r x u) (Stage.Write w) needs = wrote v m now id func step (Effect.CondWrite t k r x u) t k (CellOp.Cond r x u) false w needs
-stages_lower v m now id func c None changes step (Effect.Lock t k) (Stage.Write w) needs = wrote v m now id func step (Effect.Lock t k) t k CellOp.Lock false w needs
-stages_lower v m now id func c None changes step (Effect.Unlock t k) (Stage.Write w) needs = wrote v m now id func step (Effect.Unlock t k) t k (CellOp.Free None) false w needs
-stages_lower v m now id func c (Some o) changes step (Effect.Read t k) (Stage.Tx a) needs = read_stage v m now id func o step t k a needs
-stages_lower v m now id func c (Some o) changes step (Effect.Write t k u) (Stage.Tx a) needs = write_stage v m now id func o step t k u a needs
-stages_lower v m now id func c (Some o) changes step (Effect.CondWrite t k r x u) (Stage.Tx a) needs = cond_stage v m now id func o step t k r x u a needs
-stages_lower v m now id func c o changes step (Effect.Call f a) (Stage.Call CallAt.Open) needs =
+stages_lower v e m now id func c None changes step (Effect.Read t k) Stage.Ask needs stay = ask_lowers _ (chain_length e (cell_key func t k) + 2) (omega arith) (given_of (told_by (stage_asks id func c None step (Effect.Read t k) Stage.Ask) now m))
+stages_lower v e m now id func c None changes step (Effect.Read t k) (Stage.Walk r) needs stay =
+    read v e m now id func step (Effect.Read t k) 1 t k (item_there (rows_after (stage_asks id func c None step (Effect.Read t k) (Stage.Walk r)) now m) func (Effect.Read t k)) false changes r needs stay
+stages_lower v e m now id func c None changes step (Effect.Read t k) (Stage.Keep u seen) needs stay = omega arith
+stages_lower v e m now id func c None changes step (Effect.Write t k u) (Stage.Write w) needs stay = wrote v e m now id func step (Effect.Write t k u) 1 t k false (CellOp.Write u) w needs stay
+stages_lower v e m now id func c None changes step (Effect.CondWrite t k r x u) (Stage.Write w) needs stay = wrote v e m now id func step (Effect.CondWrite t k r x u) 1 t k false (CellOp.Cond r x u) w needs stay
+stages_lower v e m now id func c None changes step (Effect.Lock t k) (Stage.Write w) needs stay = wrote v e m now id func step (Effect.Lock t k) 1 t k false CellOp.Lock w needs stay
+stages_lower v e m now id func c None changes step (Effect.Unlock t k) (Stage.Write w) needs stay = wrote v e m now id func step (Effect.Unlock t k) 1 t k false (CellOp.Free None) w needs stay
+stages_lower v e m now id func c (Some o) changes step (Effect.Read t k) (Stage.Tx a) needs stay = read_stage v e m now id func o step t k a needs stay
+stages_lower v e m now id func c (Some o) changes step (Effect.Write t k u) (Stage.Tx a) needs stay = write_stage v e m now id func o step t k u a needs stay
+stages_lower v e m now id func c (Some o) changes step (Effect.CondWrite t k r x u) (Stage.Tx a) needs stay = cond_stage v e m now id func o step t k r x u a needs stay
+stages_lower v e m now id func c o changes step (Effect.Call f a) (Stage.Call CallAt.Open) needs stay =
     by_callees _ 2 (has_callees id) _ (omega arith) (λ is. let i = invoked_of f (told_by (stage_asks id func c o step (Effect.Call f a) (Stage.Call CallAt.Open)) now m) in call_lowers _ 2 id o step i.added (omega arith) i.result)
-stages_lower v m now id func c o changes step (Effect.Call f a) (Stage.Call CallAt.Look) needs =
+stages_lower v e m now id func c o changes step (Effect.Call f a) (Stage.Call CallAt.Look) needs stay =
     by_callees _ 1 (has_callees id) _ (omega arith) (λ is. look_lowers _ 1 id o step (omega arith) (result_of (told_by (stage_asks id func c o step (Effect.Call f a) (Stage.Call CallAt.Look)) now m)))
-stages_lower v m now id func c o changes step (Effect.Async f a) (Stage.Async AsyncAt.Open) needs =
+stages_lower v e m now id func c o changes step (Effect.Async f a) (Stage.Async AsyncAt.Open) needs stay =
     by_callees _ 3 (has_callees id) _ (omega arith) (λ is. let i = invoked_of f (told_by (stage_asks id func c o step (Effect.Async f a) (Stage.Async AsyncAt.Open)) now m) in async_lowers _ 3 i.added (omega arith) i.registered)
-stages_lower v m now id func c o changes step (Effect.Async f a) (Stage.Async AsyncAt.Register) needs = by_callees _ 2 (has_callees id) _ (omega arith) (λ is. omega arith)
-stages_lower v m now id func c o changes step (Effect.Async f a) (Stage.Async AsyncAt.Note) needs = by_callees _ 1 (has_callees id) _ (omega arith) (λ is. by_asked (has_callees id) needs.0)
+stages_lower v e m now id func c o changes step (Effect.Async f a) (Stage.Async AsyncAt.Register) needs stay = by_callees _ 2 (has_callees id) _ (omega arith) (λ is. omega arith)
+stages_lower v e m now id func c o changes step (Effect.Async f a) (Stage.Async AsyncAt.Note) needs stay = by_callees _ 1 (has_callees id) _ (omega arith) (λ is. by_asked (has_callees id) needs.0)
   where
     lefts : Stage → ℕ
-    lefts = let n = rows_after (stage_asks id func c o step (Effect.Async f a) (Stage.Async AsyncAt.Note)) now m in stage_left false (aside_there n func id o (Effect.Async f a)) v (Effect.Async f a)
+    lefts = let n = rows_after (stage_asks id func c o step (Effect.Async f a) (Stage.Async AsyncAt.Note)) now m in stage_left 1 (aside_length e func (tx_at id func o) (Effect.Async f a)) false (aside_there n func id o (Effect.Async f a)) v (Effect.Async f a)
 
     by_asked : (b : Bool) → b ≡ true → SaysLower lefts 1 (async_answer AsyncAt.Note (note_says (back_of (told_by (if b then registered_asks func (place_of id step) else look_asks id func) now m))))
     by_asked true is = let row = map.get m (invoke_key func (place_of id step)) in note_lowers lefts (back_of (said (act Act.NoteRegistered now row).1)) (told_there now row needs.1)
     by_asked false is = cc
-stages_lower v m now id func c o changes step (Effect.Return x) Stage.Back needs = back_lowers _ 2 o (omega arith) (back_of (told_by (stage_asks id func c o step (Effect.Return x) Stage.Back) now m))
-stages_lower v m now id func c o changes step (Effect.Return x) Stage.Tell needs = omega arith
-stages_lower v m now id func c o changes step (Effect.Return x) Stage.Close needs = close_lowers _ 1 id c x (omega arith) (is_did (told_by (stage_asks id func c o step (Effect.Return x) Stage.Close) now m))
-stages_lower v m now id func c o changes step e s needs = absurd needs
+stages_lower v e m now id func c o changes step (Effect.Return x) Stage.Back needs stay = back_lowers _ 2 o (omega arith) (back_of (told_by (stage_asks id func c o step (Effect.Return x) Stage.Back) now m))
+stages_lower v e m now id func c o changes step (Effect.Return x) Stage.Tell needs stay = omega arith
+stages_lower v e m now id func c o changes step (Effect.Return x) Stage.Close needs stay = close_lowers _ 1 id c x (omega arith) (is_did (told_by (stage_asks id func c o step (Effect.Return x) Stage.Close) now m))
+stages_lower v e m now id func c o changes step f s needs stay = absurd needs

@@ -16,7 +16,7 @@ use Rattle.beldi_known.proofs.Cases.{by_cases}
 use Rattle.beldi_upkeep.specs.Checked.{body_at}
 use Rattle.beldi_bound.specs.{Cost.AreAsked, Cost.body_cost, Cost.cost_at, Cost.cost_from, Cost.kind_cost, Cost.step_cost, Cost.with_answers, Ends.IsIn, Ends.Sound}
 use Rattle.beldi_bound.specs.Work.{greatest, has_ended, is_open, most_of, one_more, open_keys, seat, seats, sum_of, work_of}
-use Rattle.beldi_bound.proofs.{Entries.entry_of, Facts.GoesOn, Facts.RunsStand, Facts.Stands, Facts.begun_left, Facts.rest_cost, StageLeft.extra, StageLeft.stage_is_few}
+use Rattle.beldi_bound.proofs.{Entries.entry_of, Facts.GoesOn, Facts.RunsStand, Facts.Stands, Facts.begun_left, Facts.rest_cost, StageLeft.stage_is_few}
 use Rattle.beldi_bound.proofs.Ledger.{Covers, CoversAt, Ledger, amount, callee_key, cost, due, find, if_free, spare, spare_of, stuck, stuck_by, stuck_in, total}
 
 -- ---- lists
@@ -88,7 +88,7 @@ module _ (d : Deployment) (e : Rows) (id : IntentId) (b : Body) where
   step_and_rest given (a ∷ later) = omega arith
 
 pub begun_few : (d : Deployment) (c : Core) (m e : Rows) (asked : IntentId → List Answer) (i : ℕ) (r : Run) (g : Begun) → Sound d c m → GoesOn m e → map.get c.runs i ≡ Some r → r.at ≡ RunAt.Begins g → (s : Stands d e asked r g)
-    → begun_left m s ≤ cost_from d e r.id s.body [] (asked r.id) + extra g.stage
+    → begun_left m s ≤ cost_from d e r.id s.body [] (asked r.id)
 begun_few d c m e asked i r g sound goes live at s =
     let here = stage_is_few d c m e i r g s.body (asked r.id) sound goes live at s.along in
     let rest = step_and_rest d e r.id s.body s.along.answers s.along.later in
@@ -217,10 +217,9 @@ module _ (d : Deployment) (room : ℕ) (s t : State) (asked : IntentId → List 
     Begun_ = Ledger d room t.rows asked first_of most_at 0 s.core s.rows runs_at_start keys_at_start
 
     -- two turns more than the effects are in hand
-    covers_at : (i : ℕ) (r : Run) (g : Begun) (left n all : ℕ) (w : Stage) → left ≤ all + extra w → 2 + all ≤ n → CoversAt d room t.rows asked first_of most_at 0 s.core s.rows i r g left n w
+    covers_at : (i : ℕ) (r : Run) (g : Begun) (left n all : ℕ) (w : Stage) → left ≤ all → 2 + all ≤ n → CoversAt d room t.rows asked first_of most_at 0 s.core s.rows i r g left n w
     covers_at i r g left n all (Stage.Async AsyncAt.Open) few more = omega (arith, few, more)
     covers_at i r g left n all (Stage.Async w) few more = inl (omega (arith, few, more))
-    covers_at i r g left n all (Stage.End v) few more = omega (arith, few, more)
     covers_at i r g left n all w few more = omega (arith, few, more)
 
     seated : (i : ℕ) (r : Run) → map.get s.core.runs i ≡ Some r → IsIn (seat r) (seats s)

@@ -107,6 +107,7 @@ module _ (c : Core) (id : IntentId) (x : TurnSays) where
   turn_adds : (o : Option Run) → Fresh o → (w : Option Wait) → Adds c (after_turn c o id x w).0
   turn_adds o fresh None = if_plan (λ (z : Core × Option ℕ). Adds c (made id x z).0) x.starts _ _ (λ t. may_begin o fresh) (λ t. adds_none c)
   turn_adds o fresh (Some (Wait.Held u)) = adds_none c
+  turn_adds o fresh (Some Wait.Worn) = adds_none c
   turn_adds o fresh (Some (Wait.Result j)) = if_plan (λ (z : Core × Seen). Adds c z.0) (has_run c.runs j) _ _ (λ t. adds_none c) (λ t. if_plan (λ (z : Core × Seen). Adds c z.0) (is_crowded c) _ _ (λ u. adds_none c) (λ u. begins o fresh))
 
 -- .. nor does what the collector starts

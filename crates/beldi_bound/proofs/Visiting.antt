@@ -4,27 +4,28 @@ use Rattle.std.specs.FinMap as map
 use Rattle.std.specs.Ordering.{is_lt}
 use Rattle.std.specs.declared.cmp.Ordering.{Ordering, TheVariants.Less, TheVariants.Equal, TheVariants.Greater}
 use Rattle.std.proofs.lemmas.{Bool.le-ltb, Bool.lt-ltb, Cmp.tied_itself, List.length-append}
-use Rattle.std.proofs.Common.{Bool, List, None, Option, Some, [], ap, arith, eq-eqb, false, if◌then◌else◌, is_some, ltb-true, refl, subst, suc, sym, true, ℕ, ◌&&◌, ◌++◌, ◌+◌, ◌<◌, ◌==◌, ◌∙◌, ◌∷◌, ◌≡◌, ◌≤◌}
-use Rattle.beldi_value.specs.{Id.has_callees, declared.place.Owner.Owner, declared.place.Place.Place, declared.place.TxId.TxId, declared.value.Value.Value, declared.value.Value.TheVariants.Null}
+use Rattle.std.proofs.Common.{Bool, List, None, Option, Some, [], ap, arith, eq-eqb, false, if◌then◌else◌, is_some, ltb-true, refl, subst, suc, sym, true, ℕ, ◌&&◌, ◌*◌, ◌++◌, ◌+◌, ◌-◌, ◌<◌, ◌==◌, ◌∙◌, ◌∷◌, ◌≡◌, ◌≤◌}
+use Rattle.beldi_value.specs.{Id.has_callees, declared.place.Owner.Owner, declared.place.Place.Place, declared.place.TxId.TxId, declared.value.Value.Value}
 use Rattle.beldi_tree.specs.declared.deployment.Deployment.{Deployment}
 use Rattle.beldi_lang.specs.declared.effect.Effect.{Effect}
-use Rattle.beldi_row.specs.{Act.act, Act.did, Act.kept_tell, Act.next_or, Act.not_owner, Act.noted_or, Act.owns, Key.RowKey, Key.key_cmp, KeyOrder.key_total, Log.note_at, Table.IsNext, Table.Rows, Table.next_row, declared.act.Act.Act, declared.key.Kind.Kind, declared.notes.Note.Note, declared.row.Cell.Cell, declared.row.Row.Row}
-use Rattle.beldi_row.proofs.{Least.next_row_least, Unchanged.looked}
+use Rattle.beldi_row.specs.{Act.act, Act.kept_tell, Key.RowKey, Key.key_cmp, KeyOrder.key_total, Table.IsNext, Table.Rows, Table.next_row, declared.act.Act.Act, declared.key.Kind.Kind, declared.notes.Note.Note, declared.row.Row.Row}
+use Rattle.beldi_row.proofs.Least.{next_row_least}
 use Rattle.beldi_walk.specs.{Query.rows_after, Query.said, Query.told_by, declared.query.Query.Query}
-use Rattle.beldi_chain.specs.Content.{SoundAt}
-use Rattle.beldi_daal.specs.{Cell.cell_key, Cell.shadow_key, Cell.write_asks, Cell.write_goes, declared.cell.CellOp.CellOp, declared.cell.ReadGoes.ReadGoes, declared.cell.WriteAt.WriteAt, declared.cell.WriteAt.TheVariants.Try, declared.cell.WriteAt.TheVariants.Make, declared.cell.WriteGoes.WriteGoes}
+use Rattle.beldi_chain.specs.Chain.{Chain, chain}
+use Rattle.beldi_links.specs.Links.{IsLinked, ReadsAt, SeesAt}
+use Rattle.beldi_daal.specs.{Cell.cell_key, Cell.read_goes, Cell.shadow_key, Cell.write_asks, Cell.write_goes, Logged.at_of, declared.cell.CellOp.CellOp, declared.cell.ReadGoes.ReadGoes, declared.cell.WriteAt.WriteAt, declared.cell.WriteAt.TheVariants.Try, declared.cell.WriteGoes.WriteGoes}
 use Rattle.beldi_lock.specs.{Lock.lockset_key, Lockset.item_after, Lockset.lockset_after}
 use Rattle.beldi_lock.proofs.Last.{split_front}
 use Rattle.beldi_txn.specs.End.{at_calls, back_from, call_goes, calls_after, calls_goes, counts, decide_goes, end_goes, first_visit, free_first, free_place, freed_goes, last_goes, moved, next_goes, value_goes, visit_asks, visited_by}
-use Rattle.beldi_txn.specs.{Invokes.IsAfter, Invokes.call_after, Invokes.call_key, Invokes.invokes_after, TxTurn.shadow_value, Visited.IsFrom, Visited.IsMember, Visited.StartsWithin, Visited.Visited, Way.Member, Way.is_owner, declared.end.EndAt.EndAt, declared.end.EndGoes.EndGoes, declared.end.Visit.Visit, declared.end_walk.EndWalk.EndWalk, declared.way.Called.Called}
-use Rattle.beldi_txn.proofs.{Calls.call_past, Calls.is_call, Levels.ends_in, Locks.Item, Locks.is_item, TxTurn.here_set, TxTurn.shadow_told}
+use Rattle.beldi_txn.specs.{Invokes.IsAfter, Invokes.call_after, Invokes.call_key, Invokes.invokes_after, Visited.IsFrom, Visited.IsMember, Visited.RowsStay, Visited.StartsWithin, Visited.Visited, Way.Member, Way.is_owner, declared.end.EndAt.EndAt, declared.end.EndGoes.EndGoes, declared.end.Visit.Visit, declared.end_walk.EndWalk.EndWalk, declared.way.Called.Called}
+use Rattle.beldi_txn.proofs.{Calls.call_past, Calls.is_call, Levels.ends_in, Locks.Item, Locks.is_item}
 use Rattle.beldi_step.specs.{Host.Core, Run.decided_says, Run.asks_at, Run.own_tx, Run.run_asks, Run.stage_asks, Run.stage_says, Run.visit_says, Tables.decision_key, declared.run.Begun.Begun, declared.run.Mark.Mark, declared.run.Run.Run, declared.run.RunAt.RunAt, declared.run.RunTx.RunTx, declared.run.RunTx.TheVariants.Own, declared.run.Stage.Stage}
 use Rattle.beldi_book.specs.Order.{count_changes}
 use Rattle.beldi_laws.specs.{OneAnswer.IsBegun, Right.AtStage, Right.Knows, Right.Right, Right.is_past}
 use Rattle.beldi_upkeep.specs.Checked.{next_says}
 use Rattle.beldi_upkeep.proofs.Notes.{decisions_are_own, knows}
-use Rattle.beldi_bound.specs.{Ends.Sound, Left.SaysLower, Left.decided_visit, Left.left_at, Visits.at_left, Visits.call_ahead, Visits.call_is_ahead, Visits.call_cost, Visits.call_turns, Visits.end_row_cost, Visits.freed_there, Visits.is_ahead, Visits.is_call_ahead, Visits.is_lock_ahead, Visits.is_within, Visits.last_left, Visits.lock_ahead, Visits.lock_cost, Visits.lock_is_ahead, Visits.lock_past, Visits.lock_turns, Visits.put_left, Visits.row_left, Visits.steps_of, Visits.steps_to, Visits.sum_by, Visits.visit_left, Visits.way_left}
-use Rattle.beldi_bound.proofs.Facts.{GoesOn}
+use Rattle.beldi_bound.specs.{Ends.Sound, Left.SaysLower, Left.decided_visit, Left.left_at, Visits.at_left, Visits.call_ahead, Visits.call_is_ahead, Visits.call_cost, Visits.call_turns, Visits.chain_length, Visits.end_row_cost, Visits.freed_length, Visits.freed_there, Visits.is_ahead, Visits.is_call_ahead, Visits.is_lock_ahead, Visits.is_within, Visits.last_left, Visits.lock_ahead, Visits.lock_cost, Visits.lock_is_ahead, Visits.lock_past, Visits.lock_turns, Visits.put_left, Visits.row_left, Visits.steps_of, Visits.steps_to, Visits.sum_by, Visits.visit_left, Visits.way_left}
+use Rattle.beldi_bound.proofs.{Facts.GoesOn, Lengths.freed_some, Lengths.length_some, Puts.ReadOn, Puts.Turned, Puts.put_falls, Puts.put_some, Puts.put_turn, Puts.read_turn, Puts.there_stays}
 use Rattle.beldi_bound.proofs.Sums.{sum_less, sum_lower}
 use Rattle.beldi_bound.proofs.Ahead.{calls_more, locks_more, calls_pushed, locks_pushed, calls_popped, locks_popped, call_here, call_above, lock_here, steps_more, steps_here}
 
@@ -39,18 +40,12 @@ less_is Less h = refl
 less_is Equal h = cc
 less_is Greater h = cc
 
-put_some : (there : Bool) (w : WriteAt) → 1 ≤ put_left there w
-put_some true Try = omega arith
-put_some true Make = omega arith
-put_some false Try = omega arith
-put_some false Make = omega arith
-
 -- an item that is found first costs so many turns beside
-first_few : (commit there : Bool) (last : ℕ) → at_left there last (free_first commit) ≤ last + 4
-first_few true true last = omega arith
-first_few true false last = omega arith
-first_few false true last = omega arith
-first_few false false last = omega arith
+first_few : (commit there : Bool) (c s last : ℕ) → 1 ≤ c → 1 ≤ s → at_left c s there last (free_first commit) ≤ last + (3 * c + s + 1)
+first_few true true c s last one two = omega (arith, one, two)
+first_few true false c s last one two = omega (arith, one, two)
+first_few false true c s last one two = omega (arith, one, two)
+first_few false false c s last one two = omega (arith, one, two)
 
 -- ---- a call more on the way
 abbrev base : List Called → ℕ
@@ -63,28 +58,6 @@ base_more (d ∷ ds) c = let n = length-append ds (c ∷ []) in omega (arith, n)
 last_more : (cs : List Called) (c : Called) → last_left (cs ++ c ∷ []) ≡ 2
 last_more [] c = refl
 last_more (d ∷ ds) c = refl
-
--- ---- a free goes on, and waits for nobody
-abbrev Lowers : WriteAt → Bool → Bool → WriteGoes → Type 0
-Lowers w was is (WriteGoes.On x) = suc (put_left is x) ≤ put_left was w
-Lowers w was is (WriteGoes.Done n first) = Unit {0}
-Lowers w was is WriteGoes.NotOwner = Unit {0}
-Lowers w was is (WriteGoes.Held o) = ⊥
-
-free_tells : (c g : Cell) (n : Option Note) (x : Option ℕ) (b : Bool) → x ≡ None → Lowers Try true true (write_goes Note.Freed (said (noted_or c n (next_or c x (if b then (g, did) else (c, not_owner)))).1))
-free_tells c g (Some n) x b last = tt
-free_tells c g None None true last = tt
-free_tells c g None None false last = tt
-free_tells c g None (Some x) b last = cc
-
-try_lowers : (p : Place) (who : Owner) (u : Option Value) (now : ℕ) (r : Option Row) → SoundAt r → let a = act (Act.FreeCell p who u) now r in Lowers Try (is_some r) (is_some a.0) (write_goes Note.Freed (said a.1))
-try_lowers p who u now None sound = omega arith
-try_lowers p who u now (Some (Row.Cell c)) sound = free_tells c _ (note_at c.log p) c.next (owns who c.owner) sound.0
-try_lowers p who u now (Some r) sound = absurd sound
-
-make_lowers : (now : ℕ) (r : Option Row) → let a = act (Act.MakeCell Null None) now r in Lowers Make (is_some r) (is_some a.0) (write_goes Note.Freed (said a.1))
-make_lowers now None = omega arith
-make_lowers now (Some r) = omega arith
 
 -- ---- with less ahead, less is left of the rows
 module _ (t : TxId) (z v : Visit) where
@@ -182,6 +155,7 @@ module _ (t : TxId) (end : ℕ) (commit : Bool) (e : Rows) where
   -- what it leaves, by where it goes
   abbrev Falls : Rows → Rows → Visit → EndGoes → Type 0
   Falls m n v EndGoes.Done = 1 ≤ left m v
+  Falls m n v EndGoes.Worn = Unit {0}
   Falls m n v z = suc (left n (moved commit v z)) ≤ left m v
 
   abbrev Keys : Rows → Type 0
@@ -293,8 +267,14 @@ module _ (t : TxId) (end : ℕ) (commit : Bool) (e : Rows) where
         abbrev freeing : EndAt → Visit
         freeing a = at cs af (Some j) None a
 
-        lock_costs : (r : Row) → end_row_cost e t end (lock_key j) r ≡ 6
-        lock_costs r = ap (lock_cost t end 1 (t.begin == t.begin)) steps ∙ ap (λ b. lock_turns 1 (b && is_within t end (steps_of cs))) (eq-eqb t.begin t.begin refl) ∙ ap (lock_turns 1) (starts_within cs member.0)
+        abbrev c : ℕ
+        c = chain_length e (cell_key p.1 j.0 j.1)
+
+        abbrev s : ℕ
+        s = chain_length e (shadow_key p.1 t j.0 j.1)
+
+        lock_costs : (r : Row) → end_row_cost e t end (lock_key j) r ≡ 3 * c + s + 2
+        lock_costs r = ap (lock_cost t end c s (t.begin == t.begin)) steps ∙ ap (λ b. lock_turns c s (b && is_within t end (steps_of cs))) (eq-eqb t.begin t.begin refl) ∙ ap (lock_turns c s) (starts_within cs member.0)
 
         lock_on : is_ahead t at_next (lock_key j) (lock_key j).kind ≡ true
         lock_on = ap (lock_is_ahead t at_next (lock_key j)) steps ∙ lock_here (call_ahead EndAt.Next af) (lock_past p t.begin i (lock_key j)) (steps_of cs) ∙ past
@@ -308,14 +288,14 @@ module _ (t : TxId) (end : ℕ) (commit : Bool) (e : Rows) where
 
         to_item : (b : Bool) → suc (left m (freeing (free_first b))) ≤ left m at_next
         to_item true =
-            let off : is_ahead t (freeing EndAt.Shadow) (lock_key j) (lock_key j).kind ≡ false = ap (lock_is_ahead t (freeing EndAt.Shadow) (lock_key j)) steps ∙ lock_here (call_ahead EndAt.Shadow af) (lock_past p t.begin (Some j) (lock_key j)) (steps_of cs) ∙ not_past in
-            let rows = rows_lower t (freeing EndAt.Shadow) at_next e end (same_way t cs af af (Some j) i None u EndAt.Shadow EndAt.Next (λ n h. h) (past_by i past)) 6 (lock_key j) (keys (lock_key j) there) off lock_on lock_costs in
-            let few = first_few true (freed_there m p (Some j)) (last_left cs) in
+            let off : is_ahead t (freeing (EndAt.Shadow 0)) (lock_key j) (lock_key j).kind ≡ false = ap (lock_is_ahead t (freeing (EndAt.Shadow 0)) (lock_key j)) steps ∙ lock_here (call_ahead (EndAt.Shadow 0) af) (lock_past p t.begin (Some j) (lock_key j)) (steps_of cs) ∙ not_past in
+            let rows = rows_lower t (freeing (EndAt.Shadow 0)) at_next e end (same_way t cs af af (Some j) i None u (EndAt.Shadow 0) EndAt.Next (λ n h. h) (past_by i past)) (3 * c + s + 2) (lock_key j) (keys (lock_key j) there) off lock_on lock_costs in
+            let few = first_few true (freed_there m p (Some j)) c s (last_left cs) (length_some e (cell_key p.1 j.0 j.1)) (length_some e (shadow_key p.1 t j.0 j.1)) in
             omega (arith, rows, few)
         to_item false =
-            let off : is_ahead t (freeing (EndAt.Free Try)) (lock_key j) (lock_key j).kind ≡ false = ap (lock_is_ahead t (freeing (EndAt.Free Try)) (lock_key j)) steps ∙ lock_here (call_ahead (EndAt.Free Try) af) (lock_past p t.begin (Some j) (lock_key j)) (steps_of cs) ∙ not_past in
-            let rows = rows_lower t (freeing (EndAt.Free Try)) at_next e end (same_way t cs af af (Some j) i None u (EndAt.Free Try) EndAt.Next (λ n h. h) (past_by i past)) 6 (lock_key j) (keys (lock_key j) there) off lock_on lock_costs in
-            let few = first_few false (freed_there m p (Some j)) (last_left cs) in
+            let off : is_ahead t (freeing (EndAt.Free (Try 0))) (lock_key j) (lock_key j).kind ≡ false = ap (lock_is_ahead t (freeing (EndAt.Free (Try 0))) (lock_key j)) steps ∙ lock_here (call_ahead (EndAt.Free (Try 0)) af) (lock_past p t.begin (Some j) (lock_key j)) (steps_of cs) ∙ not_past in
+            let rows = rows_lower t (freeing (EndAt.Free (Try 0))) at_next e end (same_way t cs af af (Some j) i None u (EndAt.Free (Try 0)) EndAt.Next (λ n h. h) (past_by i past)) (3 * c + s + 2) (lock_key j) (keys (lock_key j) there) off lock_on lock_costs in
+            let few = first_few false (freed_there m p (Some j)) c s (last_left cs) (length_some e (cell_key p.1 j.0 j.1)) (length_some e (shadow_key p.1 t j.0 j.1)) in
             omega (arith, rows, few)
 
       locks_fall : (x : Option (RowKey × Row)) → IsNext m (lockset_after p.1 p.0 t.begin i) x → (f : Option Item) → item_after p.1 p.0 t.begin x ≡ f → Falls m m at_next (next_goes cs f)
@@ -344,32 +324,48 @@ module _ (t : TxId) (end : ℕ) (commit : Bool) (e : Rows) where
     abbrev there : Rows → Bool
     there l = freed_there l (visited_by t cs) (Some j)
 
-    freed_falls : (w : WriteAt) (g : WriteGoes) → Lowers w (there m) (there n) g → Falls m n (at_item (EndAt.Free w)) (freed_goes w g)
-    freed_falls w (WriteGoes.On x) h = omega (arith, h)
-    freed_falls w (WriteGoes.Done y first) h = let some = put_some (there m) w in omega (arith, some)
-    freed_falls w WriteGoes.NotOwner h = let some = put_some (there m) w in omega (arith, some)
-    freed_falls w (WriteGoes.Held o) h = absurd h
+    abbrev its_rows : ℕ
+    its_rows = freed_length e (visited_by t cs) (Some j)
 
-    value_falls : n ≡ m → (v : Option Value) → Falls m n (at_item EndAt.Shadow) (value_goes (ReadGoes.Got v))
-    value_falls same v = let put = ap (λ l. put_left (there l) Try) same in omega (arith, put)
+    freed_falls : (f : Chain) (p : Place) (who : Owner) (w : WriteAt) (g : WriteGoes) → Turned (put_left its_rows (there n)) (put_left its_rows (there m) w) f p who (CellOp.Free u) g → Falls m n (at_item (EndAt.Free w)) (freed_goes g)
+    freed_falls f p who w (WriteGoes.On x) h = omega (arith, h)
+    freed_falls f p who w WriteGoes.Stays h = absurd h
+    freed_falls f p who w (WriteGoes.Done y first) h = let some = put_some its_rows (there m) w (freed_some e (visited_by t cs) (Some j)) in omega (arith, some)
+    freed_falls f p who w WriteGoes.NotOwner h = let some = put_some its_rows (there m) w (freed_some e (visited_by t cs) (Some j)) in omega (arith, some)
+    freed_falls f p who w (WriteGoes.Held o) h = absurd h.waits
+    freed_falls f p who w WriteGoes.Worn h = tt
 
   module _ (now : ℕ) (m : Rows) (cs : List Called) (af : Option ℕ) (j : Item) (u : Option Value) where
     abbrev item_key : RowKey
     item_key = cell_key (visited_by t cs).1 j.0 j.1
 
-    frees_fall : (who : Owner) (p : Place) (w : WriteAt) → SoundAt (map.get m item_key) → let q = write_asks item_key p who (CellOp.Free u) w in
-        Falls m (rows_after q now m) (at cs af (Some j) u (EndAt.Free w)) (freed_goes w (write_goes Note.Freed (told_by q now m)))
-    frees_fall who p Try sound = freed_falls m _ cs af j u Try _ (subst (λ r. Lowers Try (is_some (map.get m item_key)) (is_some r) (write_goes Note.Freed (said (act (Act.FreeCell p who u) now (map.get m item_key)).1)))
-        (sym (here_set m item_key (act (Act.FreeCell p who u) now (map.get m item_key)).0)) (try_lowers p who u now (map.get m item_key) sound))
-    frees_fall who p Make sound = freed_falls m _ cs af j u Make _ (subst (λ r. Lowers Make (is_some (map.get m item_key)) (is_some r) (write_goes Note.Freed (said (act (Act.MakeCell Null None) now (map.get m item_key)).1)))
-        (sym (here_set m item_key (act (Act.MakeCell Null None) now (map.get m item_key)).0)) (make_lowers now (map.get m item_key)))
+    abbrev aside_key : RowKey
+    aside_key = shadow_key (visited_by t cs).1 t j.0 j.1
 
-    shadow_falls : SoundAt (map.get m (shadow_key (visited_by t cs).1 t j.0 j.1)) → let q = visit_asks t end commit cs af (Some j) u EndAt.Shadow in
-        Falls m (rows_after q now m) (at cs af (Some j) u EndAt.Shadow) (end_goes t end commit cs EndAt.Shadow (told_by q now m))
-    shadow_falls sound =
-        let k = shadow_key (visited_by t cs).1 t j.0 j.1 in
-        subst (λ g. Falls m (rows_after (visit_asks t end commit cs af (Some j) u EndAt.Shadow) now m) (at cs af (Some j) u EndAt.Shadow) (value_goes g)) (sym (shadow_told now (map.get m k) sound))
-        (value_falls m (rows_after (visit_asks t end commit cs af (Some j) u EndAt.Shadow) now m) cs af j u (looked now k m) (shadow_value (map.get m k)))
+    frees_fall : (who : Owner) (p : Place) (w : WriteAt) → IsLinked (chain m item_key) → SeesAt (chain m item_key) p (at_of w) → let q = write_asks item_key p who (CellOp.Free u) w in RowsStay (rows_after q now m) e
+        → Falls m (rows_after q now m) (at cs af (Some j) u (EndAt.Free w)) (freed_goes (write_goes Note.Freed w (told_by q now m)))
+    frees_fall who p w linked sees stay = let q = write_asks item_key p who (CellOp.Free u) w in
+        freed_falls m (rows_after q now m) cs af j u (chain m item_key) p who w (write_goes Note.Freed w (told_by q now m)) (put_turn e m now item_key refl p who (CellOp.Free u) linked w sees stay)
+
+    -- a row of the shadow is looked at, and then the next one, or the item is given back
+    shadow_falls : (r : ℕ) → IsLinked (chain m aside_key) → ReadsAt (chain m aside_key) r → let q = visit_asks t end commit cs af (Some j) u (EndAt.Shadow r) in RowsStay (rows_after q now m) e
+        → Falls m (rows_after q now m) (at cs af (Some j) u (EndAt.Shadow r)) (end_goes t end commit cs (EndAt.Shadow r) (told_by q now m))
+    shadow_falls r linked reads stay = goes (read_goes None (told_by q now m)) (read_turn e m now aside_key None r linked reads stay)
+      where
+        q : Query
+        q = visit_asks t end commit cs af (Some j) u (EndAt.Shadow r)
+
+        p : Member
+        p = visited_by t cs
+
+        puts : put_left (chain_length e item_key) (freed_there (rows_after q now m) p (Some j)) (Try 0) ≤ put_left (chain_length e item_key) (freed_there m p (Some j)) (Try 0)
+        puts = put_falls (chain_length e item_key) (freed_there m p (Some j)) (freed_there (rows_after q now m) p (Some j)) (Try 0) (there_stays q now m item_key)
+
+        goes : (g : ReadGoes) → ReadOn (chain_length e aside_key) r None (chain m aside_key) g → Falls m (rows_after q now m) (at cs af (Some j) u (EndAt.Shadow r)) (value_goes g)
+        goes (ReadGoes.On n) h = let next = h.0 in let less = h.1 in omega (arith, puts, next, less)
+        goes ReadGoes.Stays h = absurd h
+        goes (ReadGoes.Got v) h = omega (arith, puts)
+        goes (ReadGoes.Held o) h = cc
 
   -- ---- a participant has its finish
   stamp_falls : (m n : Rows) (cs : List Called) (af : Option ℕ) (i : Option Item) (u : Option Value) → is_owner cs ≡ false → Falls m n (at cs af i u EndAt.Stamp) EndGoes.Back
@@ -399,9 +395,9 @@ module _ (t : TxId) (end : ℕ) (commit : Bool) (e : Rows) where
         let p = visited_by t cs in let k = invokes_after p.1 p.0 (calls_after t cs af) in calls_fall m keys cs v.member af i u v.from (next_row m k) (next_row_least m k) (call_after p.1 p.0 (next_row m k)) refl
     turn_falls cs af i u EndAt.Next past v keys =
         let p = visited_by t cs in let k = lockset_after p.1 p.0 t.begin i in locks_fall m keys cs v.member af i u (next_row m k) (next_row_least m k) (item_after p.1 p.0 t.begin (next_row m k)) refl
-    turn_falls cs af (Some j) u EndAt.Shadow past v keys = shadow_falls now m cs af j u (v.sound (visited_by t cs).1 j).1.head
-    turn_falls cs af None u EndAt.Shadow past v keys = let none = v.item in cc
-    turn_falls cs af (Some j) u (EndAt.Free w) past v keys = frees_fall now m cs af j u (Owner.Tx t) (free_place t end cs) w (v.sound (visited_by t cs).1 j).0.head
+    turn_falls cs af (Some j) u (EndAt.Shadow r) past v keys = shadow_falls now m cs af j u r (v.linked (visited_by t cs).1 j).1 v.sees keys
+    turn_falls cs af None u (EndAt.Shadow r) past v keys = let none = v.item in cc
+    turn_falls cs af (Some j) u (EndAt.Free w) past v keys = frees_fall now m cs af j u (Owner.Tx t) (free_place t end cs) w (v.linked (visited_by t cs).1 j).0 v.sees keys
     turn_falls cs af None u (EndAt.Free w) past v keys = let none = v.item in cc
     turn_falls cs af i u EndAt.Stamp past v keys = stamp_falls m (after (at cs af i u EndAt.Stamp)) cs af i u v.begins
 
@@ -409,6 +405,7 @@ module _ (t : TxId) (end : ℕ) (commit : Bool) (e : Rows) where
 module _ (t : TxId) (end : ℕ) (commit : Bool) (e m n : Rows) (v : Visit) where
   says_lower : (f : Stage → ℕ) → ((z : Visit) → f (Stage.End z) ≡ visit_left e n t end z) → (g : EndGoes) → Falls t end commit e m n v g → SaysLower f (visit_left e m t end v) (visit_says commit v g)
   says_lower f is EndGoes.Done h = h
+  says_lower f is EndGoes.Worn h = tt
   says_lower f is g h = let same = is (moved commit v g) in omega (arith, h, same)
 
 -- the decision is put, or is its own

@@ -4,15 +4,16 @@ use Rattle.std.specs.FinMap as map
 use Rattle.std.proofs.Common.{Bool, List, None, Option, Some, ap, arith, false, if◌then◌else◌, inl, inr, is_some, refl, subst, sym, true, ℕ, ◌∙◌, ◌≡◌, ◌⊎◌}
 use Rattle.std.specs.Option.{option_map}
 use Rattle.std.specs.Prelude.{option_and_then}
-use Rattle.beldi_value.specs.{Id.age_of, Id.child_of, Id.is_older, Passes.passes, declared.id.IntentId.IntentId, declared.outcome.Outcome.Outcome, declared.place.Caller.Caller, declared.place.Owner.Owner, declared.place.Place.Place, declared.place.TxId.TxId, declared.value.Value.Value}
+use Rattle.beldi_value.specs.{Id.age_of, Id.child_of, Id.is_older, declared.id.IntentId.IntentId, declared.outcome.Outcome.Outcome, declared.place.Caller.Caller, declared.place.Owner.Owner, declared.place.Place.Place, declared.place.TxId.TxId, declared.value.Value.Value}
 use Rattle.beldi_tree.specs.{declared.deployment.Deployment.Deployment}
 use Rattle.beldi_lang.specs.{Callee.answer_of, declared.effect.Answer.Answer, declared.effect.Effect.Effect}
 use Rattle.beldi_book.specs.Order.{count_changes}
-use Rattle.beldi_plain.specs.{Item.Item, Operation.OnItem, Operation.item_in, Operation.op_of}
-use Rattle.beldi_row.specs.{Act.Tell, Act.act, Act.at_tail, Act.died, Act.cond_to, Act.did, Act.entered, Act.given_or, Act.held, Act.held_or, Act.if_owned, Act.next_or, Act.noted_or, Act.not_owner, Act.other_owner, Act.owned_or, Act.owns, Act.unless_held, Act.waits_for, Log.note_at, Log.owner_eq, Table.Rows, declared.act.Act.Act, declared.notes.Note.Note, declared.row.Cell.Cell, declared.row.Row.Row}
-use Rattle.beldi_walk.specs.Query.{Told, said, told_by}
-use Rattle.beldi_chain.{specs.Chain.chain, specs.Content.SoundAt, specs.Content.content_in, proofs.OneRow.one_content}
-use Rattle.beldi_daal.specs.{Cell.cell_goes, Cell.cell_key, Cell.done_note, Cell.got_or_held, Cell.op_act, Cell.read_goes, Cell.write_asks, Cell.write_goes, declared.cell.CellOp.CellOp, declared.cell.WriteAt.WriteAt, declared.cell.WriteAt.TheVariants.Make, declared.cell.WriteAt.TheVariants.Try, declared.cell.WriteGoes.WriteGoes}
+use Rattle.beldi_plain.specs.{Item.Item, Operation.OnItem, Operation.item_in, Operation.op_of, Operation.touched}
+use Rattle.beldi_row.specs.{Act.act, Act.other_owner, Key.at_row, Log.note_at, Log.owner_eq, Table.Rows, declared.act.Act.Act, declared.notes.Note.Note, declared.row.Row.Row}
+use Rattle.beldi_walk.specs.{Query.Told, Query.rows_after, Query.said, Query.told_by, declared.query.Query.Query}
+use Rattle.beldi_chain.specs.Chain.{chain, content}
+use Rattle.beldi_links.specs.Links.{IsLinked, ReadsAt, SeesAt}
+use Rattle.beldi_daal.specs.{Cell.cell_key, Cell.done_note, Cell.read_goes, Cell.write_asks, Cell.write_goes, Logged.at_of, declared.cell.CellOp.CellOp, declared.cell.ReadGoes.ReadGoes, declared.cell.WriteAt.WriteAt, declared.cell.WriteGoes.WriteGoes}
 use Rattle.beldi_lock.specs.{Lock.item_goes, declared.lock.LockAt.LockAt}
 use Rattle.beldi_invokelog.specs.{InvokeLog.call_in, InvokeLog.invoke_key, InvokeLog.result_in, InvokeLog.result_of, InvokeLog.back_of, declared.invoke_log.Back.Back}
 use Rattle.beldi_readlog.specs.ReadLog.{given_in, given_of, log_key}
@@ -22,24 +23,15 @@ use Rattle.beldi_call.specs.{Async.async_asks, Async.async_says, Call.call_asks,
 use Rattle.beldi_step.specs.{declared.run.Begun.Begun, declared.run.Mark.Mark, declared.run.Run.Run, declared.run.RunTx.RunTx, declared.run.Says.Says, declared.run.Stage.Stage, declared.run.Wait.Wait, Host.Core, Noted.noted_answer}
 use Rattle.beldi_step.specs.Run.{ask_says, async_answer, back_says, begin_of, call_answer, callee_body, cell_op, close_says, decided_says, done_says, note_of_op, own_tx, place_of, put_answer, put_asks, put_says, stage_asks, stage_says, tx_at, tx_of, tx_says, visit_says, walk_says, write_says, OnCell}
 use Rattle.beldi_order.proofs.Maps.{same_some}
-use Rattle.beldi_known.specs.{Contents.content_of, Contents.head_key, Operations.cell_of, Stands.held_answer, Stands.told_by as note_told}
+use Rattle.beldi_known.specs.{Contents.content_of, Operations.cell_of, Stands.held_answer, Stands.told_by as note_told}
 use Rattle.beldi_known.proofs.Cases.{by_option}
-use Rattle.beldi_laws.specs.Right.{AtStage, Knows, Right}
+use Rattle.beldi_laws.specs.{Inside.InItem, Inside.SeesPut, Right.AtStage, Right.Knows, Right.Right}
 use Rattle.beldi_upkeep.specs.Checked.{next_says}
 use Rattle.beldi_upkeep.proofs.Overs.{its_cell}
+use Rattle.beldi_bound.specs.{Ends.is_walk, Visits.chain_length, Visits.put_left}
+use Rattle.beldi_bound.proofs.Puts.{IsHeld, ReadOn, Turned, put_turn, read_turn}
 
--- ---- an act on a cell that tells an owner
-noted_held : (c : Cell) (o : Option Note) (r : Cell × Tell) (w : Owner) → (noted_or c o r).1 ≡ held w → (o ≡ None) × (r.1 ≡ held w)
-noted_held c None r w is = (refl, is)
-noted_held c (Some n) r w is = cc
-
-next_held : (c : Cell) (o : Option ℕ) (r : Cell × Tell) (w : Owner) → (next_or c o r).1 ≡ held w → r.1 ≡ held w
-next_held c None r w is = is
-next_held c (Some n) r w is = cc
-
-tail_held : (p : Place) (c : Cell) (r : Cell × Tell) (w : Owner) → (at_tail p c r).1 ≡ held w → (note_at c.log p ≡ None) × (r.1 ≡ held w)
-tail_held p c r w is = let k = noted_held c (note_at c.log p) (next_or c c.next r) w is in (k.0, next_held c c.next r w k.1)
-
+-- ---- a walk that tells an owner
 other_is : (who : Owner) (o : Option Owner) (w : Owner) → other_owner who o ≡ Some w → o ≡ Some w
 other_is who None w is = is
 other_is who (Some u) w is = by_other (owner_eq u who) is
@@ -47,107 +39,60 @@ other_is who (Some u) w is = by_other (owner_eq u who) is
     by_other : (b : Bool) → (if b then None else Some u) ≡ Some w → Some u ≡ Some w
     by_other b is = grind arith
 
-unless_so : (c : Cell) (o : Option Owner) (r : Cell × Tell) (w : Owner) → (r.1 ≡ held w → ⊥) → (held_or c o r).1 ≡ held w → o ≡ Some w
-unless_so c None r w never is = absurd (never is)
-unless_so c (Some u) r w never is = cc
-
-owned_so : (p : Place) (who : Owner) (c : Cell) (o : Option Owner) (r : Cell × Tell) (w : Owner) → (r.1 ≡ held w → ⊥) → (owned_or p who c o r).1 ≡ held w → (o ≡ Some w) × (waits_for who w ≡ true)
-owned_so p who c None r w never is = absurd (never is)
-owned_so p who c (Some u) r w never is = by_wait (waits_for who u) refl is
-  where
-    by_wait : (b : Bool) → waits_for who u ≡ b → (if◌then◌else◌ {A = Cell × Tell} b (c, held u) (entered p (Note.Died (age_of u)) c.value c.owner c, died (age_of u))).1 ≡ held w → (Some u ≡ Some w) × (waits_for who w ≡ true)
-    by_wait true e is = let same : u ≡ w = cc in (ap Some same, ap (waits_for who) (sym same) ∙ e)
-    by_wait false e is = cc
-
--- its place has no note, and it has this owner
-record HeldBy (p : Place) (who : Owner) (op : CellOp) (r : Option Row) (w : Owner) : Type 0 where
-  note : note_at (content_in r).notes p ≡ None
-  owner : (content_in r).owner ≡ Some w
-  waits : op ≡ CellOp.Lock → waits_for who w ≡ true
-
-module _ (p : Place) (who : Owner) (now : ℕ) (w : Owner) where
-  either : (r s : Cell × Tell) → (r.1 ≡ held w → ⊥) → (s.1 ≡ held w → ⊥) → (b : Bool) → (if◌then◌else◌ {A = Cell × Tell} b r s).1 ≡ held w → ⊥
-  either r s f g true e = f e
-  either r s f g false e = g e
-
-  cell_held : (op : CellOp) (c : Cell) → (act (op_act p who op) now (Some (Row.Cell c))).1 ≡ held w → HeldBy p who op (Some (Row.Cell c)) w
-  cell_held (CellOp.Write v) c is =
-      let done : Cell × Tell = (entered p Note.Wrote v c.owner c, did) in
-      let k = tail_held p c (unless_held who c done) w is in
-      record { note = k.0; owner = other_is who c.owner w (unless_so c (other_owner who c.owner) done w (λ e. cc) k.1); waits = λ e. cc }
-  cell_held (CellOp.Cond n o v) c is =
-      let done : Cell × Tell = cond_to (passes c.value n o) p v c in
-      let k = tail_held p c (unless_held who c done) w is in
-      record { note = k.0; owner = other_is who c.owner w (unless_so c (other_owner who c.owner) done w (λ e. cc) k.1); waits = λ e. cc }
-  cell_held CellOp.Lock c is =
-      let done : Cell × Tell = (entered p Note.Got c.value (Some who) c, did) in
-      let k = tail_held p c (owned_or p who c (other_owner who c.owner) done) w is in
-      let o = owned_so p who c (other_owner who c.owner) done w (λ e. cc) k.1 in
-      record { note = k.0; owner = other_is who c.owner w o.0; waits = λ e. o.1 }
-  cell_held (CellOp.Free v) c is =
-      let freed : Cell × Tell = (entered p Note.Freed (given_or v c.value) None c, did) in
-      let kept : Cell × Tell = (c, not_owner) in
-      absurd (either freed kept (λ e. cc) (λ e. cc) (owns who c.owner) (tail_held p c (if_owned who c freed) w is).1)
-
-  none_held : (op : CellOp) → (act (op_act p who op) now None).1 ≡ held w → ⊥
-  none_held (CellOp.Write v) is = cc
-  none_held (CellOp.Cond k o v) is = cc
-  none_held CellOp.Lock is = cc
-  none_held (CellOp.Free v) is = cc
-
-  row_held : (op : CellOp) (r : Option Row) → SoundAt r → (act (op_act p who op) now r).1 ≡ held w → HeldBy p who op r w
-  row_held op None sound is = absurd (none_held op is)
-  row_held op (Some (Row.Cell c)) sound is = cell_held op c is
-  row_held op (Some r) sound is = absurd sound
-
-goes_held : (n : Note) (t : Tell) (w : Owner) → write_goes n (said t) ≡ WriteGoes.Held w → t ≡ held w
-goes_held n t w is = grind arith
-
-made_held : (n : Note) (now : ℕ) (v : Value) (r : Option Row) (w : Owner) → write_goes n (said (act (Act.MakeCell v None) now r).1) ≡ WriteGoes.Held w → ⊥
-made_held n now v None w is = cc
-made_held n now v (Some r) w is = cc
-
 -- a write that is at its item
-put_held : (m : Rows) (p : Place) (who : Owner) (now func t : ℕ) (k : List ℕ) (op : CellOp) (at : WriteAt) (w : Owner) → let x : Item = record { func = func; table = t; key = k } in SoundAt (map.get m (head_key x))
-    → write_goes (done_note op) (told_by (write_asks (cell_key func t k) p who op at) now m) ≡ WriteGoes.Held w → HeldBy p who op (map.get m (head_key x)) w
-put_held m p who now func t k op Try w sound is = let r = map.get m (head_key (record { func = func; table = t; key = k })) in row_held p who now w op r sound (goes_held (done_note op) (act (op_act p who op) now r).1 w is)
-put_held m p who now func t k op Make w sound is = absurd (made_held (done_note op) now Value.Null (map.get m (head_key (record { func = func; table = t; key = k }))) w is)
+put_held : (m : Rows) (p : Place) (who : Owner) (now func t : ℕ) (k : List ℕ) (op : CellOp) (at : WriteAt) (w : Owner) → let f = chain m (cell_key func t k) in IsLinked f → SeesAt f p (at_of at)
+    → write_goes (done_note op) at (told_by (write_asks (cell_key func t k) p who op at) now m) ≡ WriteGoes.Held w → IsHeld f p who op w
+put_held m p who now func t k op at w linked sees is =
+    let key = cell_key func t k in
+    let n = rows_after (write_asks key p who op at) now m in
+    subst (Turned (put_left (chain_length n key) (is_some (map.get n key))) (put_left (chain_length n key) (is_some (map.get m key)) at) (chain m key) p who op) is (put_turn n m now key refl p who op linked at sees (λ q h. h))
 
 -- ---- what is said where a run waits
-write_waits : (e : Effect) (z : WriteGoes) (w : Wait) → write_says e z ≡ Says.Waits w → (u : Owner) × (z ≡ WriteGoes.Held u) × (w ≡ Wait.Held u)
-write_waits e (WriteGoes.On at) w is = cc
-write_waits e (WriteGoes.Done n first) w is = absurd (never _ is)
+worn_is : (w : Wait) → Says.Waits Wait.Worn ≡ Says.Waits w → w ≡ Wait.Worn
+worn_is w is = cc
+
+write_waits : (e : Effect) (z : WriteGoes) (w : Wait) → (w ≡ Wait.Worn → ⊥) → write_says e z ≡ Says.Waits w → (u : Owner) × (z ≡ WriteGoes.Held u) × (w ≡ Wait.Held u)
+write_waits e (WriteGoes.On at) w apart is = cc
+write_waits e WriteGoes.Stays w apart is = cc
+write_waits e (WriteGoes.Done n first) w apart is = absurd (never _ is)
   where
     never : (o : Option Answer) → done_says first o ≡ Says.Waits w → ⊥
     never o is = grind arith
-write_waits e WriteGoes.NotOwner w is = cc
-write_waits e (WriteGoes.Held u) w is = (u, refl, cc)
+write_waits e WriteGoes.NotOwner w apart is = cc
+write_waits e (WriteGoes.Held u) w apart is = (u, refl, cc)
+write_waits e WriteGoes.Worn w apart is = absurd (apart (worn_is w is))
 
-tx_waits : (a : TxAt) (z : TxGoes) (w : Wait) → tx_says a z ≡ Says.Waits w → (u : Owner) × (z ≡ TxGoes.Held u) × (w ≡ Wait.Held u)
-tx_waits a (TxGoes.On b) w is = cc
-tx_waits a TxGoes.Stays w is = cc
-tx_waits a TxGoes.Put w is = absurd (never a is)
+tx_waits : (a : TxAt) (z : TxGoes) (w : Wait) → (w ≡ Wait.Worn → ⊥) → tx_says a z ≡ Says.Waits w → (u : Owner) × (z ≡ TxGoes.Held u) × (w ≡ Wait.Held u)
+tx_waits a (TxGoes.On b) w apart is = cc
+tx_waits a TxGoes.Stays w apart is = cc
+tx_waits a TxGoes.Put w apart is = absurd (never a is)
   where
     never : (b : TxAt) → put_answer b ≡ Says.Waits w → ⊥
     never b is = grind arith
-tx_waits a (TxGoes.Died u) w is = cc
-tx_waits a (TxGoes.Held u) w is = (u, refl, cc)
-tx_waits a (TxGoes.Value v) w is = cc
-tx_waits a TxGoes.Done w is = cc
+tx_waits a (TxGoes.Died u) w apart is = cc
+tx_waits a (TxGoes.Held u) w apart is = (u, refl, cc)
+tx_waits a TxGoes.Worn w apart is = absurd (apart (worn_is w is))
+tx_waits a (TxGoes.Value v) w apart is = cc
+tx_waits a TxGoes.Done w apart is = cc
 
 -- ---- a read that finds the item
-walk_held : (n now : ℕ) (id : IntentId) (r : Option Row) (w : Wait) → SoundAt r → walk_says n (read_goes (Some (Owner.Intent id)) (said (act Act.Look now r).1)) ≡ Says.Waits w → (u : Owner) × ((content_in r).owner ≡ Some u) × (w ≡ Wait.Held u)
-walk_held n now id None w sound is = cc
-walk_held n now id (Some (Row.Cell c)) w sound is = by_way (other_owner (Owner.Intent id) c.owner) refl (subst (λ z. walk_says n (cell_goes (Some (Owner.Intent id)) c z) ≡ Says.Waits w) sound.0 is)
-  where
-    by_way : (o : Option Owner) → other_owner (Owner.Intent id) c.owner ≡ o → walk_says n (got_or_held c o) ≡ Says.Waits w → (u : Owner) × (c.owner ≡ Some u) × (w ≡ Wait.Held u)
-    by_way None e is = cc
-    by_way (Some u) e is = (u, other_is (Owner.Intent id) c.owner u e, cc)
-walk_held n now id (Some r) w sound is = absurd sound
+walk_waits : (n : ℕ) (z : ReadGoes) (w : Wait) → walk_says n z ≡ Says.Waits w → (u : Owner) × (z ≡ ReadGoes.Held u) × (w ≡ Wait.Held u)
+walk_waits n (ReadGoes.On r) w is = cc
+walk_waits n ReadGoes.Stays w is = cc
+walk_waits n (ReadGoes.Got v) w is = cc
+walk_waits n (ReadGoes.Held u) w is = (u, refl, cc)
+
+walk_held : (m : Rows) (now : ℕ) (id : IntentId) (func t : ℕ) (k : List ℕ) (r : ℕ) (u : Owner) → let f = chain m (cell_key func t k) in IsLinked f → ReadsAt f r
+    → read_goes (Some (Owner.Intent id)) (told_by (Query.Act (at_row (cell_key func t k) r) Act.Look) now m) ≡ ReadGoes.Held u → (content f).owner ≡ Some u
+walk_held m now id func t k r u linked reads is =
+    let key = cell_key func t k in
+    let who = Some (Owner.Intent id) in
+    let n = rows_after (Query.Act (at_row key r) Act.Look) now m in
+    other_is (Owner.Intent id) (content (chain m key)).owner u (subst (ReadOn (chain_length n key) r who (chain m key)) is (read_turn n m now key who r linked reads (λ q h. h)))
 
 -- ---- a lock inside
-lock_held : (p : Place) (e : Effect) (at : WriteAt) (z : WriteGoes) (u : Owner) → lock_leads p e (item_goes at z) ≡ TxGoes.Held u → z ≡ WriteGoes.Held u
-lock_held p e at z u is = grind arith
+lock_held : (p : Place) (e : Effect) (z : WriteGoes) (u : Owner) → lock_leads p e (item_goes z) ≡ TxGoes.Held u → z ≡ WriteGoes.Held u
+lock_held p e z u is = grind arith
 
 lockset_held : (p : Place) (b : ℕ) (e : Effect) (n : ℕ) (t : Told) (u : Owner) → tx_goes p b e (TxAt.Lock (LockAt.Lockset n)) t ≡ TxGoes.Held u → ⊥
 lockset_held p b e n t u is = grind arith
@@ -179,8 +124,8 @@ close_never id c u b w is = grind arith
 decided_never : (commit : Bool) (m : Mark) (z : EndGoes) → Never (decided_says commit m z)
 decided_never commit m z w is = grind arith
 
-visit_never : (commit : Bool) (v : Visit) (z : EndGoes) → Never (visit_says commit v z)
-visit_never commit v z w is = grind arith
+visit_waits : (commit : Bool) (v : Visit) (z : EndGoes) (w : Wait) → visit_says commit v z ≡ Says.Waits w → w ≡ Wait.Worn
+visit_waits commit v z w is = grind arith
 
 call_waits : (id : IntentId) (o : Option RunTx) (step f : ℕ) (at : CallAt) (t : Told) (w : Wait) → call_answer id o step (call_says f at t) ≡ Says.Waits w → (at ≡ CallAt.Look) × (w ≡ Wait.Result (child_of id step)) × (result_of t ≡ None)
 call_waits id o step f at t w is = grind arith
@@ -213,14 +158,15 @@ pub record Called (id : IntentId) (step : ℕ) (e : Effect) (j : IntentId) : Typ
 
 abbrev pub Why : Rows → IntentId → ℕ → Option TxId → Effect → Wait → Type 0
 Why m id step t e (Wait.Held w) = Owned m t e w
+Why m id step t e Wait.Worn = ⊥
 Why m id step t e (Wait.Result j) = Called id step e j
 
 pub record Stopped (m : Rows) (id : IntentId) (func step : ℕ) (t : Option TxId) (e : Effect) (s : Stage) (w : Wait) : Type 0 where
   pub why : Why m id step t e w
   -- its step has no answer, or it is late
-  pub unanswered : (held_answer m id func step t e ≡ None) ⊎ ((s ≡ Stage.Walk) × (is_some (map.get m (log_key func (place_of id step))) ≡ true))
+  pub unanswered : (held_answer m id func step t e ≡ None) ⊎ ((is_walk s ≡ true) × (is_some (map.get m (log_key func (place_of id step))) ≡ true))
 
-module _ (d : Deployment) (c : Core) (m : Rows) (r : Run) (g : Begun) (h : Right d c m) (k : Knows d h.known r g) (w : Wait) where
+module _ (d : Deployment) (c : Core) (m : Rows) (r : Run) (g : Begun) (h : Right d c m) (k : Knows d h.known r g) (w : Wait) (apart : w ≡ Wait.Worn → ⊥) where
   abbrev step : ℕ
   step = g.machine.steps
 
@@ -236,20 +182,17 @@ module _ (d : Deployment) (c : Core) (m : Rows) (r : Run) (g : Begun) (h : Right
   abbrev told_here : Stage → Effect → Option RunTx → Told
   told_here s e o = told_by (stage_asks r.id r.func g.caller o step e s) c.now m
 
-  -- an item's row says what its chain holds
-  row_holds : (x : Item) → content_of m x ≡ content_in (map.get m (head_key x))
-  row_holds x = one_content (chain m (head_key x)) (h.rows.chains x)
-
   -- ---- outside a transaction
   held_so : (s : Stage) (e : Effect) (x : Item) (t : Option TxId) (u : Owner) → (content_of m x).owner ≡ Some u → ((v : TxId) → t ≡ Some v → is_older v.intent (age_of u) ≡ true) → ((f : ℕ) (v : Value) → e ≡ Effect.Call f v → ⊥) → w ≡ Wait.Held u
-      → (held_answer m r.id r.func step t e ≡ None) ⊎ ((s ≡ Stage.Walk) × (is_some (map.get m (log_key r.func place)) ≡ true)) → Stopped m r.id r.func step t e s w
-  held_so s e x t u owns older apart is un = record { why = subst (Why m r.id step t e) (sym is) (record { item = x; owns = owns; older = older; apart = apart }); unanswered = un }
+      → (held_answer m r.id r.func step t e ≡ None) ⊎ ((is_walk s ≡ true) × (is_some (map.get m (log_key r.func place)) ≡ true)) → Stopped m r.id r.func step t e s w
+  held_so s e x t u owns older no_call is un = record { why = subst (Why m r.id step t e) (sym is) (record { item = x; owns = owns; older = older; apart = no_call }); unanswered = un }
 
-  walk_stops : (t : ℕ) (key : List ℕ) → walk_says (count_changes c.book) (read_goes (Some (Owner.Intent r.id)) (said (act Act.Look c.now (map.get m (head_key (item t key)))).1)) ≡ Says.Waits w → StoppedAt Stage.Walk (Effect.Read t key) None
-  walk_stops t key is =
+  walk_stops : (t : ℕ) (key : List ℕ) (n : ℕ) → ReadsAt (chain m (cell_key r.func t key)) n
+      → walk_says (count_changes c.book) (read_goes (Some (Owner.Intent r.id)) (told_by (Query.Act (at_row (cell_key r.func t key) n) Act.Look) c.now m)) ≡ Says.Waits w → StoppedAt (Stage.Walk n) (Effect.Read t key) None
+  walk_stops t key n reads is =
       let x = item t key in
-      let u = walk_held (count_changes c.book) c.now r.id (map.get m (head_key x)) w (h.rows.chains x).head is in
-      held_so Stage.Walk (Effect.Read t key) x None u.0 (ap (λ z. z.owner) (row_holds x) ∙ u.1) (λ v e. cc) (λ f v call. no_read call) u.2
+      let u = walk_waits (count_changes c.book) (read_goes (Some (Owner.Intent r.id)) (told_by (Query.Act (at_row (cell_key r.func t key) n) Act.Look) c.now m)) w is in
+      held_so (Stage.Walk n) (Effect.Read t key) x None u.0 (walk_held m c.now r.id r.func t key n u.0 (h.rows.chains x) reads u.1) (λ v e. cc) (λ f v call. no_read call) u.2
       (by_option (map.get m (log_key r.func place)) (λ e. inl (ap (λ z. option_map Answer.Value (option_map given_in z)) e)) (λ z e. inr (refl, ap is_some e)))
 
   noted_none : (e : Effect) (u : OnItem) → op_of e ≡ Some u → note_at (content_of m (item_in r.func u)).notes place ≡ None → held_answer m r.id r.func step None e ≡ None
@@ -259,15 +202,15 @@ module _ (d : Deployment) (c : Core) (m : Rows) (r : Run) (g : Begun) (h : Right
   noted_none (Effect.Unlock t key) u so none = ap (option_and_then noted_answer) ((λ i. note_at (content_of m (item_in r.func (same_some so i))).notes place) ∙ none)
   noted_none e u so none = cc
 
-  write_stops : (e : Effect) (u : OnItem) → op_of e ≡ Some u → (at : WriteAt) → put_says e (note_of_op (cell_op e)) (told_by (put_asks r.id r.func step at (cell_op e)) c.now m) ≡ Says.Waits w → StoppedAt (Stage.Write at) e None
-  write_stops e u so at = subst (λ z. put_says e (note_of_op z) (told_by (put_asks r.id r.func step at z) c.now m) ≡ Says.Waits w → StoppedAt (Stage.Write at) e None) (sym (its_cell e u so)) by_at
+  write_stops : (e : Effect) (u : OnItem) → op_of e ≡ Some u → (at : WriteAt) → SeesPut m r.func place at (cell_op e) → put_says e at (note_of_op (cell_op e)) (told_by (put_asks r.id r.func step at (cell_op e)) c.now m) ≡ Says.Waits w → StoppedAt (Stage.Write at) e None
+  write_stops e u so at = subst (λ z. SeesPut m r.func place at z → put_says e at (note_of_op z) (told_by (put_asks r.id r.func step at z) c.now m) ≡ Says.Waits w → StoppedAt (Stage.Write at) e None) (sym (its_cell e u so)) by_at
     where
-      by_at : let z : Option OnCell = Some (record { table = u.table; key = u.key; op = cell_of u.does }) in put_says e (note_of_op z) (told_by (put_asks r.id r.func step at z) c.now m) ≡ Says.Waits w → StoppedAt (Stage.Write at) e None
-      by_at is =
+      by_at : let z : Option OnCell = Some (record { table = u.table; key = u.key; op = cell_of u.does }) in SeesPut m r.func place at z → put_says e at (note_of_op z) (told_by (put_asks r.id r.func step at z) c.now m) ≡ Says.Waits w → StoppedAt (Stage.Write at) e None
+      by_at sees is =
           let x = item_in r.func u in
-          let z = write_waits e (write_goes (done_note (cell_of u.does)) (told_by (write_asks (cell_key r.func u.table u.key) place (Owner.Intent r.id) (cell_of u.does) at) c.now m)) w is in
-          let b = put_held m place (Owner.Intent r.id) c.now r.func u.table u.key (cell_of u.does) at z.0 (h.rows.chains x).head z.1 in
-          held_so (Stage.Write at) e x None z.0 (ap (λ z. z.owner) (row_holds x) ∙ b.owner) (λ v e. cc) (λ f v call. no_some (sym (ap op_of call) ∙ so)) z.2 (inl (noted_none e u so (ap (λ z. note_at z.notes place) (row_holds x) ∙ b.note)))
+          let z = write_waits e (write_goes (done_note (cell_of u.does)) at (told_by (write_asks (cell_key r.func u.table u.key) place (Owner.Intent r.id) (cell_of u.does) at) c.now m)) w apart is in
+          let b = put_held m place (Owner.Intent r.id) c.now r.func u.table u.key (cell_of u.does) at z.0 (h.rows.chains x) sees z.1 in
+          held_so (Stage.Write at) e x None z.0 (other_is (Owner.Intent r.id) (content_of m x).owner z.0 b.other) (λ v e. cc) (λ f v call. no_some (sym (ap op_of call) ∙ so)) z.2 (inl (noted_none e u so b.note))
 
   -- ---- inside one
   module _ (o : RunTx) where
@@ -280,39 +223,40 @@ module _ (d : Deployment) (c : Core) (m : Rows) (r : Run) (g : Begun) (h : Right
     note_none (Effect.CondWrite u j q y v) t key so none = told_none place _ (note_at (content_of m (item u j)).notes place) ((λ i. note_at (content_of m (item ((same_some so i).0) ((same_some so i).1))).notes place) ∙ none)
     note_none e t key so none = cc
 
-    lock_stops : (e : Effect) (t : ℕ) (key : List ℕ) → item_of e ≡ Some (t, key) → (at : WriteAt)
-        → tx_says (TxAt.Lock (LockAt.Item at)) (lock_leads place e (item_goes at (write_goes Note.Got (told_by (write_asks (cell_key r.func t key) place (Owner.Tx own) CellOp.Lock at) c.now m)))) ≡ Says.Waits w → StoppedAt (Stage.Tx (TxAt.Lock (LockAt.Item at))) e (Some o)
-    lock_stops e t key so at is =
+    lock_stops : (e : Effect) (t : ℕ) (key : List ℕ) → item_of e ≡ Some (t, key) → (at : WriteAt) → SeesAt (chain m (cell_key r.func t key)) place (at_of at)
+        → tx_says (TxAt.Lock (LockAt.Item at)) (lock_leads place e (item_goes (write_goes Note.Got at (told_by (write_asks (cell_key r.func t key) place (Owner.Tx own) CellOp.Lock at) c.now m)))) ≡ Says.Waits w → StoppedAt (Stage.Tx (TxAt.Lock (LockAt.Item at))) e (Some o)
+    lock_stops e t key so at sees is =
         let x = item t key in
-        let goes = write_goes Note.Got (told_by (write_asks (cell_key r.func t key) place (Owner.Tx own) CellOp.Lock at) c.now m) in
-        let z = tx_waits (TxAt.Lock (LockAt.Item at)) (lock_leads place e (item_goes at goes)) w is in
-        let b = put_held m place (Owner.Tx own) c.now r.func t key CellOp.Lock at z.0 (h.rows.chains x).head (lock_held place e at goes z.0 z.1) in
-        held_so (Stage.Tx (TxAt.Lock (LockAt.Item at))) e x (Some own) z.0 (ap (λ z. z.owner) (row_holds x) ∙ b.owner) (λ v e. subst (λ (y : TxId). is_older y.intent (age_of z.0) ≡ true) (same_some e) (b.waits refl)) (λ f v call. no_some (sym (ap item_of call) ∙ so)) z.2 (inl (note_none e t key so (ap (λ z. note_at z.notes place) (row_holds x) ∙ b.note)))
+        let goes = write_goes Note.Got at (told_by (write_asks (cell_key r.func t key) place (Owner.Tx own) CellOp.Lock at) c.now m) in
+        let z = tx_waits (TxAt.Lock (LockAt.Item at)) (lock_leads place e (item_goes goes)) w apart is in
+        let b = put_held m place (Owner.Tx own) c.now r.func t key CellOp.Lock at z.0 (h.rows.chains x) sees (lock_held place e goes z.0 z.1) in
+        held_so (Stage.Tx (TxAt.Lock (LockAt.Item at))) e x (Some own) z.0 (other_is (Owner.Tx own) (content_of m x).owner z.0 b.other) (λ v e. subst (λ (y : TxId). is_older y.intent (age_of z.0) ≡ true) (same_some e) (b.older refl)) (λ f v call. no_some (sym (ap item_of call) ∙ so)) z.2 (inl (note_none e t key so b.note))
 
     abbrev InTx : Effect → TxAt → Type 0
     InTx e a = tx_says a (tx_goes place (begin_of o) e a (told_by (tx_asks r.func place own e a) c.now m)) ≡ Says.Waits w → StoppedAt (Stage.Tx a) e (Some o)
 
     other_stops : (e : Effect) (a : TxAt) → is_lock a ≡ false → InTx e a
-    other_stops e a apart is =
+    other_stops e a no_lock is =
         let t = told_by (tx_asks r.func place own e a) c.now m in
-        let z = tx_waits a (tx_goes place (begin_of o) e a t) w is in
-        absurd (locks_held place (begin_of o) e a t z.0 apart z.1)
+        let z = tx_waits a (tx_goes place (begin_of o) e a t) w apart is in
+        absurd (locks_held place (begin_of o) e a t z.0 no_lock z.1)
 
-    tx_stops : (e : Effect) (a : TxAt) → Fits e a → InTx e a
-    tx_stops e (TxAt.Lock (LockAt.Lockset n)) fits is =
+    tx_stops : (e : Effect) (a : TxAt) → Fits e a → InItem d m h.plain h.known r.id r.func o step e a (touched e) → InTx e a
+    tx_stops e (TxAt.Lock (LockAt.Lockset n)) fits here is =
         let t = told_by (tx_asks r.func place own e (TxAt.Lock (LockAt.Lockset n))) c.now m in
-        let z = tx_waits (TxAt.Lock (LockAt.Lockset n)) (tx_goes place (begin_of o) e (TxAt.Lock (LockAt.Lockset n)) t) w is in
+        let z = tx_waits (TxAt.Lock (LockAt.Lockset n)) (tx_goes place (begin_of o) e (TxAt.Lock (LockAt.Lockset n)) t) w apart is in
         absurd (lockset_held place (begin_of o) e n t z.0 z.1)
-    tx_stops (Effect.Read t key) (TxAt.Lock (LockAt.Item at)) fits is = lock_stops (Effect.Read t key) t key refl at is
-    tx_stops (Effect.Write t key v) (TxAt.Lock (LockAt.Item at)) fits is = lock_stops (Effect.Write t key v) t key refl at is
-    tx_stops (Effect.CondWrite t key q y v) (TxAt.Lock (LockAt.Item at)) fits is = lock_stops (Effect.CondWrite t key q y v) t key refl at is
-    tx_stops e (TxAt.Lock (LockAt.Item at)) fits is = absurd fits
-    tx_stops e TxAt.Log fits is = other_stops e TxAt.Log refl is
-    tx_stops e TxAt.Shadow fits is = other_stops e TxAt.Shadow refl is
-    tx_stops e TxAt.Item fits is = other_stops e TxAt.Item refl is
-    tx_stops e (TxAt.Keep v) fits is = other_stops e (TxAt.Keep v) refl is
-    tx_stops e (TxAt.Head v) fits is = other_stops e (TxAt.Head v) refl is
-    tx_stops e (TxAt.Write v) fits is = other_stops e (TxAt.Write v) refl is
+    tx_stops (Effect.Read t key) (TxAt.Lock (LockAt.Item at)) fits here is = lock_stops (Effect.Read t key) t key refl at here.sees is
+    tx_stops (Effect.Write t key v) (TxAt.Lock (LockAt.Item at)) fits here is = lock_stops (Effect.Write t key v) t key refl at here.sees is
+    tx_stops (Effect.CondWrite t key q y v) (TxAt.Lock (LockAt.Item at)) fits here is = lock_stops (Effect.CondWrite t key q y v) t key refl at here.sees is
+    tx_stops e (TxAt.Lock (LockAt.Item at)) fits here is = absurd fits
+    tx_stops e TxAt.Log fits here is = other_stops e TxAt.Log refl is
+    tx_stops e TxAt.Seek fits here is = other_stops e TxAt.Seek refl is
+    tx_stops e (TxAt.Shadow n) fits here is = other_stops e (TxAt.Shadow n) refl is
+    tx_stops e (TxAt.Item n) fits here is = other_stops e (TxAt.Item n) refl is
+    tx_stops e (TxAt.Keep v) fits here is = other_stops e (TxAt.Keep v) refl is
+    tx_stops e (TxAt.Head v) fits here is = other_stops e (TxAt.Head v) refl is
+    tx_stops e (TxAt.Write v) fits here is = other_stops e (TxAt.Write v) refl is
 
   -- ---- a call
   call_none : (f : ℕ) (v : Value) (o : Option RunTx) → result_of (told_by (call_asks r.func place f CallAt.Look) c.now m) ≡ None → held_answer m r.id r.func step (tx_at r.id r.func o) (Effect.Call f v) ≡ None
@@ -328,9 +272,9 @@ module _ (d : Deployment) (c : Core) (m : Rows) (r : Run) (g : Begun) (h : Right
   -- ---- any stage
   by_stage : (s : Stage) (e : Effect) (o : Option RunTx) → AtStage m h.plain c.book k s e o → stage_says r.id r.func g.caller o (count_changes c.book) step e s (told_here s e o) ≡ Says.Waits w → StoppedAt s e o
   by_stage Stage.Ask (Effect.Read t x) None here is = absurd (ask_never (given_of (told_here Stage.Ask (Effect.Read t x) None)) w is)
-  by_stage Stage.Walk (Effect.Read t x) None here is = walk_stops t x is
+  by_stage (Stage.Walk n) (Effect.Read t x) None here is = walk_stops t x n here is
   by_stage (Stage.Keep v seen) (Effect.Read t x) None here is = cc
-  by_stage (Stage.Write at) e None here is = by_option (op_of e) (λ none. let clash = sym (ap is_some none) ∙ here in cc) (λ u so. write_stops e u so at is)
+  by_stage (Stage.Write at) e None here is = by_option (op_of e) (λ none. let clash = sym (ap is_some none) ∙ here.0 in cc) (λ u so. write_stops e u so at here.1 is)
   by_stage (Stage.Async at) (Effect.Async f a) None here is =
       let s = subst (λ z. (if z then async_answer at (async_says f at (told_by (if z then async_asks r.func place (callee_body r.id r.func step f a None false) at else look_asks r.id r.func) c.now m)) else Says.Ends None None) ≡ Says.Waits w) here.0 is in
       absurd (async_never at (async_says f at (told_by (async_asks r.func place (callee_body r.id r.func step f a None false) at) c.now m)) w s)
@@ -338,9 +282,9 @@ module _ (d : Deployment) (c : Core) (m : Rows) (r : Run) (g : Begun) (h : Right
   by_stage Stage.Back (Effect.Return u) o here is = absurd (back_never o (back_of (told_here Stage.Back (Effect.Return u) o)) w is)
   by_stage Stage.Tell (Effect.Return u) None here is = cc
   by_stage Stage.Close (Effect.Return u) o here is = absurd (close_never r.id g.caller u (is_did (told_here Stage.Close (Effect.Return u) o)) w is)
-  by_stage (Stage.Tx a) e (Some o) here is = tx_stops o e a here.0 is
+  by_stage (Stage.Tx a) e (Some o) here is = tx_stops o e a here.0 here.1 is
   by_stage (Stage.Decide v) (Effect.End commit) (Some (RunTx.Own o)) here is = absurd (decided_never commit v (end_goes (own_tx r.id r.func o) step commit first_visit.way first_visit.at (told_here (Stage.Decide v) (Effect.End commit) (Some (RunTx.Own o)))) w is)
-  by_stage (Stage.End v) (Effect.End commit) (Some (RunTx.Own o)) here is = absurd (visit_never commit v (end_goes (own_tx r.id r.func o) step commit v.way v.at (told_here (Stage.End v) (Effect.End commit) (Some (RunTx.Own o)))) w is)
+  by_stage (Stage.End v) (Effect.End commit) (Some (RunTx.Own o)) here is = absurd (apart (visit_waits commit v (end_goes (own_tx r.id r.func o) step commit v.way v.at (told_here (Stage.End v) (Effect.End commit) (Some (RunTx.Own o)))) w is))
   by_stage s e o here is = absurd here
 
   -- a run that waits

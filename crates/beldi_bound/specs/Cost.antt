@@ -4,46 +4,54 @@ use Rattle.std.specs.FinMap as map
 use Rattle.beldi_value.specs.declared.{id.IntentId.IntentId, place.TxId.TxId}
 use Rattle.beldi_tree.specs.declared.deployment.Deployment.{Deployment}
 use Rattle.beldi_lang.specs.declared.effect.{Answer.Answer, Effect.Effect}
-use Rattle.beldi_plain.specs.{Plain.Instance, Plain.effect_of, Plain.item_of}
+use Rattle.beldi_plain.specs.{Plain.Instance, Plain.effect_of}
 use Rattle.beldi_order.specs.Txs.{tx_now}
 use Rattle.beldi_row.specs.{Key.RowKey, Table.Rows, declared.key.Kind.Kind, declared.row.Body.Body, declared.row.IntentRow.IntentRow, declared.row.Row.Row}
+use Rattle.beldi_daal.specs.Cell.{cell_key, shadow_key}
 use Rattle.beldi_known.specs.Stands.{held_answer}
 use Rattle.beldi_upkeep.specs.Checked.{body_at}
 use Rattle.beldi_bound.specs.Visits.{chain_length, end_cost}
 
 -- ---- effects
--- by the rows of its item, outside a transaction ..
+-- by how many rows its item has, outside a transaction ..
 abbrev pub cost_outside : ℕ → Effect → ℕ
 cost_outside c (Effect.Read t k) = c + 2
-cost_outside c (Effect.Write t k v) = c + 3
-cost_outside c (Effect.CondWrite t k r o v) = c + 3
-cost_outside c (Effect.Lock t k) = c + 3
-cost_outside c (Effect.Unlock t k) = c + 3
+cost_outside c (Effect.Write t k v) = 3 * c + 1
+cost_outside c (Effect.CondWrite t k r o v) = 3 * c + 1
+cost_outside c (Effect.Lock t k) = 3 * c + 1
+cost_outside c (Effect.Unlock t k) = 3 * c + 1
 cost_outside c (Effect.Call f a) = 2
 cost_outside c (Effect.Async f a) = 3
 cost_outside c (Effect.Return x) = 2
 cost_outside c e = 0
 
--- .. and inside one; v is what its end costs
-abbrev pub cost_inside : ℕ → ℕ → Effect → ℕ
-cost_inside c v (Effect.Read t k) = 3 * c + 6
-cost_inside c v (Effect.Write t k u) = 2 * c + 7
-cost_inside c v (Effect.CondWrite t k r o u) = 3 * c + 9
-cost_inside c v (Effect.End commit) = v
-cost_inside c v e = cost_outside c e
+-- .. and inside one, where its shadow of the item has s rows; v is what its end costs
+abbrev pub cost_inside : ℕ → ℕ → ℕ → Effect → ℕ
+cost_inside c s v (Effect.Read t k) = 4 * c + s + 4
+cost_inside c s v (Effect.Write t k u) = 3 * c + 3 * s + 3
+cost_inside c s v (Effect.CondWrite t k r o u) = 4 * c + 3 * s + 3
+cost_inside c s v (Effect.End commit) = v
+cost_inside c s v e = cost_outside c e
 
-abbrev pub item_chain : Rows → Instance → Effect → ℕ
-item_chain e q (Effect.Read t k) = chain_length e (item_of q t k)
-item_chain e q (Effect.Write t k v) = chain_length e (item_of q t k)
-item_chain e q (Effect.CondWrite t k r o v) = chain_length e (item_of q t k)
-item_chain e q (Effect.Lock t k) = chain_length e (item_of q t k)
-item_chain e q (Effect.Unlock t k) = chain_length e (item_of q t k)
-item_chain e q f = 1
+abbrev pub item_length : Rows → ℕ → Effect → ℕ
+item_length e func (Effect.Read t k) = chain_length e (cell_key func t k)
+item_length e func (Effect.Write t k v) = chain_length e (cell_key func t k)
+item_length e func (Effect.CondWrite t k r o v) = chain_length e (cell_key func t k)
+item_length e func (Effect.Lock t k) = chain_length e (cell_key func t k)
+item_length e func (Effect.Unlock t k) = chain_length e (cell_key func t k)
+item_length e func f = 1
+
+abbrev pub aside_length : Rows → ℕ → Option TxId → Effect → ℕ
+aside_length e func None f = 1
+aside_length e func (Some x) (Effect.Read t k) = chain_length e (shadow_key func x t k)
+aside_length e func (Some x) (Effect.Write t k v) = chain_length e (shadow_key func x t k)
+aside_length e func (Some x) (Effect.CondWrite t k r o v) = chain_length e (shadow_key func x t k)
+aside_length e func (Some x) f = 1
 
 -- an effect of an instance at a step, by the transaction that it stands in
 abbrev pub effect_cost : Rows → Instance → Option TxId → ℕ → Effect → ℕ
-effect_cost e q None step f = cost_outside (item_chain e q f) f
-effect_cost e q (Some t) step f = cost_inside (item_chain e q f) (end_cost e t step) f
+effect_cost e q None step f = cost_outside (item_length e q.func f) f
+effect_cost e q (Some t) step f = cost_inside (item_length e q.func f) (aside_length e q.func (Some t) f) (end_cost e t step) f
 
 -- ---- answers
 -- an instance that was made with this body, and was answered so

@@ -33,11 +33,16 @@ is_lock c = false
 abbrev pub HasNoLock : Deployment → Type 0
 HasNoLock d = (n : ℕ) (f : Func) (i : ℕ) (s : Spot) → slice_get d.funcs n ≡ Some f → slice_get (sites_of f.body) i ≡ Some s → is_lock s.1 ≡ false
 
+-- it looks at its item
+abbrev pub is_walk : Stage → Bool
+is_walk (Stage.Walk r) = true
+is_walk s = false
+
 -- a run is late where it is to find the value of a read that another run of its intent has kept
 pub record IsLate (m : Rows) (r : Run) : Type 0 where
   pub begun : Begun
   pub at : r.at ≡ Begins begun
-  pub walks : begun.stage ≡ Stage.Walk
+  pub walks : is_walk begun.stage ≡ true
   pub kept : is_some (map.get m (log_key r.func (place_of r.id begun.machine.steps))) ≡ true
 
 abbrev pub NoneIsLate : Core → Rows → Type 0
@@ -54,10 +59,11 @@ abbrev pub IsIn : {X : Type 0} → X → List X → Type 0
 IsIn x [] = ⊥
 IsIn x (y ∷ ys) = (x ≡ y) ⊎ IsIn x ys
 
--- a wait for room in the table, or among the runs
+-- a wait for room in the table, or among the runs, or for a row that may follow the last one of an item
 abbrev pub is_hindered : Seen → Bool
 is_hindered (Seen.Full live room) = true
 is_hindered Seen.Crowded = true
+is_hindered Seen.Worn = true
 is_hindered x = false
 
 -- a late run of an intent that has not ended waits for the owner of its item, and no live run of its intent was answered more

@@ -1,12 +1,12 @@
 -- What is left of the visit at the end of a transaction: a sum over the rows of the calls and the locks that were made in it and are still
 -- ahead, and a few turns for each member on the way.
-use Rattle.std.specs.Prelude.{ℕ, ◌+◌, ◌*◌, ◌==◌, nat_lt, ◌&&◌, Bool, true, false, List, [], ◌∷◌, ◌++◌, map, length, Option, Some, None, is_some, if◌then◌else◌}
+use Rattle.std.specs.Prelude.{ℕ, zero, suc, ◌+◌, ◌-◌, ◌*◌, max, ◌==◌, nat_lt, ◌&&◌, Bool, true, false, List, [], ◌∷◌, ◌++◌, map, length, Option, Some, None, is_some, if◌then◌else◌}
 use Rattle.std.specs.Ordering.{is_lt}
 use Rattle.std.specs.FinMap as finite
 use Rattle.beldi_value.specs.declared.{id.IntentId.IntentId, place.TxId.TxId}
-use Rattle.beldi_plain.specs.Item.{Item}
 use Rattle.beldi_row.specs.{Key.RowKey, Key.key_cmp, Table.Rows, declared.key.Kind.Kind, declared.row.Row.Row}
-use Rattle.beldi_daal.specs.{Cell.cell_key, declared.cell.WriteAt.WriteAt, declared.cell.WriteAt.TheVariants.Try, declared.cell.WriteAt.TheVariants.Make}
+use Rattle.beldi_chain.specs.Chain.{Chain, chain, most_rows}
+use Rattle.beldi_daal.specs.{Cell.cell_key, Cell.shadow_key, declared.cell.WriteAt.WriteAt, declared.cell.WriteAt.TheVariants.Try, declared.cell.WriteAt.TheVariants.Make, declared.cell.WriteAt.TheVariants.Append, declared.cell.WriteAt.TheVariants.Link}
 use Rattle.beldi_lock.specs.Lock.{lockset_key}
 use Rattle.beldi_txn.specs.{End.visited_by, Way.Member, declared.end.EndAt.EndAt, declared.end.Visit.Visit, declared.way.Called.Called}
 
@@ -16,9 +16,14 @@ sum_by f [] = 0
 sum_by f (e ∷ es) = f e.0 e.1 + sum_by f es
 
 -- ---- the rows of a transaction
--- how many rows an item has: one, until rows are linked
-abbrev pub chain_length : Rows → Item → ℕ
-chain_length e x = 1
+-- how many rows an item has, by the key of its first row: those of the numbers 0, 1, 2 and so on, up to the first that is not there; and at
+-- least one
+abbrev pub rows_from : ℕ → Chain → ℕ → ℕ
+rows_from zero f n = 0
+rows_from (suc s) f n = if is_some (f n) then 1 + rows_from s f (n + 1) else 0
+
+abbrev pub chain_length : Rows → RowKey → ℕ
+chain_length e head = max 1 (rows_from most_rows (chain e head) 0)
 
 -- the steps of calls that lead from an intent to another, by their hops; none where they do not
 abbrev pub behind : List ℕ → List ℕ → Option (List ℕ)
@@ -34,27 +39,27 @@ abbrev pub is_within : TxId → ℕ → List ℕ → Bool
 is_within t end [] = true
 is_within t end (n ∷ ns) = nat_lt t.begin n && nat_lt n end
 
--- turns for a participant, by the row of its call; and for a lock that was asked for
+-- turns for a participant, by the row of its call; and for a lock that was asked for, by the rows of the item and of the shadow
 abbrev pub call_turns : Bool → ℕ
 call_turns true = 4
 call_turns false = 0
 
-abbrev pub lock_turns : ℕ → Bool → ℕ
-lock_turns c true = 2 * c + 4
-lock_turns c false = 0
+abbrev pub lock_turns : ℕ → ℕ → Bool → ℕ
+lock_turns c s true = 3 * c + s + 2
+lock_turns c s false = 0
 
 abbrev pub call_cost : TxId → ℕ → ℕ → Option (List ℕ) → ℕ
 call_cost t end n None = 0
 call_cost t end n (Some xs) = call_turns (is_within t end (xs ++ n ∷ []))
 
-abbrev pub lock_cost : TxId → ℕ → ℕ → Bool → Option (List ℕ) → ℕ
-lock_cost t end c same None = 0
-lock_cost t end c same (Some xs) = lock_turns c (same && is_within t end xs)
+abbrev pub lock_cost : TxId → ℕ → ℕ → ℕ → Bool → Option (List ℕ) → ℕ
+lock_cost t end c s same None = 0
+lock_cost t end c s same (Some xs) = lock_turns c s (same && is_within t end xs)
 
 -- what a row costs the end of a transaction
 abbrev pub kind_cost : Rows → TxId → ℕ → ℕ → Kind → ℕ
 kind_cost e t end home (Kind.Invoke p) = call_cost t end p.step (steps_to t p.intent)
-kind_cost e t end home (Kind.Lockset i b n k) = lock_cost t end (chain_length e (record { func = home; table = n; key = k })) (b == t.begin) (steps_to t i)
+kind_cost e t end home (Kind.Lockset i b n k) = lock_cost t end (chain_length e (cell_key home n k)) (chain_length e (shadow_key home t n k)) (b == t.begin) (steps_to t i)
 kind_cost e t end home k = 0
 
 abbrev pub end_row_cost : Rows → TxId → ℕ → RowKey → Row → ℕ
@@ -116,24 +121,26 @@ abbrev pub row_left : Rows → TxId → ℕ → Visit → RowKey → Row → ℕ
 row_left e t end v k r = if is_ahead t v k k.kind then end_row_cost e t end k r else 0
 
 -- ---- turns beside those of rows
--- a write, by whether the first row of the item is there
-abbrev pub put_left : Bool → WriteAt → ℕ
-put_left true Try = 1
-put_left false Try = 3
-put_left there Make = 2
+-- a write, by how many rows the item has in the end, and whether the first one is there: a row that is full takes a turn to tell it, one to
+-- make the next and one to link that
+abbrev pub put_left : ℕ → Bool → WriteAt → ℕ
+put_left c there (Try r) = 3 * (c - 1 - r) + (if there then 2 else 4)
+put_left c there Make = 3 * c
+put_left c there (Append n t) = 3 * (c - n) + 1
+put_left c there (Link n) = 3 * (c - 1 - n) + 3
 
 -- the last turns of who is visited: that it has no further lock, and the finish of a participant
 abbrev pub last_left : List Called → ℕ
 last_left [] = 1
 last_left (c ∷ cs) = 2
 
-abbrev pub at_left : Bool → ℕ → EndAt → ℕ
-at_left there last EndAt.Decide = last + 2
-at_left there last EndAt.Callees = last + 1
-at_left there last EndAt.Next = last
-at_left there last EndAt.Shadow = last + (1 + put_left there Try)
-at_left there last (EndAt.Free w) = last + put_left there w
-at_left there last EndAt.Stamp = 1
+abbrev pub at_left : ℕ → ℕ → Bool → ℕ → EndAt → ℕ
+at_left c s there last EndAt.Decide = last + 2
+at_left c s there last EndAt.Callees = last + 1
+at_left c s there last EndAt.Next = last
+at_left c s there last (EndAt.Shadow r) = last + (1 + put_left c there (Try 0) + (s - 1 - r))
+at_left c s there last (EndAt.Free w) = last + put_left c there w
+at_left c s there last EndAt.Stamp = 1
 
 -- the same of those on the way to it, who go on with their next call
 abbrev pub way_left : List Called → ℕ
@@ -145,6 +152,16 @@ abbrev pub freed_there : Rows → Member → Option (ℕ × List ℕ) → Bool
 freed_there m p None = false
 freed_there m p (Some i) = is_some (finite.get m (cell_key p.1 i.0 i.1))
 
+-- how many rows that item has, and the shadow of it
+abbrev pub freed_length : Rows → Member → Option (ℕ × List ℕ) → ℕ
+freed_length e p None = 1
+freed_length e p (Some i) = chain_length e (cell_key p.1 i.0 i.1)
+
+abbrev pub given_length : Rows → TxId → Member → Option (ℕ × List ℕ) → ℕ
+given_length e t p None = 1
+given_length e t p (Some i) = chain_length e (shadow_key p.1 t i.0 i.1)
+
 -- what is left of a visit, over the rows m, with the rows e in the end
 abbrev pub visit_left : Rows → Rows → TxId → ℕ → Visit → ℕ
-visit_left e m t end v = way_left v.way + at_left (freed_there m (visited_by t v.way) v.item) (last_left v.way) v.at + sum_by (row_left e t end v) (finite.entries e)
+visit_left e m t end v = let p = visited_by t v.way in
+    way_left v.way + at_left (freed_length e p v.item) (given_length e t p v.item) (freed_there m p v.item) (last_left v.way) v.at + sum_by (row_left e t end v) (finite.entries e)

@@ -1,5 +1,5 @@
 -- Lists and records, read part by part.
-use Rattle.std.proofs.Common.{◌≡◌, ◌+◌, ◌-◌, ◌<◌, ◌≤◌, ℕ, zero, suc, Some, pos, negsuc, Bool, false, true, List, [], ◌∷◌, ◌++◌, length, length-append, length-drop, drop, drop-cons, get_or, add-one, refl, sym, ap, subst, ◌∙◌, arith}
+use Rattle.std.proofs.Common.{◌≡◌, ◌+◌, ◌-◌, ◌<◌, ◌≤◌, ◌==◌, ℕ, zero, suc, Some, pos, negsuc, Bool, false, true, List, [], ◌∷◌, ◌++◌, length, length-append, length-drop, drop, drop-cons, get_or, add-one, refl, sym, ap, subst, ◌∙◌, arith}
 use Rattle.std.proofs.lemmas.List.{nil_from_length}
 use Rattle.std.proofs.lemmas.Cmp.{nat_list_cmp_total}
 use Rattle.std.specs.Prelude.{IsTrue, slice_get}
@@ -7,14 +7,14 @@ use Rattle.std.specs.Ordering.{nat_cmp, is_lt, ordering_reverse, match_ordering}
 use Rattle.std.specs.Cmp.Lexicographic.{slice_cmp}
 use Rattle.std.specs.declared.cmp.Ordering.{Ordering}
 use Rattle.std.specs.declared.cmp.Ordering.TheVariants.{Less, Equal, Greater}
-use Rattle.beldi_row.specs.declared.notes.Note.{Note}
+use Rattle.beldi_row.{specs.declared.notes.Note.Note, specs.Log.most_entries, specs.Log.most_entries_are, proofs.Room.has_room}
 use Rattle.beldi_value.specs.{declared.place.Place.Place, declared.value.Value.Value, Value.datum_of, Value.items_view, Value.fields_view, Parts.set_field}
 use Rattle.beldi_value.specs.Datum.{Datum, datum_size, datums_size, fields_size, Datums, Fields, null, boolean, int, text, list, fields, no_items, item, no_fields, field, fields_of, IsAbove, IsRecord}
 use Rattle.beldi_value.specs.Formed.{IsFormed, HaveForm}
-use Rattle.beldi_bytes.specs.declared.cursor.ReadErr.{ReadErr}
+use Rattle.beldi_bytes.specs.declared.cursor.ReadErr.{ReadErr, TheVariants.Foreign}
 use Rattle.beldi_bytes.specs.Coding.{Refuses}
 use Rattle.beldi_bytes.specs.KeyBytes.{four}
-use Rattle.beldi_bytes.specs.RowBytes.{entry_bytes, entries_bytes, log_bytes, IsEntry, AreEntries, datum_bytes, items_bytes, fields_bytes}
+use Rattle.beldi_bytes.specs.RowBytes.{entry_bytes, entries_bytes, log_bytes, IsEntry, AreEntries, IsLog, datum_bytes, items_bytes, fields_bytes}
 use Rattle.beldi_bytes.specs.Reading.{list_bytes, counted_items, AreItems, record_bytes, counted_fields, AreFields, field_bytes, IsNext, FitsBehind}
 use Rattle.beldi_bytes.proofs.Exact.{four_exact}
 use Rattle.beldi_bytes.proofs.RowExact.{entry_exact, datum_exact, str_exact}
@@ -100,12 +100,26 @@ an_entry n left done h [] s i e = absurd (more_left done n h i.0)
 an_entry n left done h (x ∷ w) s i e = (x, entries_bytes w s, entry_at done x w i.1, e)
 
 pub no_entry : (n : ℕ) (old mid left : List ℕ) (done : List (Place × Note)) (why : ReadErr) → ToEntries n mid left done → length done < n → old ≡ four n mid
-    → Refuses entry_bytes IsEntry left why → Refuses log_bytes AreEntries old why
+    → Refuses entry_bytes IsEntry left why → Refuses log_bytes IsLog old why
 no_entry n old mid left done why m h e r =
     let q = stopped entries_bytes (AreNoted n) entry_bytes IsEntry mid left left done why m r (an_entry n left done h) in
-    refused entries_bytes (AreNoted n) log_bytes AreEntries old mid why q (λ es s i f.
+    refused entries_bytes (AreNoted n) log_bytes IsLog old mid why q (λ es s i f.
     let p = four_exact n (length es) mid (entries_bytes es s) (sym e ∙ f) in
-    (es, s, (sym p.0, i), p.1))
+    (es, s, (sym p.0, i.1), p.1))
+
+-- a log of more than eight entries is none
+pub too_many : (n : ℕ) (old mid : List ℕ) → 8 < n → old ≡ four n mid → Refuses log_bytes IsLog old Foreign
+too_many n old mid many e es s i f =
+    let p = four_exact n (length es) mid (entries_bytes es s) (sym e ∙ f) in
+    let few : length es ≤ 8 = subst (λ k. length es ≤ k) most_entries_are i.0 in
+    absurd (omega (arith, many, few, p.0))
+
+-- what is not more has room, and is one
+pub room_left : (n : ℕ) (done : List (Place × Note)) → n ≤ 8 → length done < n → (length done == most_entries) ≡ false
+room_left n done few more = has_room (length done) (omega (arith, few, more))
+
+pub is_log : (n : ℕ) (done : List (Place × Note)) → n ≤ 8 → length done ≡ n → AreEntries done → IsLog done
+is_log n done few all formed = (subst (λ k. length done ≤ k) (sym most_entries_are) (omega (arith, few, all)), formed)
 
 -- ---- records
 abbrev pub IsFields : ℕ → List (List ℕ × Datum) → Type 0

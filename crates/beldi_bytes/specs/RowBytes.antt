@@ -4,7 +4,7 @@ use lib.Signed.{mag}
 use Rattle.beldi_value.specs.Datum.{Datum, Datums, Fields, null, boolean, int, text, list, fields, no_items, item, no_fields, field}
 use Rattle.beldi_value.specs.{declared.outcome.Cause.Cause, declared.outcome.Code.Code, declared.outcome.Outcome.Outcome, declared.outcome.Outcome.TheVariants.Value as Gives, declared.outcome.Outcome.TheVariants.Fault, declared.outcome.Outcome.TheVariants.Aborted, declared.place.Caller.Caller, declared.place.Owner.Owner, declared.place.Owner.TheVariants.Intent as OfIntent, declared.place.Owner.TheVariants.Tx as OfTx, declared.place.Place.Place, declared.value.Value.Value, Formed.IsFormed, Injective.list_of, Injective.pairs_of, Value.datum_of}
 use Rattle.beldi_value.specs.declared.outcome.Code.TheVariants.{WrongType, Overflow, DivideByZero, Steps, LocksHeld, ValueTooLarge, NoTx}
-use Rattle.beldi_row.specs.{declared.notes.Note.Note, declared.row.Body.Body, declared.row.Cell.Cell, declared.row.IntentRow.IntentRow, declared.row.InvokeRow.InvokeRow, declared.row.Row.Row}
+use Rattle.beldi_row.specs.{declared.notes.Note.Note, declared.row.Body.Body, declared.row.Cell.Cell, declared.row.IntentRow.IntentRow, declared.row.InvokeRow.InvokeRow, declared.row.Row.Row, Log.most_entries}
 use Rattle.beldi_row.specs.declared.notes.Note.TheVariants.{Wrote, Cond, Got, Died, Freed}
 use Rattle.beldi_row.specs.declared.row.Row.TheVariants.{Intent, ReadLog, Invoke, Cell as OfCell, Lockset}
 use Rattle.beldi_bytes.specs.Coding.{truth_bytes, option_bytes, IfThere}
@@ -129,7 +129,7 @@ row_then Lockset s = 4 ∷ s
 abbrev pub row_bytes : Row → List ℕ
 row_bytes r = row_then r []
 
--- what the types of rows keep: whole numbers have 64 bits, texts are UTF-8, the keys of records rise, an id has at most 63 hops
+-- what the types of rows keep: whole numbers have 64 bits, texts are UTF-8, the keys of records rise, an id has at most 63 hops, a log at most eight entries
 -- a whole number of 64 bits
 abbrev pub IsInt : ℤ → Type 0
 IsInt z = mag z < 2 ^ 63
@@ -174,6 +174,10 @@ abbrev pub AreEntries : List (Place × Note) → Type 0
 AreEntries [] = Unit {0}
 AreEntries (e ∷ es) = IsEntry e × AreEntries es
 
+-- a log has at most eight entries
+abbrev pub IsLog : List (Place × Note) → Type 0
+IsLog es = (length es ≤ most_entries) × AreEntries es
+
 -- a body
 abbrev pub IsBody : Body → Type 0
 IsBody b = IsValue b.args × IfThere IsTx b.tx × IfThere IsCaller b.from
@@ -188,7 +192,7 @@ IsInvoke i = IfThere IsOutcome i.result
 
 -- a row of an item
 abbrev pub IsCell : Cell → Type 0
-IsCell c = IsValue c.value × IfThere IsOwner c.owner × AreEntries c.log
+IsCell c = IsValue c.value × IfThere IsOwner c.owner × IsLog c.log
 
 -- a row: every row that a program has is one
 abbrev pub IsRow : Row → Type 0

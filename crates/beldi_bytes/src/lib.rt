@@ -12,8 +12,8 @@
 //!   are one (`no_two_keys_have_the_same_bytes`). So are rows (`no_two_rows_have_the_same_bytes`). These hold for all keys and rows,
 //!   whatever their numbers and lengths.
 //! - `write_key` and `write_row` give just these bytes (`bytes`), and tell that the key or the row is as its types keep it (`real`): ids
-//!   have at most 63 hops, texts are UTF-8, whole numbers have 64 bits, keys of records rise (`IsKey`, `IsRow`). A text or a list of
-//!   2^32 parts or more is refused as out of memory.
+//!   have at most 63 hops, logs at most eight entries, texts are UTF-8, whole numbers have 64 bits, keys of records rise (`IsKey`,
+//!   `IsRow`). A text or a list of 2^32 parts or more is refused as out of memory.
 //! - `read_key` gives the key that has the bytes, and none only where no such key has them (`ReadsKey`). `read_row` gives the row that has
 //!   the bytes and whose moments are at most 2^62 (`IsInTime`), and none only where no such row has them (`ReadsRow`).
 //! - So what was written is read again as it was (`a_written_key_is_read_again`, `a_written_row_is_read_again`); of rows those alone whose

@@ -1,12 +1,14 @@
 // Reading the parts of rows.
+ghost use Rattle.std.specs.Prelude.{◌≡◌, ◌==◌, ◌∷◌, [], ◌++◌, false, length};
+ghost use Rattle.beldi_row.specs.Log.{most_entries};
 ghost use Rattle.beldi_bytes.specs.Coding.{Reads, Any, option_bytes, IfThere};
 ghost use Rattle.beldi_bytes.specs.KeyBytes.{id_bytes, tx_bytes, IsId, IsTx};
-ghost use Rattle.beldi_bytes.specs.RowBytes.{eight, value_bytes, code_bytes, cause_bytes, outcome_bytes, caller_bytes, owner_bytes, note_bytes, entry_bytes, log_bytes, IsValue, IsCause, IsOutcome, IsCaller, IsOwner, IsNote, IsEntry, AreEntries, IsMoment};
+ghost use Rattle.beldi_bytes.specs.RowBytes.{eight, value_bytes, code_bytes, cause_bytes, outcome_bytes, caller_bytes, owner_bytes, note_bytes, entry_bytes, log_bytes, IsValue, IsCause, IsOutcome, IsCaller, IsOwner, IsNote, IsEntry, IsLog, IsMoment};
 
 use crate::cursor::{Cursor, ReadErr, given};
 use crate::key_in::{read_id, read_place, read_tx};
 use crate::value_in::read_value;
-use beldi_row::{Log, Note};
+use beldi_row::{Entry, Log, MOST_ENTRIES, Note};
 use beldi_value::{Apart, Caller, Cause, Code, IntentId, Outcome, Owner, Place, TxId, Value};
 use std::alloc::Global;
 
@@ -175,28 +177,34 @@ fn read_note(alloc: Global, from: &mut Cursor<'_>) -> Result<Note, ReadErr>
     }
 }
 
-fn read_entry(alloc: Global, from: &mut Cursor<'_>) -> Result<(Place, Note), ReadErr>
+fn read_entry(alloc: Global, from: &mut Cursor<'_>) -> Result<Entry, ReadErr>
     ensures { Reads entry_bytes IsEntry from.old from.new result }
 {
     let place = given!(read_place(alloc, from));
     let note = given!(read_note(alloc, from); place);
-    Ok((place, note))
+    Ok(Entry { place, note })
 }
 
+fn enter(log: &mut Log, entry: Entry)
+    requires { (length log.old == most_entries) ≡ false }
+    ensures { log.new ≡ log.old ++ entry ∷ [] }
+{
+    let Entry { place, note } = entry;
+    log.push(place, note);
+}
+
+// No log has more than eight entries.
 pub(crate) fn read_log(alloc: Global, from: &mut Cursor<'_>) -> Result<Log, ReadErr>
-    ensures { Reads log_bytes AreEntries from.old from.new result }
+    ensures { Reads log_bytes IsLog from.old from.new result }
 {
     let count = given!(from.four());
+    if count as usize > MOST_ENTRIES {
+        return Err(ReadErr::Foreign);
+    }
     let mut log = Log::new(alloc);
     for _turn in 0..count {
         let entry = given!(read_entry(alloc, from); log);
-        match log.push(entry.0, entry.1) {
-            Ok(()) => {}
-            Err(_) => {
-                drop(log);
-                return Err(ReadErr::OutOfMemory);
-            }
-        }
+        enter(&mut log, entry);
     }
     Ok(log)
 }

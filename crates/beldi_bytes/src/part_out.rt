@@ -2,12 +2,12 @@
 ghost use Rattle.std.specs.Prelude.{◌≡◌, OnOk};
 ghost use Rattle.beldi_bytes.specs.Coding.{Adds, option_bytes, IfThere};
 ghost use Rattle.beldi_bytes.specs.KeyBytes.{id_bytes, IsId};
-ghost use Rattle.beldi_bytes.specs.RowBytes.{code_of, cause_bytes, outcome_bytes, caller_bytes, owner_bytes, note_bytes, entry_bytes, log_bytes, IsCause, IsOutcome, IsCaller, IsOwner, IsNote, IsEntry, AreEntries};
+ghost use Rattle.beldi_bytes.specs.RowBytes.{code_of, cause_bytes, outcome_bytes, caller_bytes, owner_bytes, note_bytes, entry_bytes, log_bytes, IsCause, IsOutcome, IsCaller, IsOwner, IsNote, IsEntry, IsLog};
 
 use crate::key_out::{put_id, put_place, put_tx};
 use crate::number_out::{put_byte, put_count, put_truth, put_two};
 use crate::value_out::put_value;
-use beldi_row::{Log, Note};
+use beldi_row::{Entry, Log, Note};
 use beldi_value::{Apart, Caller, Cause, Code, IntentId, Outcome, Owner, Place};
 use std::alloc::AllocError;
 
@@ -140,15 +140,15 @@ fn put_note(out: &mut Vec<u8>, note: &Note) -> Result<(), AllocError>
     }
 }
 
-fn put_entry(out: &mut Vec<u8>, entry: &(Place, Note)) -> Result<(), AllocError>
+fn put_entry(out: &mut Vec<u8>, entry: &Entry) -> Result<(), AllocError>
     ensures { OnOk result (Adds out.old.items out.new.items (entry_bytes entry.now) × IsEntry entry.now) }
 {
-    put_place(out, &entry.0)?;
-    put_note(out, &entry.1)
+    put_place(out, &entry.place)?;
+    put_note(out, &entry.note)
 }
 
 pub(crate) fn put_log(out: &mut Vec<u8>, log: &Log) -> Result<(), AllocError>
-    ensures { OnOk result (Adds out.old.items out.new.items (log_bytes log.now) × AreEntries log.now) }
+    ensures { OnOk result (Adds out.old.items out.new.items (log_bytes log.now) × IsLog log.now) }
 {
     let entries = log.as_slice();
     put_count(out, entries.len())?;

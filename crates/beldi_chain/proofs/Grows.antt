@@ -1,12 +1,12 @@
--- What an act leaves of a row, and so of a chain: a cell without a next gets entries at its end at most, and one with a next stays.
+-- What an act leaves of a row, and so of a chain: a cell without a next gets entries at its end or a next at most, and one with a next stays.
 use Rattle.std.specs.FinMap as map
 use Rattle.std.specs.Ordering.{is_eq}
 use Rattle.std.proofs.Common.{◌≡◌, ◌⊎◌, ℕ, zero, suc, Bool, true, false, cond, List, [], ◌∷◌, ◌++◌, Option, None, Some, nat_lt, arith, if◌then◌else◌, inl, inr, refl, ap, sym, ◌∙◌, subst, append-nil}
 use Rattle.beldi_value.specs.{Id.age_of, Passes.passes, declared.place.Owner.Owner, declared.place.Place.Place, declared.value.Value.Value}
-use Rattle.beldi_row.specs.declared.act.Act.TheVariants.{Look, Issue, Bind, Register, End, Stamp, PutRead, OpenInvoke, CallBack, NoteRegistered, PutLockset, MakeCell, WriteCell, CondCell, LockCell, FreeCell}
-use Rattle.beldi_row.specs.Act.{Tell, act, gone, did, held, died, no_row, tested, not_owner, on, on_intent, on_invoke, on_cell, bind_to, end_with, stamp_with, call_back_to, register_to, noted_or, next_or, held_or, waits_for, owned_or, at_tail, unless_held, if_owned, owns, given_or, other_owner, entered, write_at, cond_at, lock_at, free_at}
-use Rattle.beldi_row.{specs.Key.RowKey, specs.Key.key_cmp, specs.Table.Rows, specs.Table.after_act, proofs.Gets.got, proofs.Gets.key_same, specs.declared.act.Act.Act, specs.declared.notes.Note.Note, specs.declared.notes.Note.TheVariants.Wrote, specs.declared.notes.Note.TheVariants.Cond, specs.declared.notes.Note.TheVariants.Got, specs.declared.notes.Note.TheVariants.Died, specs.declared.notes.Note.TheVariants.Freed, specs.declared.row.Cell.Cell, specs.declared.row.IntentRow.IntentRow, specs.declared.row.InvokeRow.InvokeRow, specs.declared.row.Row.Row, specs.Log.note_at, specs.Log.place_eq}
-use Rattle.beldi_chain.specs.{Chain.Chain, Chain.above, Chain.at_row, Chain.chain, Chain.content, Chain.most_rows, Chain.next_of, Chain.notes_from, Chain.on_next, Chain.tail_from, Content.held_in, Content.log_of, Laws.NotesStay}
+use Rattle.beldi_row.specs.declared.act.Act.TheVariants.{Look, Issue, Bind, Register, End, Stamp, PutRead, OpenInvoke, CallBack, NoteRegistered, PutLockset, MakeCell, WriteCell, CondCell, LockCell, FreeCell, LinkCell}
+use Rattle.beldi_row.specs.Act.{Tell, act, gone, did, held, died, no_row, tested, not_owner, next, packed, not_full, on, on_intent, on_invoke, on_cell, bind_to, end_with, stamp_with, call_back_to, register_to, noted_or, next_or, held_or, waits_for, owned_or, at_tail, unless_held, if_owned, if_room, is_full, link_to, owns, given_or, other_owner, entered, write_at, cond_at, lock_at, free_at}
+use Rattle.beldi_row.{specs.Key.RowKey, specs.Key.at_row, specs.Key.key_cmp, specs.Table.Rows, specs.Table.after_act, proofs.Gets.got, proofs.Gets.key_same, specs.declared.act.Act.Act, specs.declared.notes.Note.Note, specs.declared.notes.Note.TheVariants.Wrote, specs.declared.notes.Note.TheVariants.Cond, specs.declared.notes.Note.TheVariants.Got, specs.declared.notes.Note.TheVariants.Died, specs.declared.notes.Note.TheVariants.Freed, specs.declared.row.Cell.Cell, specs.declared.row.IntentRow.IntentRow, specs.declared.row.InvokeRow.InvokeRow, specs.declared.row.Row.Row, specs.Log.note_at, specs.Log.place_eq}
+use Rattle.beldi_chain.specs.{Chain.Chain, Chain.above, Chain.chain, Chain.content, Chain.most_rows, Chain.next_of, Chain.notes_from, Chain.on_next, Chain.tail_from, Content.held_in, Content.log_of, Laws.NotesStay}
 
 front_note : (es fs : List (Place × Note)) (p : Place) (n : Note) → note_at es p ≡ Some n → note_at (es ++ fs) p ≡ Some n
 front_note [] fs p n is = cc
@@ -26,10 +26,9 @@ then_note (e ∷ es) fs gs p n h is = by_test (place_eq e.0 p) is (then_note es 
     by_test false is more = more is
 
 -- ---- a cell after an act
--- it stays, where a row follows; and else gets these entries
+-- it stays, where a row follows; and else gets these entries, or a next
 record More (c d : Cell) : Type 0 where
   pub last : c.next ≡ None
-  pub same : d.next ≡ None
   pub entries : List (Place × Note)
   pub log : d.log ≡ c.log ++ entries
 
@@ -61,11 +60,19 @@ module _ (c : Cell) where
 
   -- an entry is put at the end ..
   put : (p : Place) (m : Note) (v : Value) (o : Option Owner) (t : Tell) → c.next ≡ None → Keeps (entered p m v o c, t)
-  put p m v o t is = inr (record { last = is; same = is; entries = (p, m) ∷ []; log = refl })
+  put p m v o t is = inr (record { last = is; entries = (p, m) ∷ []; log = refl })
+
+  -- .. where there is room for it
+  room : (z : Cell × Tell) → Keeps z → Keeps (if_room c z)
+  room z h = by_test (is_full c)
+    where
+      by_test : (b : Bool) → Keeps (if b then (c, packed c.value c.owner) else z)
+      by_test true = inl refl
+      by_test false = h
 
   -- .. where no other owner is, or where who asks is the owner
-  unheld : (p : Place) (w : Owner) (m : Note) (v : Value) (o : Option Owner) (t : Tell) → Keeps (at_tail p c (unless_held w c (entered p m v o c, t)))
-  unheld p w m v o t = last p (unless_held w c (entered p m v o c, t)) (λ is. by_other (other_owner w c.owner) (entered p m v o c, t) (put p m v o t is))
+  unheld : (p : Place) (w : Owner) (m : Note) (v : Value) (o : Option Owner) (t : Tell) → Keeps (at_tail p c (unless_held w c (if_room c (entered p m v o c, t))))
+  unheld p w m v o t = let z : Cell × Tell = (entered p m v o c, t) in last p (unless_held w c (if_room c z)) (λ is. by_other (other_owner w c.owner) (if_room c z) (room z (put p m v o t is)))
 
   -- .. and so is a death
   by_age : (b : Bool) (o : Owner) (z : Cell × Tell) → Keeps z → Keeps (if b then (c, held o) else z)
@@ -74,15 +81,23 @@ module _ (c : Cell) where
 
   dies : (p : Place) (w : Owner) (o : Option Owner) (z : Cell × Tell) → c.next ≡ None → Keeps z → Keeps (owned_or p w c o z)
   dies p w None z is h = h
-  dies p w (Some o) z is h = by_age (waits_for w o) o (entered p (Died (age_of o)) c.value c.owner c, died (age_of o)) (put p (Died (age_of o)) c.value c.owner (died (age_of o)) is)
+  dies p w (Some o) z is h = (let dead : Cell × Tell = (entered p (Died (age_of o)) c.value c.owner c, died (age_of o)) in by_age (waits_for w o) o (if_room c dead) (room dead (put p (Died (age_of o)) c.value c.owner (died (age_of o)) is)))
 
   locked : (p : Place) (w : Owner) → Keeps (lock_at p w c)
   locked p w =
       let z : Cell × Tell = (entered p Got c.value (Some w) c, did) in
-      last p (owned_or p w c (other_owner w c.owner) z) (λ is. dies p w (other_owner w c.owner) z is (put p Got c.value (Some w) did is))
+      last p (owned_or p w c (other_owner w c.owner) (if_room c z)) (λ is. dies p w (other_owner w c.owner) (if_room c z) is (room z (put p Got c.value (Some w) did is)))
 
-  owned : (p : Place) (w : Owner) (m : Note) (v : Value) (o : Option Owner) (t : Tell) → Keeps (at_tail p c (if_owned w c (entered p m v o c, t)))
-  owned p w m v o t = last p (if_owned w c (entered p m v o c, t)) (λ is. by_own (owns w c.owner) (entered p m v o c, t) (put p m v o t is))
+  owned : (p : Place) (w : Owner) (m : Note) (v : Value) (o : Option Owner) (t : Tell) → Keeps (at_tail p c (if_owned w c (if_room c (entered p m v o c, t))))
+  owned p w m v o t = let z : Cell × Tell = (entered p m v o c, t) in last p (if_owned w c (if_room c z)) (λ is. by_own (owns w c.owner) (if_room c z) (room z (put p m v o t is)))
+
+  -- a next is given to the last row
+  linked : (n : ℕ) → Keeps (link_to n c)
+  linked n = by_next c.next (if is_full c then (record c { next = Some n }, next n) else (c, not_full)) refl (λ is. by_test (is_full c) is)
+    where
+      by_test : (b : Bool) → c.next ≡ None → Keeps (if b then (record c { next = Some n }, next n) else (c, not_full))
+      by_test true is = inr (record { last = is; entries = []; log = sym (append-nil c.log) })
+      by_test false is = inl refl
 
 -- ---- on a row
 abbrev RowGrows : Option Row → Option Row → Type 0
@@ -139,14 +154,11 @@ act_on (WriteCell p w v) now r = on_cells (write_at p w v) no_row (λ c. unheld 
 act_on (CondCell p w k o v) now r = on_cells (cond_at p w k o v) no_row (λ c. let b = passes c.value k o in unheld c p w (Cond b) (if b then v else c.value) c.owner (tested b)) r
 act_on (LockCell p w s) now r = on_cells (lock_at p w) no_row (λ c. locked c p w) r
 act_on (FreeCell p w v) now r = on_cells (free_at p w v) no_row (λ c. owned c p w Freed (given_or v c.value) None did) r
+act_on (LinkCell n) now r = on_cells (link_to n) no_row (λ c. linked c n) r
 
 act_grows : (a : Act) (now : ℕ) (r : Option Row) → RowGrows r (act a now r).0
 act_grows a now None = tt
 act_grows a now (Some r) = act_on a now r
-
--- a row that none follows is so after an act
-pub act_last : (a : Act) (now : ℕ) (r : Option Row) → next_of r ≡ None → next_of (act a now r).0 ≡ None
-act_last a now r is = grind (arith, is)
 
 -- ---- on a chain
 -- each of its rows grows

@@ -4,10 +4,8 @@ use Rattle.std.proofs.lemmas.Bool.{false_from_ne_true}
 use Rattle.std.specs.Ordering.{is_eq}
 use Rattle.std.specs.FinMap as map
 use Rattle.beldi_value.specs.declared.place.TxId.{TxId}
-use Rattle.beldi_row.{specs.Key.RowKey, specs.Key.key_cmp, specs.Key.rank_of, specs.Key.row_of, specs.declared.key.Kind.Kind, specs.Table.Rows, proofs.Gets.key_self, proofs.Gets.key_same, specs.KeyOrder.key_exact, specs.KeyOrder.key_total}
-use Rattle.beldi_chain.specs.Chain.{kind_at, at_row, is_row_of, IsHead, chain, content, tail, Sound, ChangedAlone, Chain}
-use Rattle.beldi_chain.specs.Content.{SoundAt, content_in}
-use Rattle.beldi_chain.proofs.OneRow.{one_content, one_tail}
+use Rattle.beldi_row.{specs.Key.RowKey, specs.Key.at_row, specs.Key.key_cmp, specs.Key.kind_at, specs.Key.rank_of, specs.Key.row_of, specs.declared.key.Kind.Kind, specs.Table.Rows, proofs.Gets.key_self, proofs.Gets.key_same, specs.KeyOrder.key_exact, specs.KeyOrder.key_total}
+use Rattle.beldi_chain.specs.Chain.{is_row_of, IsHead, chain, ChangedAlone, Chain}
 
 -- ---- which keys differ
 true_is_false : (b : Bool) → b ≡ true → b ≡ false → ⊥
@@ -99,21 +97,3 @@ chain_off m n l k same is off = chain_kept m n k (λ i. same (at_row k i) (no_ro
 -- a first row that was set, and no other row, changes its item alone
 pub alone_by : (m n : Rows) (head : RowKey) → at_row head 0 ≡ head → ((q : RowKey) → is_eq (key_cmp q head) ≡ false → map.get n q ≡ map.get m q) → ChangedAlone head m n
 alone_by m n head first same l off = same l (no_head head l first off)
-
--- ---- a sound chain, by its first row
-module _ (m : Rows) (head : RowKey) (is : IsHead head) (sound : Sound (chain m head)) where
-  pub head_sound : SoundAt (map.get m head)
-  head_sound = subst SoundAt (ap (map.get m) is.first) sound.head
-
-  pub head_tail : tail (chain m head) ≡ map.get m head
-  head_tail = one_tail (chain m head) sound ∙ ap (map.get m) is.first
-
-  pub head_content : content (chain m head) ≡ content_in (map.get m head)
-  head_content = one_content (chain m head) sound ∙ ap (λ k. content_in (map.get m k)) is.first
-
--- .. and where that row alone changed, to one that fits
-pub sound_after : (m n : Rows) (head : RowKey) → IsHead head → ((q : RowKey) → is_eq (key_cmp q head) ≡ false → map.get n q ≡ map.get m q) → Sound (chain m head) → SoundAt (map.get n head) → Sound (chain n head)
-sound_after m n head is same sound fits = record {
-  head = subst SoundAt (ap (map.get n) (sym is.first)) fits;
-  alone = λ i. same (at_row head (suc i)) (later_row head is i) ∙ sound.alone i;
-}

@@ -2,8 +2,8 @@
 use Rattle.std.proofs.Common.{◌≡◌, ℕ, zero, suc, List, [], ◌++◌, Option, None, Some, refl, ap, ◌∙◌, append-nil}
 use Rattle.beldi_value.specs.declared.place.Place.{Place}
 use Rattle.beldi_row.specs.{declared.notes.Note.Note, declared.row.Row.Row}
-use Rattle.beldi_chain.specs.Chain.{Chain, above, content, most_rows, next_of, notes_from, on_next, Sound, tail, tail_from}
-use Rattle.beldi_chain.specs.Content.{SoundAt, content_in, held_in, log_of}
+use Rattle.beldi_chain.specs.Chain.{Chain, above, content, most_rows, next_of, notes_from, on_next, tail, tail_from}
+use Rattle.beldi_chain.specs.Content.{content_in, held_in, log_of}
 
 module _ (f : Chain) (n : ℕ) (last : above n (next_of (f n)) ≡ None) where
   tail_here : (s : ℕ) → tail_from s f n ≡ f n
@@ -21,19 +21,6 @@ module _ (f : Chain) (last : above 0 (next_of (f 0)) ≡ None) where
 
   pub content_is_head : content f ≡ content_in (f 0)
   content_is_head = λ i. held_in (tail_is_head i) (notes_here f 0 last most_rows i)
-
--- no row follows the only one
-pub no_next : (r : Option Row) → SoundAt r → next_of r ≡ None
-no_next None h = refl
-no_next (Some (Row.Cell c)) h = h.0
-no_next (Some r) h = absurd h
-
-module _ (f : Chain) (sound : Sound f) where
-  pub one_tail : tail f ≡ f 0
-  one_tail = tail_is_head f (ap (above 0) (no_next (f 0) sound.head))
-
-  pub one_content : content f ≡ content_in (f 0)
-  one_content = content_is_head f (ap (above 0) (no_next (f 0) sound.head))
 
 -- without a first row there is none
 module _ (f : Chain) (none : f 0 ≡ None) where

@@ -3,18 +3,10 @@ use Rattle.std.specs.Prelude.{◌≡◌, ℕ, zero, suc, nat_lt, ◌^◌, refl, 
 use Rattle.std.specs.Ordering.{is_eq}
 use Rattle.std.specs.FinMap as map
 use Rattle.beldi_value.specs.declared.place.Place.{Place}
-use Rattle.beldi_row.specs.{Key.RowKey, Key.key_cmp, Key.row_of, declared.key.Kind.Kind, declared.notes.Note.Note, declared.row.Row.Row, Table.Rows}
-use Rattle.beldi_chain.specs.Content.{Content, SoundAt, held_in, log_of}
+use Rattle.beldi_row.specs.{Key.RowKey, Key.at_row, Key.key_cmp, Key.row_of, declared.notes.Note.Note, declared.row.Row.Row, Table.Rows}
+use Rattle.beldi_chain.specs.Content.{Content, held_in, log_of}
 
--- ---- keys: the row of an item with this number; only an item, and a transaction's copy of one, has several
-abbrev pub kind_at : Kind → ℕ → Kind
-kind_at (Kind.Data t k r) n = Kind.Data t k n
-kind_at (Kind.Shadow x t k r) n = Kind.Shadow x t k n
-kind_at k n = k
-
-abbrev pub at_row : RowKey → ℕ → RowKey
-at_row k n = record { home = k.home; kind = kind_at k.kind n }
-
+-- ---- keys
 -- whether a key is that of a row of the item with this first row
 abbrev pub is_row_of : RowKey → RowKey → Bool
 is_row_of head l = is_eq (key_cmp (at_row l 0) head)
@@ -70,11 +62,6 @@ tail f = tail_from most_rows f 0
 -- what it holds: value and owner of the last row, and the notes of all
 abbrev pub content : Chain → Content
 content f = held_in (tail f) (notes_from most_rows f 0)
-
--- ---- soundness: there is one row at most
-pub record Sound (f : Chain) : Type 0 where
-  pub head : SoundAt (f 0)
-  pub alone : (n : ℕ) → f (suc n) ≡ None
 
 -- ---- rows before and after
 -- all rows are as before but those of the item with this first row

@@ -1,7 +1,7 @@
 -- What the rows of an item hold.
-use Rattle.std.specs.Prelude.{◌≡◌, false, List, [], Option, Some, None}
+use Rattle.std.specs.Prelude.{List, [], Option, Some, None}
 use Rattle.beldi_value.specs.declared.{place.Owner.Owner, place.Place.Place, value.Value.Value, value.Value.TheVariants.Null}
-use Rattle.beldi_row.specs.{declared.notes.Note.Note, declared.row.Row.Row, Log.NoneTwice}
+use Rattle.beldi_row.specs.{declared.notes.Note.Note, declared.row.Row.Row}
 
 -- its value, who owns it, and what was done to it, each with the place that it was done for
 pub record Content : Type 0 where
@@ -22,10 +22,3 @@ log_of r = []
 -- what one row holds by itself
 abbrev pub content_in : Option Row → Content
 content_in r = held_in r (log_of r)
-
--- a first row that is the only one: a cell that no row follows, in which no place occurs twice, and which is not to be removed;
--- or there is none
-abbrev pub SoundAt : Option Row → Type 0
-SoundAt None = Unit {0}
-SoundAt (Some (Row.Cell c)) = (c.next ≡ None) × NoneTwice c.log × (c.marked ≡ false) × (c.dangled ≡ None)
-SoundAt (Some r) = ⊥

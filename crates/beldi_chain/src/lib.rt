@@ -1,14 +1,12 @@
 //! The rows of an item as a chain: row 0 and the rows that it leads to by their next. It has no code.
 //! Its definitions: `specs/Content` (what one row holds, and what a chain does: value, owner and notes), `specs/Chain` (the keys of
-//! an item's rows, its chain, last row and content, when it is sound, and rows of which only one item's changed), `specs/Laws`.
+//! an item's rows, its chain, last row and content, and rows of which only one item's changed), `specs/Laws`.
 //!
 //! Proved:
 //! - No act takes away a note of a chain (`notes_of_a_chain_stay`).
-//! - A sound chain holds what its first row does (`one_content`, `one_tail` of `proofs/OneRow`), and stays sound where
-//!   that row alone changed, to one that fits (`sound_after` of `proofs/Heads`).
 //!
 //! Files: lemmas (`proofs/`), which the crates above cite too: `Heads` keys of rows, and chains that are as before; `OneRow`
-//! chains of one row; `Grows` what an act leaves of a row, and so of a chain.
+//! chains of one row, and of none; `Grows` what an act leaves of a row, and so of a chain.
 #![tactic(auto)]
 
 mod laws;

@@ -585,6 +585,12 @@ impl HostCore {
                 drop(says);
                 Ok(Seen::Held(owner))
             }
+            Some(Wait::Worn) => {
+                drop(callee);
+                drop(id);
+                drop(says);
+                Ok(Seen::Worn)
+            }
             Some(Wait::Result(awaited)) => self.after_call(awaited, callee, id, says),
         }
     }

@@ -1,2 +1,4 @@
 pub mod Bars
 pub mod Logged
+pub mod OneRow
+pub mod Turns

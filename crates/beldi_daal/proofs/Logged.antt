@@ -1,232 +1,268 @@
 -- A chain is a logged cell.
 use Rattle.std.specs.FinMap as map
-use Rattle.std.specs.Ordering.{is_eq}
-use Rattle.std.proofs.Common.{◌≡◌, ℕ, Bool, true, false, cond, if◌then◌else◌, Option, None, Some, Ok, Err, refl, ap, sym, ◌∙◌, subst}
-use Rattle.beldi_value.specs.{declared.id.IntentId.IntentId, declared.place.Owner.Owner, Id.age_of, Id.is_older, declared.place.Place.Place, declared.place.TxId.TxId, Passes.passes, declared.value.Value.TheVariants.Null}
-use Rattle.beldi_row.specs.Act.{Tell, act, did, held, died, not_owner, tested, other_owner, owns, noted_or, next_or, held_or, owned_or, at_tail, unless_held, if_owned, entered}
-use Rattle.beldi_row.{specs.declared.notes.Note.Note, specs.declared.notes.Note.TheVariants.Died, specs.declared.row.Cell.Cell, specs.declared.row.Row.Row, specs.declared.act.Act.Act, specs.declared.act.Act.TheVariants.Look, specs.declared.act.Act.TheVariants.MakeCell, specs.declared.table.TableErr.TableErr, specs.declared.table.TableErr.TheVariants.OutOfMemory, specs.declared.table.TableErr.TheVariants.Failed, specs.declared.table.TableErr.TheVariants.Full, specs.Key.RowKey, specs.Key.key_cmp, specs.Log.note_at, specs.Table.Rows, specs.Table.after_act, proofs.Gets.got, proofs.Gets.key_self, proofs.Logs.note_here, proofs.Logs.once_pushed, proofs.Tells.tells_map, proofs.Unchanged.left}
-use Rattle.beldi_chain.{specs.Chain.IsHead, specs.Chain.Sound, specs.Chain.chain, specs.Chain.content, specs.Content.SoundAt, specs.Content.content_in, proofs.Heads.alone_by, proofs.Heads.aside_head, proofs.Heads.item_head, proofs.Heads.head_content, proofs.Heads.head_sound, proofs.Heads.sound_after, specs.Content.Content}
+use Rattle.std.proofs.Common.{◌≡◌, ℕ, ◌+◌, ◌-◌, ◌<◌, Bool, true, false, if◌then◌else◌, [], length, Option, None, Some, Ok, Err, refl, ap, sym, ◌∙◌, subst, arith, eq-eqb}
+use Rattle.beldi_value.specs.declared.{place.Owner.Owner, value.Value.Value, value.Value.TheVariants.Null}
+use Rattle.beldi_row.specs.Act.{Tell, act, next, not_full, next_or, is_full}
+use Rattle.beldi_row.{specs.declared.notes.Note.Note, specs.declared.row.Cell.Cell, specs.declared.row.Row.Row, specs.declared.act.Act.TheVariants.LinkCell, specs.declared.act.Act.TheVariants.Look, specs.declared.act.Act.TheVariants.MakeCell, specs.declared.table.TableErr.TableErr, specs.declared.table.TableErr.TheVariants.OutOfMemory, specs.declared.table.TableErr.TheVariants.Failed, specs.declared.table.TableErr.TheVariants.Full, specs.Key.RowKey, specs.Key.at_row, specs.Log.most_entries, specs.Log.note_at, specs.Table.Rows, specs.Table.after_act, specs.Table.set_row, proofs.Tells.tells_map, proofs.Unchanged.left}
+use Rattle.beldi_chain.{specs.Chain.Chain, specs.Chain.chain, specs.Chain.content, specs.Chain.most_rows, specs.Chain.most_rows_are, specs.Content.Content, proofs.OneRow.no_content}
+use Rattle.beldi_links.specs.Links.{At, Fits, FitsAt, GrowsBy, IsAfter, IsLinked, Linkable, Linked, LinkedFrom, Meets, Passed, ReadsAt, RowsGrow, SeesAt, SetTo, StandsAt}
+use Rattle.beldi_links.proofs.{Grows.making_grows, Grows.one_grows, Grows.others_keep, Keeps.first_linked, Keeps.linked as link_changes_nothing, Keeps.linking_keeps, Keeps.made as making_changes_nothing, Keeps.making_keeps, Meets.linked_is_seen, Meets.next_is_read, Meets.spare_is_made, Meets.spare_is_seen, Meets.walks_begin, Ways.content_is, Ways.one_cell}
 use Rattle.beldi_walk.{specs.Query.Told, specs.Query.said, specs.Query.rows_after, specs.Query.told_by, specs.Query.CameOn, proofs.Looks.look_stands, proofs.Looks.never_full}
-use Rattle.beldi_daal.specs.Cell.{op_act, done_note, write_asks, write_goes, cell_goes, got_or_held, in_the_way}
-use Rattle.beldi_daal.specs.Logged.{note_after, value_after, owner_after, waited, died_of, dies, held_by, unless_owned, barred, done_to, died_at, DidAs, Logs, LoggedTurn, WritesAreLogged, ReadsContent, ReadTurn, ReadsAreContents}
-use Rattle.beldi_daal.specs.{declared.cell.CellOp.CellOp, declared.cell.CellOp.TheVariants.Write, declared.cell.CellOp.TheVariants.Cond, declared.cell.CellOp.TheVariants.Lock, declared.cell.CellOp.TheVariants.Free, declared.cell.WriteAt.WriteAt, declared.cell.WriteAt.TheVariants.Try, declared.cell.WriteAt.TheVariants.Make, declared.walk.WriteWalk.WriteWalk, declared.read_walk.ReadSays.ReadSays, declared.read_walk.ReadWalk.ReadWalk, declared.walk.Item.Item, ReadWalk.read_key, ReadWalk.read_asks, ReadWalk.read_says, ReadWalk.read_so, Walk.first_key, Walk.walk_key, Walk.walk_asks, Walk.walk_says, Walk.walk_so, declared.cell.WriteGoes.WriteGoes}
+use Rattle.beldi_daal.specs.{Cell.op_act, Cell.done_note, Cell.write_asks, Cell.write_goes, Cell.cell_goes, Cell.got_or_held, Cell.in_the_way, Cell.read_goes, Logged.LoggedTurn, Logged.LooksOn, Logged.ReadTurn, Logged.ReadsAreContents, Logged.WritesAreLogged, Logged.at_of, ReadWalk.read_asks, ReadWalk.read_at, ReadWalk.read_key, ReadWalk.read_next, ReadWalk.read_says, ReadWalk.read_so, Walk.walk_asks, Walk.walk_at, Walk.walk_key, Walk.walk_next, Walk.walk_says, Walk.walk_so}
+use Rattle.beldi_daal.specs.declared.{cell.FullRow.FullRow, cell.ReadGoes.ReadGoes, cell.WriteAt.WriteAt, cell.WriteAt.TheVariants.Append, cell.WriteAt.TheVariants.Link, cell.WriteAt.TheVariants.Make, cell.WriteAt.TheVariants.Try, cell.WriteGoes.WriteGoes, read_walk.ReadSays.ReadSays, read_walk.ReadWalk.ReadWalk, walk.WriteSays.TheVariants.Going, walk.WriteWalk.WriteWalk}
+use Rattle.beldi_daal.proofs.OneRow.{AtEnd, on_cell, on_none}
+use Rattle.beldi_daal.proofs.Turns.{Turn, at_last, content_here, first_head, is_set, is_tail, linked_by, moved, none_at_all, still, tried_cell}
 
--- what an act left of the row, and what it told, is right of what stood there
-abbrev Fits : Place → Owner → CellOp → Option Row → Option Row × Tell → Type 0
-Fits p who op r z = Logs p who op (walk_so (write_goes (done_note op) (said z.1))) (content_in r) (content_in z.0) × SoundAt z.0
+-- ---- a cell that is made
+abbrev blank : Value → Option Owner → Cell
+blank v o = record { value = v; owner = o; log = []; next = None; marked = false; dangled = None }
 
-module _ (p : Place) (who : Owner) (op : CellOp) where
-  module _ (c : Cell) (sound : SoundAt (Some (Row.Cell c))) where
-    abbrev OnCell : Cell × Tell → Type 0
-    OnCell z = Fits p who op (Some (Row.Cell c)) (Some (Row.Cell z.0), z.1)
+blank_fits : (v : Value) (o : Option Owner) → Fits (blank v o)
+blank_fits v o = record { entries = omega arith; marked = refl; dangled = refl }
 
-    by_next : (n : Option ℕ) (z : Cell × Tell) → c.next ≡ n → OnCell z → OnCell (next_or c n z)
-    by_next None z is h = h
-    by_next (Some n) z is h = let clash = sym is ∙ sound.0 in cc
+module _ (w : WriteWalk) (m : Rows) (linked : IsLinked (chain m (walk_key w))) (stood : SeesAt (chain m (walk_key w)) w.place (at_of w.at)) (now : ℕ) where
+  abbrev f : Chain
+  f = chain m (walk_key w)
 
-    by_note : (n : Option Note) (z : Cell × Tell) → note_at c.log p ≡ n → (note_at c.log p ≡ None → OnCell z) → OnCell (noted_or c n (next_or c c.next z))
-    by_note None z none h = by_next c.next z refl (h none)
-    by_note (Some n) z some h = ((some, refl), sound)
+  -- ---- an operation is tried
+  tried_row : (r : ℕ) → SeesAt f w.place (At.Try r) → (y : Row) → Linked f → f r ≡ Some y → FitsAt (Some y) → Turn w m (Try r) r (act (op_act w.place w.who w.op) now (Some y))
+  tried_row r sees (Row.Cell c) l is fits = on_cell w.place w.who now w.op c (λ z. Turn w m (Try r) r z) (tried_cell w m linked stood l r c sees.0 sees.1 is)
+  tried_row r sees y l is fits = absurd fits
 
-    -- who asks does not die
-    abbrev Alive : Type 0
-    Alive = dies who op c.owner ≡ None
+  tried : (r : ℕ) → SeesAt f w.place (At.Try r) → (y : Option Row) → f r ≡ y → Turn w m (Try r) r (act (op_act w.place w.who w.op) now y)
+  tried r sees None is = on_none w.place w.who now w.op (λ z. Turn w m (Try r) r z) (still w m linked (walk_at w (WriteGoes.On Make)) Going r None (sym is) refl tt)
+  tried r sees (Some y) is = let l : Linked f = linked_by f linked r y is in tried_row r sees y l is (subst FitsAt is (l.fits r))
 
-    -- another owner bars it ..
-    by_other : (o : Option Owner) (z : Cell × Tell) → other_owner who c.owner ≡ o → barred op who c.owner ≡ held_by o → note_at c.log p ≡ None → (barred op who c.owner ≡ None → OnCell z) → OnCell (held_or c o z)
-    by_other None z is bar none h = h bar
-    by_other (Some o) z is bar none h = ((none, bar, refl), sound)
+  -- ---- the first row is made
+  module _ (none : (n : ℕ) → f n ≡ None) where
+    abbrev first : Chain
+    first = chain (set_row m (at_row (walk_key w) 0) (Some (Row.Cell (blank Null None)))) (walk_key w)
 
-    -- .. or that who asks is not the owner
-    by_own : (b : Bool) (z : Cell × Tell) → owns who c.owner ≡ b → barred op who c.owner ≡ unless_owned b → note_at c.log p ≡ None → (barred op who c.owner ≡ None → OnCell z) → OnCell (if b then z else (c, not_owner))
-    by_own true z is bar none h = h bar
-    by_own false z is bar none h = ((none, bar, refl), sound)
+    first_set : SetTo f 0 (Some (Row.Cell (blank Null None))) first
+    first_set = is_set w m 0 (Some (Row.Cell (blank Null None)))
 
-    -- it was done, and this told: the entry is made
-    abbrev entry : Tell → Cell × Tell
-    entry t = (entered p (note_after op c.value) (value_after op c.value) (owner_after op who c.owner) c, t)
+    first_rows : Linked first × RowsGrow f first
+    first_rows = first_linked f first (blank Null None) none first_set refl refl (blank_fits Null None)
 
-    abbrev IsDone : Tell → Type 0
-    IsDone t = write_goes (done_note op) (said t) ≡ WriteGoes.Done (note_after op c.value) true
+    first_content : content first ≡ content f
+    first_content =
+        content_is first [] 0 (blank Null None) refl first_set.here refl (let most = most_rows_are in omega (arith, most))
+        ∙ sym (no_content f (none 0))
 
-    done : (t : Tell) → IsDone t → Alive → note_at c.log p ≡ None → barred op who c.owner ≡ None → OnCell (entry t)
-    done t goes alive none free = (
-      subst (λ g. Logs p who op (walk_so g) (content_in (Some (Row.Cell c))) (done_to p who op (content_in (Some (Row.Cell c))))) (sym goes)
-          (note_here c.log p (note_after op c.value) none, (none, subst (λ a. DidAs p who op a (content_in (Some (Row.Cell c))) (done_to p who op (content_in (Some (Row.Cell c))))) (sym alive) (free, refl))),
-      (sound.0, once_pushed c.log p (note_after op c.value) none sound.1, sound.2, sound.3),
-    )
+  made_first : (y : Option Row) → f 0 ≡ y → Turn w m Make 0 (act (MakeCell Null None) now y)
+  made_first None is =
+      let none : (n : ℕ) → f n ≡ None = subst (λ z. LinkedFrom z f) is linked in
+      let rows = first_rows none in
+      moved w m 0 (Some (Row.Cell (blank Null None))) (walk_at w (WriteGoes.On (Try 0))) Going rows.0 rows.1 (first_content none) (walks_begin (first none) w.place)
+  made_first (Some y) is = still w m linked (walk_at w (WriteGoes.On (Try 0))) Going 0 (Some y) (sym is) refl (walks_begin f w.place)
 
-    -- it died: the death is noted
-    dead : (a : IntentId) → dies who op c.owner ≡ Some a → note_at c.log p ≡ None → OnCell (entered p (Died a) c.value c.owner c, died a)
-    dead a is none = (
-      (note_here c.log p (Died a) none, (none, subst (λ z. DidAs p who op z (content_in (Some (Row.Cell c))) (died_at p a (content_in (Some (Row.Cell c))))) (sym is) refl)),
-      (sound.0, once_pushed c.log p (Died a) none sound.1, sound.2, sound.3),
-    )
+  -- ---- a row is made that is to follow a full one
+  module _ (n : ℕ) (t : FullRow) (sees : SeesAt f w.place (At.Append n t.value t.owner)) where
+    abbrev spare : Cell
+    spare = blank t.value t.owner
 
-    unheld : (t : Tell) → IsDone t → Alive → barred op who c.owner ≡ held_by (other_owner who c.owner) → OnCell (at_tail p c (unless_held who c (entry t)))
-    unheld t goes alive bar = by_note (note_at c.log p) (unless_held who c (entry t)) refl (λ none. by_other (other_owner who c.owner) (entry t) refl bar none (done t goes alive none))
+    abbrev more : Chain
+    more = chain (set_row m (at_row (walk_key w) n) (Some (Row.Cell spare))) (walk_key w)
 
-    owned : (t : Tell) → IsDone t → Alive → barred op who c.owner ≡ unless_owned (owns who c.owner) → OnCell (at_tail p c (if_owned who c (entry t)))
-    owned t goes alive bar = by_note (note_at c.log p) (if_owned who c (entry t)) refl (λ none. by_own (owns who c.owner) (entry t) refl bar none (done t goes alive none))
+    made_more : (l : Linked f) → f n ≡ None → Turn w m (Append n t) n (Some (Row.Cell spare), Tell.added)
+    made_more l is =
+        let made = spare_is_made f l w.place n t.value t.owner spare sees is refl refl refl refl in
+        let set : SetTo f n (Some (Row.Cell spare)) more = is_set w m n (Some (Row.Cell spare)) in
+        let past : SetTo f (l.last + 1) (Some (Row.Cell spare)) more = subst (λ z. SetTo f z (Some (Row.Cell spare)) more) made.0 set in
+        let grows : RowsGrow f more = making_grows f more l (Row.Cell spare) (ap f (sym made.0) ∙ is) past in
+        moved w m n (Some (Row.Cell spare)) (walk_at w (WriteGoes.On (Link n))) Going (making_keeps f more l spare made.1 (blank_fits t.value t.owner) past) grows
+        (making_changes_nothing f more l (Some (Row.Cell spare)) past)
+        (spare_is_seen more w.place n t.value t.owner spare (others_keep f more w.place (At.Append n t.value t.owner) grows sees) set.here)
 
-  made : (now : ℕ) (r : Option Row) → SoundAt r → Fits p who op r (act (MakeCell Null None) now r)
-  made now None h = (refl, (refl, tt, refl, refl))
-  made now (Some (Row.Cell c)) h = (refl, h)
-  made now (Some r) h = absurd h
+    there_already : (y : Row) → f n ≡ Some y → FitsAt (Some y) → Turn w m (Append n t) n (act (MakeCell t.value t.owner) now (Some y))
+    there_already (Row.Cell c) is fits = still w m linked (walk_at w (WriteGoes.On (Link n))) Going n (Some (Row.Cell c)) (sym is) refl (spare_is_seen f w.place n t.value t.owner c sees is)
+    there_already y is fits = absurd fits
 
--- a lock, by who asks and by the other owner
-module _ (p : Place) (c : Cell) (sound : SoundAt (Some (Row.Cell c))) (none : note_at c.log p ≡ None) where
-  abbrev AtLock : Owner → Cell × Tell → Type 0
-  AtLock who z = OnCell p who Lock c sound z
+    appended : Linked f → (y : Option Row) → f n ≡ y → Turn w m (Append n t) n (act (MakeCell t.value t.owner) now y)
+    appended l None is = made_more l is
+    appended l (Some y) is = there_already y is (subst FitsAt is (l.fits n))
 
-  by_intent : (a : IntentId) (o : Option Owner) → other_owner (Owner.Intent a) c.owner ≡ o → AtLock (Owner.Intent a) (owned_or p (Owner.Intent a) c o (entry p (Owner.Intent a) Lock c sound did))
-  by_intent a None is = done p (Owner.Intent a) Lock c sound did refl refl none (ap held_by is)
-  by_intent a (Some o) is = ((none, ap held_by is, refl), sound)
+  -- ---- .. and linked to it
+  module _ (n r : ℕ) (after : IsAfter r n) (meets : Meets f r) (passed : Passed f w.place r) (link : Linkable f w.place r) where
+    abbrev sees_link : SeesAt f w.place (At.Link n)
+    sees_link = (r, after, meets, passed, link)
 
-  by_age : (t : TxId) (o : Owner) (b : Bool) → is_older t.intent (age_of o) ≡ b → other_owner (Owner.Tx t) c.owner ≡ Some o
-      → AtLock (Owner.Tx t) (if b then (c, held o) else (entered p (Died (age_of o)) c.value c.owner c, died (age_of o)))
-  by_age t o true older is = ((none, ap (λ x. held_by (waited (Owner.Tx t) x)) is ∙ ap (λ x. held_by (if x then Some o else None)) older, refl), sound)
-  by_age t o false older is = dead p (Owner.Tx t) Lock c sound (age_of o) (ap (died_of (Owner.Tx t)) is ∙ ap (λ x. if x then None else Some (age_of o)) older) none
+    abbrev full : Cell
+    full = link.cell
 
-  by_tx : (t : TxId) (o : Option Owner) → other_owner (Owner.Tx t) c.owner ≡ o → AtLock (Owner.Tx t) (owned_or p (Owner.Tx t) c o (entry p (Owner.Tx t) Lock c sound did))
-  by_tx t None is = done p (Owner.Tx t) Lock c sound did refl (ap (died_of (Owner.Tx t)) is) none (ap (λ x. held_by (waited (Owner.Tx t) x)) is)
-  by_tx t (Some o) is = by_age t o (is_older t.intent (age_of o)) refl is
+    abbrev Links : Cell × Tell → Type 0
+    Links z = Turn w m (Link n) r (Some (Row.Cell z.0), z.1)
 
-  by_who : (who : Owner) → AtLock who (owned_or p who c (other_owner who c.owner) (entry p who Lock c sound did))
-  by_who (Owner.Intent a) = by_intent a (other_owner (Owner.Intent a) c.owner) refl
-  by_who (Owner.Tx t) = by_tx t (other_owner (Owner.Tx t) c.owner) refl
+    abbrev onto : Cell
+    onto = record link.cell { next = Some n }
 
--- each operation on a cell, and where no row is
-module _ (p : Place) (who : Owner) (now : ℕ) where
-  -- none but a lock dies
-  alive : (who : Owner) (op : CellOp) (o : Option Owner) → (op ≡ Lock → ⊥) → dies who op o ≡ None
-  alive (Owner.Intent a) op o h = refl
-  alive (Owner.Tx t) Lock o h = absurd (h refl)
-  alive (Owner.Tx t) (Write v) o h = refl
-  alive (Owner.Tx t) (Cond r u v) o h = refl
-  alive (Owner.Tx t) (Free v) o h = refl
+    abbrev joined : Chain
+    joined = chain (set_row m (at_row (walk_key w) r) (Some (Row.Cell onto))) (walk_key w)
 
-  on_cell : (op : CellOp) (c : Cell) → SoundAt (Some (Row.Cell c)) → Fits p who op (Some (Row.Cell c)) (act (op_act p who op) now (Some (Row.Cell c)))
-  on_cell (Write v) c h = unheld p who (Write v) c h did refl (alive who (Write v) c.owner (λ e. cc)) refl
-  on_cell (Cond r o v) c h = unheld p who (Cond r o v) c h (tested (passes c.value r o)) refl (alive who (Cond r o v) c.owner (λ e. cc)) refl
-  on_cell Lock c h = by_note p who Lock c h (note_at c.log p) (owned_or p who c (other_owner who c.owner) (entry p who Lock c h did)) refl (λ none. by_who p c h none who)
-  on_cell (Free v) c h = owned p who (Free v) c h did refl (alive who (Free v) c.owner (λ e. cc)) refl
+    link_now : (l : Linked f) → link.cell.next ≡ None → Links (onto, next n)
+    link_now l ends =
+        let at : r ≡ l.last = at_last f l r full meets link.there ends in
+        let same : full ≡ l.tail = is_tail f l r full meets link.there ends in
+        let one : n ≡ l.last + 1 = after.next ∙ ap (λ z. z + 1) at in
+        let set : SetTo f r (Some (Row.Cell onto)) joined = is_set w m r (Some (Row.Cell onto)) in
+        let tail : SetTo f l.last (Some (Row.Cell (record l.tail { next = Some (l.last + 1) }))) joined =
+        subst (λ z. SetTo f z (Some (Row.Cell (record l.tail { next = Some (l.last + 1) }))) joined) at (subst (λ (y : Cell). SetTo f r (Some (Row.Cell y)) joined) (λ i. record (same i) { next = Some (one i) }) set) in
+        let follows : f (l.last + 1) ≡ Some (Row.Cell link.spare) = ap (λ z. f (z + 1)) (sym at) ∙ link.after in
+        let less : l.last + 1 < most_rows = subst (λ z. z < most_rows) one after.few in
+        let rows : Linked joined = linking_keeps f joined l link.spare follows less tail in
+        let grows : RowsGrow f joined = one_grows f joined r (Row.Cell full) (Row.Cell onto) link.there set (subst (λ z. GrowsBy z full onto) (sym ends) (λ full. (refl, refl, refl))) in
+        moved w m r (Some (Row.Cell onto)) (walk_at w (WriteGoes.On (Try n))) Going rows grows (link_changes_nothing f joined l link.spare follows less tail)
+        (linked_is_seen joined rows w.place n r onto n (others_keep f joined w.place (At.Link n) grows sees_link) after.next set.here refl)
 
-  on_none : (op : CellOp) → Fits p who op None (act (op_act p who op) now None)
-  on_none (Write v) = (refl, tt)
-  on_none (Cond r o v) = (refl, tt)
-  on_none Lock = (refl, tt)
-  on_none (Free v) = (refl, tt)
+    by_room : (l : Linked f) (b : Bool) → is_full full ≡ b → link.cell.next ≡ None → Links (if b then (onto, next n) else (full, not_full))
+    by_room l true is ends = link_now l ends
+    by_room l false is ends = let clash : true ≡ false = sym (eq-eqb (length link.cell.log) most_entries link.full) ∙ is in cc
 
-  tried : (op : CellOp) (r : Option Row) → SoundAt r → Fits p who op r (act (op_act p who op) now r)
-  tried op None h = on_none op
-  tried op (Some (Row.Cell c)) h = on_cell op c h
-  tried op (Some r) h = absurd h
+    by_next : (l : Linked f) (o : Option ℕ) → link.cell.next ≡ o → Links (next_or full o (if is_full full then (onto, next n) else (full, not_full)))
+    by_next l None is = by_room l (is_full full) refl is
+    by_next l (Some k) is = still w m linked (walk_at w (WriteGoes.On (Try k))) Going r (Some (Row.Cell full)) (sym link.there) refl (linked_is_seen f l w.place n r full k sees_link after.next link.there is)
 
--- the key of a walk is that of a first row
-first_head : (home : ℕ) (item : Item) → IsHead (first_key home item)
-first_head home (Item.Plain t k) = item_head home t k
-first_head home (Item.Shadow x t k) = aside_head home x t k
+    linked_on : Turn w m (Link n) r (act (LinkCell n) now (f r))
+    linked_on = subst (λ y. Turn w m (Link n) r (act (LinkCell n) now y)) (sym link.there) (by_next (linked_by f linked r (Row.Cell full) link.there) link.cell.next refl)
 
-module _ (w : WriteWalk) (m n : Rows) (sound : Sound (chain m (walk_key w))) where
-  by_act : (a : Act) (now : ℕ) → n ≡ after_act a now (walk_key w) m → Fits w.place w.who w.op (map.get m (walk_key w)) (act a now (map.get m (walk_key w)))
-      → LoggedTurn w m n (walk_so (write_goes (done_note w.op) (said (act a now (map.get m (walk_key w))).1)))
-  by_act a now is fits =
-      let k = walk_key w in
-      let z = act a now (map.get m k) in
-      let head = first_head w.home w.item in
-      let here : map.get n k ≡ z.0 = ap (λ l. map.get l k) is ∙ got m k k z.0 ∙ ap (λ b. cond b z.0 (map.get m k)) (key_self k) in
-      let same : (q : RowKey) → is_eq (key_cmp q k) ≡ false → map.get n q ≡ map.get m q = λ q apart. ap (λ l. map.get l q) is ∙ got m k q z.0 ∙ ap (λ b. cond b z.0 (map.get m q)) apart in
-      let after : Sound (chain n k) = sound_after m n k head same sound (subst SoundAt (sym here) fits.1) in
-      let says = walk_so (write_goes (done_note w.op) (said z.1)) in
-      record {
-        others = alone_by m n k head.first same;
-        logs = subst (λ c. Logs w.place w.who w.op says c (content (chain n k))) (sym (head_content m k head sound))
-            (subst (Logs w.place w.who w.op says (content_in (map.get m k))) (sym (head_content n k head after ∙ ap content_in here)) fits.0);
-        sound = after;
-      }
+    -- its number is one less
+    before_one : r ≡ n - 1
+    before_one = let a = after.next in omega (arith, a)
 
-  fits_now : SoundAt (map.get m (walk_key w))
-  fits_now = head_sound m (walk_key w) (first_head w.home w.item) sound
+  -- ---- all stages
+  abbrev Stage : WriteAt → Type 0
+  Stage at =
+      LoggedTurn w (walk_at w (write_goes (done_note w.op) at (told_by (write_asks (walk_key w) w.place w.who w.op at) now m))) m (rows_after (write_asks (walk_key w) w.place w.who w.op at) now m)
+      (walk_so (write_goes (done_note w.op) at (told_by (write_asks (walk_key w) w.place w.who w.op at) now m)))
 
-  pub by_op : (at : WriteAt) (now : ℕ) → n ≡ rows_after (write_asks (walk_key w) w.place w.who w.op at) now m
-      → LoggedTurn w m n (walk_so (write_goes (done_note w.op) (told_by (write_asks (walk_key w) w.place w.who w.op at) now m)))
-  by_op Try now is = by_act (op_act w.place w.who w.op) now is (tried w.place w.who now w.op (map.get m (walk_key w)) fits_now)
-  by_op Make now is = by_act (MakeCell Null None) now is (made w.place w.who w.op now (map.get m (walk_key w)) fits_now)
+  by_stage : (at : WriteAt) → SeesAt f w.place (at_of at) → Stage at
+  by_stage (Try r) sees = tried r sees (f r) refl
+  by_stage Make sees =
+      subst (λ (q : RowKey). LoggedTurn w (walk_at w (write_goes (done_note w.op) Make (said (act (MakeCell Null None) now (map.get m q)).1))) m (set_row m q (act (MakeCell Null None) now (map.get m q)).0)
+      (walk_so (write_goes (done_note w.op) Make (said (act (MakeCell Null None) now (map.get m q)).1))))
+      (first_head w.home w.item).first (made_first (f 0) refl)
+  by_stage (Append n t) (r, after, meets, passed, told) = appended n t (r, after, meets, passed, told) (linked_by f linked r (Row.Cell told.cell) told.there) (f n) refl
+  by_stage (Link n) (r, after, meets, passed, link) = subst (λ z. Turn w m (Link n) z (act (LinkCell n) now (f z))) (before_one n r after meets passed link) (linked_on n r after meets passed link)
 
--- ---- where the place has its note, no row changes
-module _ (p : Place) (who : Owner) (now : ℕ) (note : Note) where
-  noted_cell : (c : Cell) (z : Cell × Tell) → note_at c.log p ≡ Some note → (at_tail p c z).0 ≡ c
-  noted_cell c z is = ap (λ o. (noted_or c o (next_or c c.next z)).0) is
-
-  noted_entry : (op : CellOp) (c : Cell) (t : Tell) → note_at c.log p ≡ Some note → (at_tail p c (unless_held who c (entered p (note_after op c.value) (value_after op c.value) (owner_after op who c.owner) c, t))).0 ≡ c
-  noted_entry op c t is = noted_cell c (unless_held who c (entered p (note_after op c.value) (value_after op c.value) (owner_after op who c.owner) c, t)) is
-
-  on_noted : (op : CellOp) (c : Cell) → note_at c.log p ≡ Some note → (act (op_act p who op) now (Some (Row.Cell c))).0 ≡ Some (Row.Cell c)
-  on_noted (Write v) c is = ap (λ x. Some (Row.Cell x)) (noted_entry (Write v) c did is)
-  on_noted (Cond r o v) c is = ap (λ x. Some (Row.Cell x)) (noted_entry (Cond r o v) c (tested (passes c.value r o)) is)
-  on_noted Lock c is = ap (λ x. Some (Row.Cell x)) (noted_cell c (owned_or p who c (other_owner who c.owner) (entered p (note_after Lock c.value) c.value (Some who) c, did)) is)
-  on_noted (Free v) c is = ap (λ x. Some (Row.Cell x)) (noted_cell c (if_owned who c (entered p (note_after (Free v) c.value) (value_after (Free v) c.value) None c, did)) is)
-
-  try_noted : (op : CellOp) (r : Option Row) → note_at (content_in r).notes p ≡ Some note → (act (op_act p who op) now r).0 ≡ r
-  try_noted op None is = cc
-  try_noted op (Some (Row.Cell c)) is = on_noted op c is
-  try_noted op (Some r) is = cc
-
-  make_noted : (r : Option Row) → note_at (content_in r).notes p ≡ Some note → (act (MakeCell Null None) now r).0 ≡ r
-  make_noted None is = cc
-  make_noted (Some r) is = refl
-
-pub noted_stays : (w : WriteWalk) (m : Rows) → Sound (chain m (walk_key w)) → (note : Note) → note_at (content (chain m (walk_key w))).notes w.place ≡ Some note → (at : WriteAt) (now : ℕ) → rows_after (write_asks (walk_key w) w.place w.who w.op at) now m ≡ m
-noted_stays w m sound note is at now = by_at at
-  where
-    here : note_at (content_in (map.get m (walk_key w))).notes w.place ≡ Some note
-    here = ap (λ (c : Content). note_at c.notes w.place) (sym (head_content m (walk_key w) (first_head w.home w.item) sound)) ∙ is
-
-    by_at : (at : WriteAt) → rows_after (write_asks (walk_key w) w.place w.who w.op at) now m ≡ m
-    by_at Try = left (op_act w.place w.who w.op) now (walk_key w) m (map.get m (walk_key w)) refl (try_noted w.place w.who now note w.op (map.get m (walk_key w)) here)
-    by_at Make = left (MakeCell Null None) now (walk_key w) m (map.get m (walk_key w)) refl (make_noted w.place w.who now note (map.get m (walk_key w)) here)
+pub by_op : (w : WriteWalk) (m n : Rows) (now : ℕ) → IsLinked (chain m (walk_key w)) → SeesAt (chain m (walk_key w)) w.place (at_of w.at) → n ≡ rows_after (walk_asks w) now m
+    → LoggedTurn w (walk_next w (told_by (walk_asks w) now m)) m n (walk_says w (told_by (walk_asks w) now m))
+by_op w m n now linked sees is = subst (λ z. LoggedTurn w (walk_next w (told_by (walk_asks w) now m)) m z (walk_says w (told_by (walk_asks w) now m))) (sym is) (by_stage w m linked sees now w.at sees)
 
 pub writes_are_logged : WritesAreLogged
-writes_are_logged w x now old new s (Ok t, h, c) = tells_map {P = λ m n. CameOn (walk_asks w) now old.room (Ok t) m n} {Q = λ m n. Sound (chain m (walk_key w)) → LoggedTurn w m n s} old.rows new.rows
-    (λ m n p sound. subst (LoggedTurn w m n) (sym (h.1 ∙ ap (walk_says w) p.1)) (by_op w m n sound w.at now p.0)) c.rows
+writes_are_logged w x now old new s (Ok t, h, c) = tells_map {P = λ m n. CameOn (walk_asks w) now old.room (Ok t) m n} {Q = λ m n. IsLinked (chain m (walk_key w)) → SeesAt (chain m (walk_key w)) w.place (at_of w.at) → LoggedTurn w x m n s} old.rows new.rows
+    (λ m n p linked sees. subst (λ y. LoggedTurn w y m n s) (sym (h.0 ∙ ap (walk_next w) p.1)) (subst (LoggedTurn w (walk_next w (told_by (walk_asks w) now m)) m n) (sym (h.1 ∙ ap (walk_says w) p.1)) (by_op w m n now linked sees p.0))) c.rows
 writes_are_logged w x now old new s (Err v, h, c) = absurd h
 
+-- ---- where the place has its note, no row changes
+module _ (w : WriteWalk) (m : Rows) (linked : IsLinked (chain m (walk_key w))) (note : Note) (noted : note_at (content (chain m (walk_key w))).notes w.place ≡ Some note) (now : ℕ) where
+  abbrev its : Chain
+  its = chain m (walk_key w)
+
+  -- so a row where the walk stands has it, or has a next
+  not_last : (l : Linked its) (r : ℕ) (c : Cell) → Meets its r → Passed its w.place r → its r ≡ Some (Row.Cell c) → AtEnd w.place c → ⊥
+  not_last l r c meets passed is end = let clash : None ≡ Some note = sym (none_at_all its l r c meets is end.ends w.place passed end.none) ∙ noted in cc
+
+  tried_same : (r : ℕ) → Meets its r → Passed its w.place r → (y : Option Row) → its r ≡ y → (act (op_act w.place w.who w.op) now y).0 ≡ y
+  tried_same r meets passed None is = on_none w.place w.who now w.op (λ z. z.0 ≡ None) refl
+  tried_same r meets passed (Some y) is = let l : Linked its = linked_by its linked r y is in by_kind l y is (subst FitsAt is (l.fits r))
+    where
+      by_kind : Linked its → (y : Row) → its r ≡ Some y → FitsAt (Some y) → (act (op_act w.place w.who w.op) now (Some y)).0 ≡ Some y
+      by_kind l (Row.Cell c) is fits = on_cell w.place w.who now w.op c (λ z. z.0 ≡ Some (Row.Cell c)) (record {
+        has_note = λ note at. refl;
+        has_next = λ k none to. refl;
+        has_no_room = λ end full. refl;
+        is_held = λ o end bar. refl;
+        is_not_owned = λ end bar. refl;
+        is_done = λ t goes end room alive free. absurd (not_last l r c meets passed is end);
+        is_dead = λ a end room dead. absurd (not_last l r c meets passed is end);
+      })
+      by_kind l y is fits = absurd fits
+
+  -- the first row is there
+  first_same : (y : Option Row) → its 0 ≡ y → (act (MakeCell Null None) now y).0 ≡ y
+  first_same None is = let clash : None ≡ Some note = sym (ap (λ (z : Content). note_at z.notes w.place) (no_content its is)) ∙ noted in cc
+  first_same (Some y) is = refl
+
+  -- .. and one after the row that is full
+  after_same : (n : ℕ) (t : FullRow) → SeesAt its w.place (At.Append n t.value t.owner) → (y : Option Row) → its n ≡ y → (act (MakeCell t.value t.owner) now y).0 ≡ y
+  after_same n t (r, after, meets, passed, told) (Some y) is = refl
+  after_same n t (r, after, meets, passed, told) None is =
+      let l : Linked its = linked_by its linked r (Row.Cell told.cell) told.there in
+      let past = (spare_is_made its l w.place n t.value t.owner (blank t.value t.owner) (r, after, meets, passed, told) is refl refl refl refl).0 in
+      let here = after.next in
+      let at : r ≡ l.last = omega (arith, past, here) in
+      let same : l.tail ≡ told.cell = one_cell l.tail told.cell (sym l.there ∙ ap its (sym at) ∙ told.there) in
+      absurd (not_last l r told.cell meets passed told.there (record { none = told.none; ends = subst (λ (z : Cell). z.next ≡ None) same l.ends }))
+
+  linked_same : (n r : ℕ) → Meets its r → Passed its w.place r → (link : Linkable its w.place r) → (act (LinkCell n) now (its r)).0 ≡ its r
+  linked_same n r meets passed link = subst (λ y. (act (LinkCell n) now y).0 ≡ y) (sym link.there) (ap (λ z. Some (Row.Cell z)) (by_next link.cell.next refl))
+    where
+      by_next : (o : Option ℕ) → link.cell.next ≡ o → (next_or link.cell o (if is_full link.cell then (record link.cell { next = Some n }, next n) else (link.cell, not_full))).0 ≡ link.cell
+      by_next (Some k) is = refl
+      by_next None is = let l : Linked its = linked_by its linked r (Row.Cell link.cell) link.there in absurd (not_last l r link.cell meets passed link.there (record { none = link.none; ends = is }))
+
+  by_place : (at : WriteAt) → SeesAt its w.place (at_of at) → rows_after (write_asks (walk_key w) w.place w.who w.op at) now m ≡ m
+  by_place (Try r) sees = left (op_act w.place w.who w.op) now (at_row (walk_key w) r) m (its r) refl (tried_same r sees.0 sees.1 (its r) refl)
+  by_place Make sees = subst (λ (q : RowKey). after_act (MakeCell Null None) now q m ≡ m) (first_head w.home w.item).first (left (MakeCell Null None) now (at_row (walk_key w) 0) m (its 0) refl (first_same (its 0) refl))
+  by_place (Append n t) sees = left (MakeCell t.value t.owner) now (at_row (walk_key w) n) m (its n) refl (after_same n t sees (its n) refl)
+  by_place (Link n) (r, after, meets, passed, link) =
+      subst (λ z. after_act (LinkCell n) now (at_row (walk_key w) z) m ≡ m) (let a = after.next in omega (arith, a)) (left (LinkCell n) now (at_row (walk_key w) r) m (its r) refl (linked_same n r meets passed link))
+
+pub noted_stays : (w : WriteWalk) (m : Rows) → IsLinked (chain m (walk_key w)) → SeesAt (chain m (walk_key w)) w.place (at_of w.at) → (note : Note) → note_at (content (chain m (walk_key w))).notes w.place ≡ Some note
+    → (now : ℕ) → rows_after (walk_asks w) now m ≡ m
+noted_stays w m linked sees note noted now = by_place w m linked note noted now w.at sees
+
 -- ---- the walk of a read
-module _ (w : ReadWalk) where
-  by_way : (c : Cell) (o : Option Owner) → in_the_way w.who c.owner ≡ o → ReadsContent w.who (read_so (got_or_held c o)) (content_in (Some (Row.Cell c)))
-  by_way c None is = (is, refl)
-  by_way c (Some o) is = is
+module _ (w : ReadWalk) (m : Rows) (now : ℕ) (linked : IsLinked (chain m (read_key w))) (stood : ReadsAt (chain m (read_key w)) w.row) where
+  abbrev rows : Chain
+  rows = chain m (read_key w)
 
-  by_last : (c : Cell) (n : Option ℕ) → c.next ≡ n → c.next ≡ None → ReadsContent w.who (read_so (cell_goes w.who c n)) (content_in (Some (Row.Cell c)))
-  by_last c None is last = by_way c (in_the_way w.who c.owner) refl
-  by_last c (Some n) is last = let clash = sym is ∙ last in cc
+  abbrev ReadBy : ReadGoes → Type 0
+  ReadBy goes = ReadTurn w (read_at w goes) m (read_so goes)
 
-  pub by_row : (now : ℕ) (r : Option Row) → SoundAt r → ReadsContent w.who (read_says w (said (act Look now r).1)) (content_in r)
-  by_row now None h = refl
-  by_row now (Some (Row.Cell c)) h = by_last c c.next refl h.0
-  by_row now (Some r) h = absurd h
+  -- at the last row, by the owner that is in the way
+  by_way : (c : Cell) → (content rows).value ≡ c.value → (content rows).owner ≡ c.owner → (o : Option Owner) → in_the_way w.who c.owner ≡ o → ReadBy (got_or_held c o)
+  by_way c value owner None is = record { reads = (ap (in_the_way w.who) owner ∙ is, sym value); sees = stood }
+  by_way c value owner (Some o) is = record { reads = ap (in_the_way w.who) owner ∙ is; sees = stood }
 
-  pub by_chain : (now : ℕ) (m : Rows) → Sound (chain m (read_key w)) → ReadsContent w.who (read_says w (said (act Look now (map.get m (read_key w))).1)) (content (chain m (read_key w)))
-  by_chain now m sound = let head = first_head w.home w.item in
-      subst (ReadsContent w.who (read_says w (said (act Look now (map.get m (read_key w))).1))) (sym (head_content m (read_key w) head sound))
-      (by_row now (map.get m (read_key w)) (head_sound m (read_key w) head sound))
+  by_end : (l : Linked rows) (c : Cell) (n : Option ℕ) → rows w.row ≡ Some (Row.Cell c) → c.next ≡ n → ReadBy (cell_goes w.who c n)
+  by_end l c (Some k) is to = record { reads = tt; sees = next_is_read rows l w.row c k is to }
+  by_end l c None is ends =
+      let here = content_here rows l w.row c stood.0 is ends in
+      by_way c (ap (λ (z : Content). z.value) here) (ap (λ (z : Content). z.owner) here) (in_the_way w.who c.owner) refl
 
-  module _ (now room : ℕ) (m n : Rows) where
-    read : (s : ReadSays) (t : Told) → s ≡ read_says w t → CameOn (read_asks w) now room (Ok t) m n → ReadTurn w m n (Ok s)
-    read s t is h = (look_stands (read_key w) now room m n (Ok t) h, λ sound. subst (λ y. ReadsContent w.who y (content (chain m (read_key w)))) (sym (is ∙ ap (read_says w) h.1)) (by_chain now m sound))
+  by_row : (y : Option Row) → rows w.row ≡ y → ReadBy (read_goes w.who (said (act Look now y).1))
+  by_row None is =
+      let first : w.row ≡ 0 = subst (λ z. StandsAt z w.row) is stood.1 in
+      record { reads = no_content rows (ap rows (sym first) ∙ is); sees = stood }
+  by_row (Some y) is = let l : Linked rows = linked_by rows linked w.row y is in by_kind y l is (subst FitsAt is (l.fits w.row))
+    where
+      by_kind : (y : Row) → Linked rows → rows w.row ≡ Some y → FitsAt (Some y) → ReadBy (read_goes w.who (said (act Look now (Some y)).1))
+      by_kind (Row.Cell c) l is fits = by_end l c c.next is refl
+      by_kind y l is fits = absurd fits
 
-    -- it was out of memory after the Look, or there was none
-    lost : (e : TableErr) (t : Told) → e ≡ OutOfMemory → CameOn (read_asks w) now room (Ok t) m n → ReadTurn w m n (Err e)
-    lost e t is h = subst (λ v. ReadTurn w m n (Err v)) (sym is) (look_stands (read_key w) now room m n (Ok t) h)
+pub by_read : (w : ReadWalk) (m : Rows) (now : ℕ) → IsLinked (chain m (read_key w)) → ReadsAt (chain m (read_key w)) w.row
+    → ReadTurn w (read_next w (told_by (read_asks w) now m)) m (read_says w (told_by (read_asks w) now m))
+by_read w m now linked sees = by_row w m now linked sees (chain m (read_key w) w.row) refl
 
-    refused : (e v : TableErr) → e ≡ v → CameOn (read_asks w) now room (Err v) m n → ReadTurn w m n (Err e)
-    refused OutOfMemory v is h = look_stands (read_key w) now room m n (Err v) h
-    refused Failed v is h = look_stands (read_key w) now room m n (Err v) h
-    refused (Full live most) v is h = never_full (read_key w) now room m n live most (subst (λ x. CameOn (read_asks w) now room (Err x) m n) (sym is) h)
+module _ (w x : ReadWalk) (now room : ℕ) (m n : Rows) where
+  read : (s : ReadSays) (t : Told) → x ≡ read_next w t → s ≡ read_says w t → CameOn (read_asks w) now room (Ok t) m n → LooksOn w x m n (Ok s)
+  read s t goes says h = (
+    look_stands (at_row (read_key w) w.row) now room m n (Ok t) h,
+    λ linked sees. subst (λ y. ReadTurn w y m s) (sym (goes ∙ ap (read_next w) h.1)) (subst (ReadTurn w (read_next w (told_by (read_asks w) now m)) m) (sym (says ∙ ap (read_says w) h.1)) (by_read w m now linked sees)),
+  )
+
+  -- it was out of memory after the Look, or there was none
+  lost : (e : TableErr) (t : Told) → e ≡ OutOfMemory → CameOn (read_asks w) now room (Ok t) m n → LooksOn w x m n (Err e)
+  lost e t is h = subst (λ v. LooksOn w x m n (Err v)) (sym is) (look_stands (at_row (read_key w) w.row) now room m n (Ok t) h)
+
+  refused : (e v : TableErr) → e ≡ v → CameOn (read_asks w) now room (Err v) m n → LooksOn w x m n (Err e)
+  refused OutOfMemory v is h = look_stands (at_row (read_key w) w.row) now room m n (Err v) h
+  refused Failed v is h = look_stands (at_row (read_key w) w.row) now room m n (Err v) h
+  refused (Full live most) v is h = never_full (at_row (read_key w) w.row) now room m n live most (subst (λ x. CameOn (read_asks w) now room (Err x) m n) (sym is) h)
 
 pub reads_are_contents : ReadsAreContents
-reads_are_contents w x now old new (Ok s) (Ok t, h, c) = tells_map {P = λ m n. CameOn (read_asks w) now old.room (Ok t) m n} {Q = λ m n. ReadTurn w m n (Ok s)} old.rows new.rows (λ m n p. read w now old.room m n s t h.1 p) c.rows
+reads_are_contents w x now old new (Ok s) (Ok t, h, c) = tells_map {P = λ m n. CameOn (read_asks w) now old.room (Ok t) m n} {Q = λ m n. LooksOn w x m n (Ok s)} old.rows new.rows (λ m n p. read w x now old.room m n s t h.0 h.1 p) c.rows
 reads_are_contents w x now old new (Ok s) (Err v, h, c) = absurd h
-reads_are_contents w x now old new (Err e) (Ok t, h, c) = tells_map {P = λ m n. CameOn (read_asks w) now old.room (Ok t) m n} {Q = λ m n. ReadTurn w m n (Err e)} old.rows new.rows (λ m n p. lost w now old.room m n e t h.1 p) c.rows
-reads_are_contents w x now old new (Err e) (Err v, h, c) = tells_map {P = λ m n. CameOn (read_asks w) now old.room (Err v) m n} {Q = λ m n. ReadTurn w m n (Err e)} old.rows new.rows (λ m n p. refused w now old.room m n e v h.1 p) c.rows
+reads_are_contents w x now old new (Err e) (Ok t, h, c) = tells_map {P = λ m n. CameOn (read_asks w) now old.room (Ok t) m n} {Q = λ m n. LooksOn w x m n (Err e)} old.rows new.rows (λ m n p. lost w x now old.room m n e t h.1 p) c.rows
+reads_are_contents w x now old new (Err e) (Err v, h, c) = tells_map {P = λ m n. CameOn (read_asks w) now old.room (Err v) m n} {Q = λ m n. LooksOn w x m n (Err e)} old.rows new.rows (λ m n p. refused w x now old.room m n e v h.1 p) c.rows

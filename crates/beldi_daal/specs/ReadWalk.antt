@@ -1,25 +1,32 @@
 -- The walk of a read, as a machine that makes one Look a turn.
 use Rattle.std.specs.Prelude.{ℕ, Option}
 use Rattle.beldi_value.specs.declared.place.Owner.{Owner}
-use Rattle.beldi_row.specs.{Key.RowKey, declared.act.Act.TheVariants.Look}
+use Rattle.beldi_row.specs.{Key.RowKey, Key.at_row, declared.act.Act.TheVariants.Look}
 use Rattle.beldi_walk.specs.{declared.query.Query.Query, declared.query.Query.TheVariants.Act, Query.Told}
 use Rattle.beldi_daal.specs.{declared.cell.ReadGoes.ReadGoes, declared.walk.Item.Item, declared.read_walk.ReadWalk.ReadWalk, declared.read_walk.ReadSays.ReadSays, declared.read_walk.ReadSays.TheVariants.Going, declared.read_walk.ReadSays.TheVariants.Got, declared.read_walk.ReadSays.TheVariants.Held, Cell.read_goes, Walk.first_key}
 
 abbrev pub first_read : ℕ → Item → Option Owner → ReadWalk
-first_read home item who = record { home = home; item = item; who = who }
+first_read home item who = record { home = home; item = item; who = who; row = 0 }
 
 abbrev pub read_key : ReadWalk → RowKey
 read_key w = first_key w.home w.item
 
 abbrev pub read_asks : ReadWalk → Query
-read_asks w = Act (read_key w) Look
+read_asks w = Act (at_row (read_key w) w.row) Look
 
--- the walk stands where it stood
+-- the walk stands where it stood, unless it goes on
+abbrev pub read_at : ReadWalk → ReadGoes → ReadWalk
+read_at w (ReadGoes.On n) = record w { row = n }
+read_at w ReadGoes.Stays = w
+read_at w (ReadGoes.Got v) = w
+read_at w (ReadGoes.Held o) = w
+
 abbrev pub read_next : ReadWalk → Told → ReadWalk
-read_next w t = w
+read_next w t = read_at w (read_goes w.who t)
 
 abbrev pub read_so : ReadGoes → ReadSays
-read_so ReadGoes.On = Going
+read_so (ReadGoes.On n) = Going
+read_so ReadGoes.Stays = Going
 read_so (ReadGoes.Got v) = Got v
 read_so (ReadGoes.Held o) = Held o
 

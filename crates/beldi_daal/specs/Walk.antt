@@ -3,10 +3,10 @@ use Rattle.std.specs.Prelude.{ℕ}
 use Rattle.beldi_value.specs.declared.place.{Place.Place, Owner.Owner}
 use Rattle.beldi_row.specs.Key.{RowKey}
 use Rattle.beldi_walk.specs.{declared.query.Query.Query, Query.Told}
-use Rattle.beldi_daal.specs.{declared.cell.WriteAt.TheVariants.Try, declared.cell.WriteGoes.WriteGoes, declared.walk.WriteWalk.WriteWalk, declared.walk.Item.Item, declared.walk.Item.TheVariants.Plain, declared.walk.Item.TheVariants.Shadow, declared.cell.CellOp.CellOp, declared.walk.WriteSays.WriteSays, declared.walk.WriteSays.TheVariants.Going, declared.walk.WriteSays.TheVariants.Done, declared.walk.WriteSays.TheVariants.NotOwner, declared.walk.WriteSays.TheVariants.Held, Cell.cell_key, Cell.shadow_key, Cell.done_note, Cell.write_asks, Cell.write_goes}
+use Rattle.beldi_daal.specs.{declared.cell.WriteAt.TheVariants.Try, declared.cell.WriteGoes.WriteGoes, declared.walk.WriteWalk.WriteWalk, declared.walk.Item.Item, declared.walk.Item.TheVariants.Plain, declared.walk.Item.TheVariants.Shadow, declared.cell.CellOp.CellOp, declared.walk.WriteSays.WriteSays, declared.walk.WriteSays.TheVariants.Going, declared.walk.WriteSays.TheVariants.Done, declared.walk.WriteSays.TheVariants.NotOwner, declared.walk.WriteSays.TheVariants.Held, declared.walk.WriteSays.TheVariants.Worn, Cell.cell_key, Cell.shadow_key, Cell.done_note, Cell.write_asks, Cell.write_goes}
 
 abbrev pub first_walk : ℕ → Item → Place → Owner → CellOp → WriteWalk
-first_walk home item place who op = record { home = home; item = item; place = place; who = who; op = op; at = Try }
+first_walk home item place who op = record { home = home; item = item; place = place; who = who; op = op; at = Try 0 }
 
 -- the key of an item's first row, in the home of the function that has the item
 abbrev pub first_key : ℕ → Item → RowKey
@@ -22,19 +22,23 @@ walk_asks w = write_asks (walk_key w) w.place w.who w.op w.at
 -- the walk stands where it stood, unless it goes on
 abbrev pub walk_at : WriteWalk → WriteGoes → WriteWalk
 walk_at w (WriteGoes.On at) = record w { at = at }
+walk_at w WriteGoes.Stays = w
 walk_at w (WriteGoes.Done n first) = w
 walk_at w WriteGoes.NotOwner = w
 walk_at w (WriteGoes.Held o) = w
+walk_at w WriteGoes.Worn = w
 
 abbrev pub walk_so : WriteGoes → WriteSays
 walk_so (WriteGoes.On at) = Going
+walk_so WriteGoes.Stays = Going
 walk_so (WriteGoes.Done n first) = Done n first
 walk_so WriteGoes.NotOwner = NotOwner
 walk_so (WriteGoes.Held o) = Held o
+walk_so WriteGoes.Worn = Worn
 
 -- the walk after it was told, and its answer
 abbrev pub walk_next : WriteWalk → Told → WriteWalk
-walk_next w t = walk_at w (write_goes (done_note w.op) t)
+walk_next w t = walk_at w (write_goes (done_note w.op) w.at t)
 
 abbrev pub walk_says : WriteWalk → Told → WriteSays
-walk_says w t = walk_so (write_goes (done_note w.op) t)
+walk_says w t = walk_so (write_goes (done_note w.op) w.at t)

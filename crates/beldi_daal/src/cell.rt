@@ -1,8 +1,14 @@
 // What is asked of the rows of an item, and what follows from what is told.
-ghost use Rattle.std.specs.Prelude.{◌≡◌, true, IfOk, OnErr};
+ghost use Rattle.std.specs.Prelude.{◌≡◌, ◌<◌, ◌+◌, ◌-◌, ◌^◌, None, true, IfOk, OnErr};
 ghost use Rattle.std.specs.Option.{option_copied};
 ghost use Rattle.beldi_walk.specs.Query.{told_of, lends};
-ghost use Rattle.beldi_daal.specs.Cell.{cell_key as key_of, shadow_key as shadow_key_of, op_act, done_note as done_note_of, write_asks, write_goes, read_goes, cell_goes, in_the_way};
+ghost use Rattle.beldi_value.specs.declared.value.Value.TheVariants.{Null};
+ghost use Rattle.beldi_row.specs.Key.{at_row};
+ghost use Rattle.beldi_row.specs.declared.act.Act.TheVariants as acts;
+ghost use Rattle.beldi_walk.specs.declared.query.Query.TheVariants as queries;
+ghost use Rattle.beldi_daal.specs.declared.cell.WriteAt.TheVariants as stages;
+ghost use Rattle.beldi_daal.specs.declared.cell.WriteGoes.TheVariants as goes;
+ghost use Rattle.beldi_daal.specs.Cell.{cell_key as key_of, shadow_key as shadow_key_of, op_act, done_note as done_note_of, write_asks, full_goes, made_goes, write_goes, read_goes, cell_goes, in_the_way};
 
 use beldi_row::{Act, Cell, Kind, Note, Row, RowKey, Said, copy_owner, copy_tx};
 use beldi_value::{Apart, Owner, Place, Rel, Spare, Str, TxId, Value, or_drop};
@@ -91,13 +97,24 @@ impl CellOp {
     }
 }
 
-/// Where the walk of a write stands.
-#[derive(Clone, Copy, Debug, PartialEq, Eq)]
+/// What a full row told.
+#[derive(Drop)]
+pub struct FullRow {
+    pub value: Value,
+    pub owner: Option<Owner>,
+}
+
+/// Where the walk of a write stands, by the numbers of rows.
+#[derive(Drop)]
 pub enum WriteAt {
-    /// The operation is tried next.
-    Try,
+    /// The operation is tried next, at this row.
+    Try(u32),
     /// The item's first row is made next.
     Make,
+    /// The row of this number is made next, which is to follow the one before it, a full one that told this.
+    Append(u32, Apart<FullRow>),
+    /// The row of this number is linked next, to the one before it.
+    Link(u32),
 }
 
 /// Where a write goes.
@@ -105,46 +122,59 @@ pub enum WriteAt {
 pub enum WriteGoes {
     /// The walk goes on from here.
     On(WriteAt),
+    /// The walk stays where it stands.
+    Stays,
     /// The place has this note; `first` says that this act made it.
     Done { note: Note, first: bool },
     /// The item was to be given back, and who asks does not own it.
     NotOwner,
     /// This owner, another than the one who asks, has the item.
     Held(Owner),
+    /// The item's last row is full, and has the greatest number: none can follow it.
+    Worn,
 }
 
 /// Where a read goes.
 #[derive(Drop)]
 pub enum ReadGoes {
-    /// The walk goes on.
-    On,
+    /// The walk goes on from this row.
+    On(u32),
+    /// The walk stays where it stands.
+    Stays,
     /// The item has this value; none where it has no row.
     Got(Option<Value>),
     /// This owner has the item, and the read is for another.
     Held(Owner),
 }
 
-/// The key of the first row of an item of the function `home`.
-pub fn cell_key(alloc: Global, home: u16, table: u16, key: &Str) -> Result<RowKey, AllocError>
-    ensures { IfOk result (λ k. k ≡ key_of home table key.now) }
+/// The key of the row with this number of an item of the function `home`.
+pub fn cell_key(
+    alloc: Global,
+    home: u16,
+    table: u16,
+    key: &Str,
+    row: u32,
+) -> Result<RowKey, AllocError>
+    ensures { IfOk result (λ k. k ≡ at_row (key_of home table key.now) row) }
 {
     let kind = Kind::Data {
         table,
         key: key.copy(alloc)?,
-        row: 0,
+        row,
     };
     Ok(RowKey::new(home, kind))
 }
 
-/// The key of the first row of a transaction's own copy of an item of the function `home`.
+/// The key of the row with this number of a transaction's own copy of an item of the function `home`.
 pub fn shadow_key(
     alloc: Global,
     home: u16,
     tx: &TxId,
     table: u16,
     key: &Str,
+    row: u32,
 ) -> Result<RowKey, AllocError>
-    ensures { IfOk result (λ k. k ≡ shadow_key_of home tx.now table key.now) }
+    ensures { IfOk result (λ k. k ≡ at_row (shadow_key_of home tx.now table key.now) row) }
 {
     let tx = copy_tx(tx, alloc)?;
     let key = or_drop!(key.copy(alloc); tx);
@@ -152,41 +182,84 @@ pub fn shadow_key(
         tx,
         table,
         key,
-        row: 0,
+        row,
     };
     Ok(RowKey::new(home, kind))
 }
 
-/// What a write asks at the key of its item: the operation, for a place and an owner, or that the first row be made.
+/// What a write asks, by the key of its item's first row: the operation, for a place and an owner; that a row be made; or that it
+/// be linked.
 pub fn write_query(
     alloc: Global,
     key: RowKey,
     place: Place,
     who: Owner,
     op: CellOp,
-    at: WriteAt,
+    at: &WriteAt,
 ) -> Result<Apart<Query>, AllocError>
-    ensures { IfOk result (λ q. q ≡ write_asks key place who op at) }
+    ensures { IfOk result (λ q. q ≡ write_asks key place who op at.now) }
 {
+    if let WriteAt::Try(row) = at {
+        let act = or_drop!(op.act(alloc, place, who); key);
+        return Query::act(alloc, key.at_row(*row), act);
+    }
+    drop(place);
+    drop(who);
+    drop(op);
     match at {
-        WriteAt::Try => {
-            let act = or_drop!(op.act(alloc, place, who); key);
-            Query::act(alloc, key, act)
-        }
-        WriteAt::Make => {
-            drop(place);
-            drop(who);
-            drop(op);
-            let value = Value::Null;
-            Query::act(alloc, key, Act::MakeCell { value, owner: None })
-        }
+        WriteAt::Append(row, told) => append_query(alloc, key.at_row(*row), told.get()),
+        WriteAt::Link(row) => link_query(alloc, key, *row),
+        WriteAt::Try(_) | WriteAt::Make => make_query(alloc, key),
     }
 }
 
-/// Where a write goes after it was told; `done` is the note that its operation leaves where the act says `Did`. Out of memory only
-/// for what was lent. A cell that a row follows is written by no walk yet: the walk stays.
-pub fn write_told(alloc: Global, done: Note, heard: Heard<'_>) -> Result<WriteGoes, AllocError>
-    ensures ok { IfOk result (λ s. s ≡ write_goes done (told_of heard.entry)) }
+// Asks that an item's first row be made.
+fn make_query(alloc: Global, key: RowKey) -> Result<Apart<Query>, AllocError>
+    ensures { IfOk result (λ q. q ≡ queries.Act key (acts.MakeCell Null None)) }
+{
+    let value = Value::Null;
+    Query::act(alloc, key, Act::MakeCell { value, owner: None })
+}
+
+// Asks that a row be made with the value and the owner of a full one.
+fn append_query(alloc: Global, key: RowKey, told: &FullRow) -> Result<Apart<Query>, AllocError>
+    ensures { IfOk result (λ q. q ≡ queries.Act key (acts.MakeCell told.now.value told.now.owner)) }
+{
+    let value = or_drop!(told.value.copy(alloc); key);
+    let owner = or_drop!(owner_of(alloc, told.owner.as_ref()); key, value);
+    Query::act(alloc, key, Act::MakeCell { value, owner })
+}
+
+// Asks that the row of this number be linked to the one before it.
+fn link_query(alloc: Global, key: RowKey, row: u32) -> Result<Apart<Query>, AllocError>
+    ensures { IfOk result (λ q. q ≡ queries.Act (at_row key (row - 1)) (acts.LinkCell row)) }
+{
+    Query::act(
+        alloc,
+        key.at_row(row.saturating_sub(1)),
+        Act::LinkCell { next: row },
+    )
+}
+
+// An equal owner, if there is one.
+fn owner_of(alloc: Global, owner: Option<&Owner>) -> Result<Option<Owner>, AllocError>
+    ensures { IfOk result (λ o. o ≡ option_copied owner.entry) }
+{
+    match owner {
+        Some(owner) => Ok(Some(copy_owner(owner, alloc)?)),
+        None => Ok(None),
+    }
+}
+
+/// Where a write goes after it was told, by where it stood; `done` is the note that its operation leaves where the act says `Did`. Out
+/// of memory only for what was lent.
+pub fn write_told(
+    alloc: Global,
+    done: Note,
+    at: &WriteAt,
+    heard: Heard<'_>,
+) -> Result<WriteGoes, AllocError>
+    ensures ok { IfOk result (λ s. s ≡ write_goes done at.now (told_of heard.entry)) }
     ensures err { OnErr result (lends (told_of heard.entry) ≡ true) }
 {
     if let Heard::Said(Said::Did) = heard {
@@ -197,10 +270,11 @@ pub fn write_told(alloc: Global, done: Note, heard: Heard<'_>) -> Result<WriteGo
     }
     drop(done);
     let Heard::Said(said) = heard else {
-        return Ok(WriteGoes::On(WriteAt::Try));
+        return Ok(WriteGoes::Stays);
     };
     match said {
         Said::NoRow => Ok(WriteGoes::On(WriteAt::Make)),
+        Said::Added | Said::Present => Ok(made(at)),
         Said::Tested(passed) => Ok(WriteGoes::Done {
             note: Note::Cond(passed),
             first: true,
@@ -213,14 +287,57 @@ pub fn write_told(alloc: Global, done: Note, heard: Heard<'_>) -> Result<WriteGo
             note: note.copy(alloc)?,
             first: false,
         }),
+        Said::Next(row) => Ok(WriteGoes::On(WriteAt::Try(row))),
         Said::Held(owner) => Ok(WriteGoes::Held(copy_owner(owner, alloc)?)),
         Said::NotOwner => Ok(WriteGoes::NotOwner),
-        _ => Ok(WriteGoes::On(WriteAt::Try)),
+        Said::Packed(value, owner) => packed(alloc, at, value, owner),
+        _ => Ok(WriteGoes::Stays),
     }
 }
 
-/// Where a read goes after its Look; without `who` it gives the value whoever has the item. An item whose first row
-/// another follows is read by no walk yet: the walk stays.
+// Once the row is there: a first row is tried, and any other is linked.
+fn made(at: &WriteAt) -> WriteGoes
+    ensures { result ≡ made_goes at.now }
+{
+    match at {
+        WriteAt::Make => WriteGoes::On(WriteAt::Try(0)),
+        WriteAt::Append(row, _) => WriteGoes::On(WriteAt::Link(*row)),
+        WriteAt::Try(_) | WriteAt::Link(_) => WriteGoes::Stays,
+    }
+}
+
+// From a full row the next one is made, with what that told.
+fn packed(
+    alloc: Global,
+    at: &WriteAt,
+    value: &Value,
+    owner: Option<&Owner>,
+) -> Result<WriteGoes, AllocError>
+    ensures { IfOk result (λ s. s ≡ full_goes (record { value = value.now; owner = option_copied owner.entry }) at.now) }
+{
+    match at {
+        WriteAt::Try(u32::MAX) => Ok(WriteGoes::Worn),
+        WriteAt::Try(row) => append(alloc, *row, value, owner),
+        _ => Ok(WriteGoes::Stays),
+    }
+}
+
+fn append(
+    alloc: Global,
+    row: u32,
+    value: &Value,
+    owner: Option<&Owner>,
+) -> Result<WriteGoes, AllocError>
+    requires { row < 2 ^ 32 - 1 }
+    ensures { IfOk result (λ s. s ≡ goes.On (stages.Append (row + 1) (record { value = value.now; owner = option_copied owner.entry }))) }
+{
+    let value = value.copy(alloc)?;
+    let owner = or_drop!(owner_of(alloc, owner); value);
+    let told = Apart::new(alloc, FullRow { value, owner })?;
+    Ok(WriteGoes::On(WriteAt::Append(row + 1, told)))
+}
+
+/// Where a read goes after its Look; without `who` it gives the value whoever has the item.
 pub fn read_told(
     alloc: Global,
     who: &Option<Owner>,
@@ -230,20 +347,20 @@ pub fn read_told(
     ensures err { OnErr result (lends (told_of heard.entry) ≡ true) }
 {
     let Heard::Said(said) = heard else {
-        return Ok(ReadGoes::On);
+        return Ok(ReadGoes::Stays);
     };
     match said {
         Said::Absent => Ok(ReadGoes::Got(None)),
         Said::Row(Row::Cell(cell)) => read_cell(alloc, who, cell),
-        _ => Ok(ReadGoes::On),
+        _ => Ok(ReadGoes::Stays),
     }
 }
 
 fn read_cell(alloc: Global, who: &Option<Owner>, cell: &Cell) -> Result<ReadGoes, AllocError>
     ensures { IfOk result (λ s. s ≡ cell_goes who.now cell.now cell.now.next) }
 {
-    if cell.next.is_some() {
-        return Ok(ReadGoes::On);
+    if let Some(next) = cell.next {
+        return Ok(ReadGoes::On(next));
     }
     match in_the_way_of(who, &cell.owner) {
         Some(owner) => Ok(ReadGoes::Held(copy_owner(owner, alloc)?)),

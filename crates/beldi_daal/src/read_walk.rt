@@ -19,12 +19,14 @@ pub enum ReadSays {
     Held(Owner),
 }
 
-/// A walk to the value of an item. It makes one Look a turn, leaves the rows as they are, and stands where it stood.
+/// A walk to the value of an item. It makes one Look a turn, and leaves the rows as they are. Unless it says `Going` it stands where it
+/// stood.
 #[derive(Drop)]
 pub struct ReadWalk {
     home: u16,
     item: Item,
     who: Option<Owner>,
+    row: u32,
 }
 
 impl Walk for ReadWalk {
@@ -39,12 +41,19 @@ impl Walk for ReadWalk {
     ghost says = { read_says };
 
     fn ask(&self, alloc: Global) -> Result<Apart<Query>, AllocError> {
-        Query::look(alloc, self.item.first_key(alloc, self.home)?)
+        Query::look(
+            alloc,
+            self.item.first_key(alloc, self.home)?.at_row(self.row),
+        )
     }
 
     fn told(&mut self, alloc: Global, heard: Heard<'_>) -> Result<ReadSays, AllocError> {
         match read_told(alloc, &self.who, heard)? {
-            ReadGoes::On => Ok(ReadSays::Going),
+            ReadGoes::On(row) => {
+                self.row = row;
+                Ok(ReadSays::Going)
+            }
+            ReadGoes::Stays => Ok(ReadSays::Going),
             ReadGoes::Got(value) => Ok(ReadSays::Got(value)),
             ReadGoes::Held(owner) => Ok(ReadSays::Held(owner)),
         }
@@ -56,6 +65,11 @@ impl ReadWalk {
     pub fn new(home: u16, item: Item, who: Option<Owner>) -> ReadWalk
         ensures { result ≡ first_read home item who }
     {
-        ReadWalk { home, item, who }
+        ReadWalk {
+            home,
+            item,
+            who,
+            row: 0,
+        }
     }
 }

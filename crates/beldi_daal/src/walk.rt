@@ -7,6 +7,7 @@ use beldi_row::{Note, RowKey, copy_owner};
 use beldi_value::{Apart, Owner, Place, Str, TxId, or_drop};
 use beldi_walk::{Heard, Query, Walk};
 use std::alloc::{AllocError, Global};
+use std::mem::replace;
 
 /// What a walk is on.
 #[derive(Drop)]
@@ -23,8 +24,8 @@ impl Item {
         ensures { IfOk result (λ k. k ≡ first_key home self.now) }
     {
         match self {
-            Item::Plain { table, key } => cell_key(alloc, home, *table, key),
-            Item::Shadow { tx, table, key } => shadow_key(alloc, home, tx, *table, key),
+            Item::Plain { table, key } => cell_key(alloc, home, *table, key, 0),
+            Item::Shadow { tx, table, key } => shadow_key(alloc, home, tx, *table, key, 0),
         }
     }
 }
@@ -40,8 +41,7 @@ pub enum WriteSays {
     NotOwner,
     /// This owner, another than the one who asks, has the item.
     Held(Owner),
-    /// The item's last row is full and has the greatest id of a row, 4,294,967,295, so no row can follow it. It comes
-    /// only where the rows of an item are linked: as no act says yet that a row is full, no turn answers it.
+    /// The item's last row is full and has the greatest number of a row, 4,294,967,295, so no row can follow it.
     Worn,
 }
 
@@ -72,18 +72,20 @@ impl Walk for WriteWalk {
         let place = or_drop!(self.place.copy(alloc); key);
         let who = or_drop!(copy_owner(&self.who, alloc); key, place);
         let op = or_drop!(self.op.copy(alloc); key, place, who);
-        write_query(alloc, key, place, who, op, self.at)
+        write_query(alloc, key, place, who, op, &self.at)
     }
 
     fn told(&mut self, alloc: Global, heard: Heard<'_>) -> Result<WriteSays, AllocError> {
-        match write_told(alloc, self.op.done_note(), heard)? {
+        match write_told(alloc, self.op.done_note(), &self.at, heard)? {
             WriteGoes::On(at) => {
-                self.at = at;
+                self.stand(at);
                 Ok(WriteSays::Going)
             }
+            WriteGoes::Stays => Ok(WriteSays::Going),
             WriteGoes::Done { note, first } => Ok(WriteSays::Done { note, first }),
             WriteGoes::NotOwner => Ok(WriteSays::NotOwner),
             WriteGoes::Held(owner) => Ok(WriteSays::Held(owner)),
+            WriteGoes::Worn => Ok(WriteSays::Worn),
         }
     }
 }
@@ -99,7 +101,14 @@ impl WriteWalk {
             place,
             who,
             op,
-            at: WriteAt::Try,
+            at: WriteAt::Try(0),
         }
+    }
+
+    // It stands here from now on.
+    fn stand(&mut self, at: WriteAt)
+        ensures { self.new ≡ record self.old { at = at } }
+    {
+        drop(replace(&mut self.at, at));
     }
 }

@@ -18,6 +18,7 @@ may_counts_none c (Some r) = either c.taken (has_run c.runs r.id || is_crowded c
 turn_counts_none : (c : Core) (o : Option Run) (id : IntentId) (x : TurnSays) (w : Option Wait) → (after_turn c o id x w).0.taken ≡ c.taken
 turn_counts_none c o id x None = either c.taken x.starts (may_start c o) (c, None) (may_counts_none c o) refl
 turn_counts_none c o id x (Some (Wait.Held w)) = refl
+turn_counts_none c o id x (Some Wait.Worn) = refl
 turn_counts_none c o id x (Some (Wait.Result callee)) = either c.taken (has_run c.runs callee) (c, Seen.NotYet callee) _ refl (either c.taken (is_crowded c) (c, Seen.Crowded) _ refl (start_counts_none c o))
 
 run_counts_none : (d : Deployment) (c : Core) (i : ℕ) (t : Told) (o : Option Run) → (run_next d c i t o).0.taken ≡ c.taken

@@ -2,7 +2,8 @@
 ghost use Rattle.std.specs.Prelude.{◌≡◌, IfOk};
 ghost use Rattle.std.specs.FinMap as map;
 ghost use Rattle.beldi_row.specs.Act.{tell_of};
-ghost use Rattle.beldi_chain.specs.Chain.{above, at_row as row_at, chain};
+ghost use Rattle.beldi_row.specs.Key.{at_row as row_at};
+ghost use Rattle.beldi_chain.specs.Chain.{above, chain};
 ghost use Rattle.beldi_host.specs.LastRow.{IsLast, row_tells};
 ghost use Rattle.beldi_host.specs.Survey.{Reads, told_row};
 

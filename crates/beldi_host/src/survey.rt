@@ -217,7 +217,7 @@ fn owned_by(
     ensures { IfOk result (λ o. o ≡ record { decision = decision_key_of tx.now; shadow = shadow_key_of home tx.now table item.now; value = value.now }) }
 {
     let decision = decision_key(alloc, tx)?;
-    let shadow = or_drop!(shadow_key(alloc, home, tx, table, item); decision);
+    let shadow = or_drop!(shadow_key(alloc, home, tx, table, item, 0); decision);
     let value = or_drop!(value.copy(alloc); decision, shadow);
     Ok(Owned {
         decision,

@@ -16,8 +16,8 @@ use Rattle.beldi_row.specs.{Key.RowKey, Key.key_cmp, Key.key_ticket, Key.ticket_
 use Rattle.beldi_row.proofs.Gets.{key_same}
 use Rattle.beldi_intent.specs.Intent.{root_key}
 use Rattle.beldi_step.specs.Host.{Core}
-use Rattle.beldi_chain.proofs.OneRow.{one_tail}
 use Rattle.beldi_known.specs.{Contents.shadow_chain, Known.Got, Known.got_by, Known.owed_call, Known.owed_lockset, Known.owed_read, Known.owed_value, Owed.called_by, Matches.LocksetMatches, Matches.RowMatches, Matches.has_ended, Matches.lockset_ahead, Rows.CallMatches, Rows.CalleeBodyMatches, Rows.CalleeMatches, Rows.IntentMatches, Rows.LogMatches, Rows.RootMatches}
+use Rattle.beldi_links.proofs.Last.{last_there}
 use Rattle.beldi_known.proofs.{Callers.called_below, Callers.root_or_called, Cases.by_option, ReadLists.got_since, ReadLists.member_tx}
 use Rattle.beldi_laws.specs.Right.{Right}
 use Rattle.beldi_host.specs.Survey.{greatest, newest_of}
@@ -132,10 +132,9 @@ module _ (d : Deployment) (c : Core) (m : Rows) (h : Right d c m) where
       (λ none. absurd (not_true (sym (ap (got_by d t x g.member (h.locked g.member)) none) ∙ g.got)))
       (λ q is. member_named t x g.member q is (sym (ap (got_by d t x g.member (h.locked g.member)) is) ∙ g.got))
 
-  -- a shadow has one row at most, and that only where its transaction got the item
+  -- a shadow has rows only where its transaction got the item
   shadow_named : (home : ℕ) (t : TxId) (table : ℕ) (key : List ℕ) (n : ℕ) → is_some (map.get m (record { home = home; kind = Kind.Shadow t table key n })) ≡ true → t.intent.ticket ≤ c.newest
-  shadow_named home t table key zero there = let x : Item = record { func = home; table = table; key = key } in got_named t x (h.shadows.got t x (ap is_some (one_tail (shadow_chain m t x) (h.rows.asides t x).sound) ∙ there))
-  shadow_named home t table key (suc n) there = let x : Item = record { func = home; table = table; key = key } in absurd (not_true (sym (ap is_some ((h.rows.asides t x).sound.alone n)) ∙ there))
+  shadow_named home t table key n there = let x : Item = record { func = home; table = table; key = key } in got_named t x (h.shadows.got t x (last_there (shadow_chain m t x) (h.rows.asides t x).linked n there))
 
   kind_named : (home : ℕ) (k : Kind) → RowMatches d h.known home k (map.get m (record { home = home; kind = k })) → is_some (map.get m (record { home = home; kind = k })) ≡ true → ticket_of k ≤ c.newest
   kind_named home (Kind.Intent id) w there = intent_named (has_no_hops id.hops) home id refl w there

@@ -92,6 +92,7 @@ module _ (base : List Entry) where
   after_behind : (c : Core) (o : Option Run) (id : IntentId) (x : TurnSays) (w : Option Wait) → after_turn (behind base c) (option_map (raised_run more) o) id (raised_turn_says more x) w ≡ answered (after_turn c o id x w)
   after_behind c o id x None = ap (made id (raised_turn_says more x)) (may_behind c o x.starts) ∙ made_behind id x (if x.starts then may_start c o else (c, None))
   after_behind c o id x (Some (Wait.Held w)) = refl
+  after_behind c o id x (Some Wait.Worn) = refl
   after_behind c o id x (Some (Wait.Result callee)) =
       (λ j. if has_raised more c.runs callee j then (behind base c, Seen.NotYet callee) else (if crowded_behind c j then (behind base c, Seen.Crowded) else (ap (made id (raised_turn_says more x)) (started_behind c o) ∙ made_behind id x (started c o)) j))
       ∙ ap (λ z. if has_run c.runs callee then (behind base c, Seen.NotYet callee) else z) (if_pushed answered (is_crowded c) (c, Seen.Crowded) (made id x (started c o)))

@@ -7,7 +7,7 @@ use Rattle.beldi_tree.specs.{declared.deployment.Deployment.Deployment, declared
 use Rattle.beldi_lang.specs.{declared.effect.Effect.Effect, declared.effect.Answer.Answer, declared.machine.Machine.Machine, Machine.begun as machine_begun}
 use Rattle.beldi_row.specs.{declared.row.Body.Body, declared.notes.Note.Note}
 use Rattle.beldi_walk.specs.Query.{Told}
-use Rattle.beldi_daal.specs.{declared.cell.WriteGoes.WriteGoes, declared.cell.ReadGoes.ReadGoes, Cell.write_goes, Cell.read_goes}
+use Rattle.beldi_daal.specs.{declared.cell.WriteAt.WriteAt, declared.cell.WriteGoes.WriteGoes, declared.cell.ReadGoes.ReadGoes, Cell.write_goes, Cell.read_goes}
 use Rattle.beldi_readlog.specs.{declared.read_log.Kept.Kept, ReadLog.given_of, ReadLog.kept_of}
 use Rattle.beldi_invokelog.specs.InvokeLog.{back_of}
 use Rattle.beldi_invokelog.specs.declared.invoke_log.Back as told
@@ -65,7 +65,8 @@ module _ (n : ℕ) where
   ask_same (Some v) = refl
 
   walk_raised : (k : ℕ) (g : ReadGoes) → walk_says (n + k) g ≡ raised_says n (walk_says k g)
-  walk_raised k ReadGoes.On = refl
+  walk_raised k (ReadGoes.On row) = refl
+  walk_raised k ReadGoes.Stays = refl
   walk_raised k (ReadGoes.Got v) = refl
   walk_raised k (ReadGoes.Held o) = refl
 
@@ -78,13 +79,15 @@ module _ (n : ℕ) where
 
   write_same : (e : Effect) (g : WriteGoes) → IsSame (write_says e g)
   write_same e (WriteGoes.On at) = refl
+  write_same e WriteGoes.Stays = refl
   write_same e (WriteGoes.Done x first) = done_same first (answer_noted e x)
   write_same e WriteGoes.NotOwner = refl
   write_same e (WriteGoes.Held w) = refl
+  write_same e WriteGoes.Worn = refl
 
-  put_same : (e : Effect) (o : Option Note) (t : Told) → IsSame (put_says e o t)
-  put_same e None t = refl
-  put_same e (Some x) t = write_same e (write_goes x t)
+  put_same : (e : Effect) (at : WriteAt) (o : Option Note) (t : Told) → IsSame (put_says e at o t)
+  put_same e at None t = refl
+  put_same e at (Some x) t = write_same e (write_goes x at t)
 
   put_answer_same : (a : TxAt) → IsSame (put_answer a)
   put_answer_same (TxAt.Keep v) = refl
@@ -96,6 +99,7 @@ module _ (n : ℕ) where
   tx_same a TxGoes.Put = put_answer_same a
   tx_same a (TxGoes.Died c) = refl
   tx_same a (TxGoes.Held o) = refl
+  tx_same a TxGoes.Worn = refl
   tx_same a (TxGoes.Value v) = refl
   tx_same a TxGoes.Done = refl
 
@@ -109,6 +113,7 @@ module _ (n : ℕ) where
 
   visit_same : (commit : Bool) (v : Visit) (g : EndGoes) → IsSame (visit_says commit v g)
   visit_same commit v EndGoes.Done = refl
+  visit_same commit v EndGoes.Worn = refl
   visit_same commit v g = refl
 
   decide_by_raised : (id : IntentId) (func step : ℕ) (commit : Bool) (m : Mark) (o : Option RunTx) (t : Told) → decide_by_says id func step commit (raised_mark n m) o t ≡ raised_says n (decide_by_says id func step commit m o t)
@@ -160,9 +165,9 @@ module _ (n : ℕ) where
 
   stage_raised : (id : IntentId) (func : ℕ) (c : Option Caller) (o : Option RunTx) (k step : ℕ) (e : Effect) (s : Stage) (t : Told) → stage_says id func c o (n + k) step e (raised_stage n s) t ≡ raised_says n (stage_says id func c o k step e s t)
   stage_raised id func c o k step e Ask t = ask_same (given_of t)
-  stage_raised id func c o k step e Walk t = walk_raised k (read_goes (Some (ByIntent id)) t)
+  stage_raised id func c o k step e (Walk row) t = walk_raised k (read_goes (Some (ByIntent id)) t)
   stage_raised id func c o k step e (Keep v seen) t = keep_raised seen (kept_of v t)
-  stage_raised id func c o k step e (Write at) t = put_same e (note_done e) t
+  stage_raised id func c o k step e (Write at) t = put_same e at (note_done e) t
   stage_raised id func c o k step e (Tx at) t = tx_here_same id step e at o t
   stage_raised id func c o k step e (Decide m) t = decide_raised id func step e m o t
   stage_raised id func c o k step e (End v) t = end_same id func step e v o t

@@ -11,7 +11,7 @@ use Rattle.beldi_readlog.specs.ReadLog.{log_key}
 use Rattle.beldi_step.specs.{Host.Core, Host.EventOn, Host.most_runs, Next.first_past, Next.next_run, Run.place_of, declared.event.Seen.Seen, declared.run.Begun.Begun, declared.run.Run.Run, declared.run.RunAt.RunAt, declared.run.RunAt.TheVariants.Begins, declared.run.RunAt.TheVariants.Looks, declared.run.RunAt.TheVariants.Registers, declared.run.Stage.Stage, declared.run.Stage.TheVariants.Decide, declared.run.Stage.TheVariants.Keep}
 use Rattle.beldi_schedule.specs.{Settle.by_round, Settle.core_for, Settle.event_of, Settle.heard_of, Settle.ic_heard, Settle.begun, Settle.is_empty, Settle.next_of, Settle.restless, Settle.turn_heard, Settle.turn_or, Settle.turns_of, Settle.unparked, Settles.Advances, Settles.MaySkip, Settles.Settles, Settles.State, Settles.goes, Settles.skips, Settles.stands}
 use Rattle.beldi_schedule.specs.declared.machine.{At.At, Next.Next, Next.TheVariants.Collect, Next.TheVariants.Reset, Next.TheVariants.Turn, Settled.Settled, Settled.TheVariants.All, Settled.TheVariants.Spent, Settled.TheVariants.Stuck, Settled.TheVariants.Unsettled, Standing.Standing}
-use Rattle.beldi_bound.specs.{Cost.cost_at, Ends.HasCause, Ends.IsLate, Ends.IsLeft, Ends.IsUnhindered, Ends.NoneIsLate, Ends.Promises, Ends.SettlesAsPromised, Ends.crowded, Ends.hindered, Ends.left, Work.has_ended, Work.most_of, Work.one_more, Work.open_keys, Work.seat, Work.sum_of, Work.work_by}
+use Rattle.beldi_bound.specs.{Cost.cost_at, Ends.HasCause, Ends.IsLate, Ends.IsLeft, Ends.IsUnhindered, Ends.NoneIsLate, Ends.Promises, Ends.SettlesAsPromised, Ends.crowded, Ends.hindered, Ends.is_walk, Ends.left, Work.has_ended, Work.most_of, Work.one_more, Work.open_keys, Work.seat, Work.sum_of, Work.work_by}
 use Rattle.beldi_joined.specs.{Joined.behind, Joined.joined, Joined.raised_at, Joined.raised_run, Joined.raised_runs, Joined.raised_seen, Joined.raised_stage, Joined.with_joined, Laws.SettlesAsPromisedAfter}
 use Rattle.beldi_joined.proofs.{RaisedEvents.step_behind, RaisedRuns.entries_raised, RaisedRuns.get_raised, RaisedRuns.len_raised, RaisedRuns.lifted}
 
@@ -38,7 +38,7 @@ module _ (n : ℕ) where
   had_begun (Registers b) g h = cc
   had_begun (Begins b) g h = (b, refl, sym (same_begun (record b { stage = raised_stage n b.stage }) g h))
 
-  walks_on : (s : Stage) → raised_stage n s ≡ Stage.Walk → s ≡ Stage.Walk
+  walks_on : (s : Stage) → is_walk (raised_stage n s) ≡ true → is_walk s ≡ true
   walks_on (Keep v seen) h = cc
   walks_on (Decide m) h = cc
   walks_on s h = h
@@ -55,7 +55,7 @@ module _ (n : ℕ) where
     late_so = record {
       begun = begun_so.0;
       at = begun_so.1;
-      walks = walks_on begun_so.0.stage (ap (λ (g : Begun). g.stage) (sym begun_so.2) ∙ l.walks);
+      walks = walks_on begun_so.0.stage (ap (λ (g : Begun). is_walk g.stage) (sym begun_so.2) ∙ l.walks);
       kept = subst (λ (z : Run). is_some (finite.get m (log_key z.func (place_of z.id begun_so.0.machine.steps))) ≡ true) is
           (subst (λ k. is_some (finite.get m (log_key r.func (place_of r.id k))) ≡ true) as_far l.kept);
     }

@@ -1,5 +1,5 @@
 -- What the acts at the front leave: rows that match, and chains that are as before.
-use Rattle.beldi_known.proofs.Names.{Answer, AnswersOne, Bool, ChangedAlone, Content, Deployment, Instance, IntentId, IsAside, IsHead, IsSoundChain, Item, ItemMatches, Kind, Known, List, LockedOut, Matches, None, Note, Option, Place, Row, RowKey, RowMatches, Rows, SameShadows, ShadowMatches, Some, Sound, Tx, TxId, TxsMatch, Value, [], and_parts, ap, asks_lock, at_row, begins_at, chain, chain_off, chain_other, content, content_of, effect_of, eq_by_cmp_equiv, eqb-true, false, false_from_ne_true, head_key, id_cmp, id_same, is_aborted, is_eq, is_item, is_row_of, item_cmp, item_same, item_total, key_cmp, key_same, key_self, kind_at, length, lock_in, lockset_key, log_key, note_at, other_owner, owed_read, place_of, refl, row_added, set_row, shadow_by, shadow_chain, shadow_key, shadow_of, subst, sym, touched, true, tx_eq, tx_now, txs_after, with_note, ℕ, ◌&&◌, ◌++◌, ◌==◌, ◌∙◌, ◌∷◌, ◌≡◌}
+use Rattle.beldi_known.proofs.Names.{Answer, AnswersOne, Bool, ChangedAlone, Content, Deployment, Instance, IntentId, IsAside, IsHead, IsLinked, IsLinkedItem, Item, ItemMatches, Kind, Known, List, LockedOut, Matches, None, Note, Option, Place, Row, RowKey, RowMatches, Rows, SameShadows, ShadowMatches, Some, Tx, TxId, TxsMatch, Value, [], and_parts, ap, asks_lock, at_row, begins_at, chain, chain_off, chain_other, content, content_of, effect_of, eq_by_cmp_equiv, eqb-true, false, false_from_ne_true, head_key, id_cmp, id_same, is_aborted, is_eq, is_item, is_row_of, item_cmp, item_same, item_total, key_cmp, key_same, key_self, kind_at, length, lock_in, lockset_key, log_key, note_at, other_owner, owed_read, place_of, refl, row_added, set_row, shadow_by, shadow_chain, shadow_key, shadow_of, subst, sym, touched, true, tx_eq, tx_now, txs_after, with_note, ℕ, ◌&&◌, ◌++◌, ◌==◌, ◌∙◌, ◌∷◌, ◌≡◌}
 use Rattle.beldi_known.proofs.Fronts.{read_elsewhere, row_by, locksets_answered, items_answered, txs_answered, item_died, item_kept, txs_died, shadow_kept, shadow_noted}
 use Rattle.beldi_known.proofs.{Answers.true_false, Rows.head_order, Rows.keys_set, Rows.set_others, FrameAt.read_none, FrameAt.read_here, Locks.lock_taken, Locks.lock_kept, Locks.txs_taken, Locks.txs_kept, Locks.tx_same, Cases.by_cases}
 use Rattle.beldi_known.proofs.Names.map
@@ -69,11 +69,11 @@ module _ (m : Rows) (k : RowKey) (v : Option Row) where
 -- ---- rows that match, after one was set that is no cell's
 module _ (d : Deployment) (known : Known) (locked : IntentId → Bool) (m : Rows) where
   pub log_set : (k : RowKey) (v : Option Row) → is_cell k.kind ≡ false → RowMatches d known k.home k.kind v → ((l : RowKey) → is_eq (key_cmp l k) ≡ false → RowMatches d known l.home l.kind (map.get m l))
-      → ((x : Item) → IsSoundChain m x) → ((t : TxId) (x : Item) → IsAside (shadow_chain m t x))
+      → ((x : Item) → IsLinkedItem m x) → ((t : TxId) (x : Item) → IsAside (shadow_chain m t x))
       → ((x : Item) → ItemMatches d known locked x (content_of m x)) → ((t : TxId) (x : Item) → ShadowMatches d known t x (shadow_of m t x)) → ((x : Item) → TxsMatch d known locked x (content_of m x).owner) → Matches d (set_row m k v) known locked
   log_set k v kind here others chains asides items shadows txs = record {
     keys = keys_set m k v (λ l z. RowMatches d known l.home l.kind z) here others;
-    chains = λ x. subst Sound (sym (item_as x)) (chains x);
+    chains = λ x. subst IsLinked (sym (item_as x)) (chains x);
     asides = λ t x. subst IsAside (sym (aside_as t x)) (asides t x);
     items = λ x. subst (λ z. ItemMatches d known locked x (content z)) (sym (item_as x)) (items x);
     shadows = λ t x. subst (λ z. ShadowMatches d known t x (content z)) (sym (aside_as t x)) (shadows t x);
@@ -107,8 +107,8 @@ module _ (m n : Rows) (x : Item) (alone : ChangedAlone (head_key x) m n) where
   pub other_key : (l : RowKey) → is_data l.kind ≡ false → map.get n l ≡ map.get m l
   other_key l off = alone l (kind_off is_data same_data (head_key x) l refl off)
 
-  pub chains_alone : IsSoundChain n x → ((y : Item) → IsSoundChain m y) → (y : Item) → IsSoundChain n y
-  chains_alone sound chains y = by_item x y (λ z. IsSoundChain n z) sound (λ apart. subst Sound (sym (other_item y apart)) (chains y))
+  pub chains_alone : IsLinkedItem n x → ((y : Item) → IsLinkedItem m y) → (y : Item) → IsLinkedItem n y
+  chains_alone linked chains y = by_item x y (λ z. IsLinkedItem n z) linked (λ apart. subst IsLinked (sym (other_item y apart)) (chains y))
 
 -- shadows with one key are one
 abbrev tx_of : Kind → TxId
@@ -157,12 +157,12 @@ module _ (d : Deployment) (known : Known) where
 
 module _ (d : Deployment) (known : Known) (locked : IntentId → Bool) (m : Rows) where
   -- .. those of an item
-  pub head_at : (n : Rows) (x : Item) (c : Content) → ChangedAlone (head_key x) m n → content_of n x ≡ c → IsSoundChain n x → ((l : RowKey) → RowMatches d known l.home l.kind (map.get m l)) → ((y : Item) → IsSoundChain m y) → ((t : TxId) (y : Item) → IsAside (shadow_chain m t y))
+  pub head_at : (n : Rows) (x : Item) (c : Content) → ChangedAlone (head_key x) m n → content_of n x ≡ c → IsLinkedItem n x → ((l : RowKey) → RowMatches d known l.home l.kind (map.get m l)) → ((y : Item) → IsLinkedItem m y) → ((t : TxId) (y : Item) → IsAside (shadow_chain m t y))
       → ItemMatches d known locked x c → ((y : Item) → is_eq (item_cmp x y) ≡ false → ItemMatches d known locked y (content_of m y)) → ((t : TxId) (y : Item) → ShadowMatches d known t y (shadow_of m t y))
       → TxsMatch d known locked x c.owner → ((y : Item) → is_eq (item_cmp x y) ≡ false → TxsMatch d known locked y (content_of m y).owner) → Matches d n known locked
-  head_at n x c alone here sound keys chains asides own items shadows own_txs txs = record {
+  head_at n x c alone here linked keys chains asides own items shadows own_txs txs = record {
     keys = keys_alone d known m n (head_key x) refl alone keys;
-    chains = chains_alone m n x alone sound chains;
+    chains = chains_alone m n x alone linked chains;
     asides = λ t y. subst IsAside (sym (other_shadows m n x alone t y)) (asides t y);
     items = λ y. by_item x y (λ y. ItemMatches d known locked y (content_of n y)) (subst (ItemMatches d known locked x) (sym here) own)
         (λ other. subst (λ z. ItemMatches d known locked y (content z)) (sym (other_item m n x alone y other)) (items y other));
@@ -172,11 +172,11 @@ module _ (d : Deployment) (known : Known) (locked : IntentId → Bool) (m : Rows
   }
 
   -- .. and those of a shadow
-  pub shadow_at : (n : Rows) (s : TxId) (x : Item) → ChangedAlone (shadow_key s x) m n → IsAside (shadow_chain n s x) → ((l : RowKey) → RowMatches d known l.home l.kind (map.get m l)) → ((y : Item) → IsSoundChain m y) → ((t : TxId) (y : Item) → IsAside (shadow_chain m t y))
+  pub shadow_at : (n : Rows) (s : TxId) (x : Item) → ChangedAlone (shadow_key s x) m n → IsAside (shadow_chain n s x) → ((l : RowKey) → RowMatches d known l.home l.kind (map.get m l)) → ((y : Item) → IsLinkedItem m y) → ((t : TxId) (y : Item) → IsAside (shadow_chain m t y))
       → ((y : Item) → ItemMatches d known locked y (content_of m y)) → ((t : TxId) (y : Item) → ShadowMatches d known t y (shadow_of n t y)) → ((y : Item) → TxsMatch d known locked y (content_of m y).owner) → Matches d n known locked
   shadow_at n s x alone free keys chains asides items shadows txs = record {
     keys = keys_alone d known m n (shadow_key s x) refl alone keys;
-    chains = λ y. subst Sound (sym (item_aside m n s x alone y)) (chains y);
+    chains = λ y. subst IsLinked (sym (item_aside m n s x alone y)) (chains y);
     asides = asides_alone m n s x alone free asides;
     items = λ y. subst (λ z. ItemMatches d known locked y (content z)) (sym (item_aside m n s x alone y)) (items y);
     shadows = shadows;
@@ -192,10 +192,10 @@ module _ (d : Deployment) (known : Known) (locked : IntentId → Bool) (id : Int
   abbrev place : Place
   place = place_of id (length q.answers)
 
-  pub lock_did : (m n : Rows) → ChangedAlone (head_key item) m n → IsSoundChain n item → note_at (content_of m item).notes place ≡ None → other_owner (Tx s) (content_of m item).owner ≡ None
+  pub lock_did : (m n : Rows) → ChangedAlone (head_key item) m n → IsLinkedItem n item → note_at (content_of m item).notes place ≡ None → other_owner (Tx s) (content_of m item).owner ≡ None
       → content_of n item ≡ record { value = (content_of m item).value; owner = Some (Tx s); notes = (content_of m item).notes ++ (place, Note.Got) ∷ [] }
       → Matches d m known locked → Matches d n known (lock_in locked id)
-  lock_did m n alone sound none free same h = head_at d known (lock_in locked id) m n item _ alone same sound h.keys h.chains h.asides (lock_taken d known locked id q is unlocked s inside o touch (content_of m item) none free (h.items item))
+  lock_did m n alone linked none free same h = head_at d known (lock_in locked id) m n item _ alone same linked h.keys h.chains h.asides (lock_taken d known locked id q is unlocked s inside o touch (content_of m item) none free (h.items item))
       (λ x other. lock_kept d known locked id q is unlocked s inside o touch x (content_of m x) other (h.items x)) h.shadows
       (txs_taken d known locked id q is unlocked s inside o touch (content_of m item) none free (h.txs item)) (λ x other. txs_kept d known locked id q is unlocked s inside o touch x (content_of m x).owner other (h.txs x))
 
@@ -234,11 +234,11 @@ module _ (d : Deployment) (known : Known) (locked unlocked : IntentId → Bool) 
       (λ x. txs_answered d known locked unlocked id q r a is one out s inside o touch was lives x (content_of m x).owner (h.txs x))
 
   -- WriteCell Did, CondCell Tested, of the shadow: a write is answered, its lock being ahead
-  pub write_answered : (n : Rows) (w : Note) → ChangedAlone (shadow_key s own) m n → Sound (shadow_chain n s own) → row_added (length q.answers) (txs_after d q q.answers).begun (effect_of d q) a ≡ None → locked id ≡ true → is_aborted a ≡ false
+  pub write_answered : (n : Rows) (w : Note) → ChangedAlone (shadow_key s own) m n → IsLinked (shadow_chain n s own) → row_added (length q.answers) (txs_after d q q.answers).begun (effect_of d q) a ≡ None → locked id ≡ true → is_aborted a ≡ false
       → shadow_by s own q.func (tx_now d id q) (effect_of d q) a ≡ Some w → ((t : TxId) (x : Item) → (tx_eq t s && is_eq (item_cmp own x)) ≡ false → shadow_by t x q.func (tx_now d id q) (effect_of d q) a ≡ None)
       → note_at (shadow_of m s own).notes here ≡ None → (u : Value) → shadow_of n s own ≡ record { value = u; owner = (shadow_of m s own).owner; notes = (shadow_of m s own).notes ++ (here, w) ∷ [] }
       → Matches d n after unlocked
-  write_answered n w alone sound added was lives noted apart none u same = shadow_at d after unlocked m n s own alone (record { sound = sound; unowned = ap (λ (c : Content). c.owner) same ∙ (h.asides s own).unowned }) (λ l. row_answered l (λ b kind. read_none d known id q r a is one added l.home b) (h.keys l)) h.chains h.asides
+  write_answered n w alone linked added was lives noted apart none u same = shadow_at d after unlocked m n s own alone (record { linked = linked; unowned = ap (λ (c : Content). c.owner) same ∙ (h.asides s own).unowned }) (λ l. row_answered l (λ b kind. read_none d known id q r a is one added l.home b) (h.keys l)) h.chains h.asides
       (λ x. items_answered d known locked unlocked id q r a is one out s inside o touch was lives x (content_of m x) (h.items x))
       (by_aside m n s own alone (λ t x. ShadowMatches d after t x (shadow_of n t x)) (subst (ShadowMatches d after s own) (sym same) (shadow_noted d known locked unlocked id q r a is one out s own (shadow_of m s own) w u noted none (h.shadows s own)))
       (λ t x off. subst (λ z. ShadowMatches d after t x (content z)) (sym (other_aside m n s own alone t x off)) (shadow_kept d known locked unlocked id q r a is one out t x (shadow_of m t x) (apart t x (away t x off)) (h.shadows t x))))
@@ -249,10 +249,10 @@ module _ (d : Deployment) (known : Known) (locked unlocked : IntentId → Bool) 
           true_false (sym ((λ i. is_eq (key_cmp (shadow_key (tx_same t s f.0 i) (sym (item_same own x f.1) i)) (shadow_key s own))) ∙ key_self (shadow_key s own)) ∙ off))
 
   -- LockCell Died
-  pub lock_died : (n : Rows) (holder : IntentId) → ChangedAlone (head_key own) m n → IsSoundChain n own → row_added (length q.answers) (txs_after d q q.answers).begun (effect_of d q) a ≡ None → a ≡ Answer.Aborted (record { place = here; holder = Some holder }) → locked id ≡ false
+  pub lock_died : (n : Rows) (holder : IntentId) → ChangedAlone (head_key own) m n → IsLinkedItem n own → row_added (length q.answers) (txs_after d q q.answers).begun (effect_of d q) a ≡ None → a ≡ Answer.Aborted (record { place = here; holder = Some holder }) → locked id ≡ false
       → ((t : TxId) (x : Item) → shadow_by t x q.func (tx_now d id q) (effect_of d q) a ≡ None) → note_at (content_of m own).notes here ≡ None → content_of n own ≡ with_note (content_of m own) here (Note.Died holder)
       → Matches d n after unlocked
-  lock_died n holder alone sound added dies was no_note none same = head_at d after unlocked m n own _ alone same sound (λ l. row_answered l (λ b kind. read_none d known id q r a is one added l.home b) (h.keys l)) h.chains h.asides
+  lock_died n holder alone linked added dies was no_note none same = head_at d after unlocked m n own _ alone same linked (λ l. row_answered l (λ b kind. read_none d known id q r a is one added l.home b) (h.keys l)) h.chains h.asides
       (item_died d known locked unlocked id q r a is one out s inside o touch holder dies was (content_of m own) none (h.items own)) (λ x other. item_kept d known locked unlocked id q r a is one out s inside o touch holder dies was x (content_of m x) other (h.items x))
       (λ t x. shadow_kept d known locked unlocked id q r a is one out t x (shadow_of m t x) (no_note t x) (h.shadows t x)) (txs_died d known locked unlocked id q r a is one out s inside o touch holder dies was own (content_of m own).owner (h.txs own))
       (λ x other. txs_died d known locked unlocked id q r a is one out s inside o touch holder dies was x (content_of m x).owner (h.txs x))

@@ -1,6 +1,7 @@
 -- The front acts of operations inside, by their effects; and a release.
-use Rattle.beldi_known.proofs.Names.{Answer, Bool, ChangedAlone, Content, Deployment, Effect, Instance, Intent, IntentId, IsAside, IsSoundChain, Item, ItemMatches, Known, List, LockedOut, Matches, None, Note, Option, Place, Rel, Row, Rows, ShadowMatches, Some, Sound, Tx, TxId, TxsMatch, Value, [], ap, arith, begins_at, content, content_in, content_of, effect_of, eq-eqb, false, head_key, if◌then◌else◌, is_eq, is_item, is_mark, is_none, is_open, is_owner, is_some, is_tx, item_cmp, item_total, length, lockset_ahead, lockset_key, log_key, moved, no_content, not, note_at, note_of, note_pushed, one_tail, or_right, owed_lockset, place_eq, place_of, place_same, refl, row_added, set_row, shadow_by, shadow_chain, shadow_key, shadow_of, shadow_row, subst, sym, tied_itself, touched, true, tx_end, tx_eq, tx_now, txs_after, with_note, write_op, ℕ, ◌&&◌, ◌++◌, ◌==◌, ◌∙◌, ◌∷◌, ◌≡◌}
+use Rattle.beldi_known.proofs.Names.{Answer, Bool, ChangedAlone, Content, Deployment, Effect, Instance, Intent, IntentId, IsAside, IsLinked, IsLinkedItem, Item, ItemMatches, Known, List, LockedOut, Matches, None, Note, Option, Place, Rel, Row, Rows, ShadowMatches, Some, Tx, TxId, TxsMatch, Value, [], ap, arith, begins_at, content, content_in, content_of, effect_of, eq-eqb, false, head_key, if◌then◌else◌, is_eq, is_item, is_mark, is_none, is_open, is_owner, is_some, is_tx, item_cmp, item_total, length, lockset_ahead, lockset_key, log_key, moved, not, note_at, note_of, note_pushed, or_right, owed_lockset, place_eq, place_of, place_same, refl, row_added, set_row, shadow_by, shadow_chain, shadow_key, shadow_of, shadow_row, subst, sym, tied_itself, touched, true, tx_end, tx_eq, tx_now, txs_after, with_note, write_op, ℕ, ◌&&◌, ◌++◌, ◌==◌, ◌∙◌, ◌∷◌, ◌≡◌}
 use Rattle.beldi_known.proofs.Acts.{read_answered, write_answered, lock_died, log_set, head_at, other_aside, by_aside, shadow_at}
+use Rattle.beldi_links.proofs.Last.{bare}
 use Rattle.beldi_known.proofs.{Answers.true_false, Frame.moved_one, Frame.no_shadow, Locks.tx_self, Cases.if_is, Cases.if_same}
 use Rattle.beldi_known.proofs.Names.map
 
@@ -33,30 +34,30 @@ module _ (d : Deployment) (known : Known) (locked unlocked : IntentId → Bool) 
       by_tests : (b c : Bool) (m : Option Note) → (b && c) ≡ false → (if b then (if c then m else None) else None) ≡ None
       by_tests b c m g = grind arith
 
-  pub write_inside : (v : Value) (n : Rows) → effect_of d q ≡ Effect.Write t k v → HasLockset → locked id ≡ true → ChangedAlone (shadow_key s item) m n → Sound (shadow_chain n s item) → note_at (shadow_of m s item).notes place ≡ None
+  pub write_inside : (v : Value) (n : Rows) → effect_of d q ≡ Effect.Write t k v → HasLockset → locked id ≡ true → ChangedAlone (shadow_key s item) m n → IsLinked (shadow_chain n s item) → note_at (shadow_of m s item).notes place ≡ None
       → shadow_of n s item ≡ record { value = v; owner = (shadow_of m s item).owner; notes = (shadow_of m s item).notes ++ (place, Note.Wrote) ∷ [] }
       → Matches d n (map.insert known id (moved d id q Answer.Done)) unlocked
-  write_inside v n wants lockset was alone sound none same = write_answered d known locked unlocked id q (moved d id q Answer.Done) Answer.Done is (moved_one d id q Answer.Done) out s inside (t, k) (ap touched wants) m lockset h
-      n Note.Wrote alone sound (ap (λ e. row_added (length q.answers) (txs_after d q q.answers).begun e Answer.Done) wants) was refl
+  write_inside v n wants lockset was alone linked none same = write_answered d known locked unlocked id q (moved d id q Answer.Done) Answer.Done is (moved_one d id q Answer.Done) out s inside (t, k) (ap touched wants) m lockset h
+      n Note.Wrote alone linked (ap (λ e. row_added (length q.answers) (txs_after d q q.answers).begun e Answer.Done) wants) was refl
       (noted (Effect.Write t k v) Answer.Done Note.Wrote wants (ap (λ b. if is_eq b then Some Note.Wrote else None) (tied_itself item_total item)))
       (apart (Effect.Write t k v) Answer.Done (Some Note.Wrote) wants (λ x. refl)) none v same
 
-  pub test_inside : (u : Rel) (y v : Value) (n : Rows) (b : Bool) → effect_of d q ≡ Effect.CondWrite t k u y v → HasLockset → locked id ≡ true → ChangedAlone (shadow_key s item) m n → Sound (shadow_chain n s item) → note_at (shadow_of m s item).notes place ≡ None
+  pub test_inside : (u : Rel) (y v : Value) (n : Rows) (b : Bool) → effect_of d q ≡ Effect.CondWrite t k u y v → HasLockset → locked id ≡ true → ChangedAlone (shadow_key s item) m n → IsLinked (shadow_chain n s item) → note_at (shadow_of m s item).notes place ≡ None
       → (w : Value) → shadow_of n s item ≡ record { value = w; owner = (shadow_of m s item).owner; notes = (shadow_of m s item).notes ++ (place, Note.Cond b) ∷ [] }
       → Matches d n (map.insert known id (moved d id q (Answer.Value (Value.Bool b)))) unlocked
-  test_inside u y v n b wants lockset was alone sound none w same = let a = Answer.Value (Value.Bool b) in
+  test_inside u y v n b wants lockset was alone linked none w same = let a = Answer.Value (Value.Bool b) in
       write_answered d known locked unlocked id q (moved d id q a) a is (moved_one d id q a) out s inside (t, k) (ap touched wants) m lockset h
-      n (Note.Cond b) alone sound (ap (λ e. row_added (length q.answers) (txs_after d q q.answers).begun e a) wants) was refl
+      n (Note.Cond b) alone linked (ap (λ e. row_added (length q.answers) (txs_after d q q.answers).begun e a) wants) was refl
       (noted (Effect.CondWrite t k u y v) a (Note.Cond b) wants (ap (λ c. if is_eq c then Some (Note.Cond b) else None) (tied_itself item_total item)))
       (apart (Effect.CondWrite t k u y v) a (Some (Note.Cond b)) wants (λ x. refl)) none w same
 
   -- a death, of any of them
-  pub dies_inside : (holder : IntentId) (n : Rows) → touched (effect_of d q) ≡ Some (t, k) → HasLockset → locked id ≡ false → ChangedAlone (head_key item) m n → IsSoundChain n item → note_at (content_of m item).notes place ≡ None
+  pub dies_inside : (holder : IntentId) (n : Rows) → touched (effect_of d q) ≡ Some (t, k) → HasLockset → locked id ≡ false → ChangedAlone (head_key item) m n → IsLinkedItem n item → note_at (content_of m item).notes place ≡ None
       → content_of n item ≡ with_note (content_of m item) place (Note.Died holder)
       → Matches d n (map.insert known id (moved d id q (Answer.Aborted (record { place = place; holder = Some holder })))) unlocked
-  dies_inside holder n touch lockset was alone sound none same = let a = Answer.Aborted (record { place = place; holder = Some holder }) in
+  dies_inside holder n touch lockset was alone linked none same = let a = Answer.Aborted (record { place = place; holder = Some holder }) in
       lock_died d known locked unlocked id q (moved d id q a) a is (moved_one d id q a) out s inside (t, k) touch m lockset h
-      n holder alone sound (no_row (effect_of d q) touch) refl was (λ u x. by_effect u x (effect_of d q) touch) none same
+      n holder alone linked (no_row (effect_of d q) touch) refl was (λ u x. by_effect u x (effect_of d q) touch) none same
     where
       none_both : (b c : Bool) → ◌≡◌ {A = Option Note} (if b then (if c then None else None) else None) None
       none_both b c = ap (λ o. if b then o else None) (if_same c None) ∙ if_same b None
@@ -89,8 +90,8 @@ module _ (d : Deployment) (known : Known) (locked : IntentId → Bool) (x : Item
 
 -- .. and the rows
 pub released : (d : Deployment) (m : Rows) (known : Known) (locked : IntentId → Bool) (x : Item) (s : TxId) (z : ℕ × Bool) (p : Place) (w : Value) (n : Rows) → (content_of m x).owner ≡ Some (Tx s) → tx_end d known s ≡ Some z → is_mark d known p.step (map.get known p.intent) ≡ true
-    → note_at (content_of m x).notes p ≡ None → ChangedAlone (head_key x) m n → IsSoundChain n x → content_of n x ≡ record { value = w; owner = None; notes = (content_of m x).notes ++ (p, Note.Freed) ∷ [] } → Matches d m known locked → Matches d n known locked
-released d m known locked x s z p w n owned decided mark none alone sound same h = head_at d known locked m n x _ alone same sound h.keys h.chains h.asides (item_released d known locked x (content_of m x) s owned z decided p w mark none (h.items x)) (λ y other. h.items y) h.shadows
+    → note_at (content_of m x).notes p ≡ None → ChangedAlone (head_key x) m n → IsLinkedItem n x → content_of n x ≡ record { value = w; owner = None; notes = (content_of m x).notes ++ (p, Note.Freed) ∷ [] } → Matches d m known locked → Matches d n known locked
+released d m known locked x s z p w n owned decided mark none alone linked same h = head_at d known locked m n x _ alone same linked h.keys h.chains h.asides (item_released d known locked x (content_of m x) s owned z decided p w mark none (h.items x)) (λ y other. h.items y) h.shadows
     (txs_released d known locked x (content_of m x) s owned z decided (h.txs x)) (λ y other. h.txs y)
 
 -- ---- the front acts that answer nothing
@@ -120,4 +121,4 @@ module _ (d : Deployment) (known : Known) (locked : IntentId → Bool) (m : Rows
   shadow_made s x n alone free absent empty = shadow_kept s x n alone free (empty ∙ sym (ap (λ (c : Content). c.notes) none))
     where
       none : shadow_of m s x ≡ content_in None
-      none = no_content (shadow_chain m s x) (sym (one_tail (shadow_chain m s x) (h.asides s x).sound) ∙ absent)
+      none = bare (shadow_chain m s x) (h.asides s x).linked absent

@@ -22,21 +22,22 @@ pub use Rattle.beldi_plain.specs.Plain as plainly
 pub use Rattle.beldi_order.specs.Inside.{InLine, IsBelow, IsIn, Line, WrittenIn, next, top, written_at, written_on}
 pub use Rattle.beldi_order.specs.Sane.{CalledBy, IsAnswer, IsCalled, IsDeath, answer_given, call_of, within_by}
 pub use Rattle.beldi_order.specs.Txs.{Txs, along, effect_after, end_of, is_at, or_own, tx_after, tx_at, tx_by, tx_now, txs_after, txs_by}
-pub use Rattle.beldi_order.{proofs.Beside.beside as moves_beside, proofs.Beside.kept, proofs.Beside.others, proofs.Beside.set_alike, proofs.Ends.along_append, proofs.Ends.ended_stays, proofs.Ends.ends_kept, proofs.Ends.fits, proofs.Ends.fits_at, proofs.Entries.moves_grow, proofs.Foreign.no_callees, proofs.Foreign.no_later, proofs.Foreign.none_after, proofs.Foreign.none_below, proofs.Operations.IsOther, proofs.Operations.held_pushed, proofs.Operations.id_same, proofs.Operations.item_same, proofs.Operations.plain_set, proofs.Pieces.pieces_are_moves, proofs.Rises.places_come_once, proofs.Sound.after_sane, proofs.Sound.going_so, proofs.Sound.operation_answers, proofs.Sound.operation_is_no_call, proofs.Sound.sane_with, proofs.Touched.written_touched, proofs.Went.along_pushed, proofs.Went.txs_pushed, proofs.Went.went_pushed, proofs.Whole.going_begun, specs.Grown.Grown, specs.Grown.GrownAt}
+pub use Rattle.beldi_order.{proofs.Beside.beside as moves_beside, proofs.Beside.kept, proofs.Beside.others, proofs.Beside.set_alike, proofs.Ends.along_append, proofs.Ends.ended_stays, proofs.Ends.ends_kept, proofs.Ends.fits, proofs.Ends.fits_at, proofs.Entries.moves_grow, proofs.Foreign.no_callees, proofs.Foreign.no_later, proofs.Foreign.none_after, proofs.Foreign.none_below, proofs.Operations.IsOther, proofs.Operations.held_pushed, proofs.Operations.id_same, proofs.Operations.item_same, proofs.Operations.plain_set, proofs.Pieces.pieces_are_moves, proofs.Rises.places_come_once, proofs.Sound.after_sane, proofs.Sound.going_so, proofs.Sound.operation_answers, proofs.Sound.sane_with, proofs.Touched.written_touched, proofs.Went.along_pushed, proofs.Went.txs_pushed, proofs.Went.went_pushed, proofs.Whole.going_begun, specs.Grown.Grown, specs.Grown.GrownAt}
 pub use Rattle.beldi_order.specs.Inside as inside
 pub use Rattle.beldi_order.specs.Sane as plain
-pub use Rattle.beldi_order.proofs.Called.{IsAlone, both_set, callee_answered, callee_ended, callee_new, callee_over, callee_sent, caller_answered, caller_ended, effect_now, effect_past, get_after, get_front, get_last, last_hop, longer_cases, next_step, not_own, not_root, pairs_set, tx_here_now}
+pub use Rattle.beldi_order.proofs.Called.{IsAlone, both_set, callee_answered, callee_ended, callee_new, callee_over, callee_sent, caller_answered, caller_ended, effect_now, effect_past, get_after, last_hop, longer_cases, next_step, not_own, not_root, pairs_set, tx_here_now}
 pub use Rattle.beldi_order.proofs.Goes.{AllSound, GoingSane, IsSound as Older, answered_plainly, going_moved, is_plainly, line_tx, not_owner, plainly_edge}
 pub use Rattle.beldi_order.proofs.Line.{all_in, callee_in, in_line, last_of, line_alike, line_moved, line_opened, long, longer, not_longer, returned}
 pub use Rattle.beldi_order.proofs.Maps.{elsewhere, elsewhere as stays, equal, here, made_set, none_by, same_some, still_made}
 pub use Rattle.beldi_order.proofs.Moved.{Answers, Calls, Items, MoveIs, Returns, answer_by, answer_inside, answers, answers_so, calls, calls_so, gone_on, items_after, items_by, move_is, mover, returns, returns_so}
 pub use Rattle.beldi_order.proofs.Sanes.{SaneWith, Waited, begun_pushed, is_edge, outside_of, sane_in, waited_by}
-pub use Rattle.beldi_row.{proofs.Gets.got, proofs.Gets.got as row_got, proofs.Gets.key_same, proofs.Gets.key_self, proofs.Logs.id_self, proofs.Logs.note_pushed, proofs.Logs.place_same, proofs.Logs.place_self, proofs.Rows.get_set, specs.Act.other_owner, specs.Act.owns, specs.Key.RowKey, specs.Key.key_cmp, specs.Log.id_eq, specs.Log.note_at, specs.Log.owner_eq, specs.Log.place_eq, specs.Table.Rows, specs.Table.set_row, specs.declared.key.Kind.Kind, specs.declared.notes.Note.Note, specs.declared.row.Body.Body, specs.declared.row.IntentRow.IntentRow, specs.declared.row.InvokeRow.InvokeRow, specs.declared.row.Row.Row}
-pub use Rattle.beldi_chain.specs.{Chain.ChangedAlone, Chain.IsHead, Chain.Sound, Chain.at_row, Chain.chain, Chain.content, Chain.is_row_of, Chain.kind_at, Chain.tail, Content.Content, Content.SoundAt, Content.content_in}
-pub use Rattle.beldi_chain.proofs.{Heads.chain_off, Heads.chain_other, OneRow.no_content, OneRow.no_tail, OneRow.one_tail, OneRow.tail_value}
-pub use Rattle.beldi_daal.specs.{Logged.barred, Logged.done_to, Logged.note_after, Logged.owner_after, Logged.unless_owned, Logged.value_after, declared.cell.CellOp.CellOp, declared.cell.CellOp.TheVariants.Cond, declared.cell.CellOp.TheVariants.Free, declared.cell.CellOp.TheVariants.Lock, declared.cell.CellOp.TheVariants.Write}
+pub use Rattle.beldi_row.{proofs.Gets.got, proofs.Gets.got as row_got, proofs.Gets.key_same, proofs.Gets.key_self, proofs.Logs.id_self, proofs.Logs.note_pushed, proofs.Logs.place_same, proofs.Logs.place_self, proofs.Rows.get_set, specs.Act.other_owner, specs.Act.owns, specs.Key.RowKey, specs.Key.at_row, specs.Key.key_cmp, specs.Key.kind_at, specs.Log.id_eq, specs.Log.note_at, specs.Log.owner_eq, specs.Log.place_eq, specs.Table.Rows, specs.Table.set_row, specs.declared.key.Kind.Kind, specs.declared.notes.Note.Note, specs.declared.row.Body.Body, specs.declared.row.IntentRow.IntentRow, specs.declared.row.InvokeRow.InvokeRow, specs.declared.row.Row.Row}
+pub use Rattle.beldi_chain.specs.{Chain.ChangedAlone, Chain.IsHead, Chain.chain, Chain.content, Chain.is_row_of, Chain.tail, Content.Content, Content.content_in}
+pub use Rattle.beldi_chain.proofs.{Heads.chain_off, Heads.chain_other, OneRow.no_content, OneRow.no_tail, OneRow.tail_value}
+pub use Rattle.beldi_links.{specs.Links.IsLinked, proofs.Keeps.none_linked}
+pub use Rattle.beldi_daal.specs.{Logged.barred, Logged.done_to, Logged.note_after, Logged.owner_after, Logged.unless_owned, Logged.value_after, declared.cell.CellOp.CellOp, declared.cell.CellOp.TheVariants.Free, declared.cell.CellOp.TheVariants.Lock}
 pub use Rattle.beldi_readlog.specs.ReadLog.{log_key}
-pub use Rattle.beldi_invokelog.specs.InvokeLog.{call_at, call_in, invoke_key, result_in}
+pub use Rattle.beldi_invokelog.specs.InvokeLog.{call_in, invoke_key, result_in}
 pub use Rattle.beldi_intent.specs.Intent.{root_key}
 pub use Rattle.beldi_step.specs.{Run.is_waited, Run.place_of, Tables.decision_key, Tables.is_committed, Tables.value_in}
 pub use Rattle.beldi_known.specs.Acts.{Told, did, died, held, held_or, lock_answer, lock_on, lock_or, noted_or, put_lockset, test_on, tested, with_note, write_on}
@@ -46,5 +47,5 @@ pub use Rattle.beldi_known.specs.Known.{Got, Known, Prefix, ahead_by, ahead_note
 pub use Rattle.beldi_known.specs.Matches.{ItemMatches, LockedAt, LockedAtEnds, LockedIf, LocksetMatches, Matches, RowMatches, ShadowMatches, TxsMatch, has_ended, is_open, lockset_ahead}
 pub use Rattle.beldi_known.specs.Rows.{BodyMatches, CallMatches, CalleeBodyMatches, CalleeMatches, EndsRow, FinishMatches, IntentMatches, IsBodyOf, IsCalleeRow, IsRootRow, LogMatches, OutcomeMatches, RootMatches, tx_in}
 pub use Rattle.beldi_known.specs.Shadows.{AllGot, AllShow, ShadowShows, Shadows, Shows, is_writing, writes_on, writing_at}
-pub use Rattle.beldi_known.specs.{Behind.IsFront, Beside.Beside, Beside.IsKept, Beside.OpenTx, Beside.PlainOwner, Beside.begins, Beside.is_begin, Contents.IsAside, Contents.IsSoundChain, Contents.SameShadows, Contents.content_of, Contents.head_key, Contents.is_owner, Contents.lockset_key, Contents.shadow_chain, Contents.shadow_key, Contents.shadow_of, Contents.shadow_row, Listed.listed, Listed.listed_under, Operations.DoneRows, Operations.cell_of, Owed.called_by, Owed.note_of, Owed.noted, Owed.noted as noted_by, Owed.result_of, Owed.value_for, Sane.Closed, Sane.Sane, Sane.SaneInstance, Stands.body_of}
+pub use Rattle.beldi_known.specs.{Behind.IsFront, Beside.Beside, Beside.IsKept, Beside.OpenTx, Beside.PlainOwner, Beside.begins, Beside.is_begin, Contents.IsAside, Contents.IsLinkedItem, Contents.SameShadows, Contents.content_of, Contents.head_key, Contents.is_owner, Contents.lockset_key, Contents.shadow_chain, Contents.shadow_key, Contents.shadow_of, Contents.shadow_row, Listed.listed, Listed.listed_under, Operations.DoneRows, Operations.cell_of, Owed.called_by, Owed.note_of, Owed.noted, Owed.noted as noted_by, Owed.result_of, Owed.value_for, Sane.Closed, Sane.Sane, Sane.SaneInstance, Stands.body_of}
 pub use Rattle.beldi_known.specs.InsideLaws as laws

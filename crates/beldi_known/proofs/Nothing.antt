@@ -1,5 +1,5 @@
 -- At the start nothing is known, no lock is ahead, and no row is there: all that matches.
-use Rattle.beldi_known.proofs.Names.{Bool, Content, Deployment, Instance, IntentId, IntentMatches, ItemMatches, Kind, Known, LockedAtEnds, Matches, None, RootMatches, RowKey, RowMatches, Sane, ShadowMatches, Some, Sound, SoundAt, TxId, TxsMatch, ap, at_row, called_by, chain, child_of, content, content_in, false, get-empty, got_by, has_ended, has_no_hops, head_key, holds, id_cmp, key_cmp, no_content, owed_lockset, owed_note, owed_shadow, owed_value, refl, root_of, shadow_key, subst, suc, sym, true, ℕ, ◌==◌, ◌∙◌, ◌≡◌}
+use Rattle.beldi_known.proofs.Names.{Bool, Content, Deployment, Instance, IntentId, IntentMatches, IsLinked, ItemMatches, Kind, Known, LockedAtEnds, Matches, None, RootMatches, RowKey, RowMatches, Sane, ShadowMatches, Some, TxId, TxsMatch, ap, at_row, called_by, chain, child_of, content, content_in, false, get-empty, got_by, has_ended, has_no_hops, head_key, holds, id_cmp, key_cmp, no_content, none_linked, owed_lockset, owed_note, owed_shadow, owed_value, refl, root_of, shadow_key, subst, sym, true, ℕ, ◌==◌, ◌∙◌, ◌≡◌}
 use Rattle.beldi_known.proofs.Instances.{no_callee}
 use Rattle.beldi_known.proofs.Names.map
 
@@ -43,14 +43,14 @@ no_row d home (Kind.Shadow s t k n) = tt
 no_chain : (k : RowKey) → content (chain map.empty k) ≡ content_in None
 no_chain k = no_content (chain map.empty k) (get-empty key_cmp (at_row k 0))
 
-sound_none : (k : RowKey) → Sound (chain map.empty k)
-sound_none k = record { head = subst SoundAt (sym (get-empty key_cmp (at_row k 0))) tt; alone = λ n. get-empty key_cmp (at_row k (suc n)) }
+none_is_linked : (k : RowKey) → IsLinked (chain map.empty k)
+none_is_linked k = none_linked (chain map.empty k) (λ n. get-empty key_cmp (at_row k n))
 
 pub nothing_matches : (d : Deployment) → Matches d map.empty none unlocked
 nothing_matches d = record {
   keys = λ k. subst (RowMatches d none k.home k.kind) (sym (get-empty key_cmp k)) (no_row d k.home k.kind);
-  chains = λ x. sound_none (head_key x);
-  asides = λ t x. record { sound = sound_none (shadow_key t x); unowned = ap (λ (c : Content). c.owner) (no_chain (shadow_key t x)) };
+  chains = λ x. none_is_linked (head_key x);
+  asides = λ t x. record { linked = none_is_linked (shadow_key t x); unowned = ap (λ (c : Content). c.owner) (no_chain (shadow_key t x)) };
   items = λ x. subst (ItemMatches d none unlocked x) (sym (no_chain (head_key x)))
       (record { owner = λ j. sym (ap (holds d x) (absent j)); notes = λ a other. sym (ap (owed_note d x a.intent false a.step) (absent a.intent)) });
   shadows = λ t x. subst (ShadowMatches d none t x) (sym (no_chain (shadow_key t x))) (λ a. sym (ap (owed_shadow d t x a.intent a.step) (absent a.intent)));

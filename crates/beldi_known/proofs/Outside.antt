@@ -172,7 +172,7 @@ module _ (d : Deployment) (known : Known) (locked : IntentId → Bool) (id : Int
 
   -- and the rows
   pub operation_done : (m n : Rows) → DoneRows m n item p op → (content_of m item).value ≡ w → Matches d m known locked → Matches d n now locked
-  operation_done m n did value h = let was = (content_of m item).owner in head_at d now locked m n item (done_to p who op (content_of m item)) did.same did.here did.sound
+  operation_done m n did value h = let was = (content_of m item).owner in head_at d now locked m n item (done_to p who op (content_of m item)) did.same did.here did.linked
       (λ l. row_kept d known locked id q r a is unlocked (inl outside) ends_none one l.home l.kind (map.get m l) (λ b kind. read_none d known id q r a is one (op_adds_none (length q.answers) (txs_after d q q.answers).begun (effect_of d q) o a wants_it) l.home b) (h.keys l)) h.chains h.asides
       (item_done (content_of m item) value did.none did.free (h.items item)) (λ x other. item_kept x (content_of m x) other (h.items x)) (λ t x. shadows_kept d known locked id q r a is unlocked (inl outside) ends_none one t x (shadow_of m t x) (h.shadows t x))
       (txs_done d known locked id q r a is unlocked (inl outside) ends_none one item was (owner_after op who was) (no_tx id was (unbarred op id was did.free)) (no_tx id (owner_after op who was) (free_after op id was did.free)) (h.txs item))

@@ -1,7 +1,8 @@
 -- What an open transaction touched it got, and owns; what it wrote has a shadow. So what it sees of an item is what its shadow shows,
 -- where that is there, and else the plain value.
 use Rattle.beldi_plain.specs.Plain.{item_of}
-use Rattle.beldi_known.proofs.Names.{AllPlain, AllSound, Answer, Bool, Content, Deployment, Effect, GoingSane, Got, Grown, Instance, IntentId, Item, Items, Known, List, Matches, None, OnItem, OpenTx, Option, PlainState, Row, Rows, Sane, SaneWith, ShadowShows, Some, SoundAt, TouchedIn, Tx, TxId, WrittenIn, answer_inside, answered, ap, at_step, begins, content_of, effect_after, effect_of, ended_by, false, fits, going_begun, going_so, got_before, got_by, id_total, if◌then◌else◌, inl, inr, is_aborted, is_eq, is_item, is_on, is_some, is_tx, is_writing, item_in, item_total, kept, length, no_content, not, note_at, note_of, noted, one_tail, op_of, opened, option_map, or_left, or_null, outside_of, owed_shadow, place_of, refl, same_some, sane_in, sane_with, shadow_at, shadow_by, shadow_chain, shadow_row, subst, sym, tied_itself, touched, true, tx_after, tx_begun, tx_end, tx_now, value_at, value_in, write, write_op, written_touched, ℕ, ◌&&◌, ◌∙◌, ◌∷◌, ◌≡◌, ◌⊎◌}
+use Rattle.beldi_known.proofs.Names.{AllPlain, AllSound, Answer, Bool, Content, Deployment, Effect, GoingSane, Got, Grown, Instance, IntentId, Item, Items, Known, List, Matches, None, OnItem, OpenTx, Option, PlainState, Row, Rows, Sane, SaneWith, ShadowShows, Some, TouchedIn, Tx, TxId, WrittenIn, answer_inside, answered, ap, at_step, begins, content_of, effect_after, effect_of, ended_by, false, fits, going_begun, going_so, got_before, got_by, id_total, if◌then◌else◌, inl, inr, is_aborted, is_eq, is_item, is_on, is_some, is_tx, is_writing, item_in, item_total, kept, length, not, note_at, note_of, noted, op_of, opened, option_map, or_left, or_null, outside_of, owed_shadow, place_of, refl, same_some, sane_in, sane_with, shadow_at, shadow_by, shadow_chain, shadow_row, subst, sym, tied_itself, touched, true, tx_after, tx_begun, tx_end, tx_now, value_at, value_in, write, write_op, written_touched, ℕ, ◌&&◌, ◌∙◌, ◌∷◌, ◌≡◌, ◌⊎◌}
+use Rattle.beldi_links.proofs.Last.{IsCellOrNone, bare, last_is_cell}
 use Rattle.beldi_known.proofs.{Answers.take_front, Answers.get_next, Answers.true_false, Behind.gathers, Falls.Fell, Falls.falls, Falls.later_is, Falls.sound, Falls.touched_made, Falls.written_made, Locks.tx_self, NoTx.begins_parts}
 use Rattle.beldi_known.proofs.Names.map
 use Rattle.beldi_known.proofs.Names.operation
@@ -110,7 +111,7 @@ module _ (d : Deployment) (p : PlainState) (known : Known) (sane : Sane d known)
           let z = w.before in
           let note = noted_at d t x w.id z w.step.instance w.given w.step.grown w.step.inside (plain_note w.items x z.func (effect_of d z) w.given w.plainly w.item) in
           let bare : None ≡ shadow_at d t x w.id (length z.answers) w.step.instance =
-          sym (ap (λ (c : Content). note_at c.notes (place_of w.id (length z.answers))) (no_content (shadow_chain m t x) (sym (one_tail (shadow_chain m t x) (matches.asides t x).sound) ∙ none))) ∙ matches.shadows t x (place_of w.id (length z.answers)) ∙ ap (owed_shadow d t x w.id (length z.answers)) (tx.whole w.id w.step.member ∙ w.step.made) in
+          sym (ap (λ (c : Content). note_at c.notes (place_of w.id (length z.answers))) (bare (shadow_chain m t x) (matches.asides t x).linked none)) ∙ matches.shadows t x (place_of w.id (length z.answers)) ∙ ap (owed_shadow d t x w.id (length z.answers)) (tx.whole w.id w.step.member ∙ w.step.made) in
           let clash = ap is_some bare ∙ note in cc
 
       unwritten_kept : (WrittenIn d t (opened p id q) tx.moves x → ⊥) → value_at tx.going.state x ≡ value_at p x
@@ -125,9 +126,9 @@ module _ (d : Deployment) (p : PlainState) (known : Known) (sane : Sane d known)
 
       -- what a read is to find
       pub seen : ShadowShows (is_writing d locked x tx.going) (shadow_row m t x) (value_at tx.going.state x) → is_writing d locked x tx.going ≡ false → value_in (shadow_row m t x) (value_at p x) ≡ value_at tx.going.state x
-      seen shows off = by_row (shadow_row m t x) refl (subst SoundAt (sym (one_tail (shadow_chain m t x) (matches.asides t x).sound)) (matches.asides t x).sound.head) shows
+      seen shows off = by_row (shadow_row m t x) refl (last_is_cell (shadow_chain m t x) (matches.asides t x).linked) shows
         where
-          by_row : (o : Option Row) → shadow_row m t x ≡ o → SoundAt o → ShadowShows (is_writing d locked x tx.going) o (value_at tx.going.state x) → value_in o (value_at p x) ≡ value_at tx.going.state x
+          by_row : (o : Option Row) → shadow_row m t x ≡ o → IsCellOrNone o → ShadowShows (is_writing d locked x tx.going) o (value_at tx.going.state x) → value_in o (value_at p x) ≡ value_at tx.going.state x
           by_row None is fits h = sym (unwritten is)
           by_row (Some (Row.Cell c)) is fits (inl e) = absurd (true_false (sym e ∙ off))
           by_row (Some (Row.Cell c)) is fits (inr e) = e

@@ -3,7 +3,8 @@ use Rattle.std.specs.Prelude.{◌≡◌, ℕ, Bool, false, Option, Some, None}
 use Rattle.beldi_value.specs.declared.{id.IntentId.IntentId, place.Owner.Owner, place.TxId.TxId}
 use Rattle.beldi_plain.specs.Item.{Item}
 use Rattle.beldi_row.specs.{Key.RowKey, Key.head_key as first_row, Log.owner_eq, Table.Rows, declared.key.Kind.Kind, declared.row.Row.Row}
-use Rattle.beldi_chain.specs.{Chain.Chain, Chain.Sound, Chain.chain, Chain.content, Chain.tail, Content.Content}
+use Rattle.beldi_chain.specs.{Chain.Chain, Chain.chain, Chain.content, Chain.tail, Content.Content}
+use Rattle.beldi_links.specs.Links.{IsLinked}
 
 -- the key of an item's first row
 abbrev pub head_key : Item → RowKey
@@ -13,9 +14,9 @@ head_key x = first_row x.func x.table x.key
 abbrev pub content_of : Rows → Item → Content
 content_of m x = content (chain m (head_key x))
 
--- its chain is sound
-abbrev pub IsSoundChain : Rows → Item → Type 0
-IsSoundChain m x = Sound (chain m (head_key x))
+-- its rows are linked
+abbrev pub IsLinkedItem : Rows → Item → Type 0
+IsLinkedItem m x = IsLinked (chain m (head_key x))
 
 -- the owner, if any, is this one
 abbrev pub is_owner : Option Owner → Owner → Bool
@@ -37,9 +38,9 @@ shadow_of m t x = content (shadow_chain m t x)
 abbrev pub shadow_row : Rows → TxId → Item → Option Row
 shadow_row m t x = tail (shadow_chain m t x)
 
--- its chain is sound, and nobody owns it
+-- its rows are linked, and nobody owns it
 pub record IsAside (f : Chain) : Type 0 where
-  pub sound : Sound f
+  pub linked : IsLinked f
   pub unowned : (content f).owner ≡ None
 
 -- the shadows have the same rows

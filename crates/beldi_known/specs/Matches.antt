@@ -9,7 +9,7 @@ use Rattle.beldi_order.specs.Txs.{tx_now}
 use Rattle.beldi_row.specs.{Key.RowKey, declared.key.Kind.Kind, declared.row.Row.Row, Log.note_at, Table.Rows}
 use Rattle.beldi_chain.specs.Content.{Content}
 use Rattle.beldi_known.specs.Known.{Known, is_item, begins_at, owed_read, owed_call, owed_note, owed_shadow, owed_lockset, tx_end, is_mark, Got}
-use Rattle.beldi_known.specs.{Contents.content_of, Contents.is_owner, Contents.IsAside, Contents.IsSoundChain, Contents.shadow_chain, Contents.shadow_of, Rows.IntentMatches, Rows.CallMatches, Rows.LogMatches}
+use Rattle.beldi_known.specs.{Contents.content_of, Contents.is_owner, Contents.IsAside, Contents.IsLinkedItem, Contents.shadow_chain, Contents.shadow_of, Rows.IntentMatches, Rows.CallMatches, Rows.LogMatches}
 
 -- ---- row by row
 -- a lockset row: where one is owed; and it may be ahead
@@ -59,8 +59,8 @@ RowMatches d known home (Kind.Shadow s t k n) r = Unit {0}
 pub record Matches (d : Deployment) (m : Rows) (known : Known) (locked : IntentId → Bool) : Type 0 where
   -- every row, there or absent, matches at its key
   pub keys : (k : RowKey) → RowMatches d known k.home k.kind (map.get m k)
-  -- every chain is sound, of items and of shadows, and nobody owns a shadow
-  pub chains : (x : Item) → IsSoundChain m x
+  -- the rows of every item and of every shadow are linked, and nobody owns a shadow
+  pub chains : (x : Item) → IsLinkedItem m x
   pub asides : (t : TxId) (x : Item) → IsAside (shadow_chain m t x)
   -- every item and every shadow matches by its content
   pub items : (x : Item) → ItemMatches d known locked x (content_of m x)

@@ -9,12 +9,12 @@ use Rattle.beldi_lang.specs.{declared.effect.Answer.Answer, declared.effect.Answ
 use Rattle.beldi_plain.specs.{Holds.holds, Item.Item, Operation.OnItem, Operation.op_of, Operation.item_in, Plain.Instance, Plain.PlainState, Plain.value_at, Plain.effect_before}
 use Rattle.beldi_order.specs.Txs.{tx_at}
 use Rattle.beldi_row.specs.{Key.RowKey, declared.notes.Note.Note, declared.notes.Note.TheVariants.Got, declared.notes.Note.TheVariants.Died, declared.row.Body.Body, declared.row.IntentRow.IntentRow, Log.note_at, Table.Rows, declared.key.Kind.Kind, declared.row.Row.Row}
-use Rattle.beldi_chain.specs.Chain.{Sound}
+use Rattle.beldi_links.specs.Links.{IsLinked}
 use Rattle.beldi_readlog.specs.ReadLog.{log_key, given}
 use Rattle.beldi_invokelog.specs.InvokeLog.{invoke_key, call_at, result_in}
 use Rattle.beldi_intent.specs.Intent.{intent_key, root_key, is_ended}
 use Rattle.beldi_step.specs.{Noted.noted_answer, Tables.decision_key, Tables.is_committed}
-use Rattle.beldi_known.specs.{Beside.PlainOwner, Contents.content_of, Contents.is_owner, Contents.shadow_chain, Contents.shadow_of, Contents.IsSoundChain, Listed.listed}
+use Rattle.beldi_known.specs.{Beside.PlainOwner, Contents.content_of, Contents.is_owner, Contents.shadow_chain, Contents.shadow_of, Contents.IsLinkedItem, Listed.listed}
 
 -- ---- the answer that the rows hold
 -- the answer that an item's rows hold at a place, for an operation of a function on it
@@ -116,6 +116,6 @@ pub record Stands (d : Deployment) (m : Rows) (p : PlainState) : Type 0 where
   pub locks : (x : Item) (j : IntentId) → is_owner (content_of m x).owner (Intent j) ≡ holds d x (map.get p.made j)
   -- a transaction owns one only while it is open, or, once it is decided, until its owner ends
   pub owned : (x : Item) (t : TxId) → (content_of m x).owner ≡ Some (Tx t) → IsUndecided d m p t ⊎ IsGivingBack m t
-  -- each chain is sound, of items and of shadows
-  pub sound : (x : Item) → IsSoundChain m x
-  pub shadows : (t : TxId) (x : Item) → Sound (shadow_chain m t x)
+  -- the rows of every item and of every shadow are linked
+  pub linked : (x : Item) → IsLinkedItem m x
+  pub shadows : (t : TxId) (x : Item) → IsLinked (shadow_chain m t x)

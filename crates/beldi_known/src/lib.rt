@@ -1,7 +1,7 @@
 //! What is known of each instance: the answers that the rows hold, inside transactions and outside. It has no code.
 //! It stands on the plain machine, on the step of the host, and on chains of rows. Its definitions: `specs/Known` (what an instance owes
 //! the rows, by its answers; `specs/Owed` its parts), `specs/Contents` (the chains of items and of shadows, and what they hold),
-//! `specs/Rows`, `specs/Matches` (rows that match what is known, and that those chains are sound),
+//! `specs/Rows`, `specs/Matches` (rows that match what is known, and that those of chains are linked),
 //! `specs/Sane` (instances that went as their bodies want), `specs/Beside` (what is known beside the plain state),
 //! `specs/Shadows` (what shadows show of it), `specs/Listed` (the value that is listed),
 //! `specs/Stands` (the answers that the rows hold, and that they stand for a plain state),
@@ -32,9 +32,9 @@
 //!   commit is its try, and leaves what is listed (`aborts_are_tries`), as a release does (`release_lists`, `Decided`).
 //!
 //! Files:
-//! - Lemmas (`proofs/`): `Answers` lists of answers, `Cases` both ways of a test; `Rows` keys and maps of rows; `Frame`,
-//!   `FrameAt` what is owed after an answer more; `Behind` a run that is behind; `AtFront`, `Locks`, `Fronts`, `Acts`,
-//!   `Inside`, `Decides` the acts inside, `Told` by what they tell; `Outside`, `Operations`, `Owners` those outside; `Sets`,
+//! - Lemmas (`proofs/`): `Answers` lists of answers, `Cases` both ways of a test; `Rows` keys and maps of rows;
+//!   `Frame`, `FrameAt` what is owed after an answer more; `Behind` a run that is behind; `AtFront`, `Locks`, `Fronts`,
+//!   `Acts`, `Inside`, `Decides` the acts inside, `Told` by what they tell; `Outside`, `Operations`, `Owners` those outside; `Sets`,
 //!   `Instances`, `Calls`, `Intents` instances that are made and that end; `Goes` runs stay at a front; `Flows`, `Begins` how
 //!   bodies go on, whatever they are answered, and `Phases` what that says of their transactions; `AtOnce` what takes no
 //!   turn; `OwnTx`, `Callers` who called an instance, and what holds of all that were called in a transaction; `Sanes`,

@@ -2,8 +2,8 @@
 use Rattle.std.proofs.Common.{◌≡◌, ℕ, Bool, true, false, List, [], ◌∷◌, ◌++◌, Option, None, Some, ap, if◌then◌else◌, refl, subst, sym, ◌∙◌}
 use Rattle.std.proofs.lemmas.Option.{same_Some}
 use Rattle.beldi_value.specs.{Id.age_of, Id.is_older, Passes.passes, declared.id.IntentId.IntentId, declared.place.Owner.Owner, declared.place.Place.Place, declared.place.TxId.TxId, declared.spare.Spare.Spare, declared.value.Value.Value}
-use Rattle.beldi_row.specs.declared.act.Act.TheVariants.{Look, Issue, Bind, Register, End, Stamp, PutRead, OpenInvoke, CallBack, NoteRegistered, PutLockset, MakeCell, WriteCell, CondCell, LockCell, FreeCell}
-use Rattle.beldi_row.specs.Act.{Tell, act, at_tail, bind_to, call_back_to, cond_at, did, died, end_with, entered, free_at, given_or, gone, held, held_or, if_owned, lock_at, next, next_or, no_row, not_owner, noted as said_noted, noted_or, off, on, on_cell, on_intent, on_invoke, other_owner, owned_or, owns, register_to, stamp_with, tested, unless_held, write_at}
+use Rattle.beldi_row.specs.declared.act.Act.TheVariants.{Look, Issue, Bind, Register, End, Stamp, PutRead, OpenInvoke, CallBack, NoteRegistered, PutLockset, MakeCell, WriteCell, CondCell, LockCell, FreeCell, LinkCell}
+use Rattle.beldi_row.specs.Act.{Tell, act, at_tail, bind_to, call_back_to, cond_at, did, died, end_with, entered, free_at, given_or, gone, held, held_or, if_owned, if_room, is_full, link_to, lock_at, next, next_or, no_row, not_full, not_owner, noted as said_noted, noted_or, off, on, on_cell, on_intent, on_invoke, other_owner, owned_or, owns, packed, register_to, stamp_with, tested, unless_held, write_at}
 use Rattle.beldi_row.{proofs.Logs.place_same, specs.declared.act.Act.Act, specs.declared.notes.Note.Note, specs.declared.notes.Note.TheVariants.Wrote, specs.declared.notes.Note.TheVariants.Cond, specs.declared.notes.Note.TheVariants.Got, specs.declared.notes.Note.TheVariants.Died, specs.declared.notes.Note.TheVariants.Freed, specs.declared.row.Cell.Cell, specs.declared.row.IntentRow.IntentRow, specs.declared.row.InvokeRow.InvokeRow, specs.declared.row.Row.Row, specs.Log.note_at, specs.Log.owner_eq, specs.Log.place_eq}
 use Rattle.beldi_walk.{proofs.Lent.only_transactions_die, specs.Query.is_death, specs.Query.may_die}
 use Rattle.beldi_chain.specs.Content.{content_in}
@@ -52,15 +52,22 @@ module _ (q : Place) (t : TxId) (s : Spare) (c : Cell) where
       let h = other_from (Owner.Tx t) c.owner o is in
       record { asker = t; spare = s; asks = ap (λ x. LockCell x (Owner.Tx t) s) at; cell = c; item = refl; holder = o; owns = h.0; other = h.1; age_is = age_is; not_older = young }
 
-  by_age : (o : Owner) (b : Bool) → other_owner (Owner.Tx t) c.owner ≡ Some o → is_older t.intent (age_of o) ≡ b → OfHolder (if b then (c, held o) else (entered q (Died (age_of o)) c.value c.owner c, died (age_of o)))
+  by_room : (z : Cell × Tell) → OfHolder z → OfHolder (if_room c z)
+  by_room z h = by_test (is_full c)
+    where
+      by_test : (b : Bool) → OfHolder (if b then (c, packed c.value c.owner) else z)
+      by_test true = as_it_was (packed c.value c.owner) (λ age e. cc)
+      by_test false = h
+
+  by_age : (o : Owner) (b : Bool) → other_owner (Owner.Tx t) c.owner ≡ Some o → is_older t.intent (age_of o) ≡ b → OfHolder (if b then (c, held o) else if_room c (entered q (Died (age_of o)) c.value c.owner c, died (age_of o)))
   by_age o true is older = as_it_was (held o) (λ age e. cc)
-  by_age o false is older = record {
+  by_age o false is older = by_room (entered q (Died (age_of o)) c.value c.owner c, died (age_of o)) (record {
     noted = λ p age none noted. let e = entered_note c.log q p (Died (age_of o)) (Died age) none noted in holder o is older p age e.0 (sym (same_death (age_of o) age e.1));
     told = λ age e. (q, holder o is older q age refl (sym (same_told (age_of o) age e)));
-  }
+  })
 
-  by_other : (o : Option Owner) → other_owner (Owner.Tx t) c.owner ≡ o → OfHolder (owned_or q (Owner.Tx t) c o (entered q Got c.value (Some (Owner.Tx t)) c, did))
-  by_other None is = record { noted = λ p age none noted. let e = (entered_note c.log q p Got (Died age) none noted).1 in cc; told = λ age e. cc }
+  by_other : (o : Option Owner) → other_owner (Owner.Tx t) c.owner ≡ o → OfHolder (owned_or q (Owner.Tx t) c o (if_room c (entered q Got c.value (Some (Owner.Tx t)) c, did)))
+  by_other None is = by_room (entered q Got c.value (Some (Owner.Tx t)) c, did) (record { noted = λ p age none noted. let e = (entered_note c.log q p Got (Died age) none noted).1 in cc; told = λ age e. cc })
   by_other (Some o) is = by_age o (is_older t.intent (age_of o)) is refl
 
   by_next : (o : Option ℕ) (z : Cell × Tell) → OfHolder z → OfHolder (next_or c o z)
@@ -72,8 +79,9 @@ module _ (q : Place) (t : TxId) (s : Spare) (c : Cell) where
   by_note (Some n) z h = as_it_was (said_noted n) (λ age e. cc)
 
   locked : OfHolder (lock_at q (Owner.Tx t) c)
-  locked = by_note (note_at c.log q) (next_or c c.next (owned_or q (Owner.Tx t) c (other_owner (Owner.Tx t) c.owner) (entered q Got c.value (Some (Owner.Tx t)) c, did)))
-      (by_next c.next (owned_or q (Owner.Tx t) c (other_owner (Owner.Tx t) c.owner) (entered q Got c.value (Some (Owner.Tx t)) c, did)) (by_other (other_owner (Owner.Tx t) c.owner) refl))
+  locked =
+      let z : Cell × Tell = owned_or q (Owner.Tx t) c (other_owner (Owner.Tx t) c.owner) (if_room c (entered q Got c.value (Some (Owner.Tx t)) c, did)) in
+      by_note (note_at c.log q) (next_or c c.next z) (by_next c.next z (by_other (other_owner (Owner.Tx t) c.owner) refl))
 
 -- ---- no other act notes a death
 module _ (c : Cell) where
@@ -93,6 +101,21 @@ module _ (c : Cell) where
 
   enters : (q : Place) (n : Note) (v : Value) (o : Option Owner) (t : Tell) → ((age : IntentId) → n ≡ Died age → ⊥) → Lives (entered q n v o c, t)
   enters q n v o t other p age none is = other age (entered_note c.log q p n (Died age) none is).1
+
+  room : (z : Cell × Tell) → Lives z → Lives (if_room c z)
+  room z h = by (is_full c)
+    where
+      by : (b : Bool) → Lives (if b then (c, packed c.value c.owner) else z)
+      by true = stays (packed c.value c.owner)
+      by false = h
+
+  linked : (n : ℕ) → Lives (link_to n c)
+  linked n = by c.next (is_full c)
+    where
+      by : (o : Option ℕ) (b : Bool) → Lives (next_or c o (if b then (record c { next = Some n }, next n) else (c, not_full)))
+      by None true = λ p age none is. let clash = sym none ∙ is in cc
+      by None false = stays not_full
+      by (Some k) b = stays (next k)
 
   unheld : (q : Place) (who : Owner) (z : Cell × Tell) → Lives z → Lives (at_tail q c (unless_held who c z))
   unheld q who z h = last q (unless_held who c z) (by (other_owner who c.owner))
@@ -146,15 +169,16 @@ row_lives (CallBack o) now r h = on_calls (λ i. call_back_to o i i.result) gone
 row_lives NoteRegistered now r h = on_calls (λ i. register_to i i.registered) gone r
 row_lives PutLockset now r h = row_stays (Some r)
 row_lives (MakeCell v o) now r h = row_stays (Some r)
-row_lives (WriteCell p w v) now r h = on_cells (write_at p w v) no_row (λ c. unheld c p w (entered p Wrote v c.owner c, did) (enters c p Wrote v c.owner did (λ age e. cc))) r
+row_lives (WriteCell p w v) now r h = on_cells (write_at p w v) no_row (λ c. let z : Cell × Tell = (entered p Wrote v c.owner c, did) in unheld c p w (if_room c z) (room c z (enters c p Wrote v c.owner did (λ age e. cc)))) r
 row_lives (CondCell p w k o v) now r h =
     on_cells (cond_at p w k o v) no_row
-    (λ c. let b = passes c.value k o in let u = if b then v else c.value in unheld c p w (entered p (Cond b) u c.owner c, tested b) (enters c p (Cond b) u c.owner (tested b) (λ age e. cc)))
+    (λ c. let b = passes c.value k o in let u = if b then v else c.value in let z : Cell × Tell = (entered p (Cond b) u c.owner c, tested b) in unheld c p w (if_room c z) (room c z (enters c p (Cond b) u c.owner (tested b) (λ age e. cc))))
     r
 row_lives (LockCell p (Owner.Intent i) s) now r h =
-    on_cells (lock_at p (Owner.Intent i)) no_row (λ c. waits c p i (entered p Got c.value (Some (Owner.Intent i)) c, did) (enters c p Got c.value (Some (Owner.Intent i)) did (λ age e. cc))) r
+    on_cells (lock_at p (Owner.Intent i)) no_row (λ c. let z : Cell × Tell = (entered p Got c.value (Some (Owner.Intent i)) c, did) in waits c p i (if_room c z) (room c z (enters c p Got c.value (Some (Owner.Intent i)) did (λ age e. cc)))) r
 row_lives (LockCell p (Owner.Tx t) s) now r h = cc
-row_lives (FreeCell p w v) now r h = on_cells (free_at p w v) no_row (λ c. owned c p w (entered p Freed (given_or v c.value) None c, did) (enters c p Freed (given_or v c.value) None did (λ age e. cc))) r
+row_lives (FreeCell p w v) now r h = on_cells (free_at p w v) no_row (λ c. let z : Cell × Tell = (entered p Freed (given_or v c.value) None c, did) in owned c p w (if_room c z) (room c z (enters c p Freed (given_or v c.value) None did (λ age e. cc)))) r
+row_lives (LinkCell n) now r h = on_cells (link_to n) no_row (λ c. linked c n) r
 
 none_lives : (a : Act) (now : ℕ) → LivesOn None (off a now).0
 none_lives Look now p age none is = cc

@@ -2,7 +2,7 @@
 use borrow.Author.Tests.{lt-ltb}
 use Rattle.beldi_collect.specs.declared.cursor.Found.{Found}
 use Rattle.beldi_step.specs.Host.{at_once}
-use Rattle.beldi_laws.proofs.Names.{AllocError, Async, AtStage, Begins, Begun, Bind, Body, BodyMatches, Bool, Call, Caller, CameOn, CondWrite, Content, Core, Crash, Deployment, Effect, End, Err, Event, EventBy, EventOn, Fits, Followed, Full, Ic, InItem, Inside, Instance, IntentId, IntentMatches, IntentRow, IsBelow, IsRootRow, IsTrue, Issue, KeepsRight, Known, Knows, KnowsAt, Looks, Lost, None, Ok, OnItem, Option, OutOfMemory, Outcome, Own, PlainState, Plan, Query, Read, Registers, RepliesAreOutcomes, Request, Restart, Result, Return, Right, RightIsLegal, Row, RowKey, Rows, Run, RunAt, RunTx, Seen, Some, Stage, Start, TableErr, Tell, Tick, Ticket, Told, Turn, TxAt, TxId, Value, Write, WriteAt, [], act, after_act, ahead_nothing, ahead_set, and-false, ap, arith, asks, asks_at, at_once_same, back_of, back_says, back_to_asks, bind_asks, bind_to, binding_of, bound_next, chain, collect_asks, collect_next, collect_says, cond, count_changes, counted, crash_plan, ended_by, ended_run, false, first_core, func_called, get-empty, got, grows_new, grows_self, has_ended, has_finish, has_run, head_key, heard, id_cmp, id_same, id_total, if◌then◌else◌, is_added, is_begin, is_crowded, is_eq, is_gone, is_some, is_waited, item_cmp, key_cmp, last_moment, launched, le-leb, least_key, leb-false, len-empty, lends, length, length-append, listed_under, lt-leb, most_events, most_runs, nat_cmp, nat_le, nat_lt, nat_tests, new_instance, new_run, no_content, no_memory, none_out, none_show, nothing, nothing_matches, op_of, option_map, or_null, or_parts, other, outcome_of, outcome_tell, passed, plan, plan_of, refl, refused, refused_by, refused_stand, reply_of, request_next, root_apart, root_bound, root_key, root_of, row_put, rows_after, rows_stand, run_asks, run_next, run_plan, run_told, run_tx, same_some, same_value, sane_nothing, set_row, stage_asks, stage_says, start, subst, sym, ticket_next, tied_itself, told_at, told_by, told_outcome, touched, touched_by, true, true_false, turn_next, turned_by, tx_after, tx_of, unchanged, unheard_next, unlocked_absent, with_instance, with_once, with_run, ℕ, ◌&&◌, ◌++◌, ◌+◌, ◌-◌, ◌==◌, ◌^◌, ◌||◌, ◌∙◌, ◌∷◌, ◌≡◌, ◌≤◌}
+use Rattle.beldi_laws.proofs.Names.{AllocError, Async, AtStage, Begins, Begun, Bind, Body, BodyMatches, Bool, Call, Caller, CameOn, CondWrite, Content, Core, Crash, Deployment, Effect, End, Err, Event, EventBy, EventOn, Fits, Followed, Full, Ic, InItem, Inside, Instance, IntentId, IntentMatches, IntentRow, IsBelow, IsRootRow, IsTrue, Issue, KeepsRight, Known, Knows, KnowsAt, Looks, Lost, None, Ok, OnItem, Option, OutOfMemory, Outcome, Own, PlainState, Plan, Query, Read, Registers, RepliesAreOutcomes, Request, Restart, Result, Return, Right, RightIsLegal, Row, RowKey, Rows, Run, RunAt, RunTx, Seen, SeesPut, Some, Stage, Start, TableErr, Tell, Tick, Ticket, Told, Turn, TxAt, TxId, Value, Write, WriteAt, [], act, after_act, ahead_nothing, ahead_set, and-false, ap, arith, asks, asks_at, at_once_same, back_of, back_says, back_to_asks, bind_asks, bind_to, binding_of, bound_next, cell_op, chain, collect_asks, collect_next, collect_says, cond, count_changes, counted, crash_plan, ended_by, ended_run, false, first_core, func_called, get-empty, got, grows_new, grows_self, has_ended, has_finish, has_run, head_key, heard, id_cmp, id_same, id_total, if◌then◌else◌, is_added, is_begin, is_crowded, is_eq, is_gone, is_some, is_waited, item_cmp, key_cmp, last_moment, launched, le-leb, least_key, leb-false, len-empty, lends, length, length-append, listed_under, lt-leb, most_events, most_runs, nat_cmp, nat_le, nat_lt, nat_tests, new_instance, new_run, no_content, no_memory, none_out, none_show, nothing, nothing_matches, op_of, option_map, or_null, or_parts, other, outcome_of, outcome_tell, passed, place_of, plan, plan_of, refl, refused, refused_by, refused_stand, reply_of, request_next, root_apart, root_bound, root_key, root_of, row_put, rows_after, rows_stand, run_asks, run_next, run_plan, run_told, run_tx, same_some, same_value, sane_nothing, set_row, stage_asks, stage_says, start, subst, sym, ticket_next, tied_itself, told_at, told_by, told_outcome, touched, touched_by, true, true_false, turn_next, turned_by, tx_after, tx_of, unchanged, unheard_next, unlocked_absent, with_instance, with_once, with_run, ℕ, ◌&&◌, ◌++◌, ◌+◌, ◌-◌, ◌==◌, ◌^◌, ◌||◌, ◌∙◌, ◌∷◌, ◌≡◌, ◌≤◌}
 use Rattle.beldi_laws.proofs.Moves.{if_plan, seen_by, After, AfterQuery, AfterAct, replaced, change_entered, unheard, with_runs, right_by, Kept, Stays}
 use Rattle.beldi_laws.proofs.{Lives.places_same, Lives.runs_on, Lives.runs_more, Lives.runs_less, OneEvent.lent_only, Beginnings.look_turn, Beginnings.register_turn, Callings.call_turn, Asyncs.async_turn, Endings.close_turn, GivingBack.back_turn, GivingBack.tell_turn, Operations.is_operation, Operations.operation_turn, Readings.ask_turn, Readings.walk_turn, Readings.keep_turn, KeptSane.root_kept, Shown.log_values, Shown.settled, Frames.frame_row, Frames.items_stay, Frames.nobody_made, Settling.settled_grown, Settling.settled_new, Keeping.goes_made, Keeping.set_shadows, Deciding.decide_turn, InTx.no_begin, Locking.lock_turn, Locking.log_turn, Passing.tx_is, Visiting.visit_turn, Working.operates, Working.working_turn, Outside.plain_none, Outside.outcome_known, Others.kept_moving, Registered.log_stays, Registered.no_more, Registered.stays_new, CallsHere.childless}
 use Rattle.beldi_laws.proofs.Names.map
@@ -35,9 +35,9 @@ module _ (d : Deployment) (c : Core) (m : Rows) (i : ℕ) (h : Right d c m) (r :
     in_it : {e : Effect} {o : Option RunTx} → g.machine.effect ≡ e → g.tx ≡ o → is_begin e ≡ false → tx_after d r.id k.instance k.answers ≡ run_tx r.id r.func o
     in_it is tx apart = tx_is k (ap is_begin is ∙ apart) ∙ ap (run_tx r.id r.func) tx
 
-    write_turn : (w : WriteAt) (e : Effect) (o : Option OnItem) → op_of e ≡ o → is_some o ≡ true → g.machine.effect ≡ e → g.tx ≡ None → AfterStage (Stage.Write w) e g.tx
-    write_turn w e None so some is tx = cc
-    write_turn w e (Some o) so some is tx = operation_turn d c m i r g h live k finds (in_it is tx (is_operation e o so).2) e so is w
+    write_turn : (w : WriteAt) (e : Effect) (o : Option OnItem) → op_of e ≡ o → is_some o ≡ true → SeesPut m r.func (place_of r.id g.machine.steps) w (cell_op e) → g.machine.effect ≡ e → g.tx ≡ None → AfterStage (Stage.Write w) e g.tx
+    write_turn w e None so some sees is tx = cc
+    write_turn w e (Some o) so some sees is tx = operation_turn d c m i r g h live k finds (in_it is tx (is_operation e o so).2) e so is w sees
 
     tx_turn : (a : TxAt) (e : Effect) (o : RunTx) → g.machine.effect ≡ e → g.tx ≡ Some o → tx_after d r.id k.instance k.answers ≡ Some (tx_of r.id r.func o) → Fits e a → InItem d m h.plain h.known r.id r.func o g.machine.steps e a (touched e) → AfterStage (Stage.Tx a) e (Some o)
     tx_turn TxAt.Log (Read b y) o is tx here fits f = log_turn d c m i r g h live k finds o tx here (Read b y) is (b, y) refl fits
@@ -51,9 +51,9 @@ module _ (d : Deployment) (c : Core) (m : Rows) (i : ℕ) (h : Right d c m) (r :
     -- what its stage leaves
     stage_turn : (s : Stage) (e : Effect) (o : Option RunTx) → g.machine.effect ≡ e → g.tx ≡ o → AtStage m h.plain c.book k s e o → AfterStage s e g.tx
     stage_turn Stage.Ask (Read t key) None is tx at = ask_turn d c m i r g h live k finds (in_it is tx refl) t key is
-    stage_turn Stage.Walk (Read t key) None is tx at = walk_turn d c m i r g h live k finds (in_it is tx refl) t key is
+    stage_turn (Stage.Walk row) (Read t key) None is tx at = walk_turn d c m i r g h live k finds (in_it is tx refl) t key is row at
     stage_turn (Stage.Keep v seen) (Read t key) None is tx at = keep_turn d c m i r g h live k finds (in_it is tx refl) t key is v seen at
-    stage_turn (Stage.Write w) e None is tx at = write_turn w e (op_of e) refl at is tx
+    stage_turn (Stage.Write w) e None is tx at = write_turn w e (op_of e) refl at.0 at.1 is tx
     stage_turn (Stage.Call w) (Call f v) o is tx at = call_turn d c m i r g h live at_is k finds f v is at.0 w at.1
     stage_turn (Stage.Async w) (Async f v) None is tx at = async_turn d c m i r g h live at_is k finds (in_it is tx refl) f v is at.0 w at.1
     stage_turn Stage.Back (Return u) o is tx at = back_at g.caller u refl is at

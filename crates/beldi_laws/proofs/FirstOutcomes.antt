@@ -12,7 +12,7 @@ use Rattle.beldi_row.specs.declared.act.Act.TheVariants.{Look, Bind, End, Stamp}
 use Rattle.beldi_row.specs.Act.{act, bind_to, did, end_with, off, on, stamp_with}
 use Rattle.beldi_row.{proofs.Gets.got, proofs.Gets.key_same, specs.Key.RowKey, specs.Key.key_cmp, specs.Table.Rows, specs.declared.act.Act.Act, specs.declared.key.Kind.Kind, specs.declared.row.Body.Body, specs.declared.row.Cell.Cell, specs.declared.row.IntentRow.IntentRow, specs.declared.row.InvokeRow.InvokeRow, specs.declared.row.Row.Row, specs.declared.table.TableErr.TableErr}
 use Rattle.beldi_walk.{proofs.Lent.refused_stand, specs.Query.CameOn, specs.Query.Told, specs.Query.rows_after, specs.Query.said, specs.Query.told_by, specs.declared.query.Query.Query}
-use Rattle.beldi_daal.specs.{Cell.cell_key, Cell.shadow_key, Cell.write_asks, declared.cell.CellOp.CellOp, declared.cell.WriteAt.WriteAt, declared.cell.WriteAt.TheVariants.Try, declared.cell.WriteAt.TheVariants.Make}
+use Rattle.beldi_daal.specs.{Cell.cell_key, Cell.shadow_key, Cell.write_asks, declared.cell.CellOp.CellOp, declared.cell.WriteAt.WriteAt, declared.cell.WriteAt.TheVariants.Try, declared.cell.WriteAt.TheVariants.Make, declared.cell.WriteAt.TheVariants.Append, declared.cell.WriteAt.TheVariants.Link}
 use Rattle.beldi_lock.specs.{Lock.asks_at as lock_asks_at, declared.lock.LockAt.LockAt}
 use Rattle.beldi_intent.specs.Intent.{intent_key, root_key}
 use Rattle.beldi_txn.specs.{End.first_visit, End.free_asks, End.free_place, End.shadow_asks, End.visit_asks, End.visited_by, Tx.aside_asks, Tx.asks_of, Tx.item_asks, Tx.item_of, Tx.op_of, Way.Member, declared.end.EndAt.EndAt, declared.end.Visit.Visit, declared.tx.TxAt.TxAt, declared.way.Called.Called}
@@ -125,19 +125,21 @@ ends (Query.Act k (End o s)) = true
 ends q = false
 
 write_silent : (k : RowKey) (p : Place) (who : Owner) (op : CellOp) (w : WriteAt) → ends (write_asks k p who op w) ≡ false
-write_silent k p who (CellOp.Write v) Try = refl
-write_silent k p who (CellOp.Cond r u v) Try = refl
-write_silent k p who CellOp.Lock Try = refl
-write_silent k p who (CellOp.Free v) Try = refl
+write_silent k p who (CellOp.Write v) (Try r) = refl
+write_silent k p who (CellOp.Cond t u v) (Try r) = refl
+write_silent k p who CellOp.Lock (Try r) = refl
+write_silent k p who (CellOp.Free v) (Try r) = refl
 write_silent k p who op Make = refl
+write_silent k p who op (Append n t) = refl
+write_silent k p who op (Link n) = refl
 
 lock_silent : (home t : ℕ) (k : List ℕ) (p : Place) (who : Owner) (a : LockAt) → ends (lock_asks_at home t k p who a) ≡ false
 lock_silent home t k p who (LockAt.Lockset b) = refl
 lock_silent home t k p who (LockAt.Item w) = write_silent (cell_key home t k) p who CellOp.Lock w
 
-walk_silent : (id : IntentId) (func : ℕ) (e : Effect) → ends (walk_asks id func e) ≡ false
-walk_silent id func (Effect.Read t k) = refl
-walk_silent id func e = refl
+walk_silent : (id : IntentId) (func row : ℕ) (e : Effect) → ends (walk_asks id func row e) ≡ false
+walk_silent id func row (Effect.Read t k) = refl
+walk_silent id func row e = refl
 
 put_silent : (id : IntentId) (func step : ℕ) (w : WriteAt) (o : Option OnCell) → ends (put_asks id func step w o) ≡ false
 put_silent id func step w None = refl
@@ -150,8 +152,9 @@ aside_silent home p x k w (Some o) = write_silent k p (Owner.Tx x) o w
 item_silent : (home : ℕ) (p : Place) (x : TxId) (e : Effect) (t : ℕ) (k : List ℕ) (a : TxAt) → ends (item_asks home p x e t k a) ≡ false
 item_silent home p x e t k TxAt.Log = refl
 item_silent home p x e t k (TxAt.Lock l) = lock_silent home t k p (Owner.Tx x) l
-item_silent home p x e t k TxAt.Shadow = refl
-item_silent home p x e t k TxAt.Item = refl
+item_silent home p x e t k TxAt.Seek = refl
+item_silent home p x e t k (TxAt.Shadow r) = refl
+item_silent home p x e t k (TxAt.Item r) = refl
 item_silent home p x e t k (TxAt.Keep v) = refl
 item_silent home p x e t k (TxAt.Head v) = refl
 item_silent home p x e t k (TxAt.Write w) = aside_silent home p x (shadow_key home x t k) w (op_of e)
@@ -164,9 +167,9 @@ tx_silent : (id : IntentId) (func step : ℕ) (e : Effect) (a : TxAt) (o : Optio
 tx_silent id func step e a None = refl
 tx_silent id func step e a (Some o) = operation_silent func (place_of id step) (tx_of id func o) e a (item_of e)
 
-shadow_silent : (x : TxId) (p : Member) (i : Option (ℕ × List ℕ)) → ends (shadow_asks x p i) ≡ false
-shadow_silent x p None = refl
-shadow_silent x p (Some i) = refl
+shadow_silent : (x : TxId) (p : Member) (r : ℕ) (i : Option (ℕ × List ℕ)) → ends (shadow_asks x p r i) ≡ false
+shadow_silent x p r None = refl
+shadow_silent x p r (Some i) = refl
 
 free_silent : (x : TxId) (p : Member) (at : Place) (v : Option Value) (w : WriteAt) (i : Option (ℕ × List ℕ)) → ends (free_asks x p at v w i) ≡ false
 free_silent x p at v w None = refl
@@ -176,7 +179,7 @@ visit_silent : (x : TxId) (end : ℕ) (commit : Bool) (cs : List Called) (after 
 visit_silent x end commit cs after i v EndAt.Decide = refl
 visit_silent x end commit cs after i v EndAt.Callees = refl
 visit_silent x end commit cs after i v EndAt.Next = refl
-visit_silent x end commit cs after i v EndAt.Shadow = shadow_silent x (visited_by x cs) i
+visit_silent x end commit cs after i v (EndAt.Shadow r) = shadow_silent x (visited_by x cs) r i
 visit_silent x end commit cs after i v (EndAt.Free w) = free_silent x (visited_by x cs) (free_place x end cs) v w i
 visit_silent x end commit cs after i v EndAt.Stamp = refl
 
@@ -249,7 +252,7 @@ module _ (id : IntentId) (func : ℕ) (c : Option Caller) (x : Option RunTx) (st
 
   by_stage : (w : Stage) → stage_asks id func c x step e w ≡ Query.Act (root_key t) (End o s) → Closes w
   by_stage Stage.Ask is = ends_not (stage_asks id func c x step e Stage.Ask) (root_key t) o s refl is
-  by_stage Stage.Walk is = ends_not (walk_asks id func e) (root_key t) o s (walk_silent id func e) is
+  by_stage (Stage.Walk row) is = ends_not (walk_asks id func row e) (root_key t) o s (walk_silent id func row e) is
   by_stage (Stage.Keep v seen) is = ends_not (stage_asks id func c x step e (Stage.Keep v seen)) (root_key t) o s refl is
   by_stage (Stage.Write w) is = ends_not (put_asks id func step w (cell_op e)) (root_key t) o s (put_silent id func step w (cell_op e)) is
   by_stage (Stage.Tx a) is = ends_not (tx_here_asks id func step e a x) (root_key t) o s (tx_silent id func step e a x) is

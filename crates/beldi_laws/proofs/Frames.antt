@@ -1,5 +1,6 @@
 -- What an event keeps for the runs of others: a frame, of a row that is set.
-use Rattle.beldi_laws.proofs.Names.{Bool, ByTx, CellOp, ChangedAlone, Content, Deployment, DoneRows, Frame, Instance, IntentId, IsFreeFor, IsOf, IsWriting, Item, Kind, Known, List, None, Note, Option, Place, PlainState, Query, Row, RowKey, Rows, SameShadows, Some, Sound, StillOwns, TookPart, TxId, Value, [], act, ap, arith, aside_head, by_item, chain_off, cond, content, content_of, ended, false, free_after, func_called, has_finish, head_key, head_tail, if◌then◌else◌, invoke_key, is_data, is_eq, is_shadow, is_some, item_aside, item_cmp, item_head, item_same, key_cmp, key_in, key_same, key_self, kind_off, kinds_apart, known_set, lockset_key, log_key, no_tx, note_after, note_at, note_pushed, notes_stay, option_map, or_null, or_old, other_aside, other_item, other_shadows, place_eq, place_same, plain_set, refl, row_got, rows_after, same_data, same_shadow, same_some, set_if, set_others, set_row, shadow_chain, shadow_key, shadow_row, shadow_same, subst, sym, true, tx_end, value_at, ℕ, ◌++◌, ◌∙◌, ◌∷◌, ◌≡◌}
+use Rattle.beldi_laws.proofs.Names.{AllGrow, Bool, ByTx, CellOp, ChangedAlone, Content, Deployment, DoneRows, Frame, Instance, IntentId, IsFreeFor, IsHead, IsLinked, IsOf, IsWriting, Item, Kind, Known, List, None, Note, Option, Place, PlainState, Query, Row, RowKey, Rows, RowsStay, SameShadows, Some, StillOwns, TookPart, TxId, Value, [], act, ap, arith, aside_head, at_row, by_item, chain_off, cond, content, content_of, ended, false, free_after, func_called, has_finish, head_key, if◌then◌else◌, invoke_key, is_data, is_eq, is_row_of, is_shadow, is_some, item_aside, item_cmp, item_head, item_same, key_cmp, key_in, key_same, key_self, kind_at, kind_off, kinds_apart, known_set, lockset_key, log_key, no_tx, note_after, note_at, note_pushed, notes_stay, option_map, or_null, or_old, other_aside, other_item, other_shadows, others_grow, place_eq, place_same, plain_set, refl, row_got, number_of, rows_after, same_data, same_grow, same_shadow, same_some, set_if, set_others, set_row, shadow_chain, shadow_key, shadow_row, shadow_same, subst, sym, true, tx_end, value_at, ℕ, ◌++◌, ◌∙◌, ◌∷◌, ◌≡◌}
+use Rattle.beldi_links.proofs.Last.{tail_there}
 use Rattle.beldi_laws.proofs.Cases.{false_by}
 use Rattle.beldi_laws.proofs.Names.map
 
@@ -42,6 +43,13 @@ abbrev intent_of : IntentId → Kind → IntentId
 intent_of j (Kind.Intent i) = i
 intent_of j k = j
 
+-- a row of no number is no item's
+off_number : (k : Kind) → is_data k ≡ false → is_shadow k ≡ false → number_of (kind_at (kind_at k 0) 1) ≡ 0
+off_number k off apart = grind (arith, off, apart)
+
+no_row_of : (head l : RowKey) → IsHead head → number_of (kind_at (kind_at l.kind 0) 1) ≡ 0 → is_row_of head l ≡ false
+no_row_of head l first none = false_by (is_row_of head l) (λ e. let clash = sym none ∙ ap (λ (z : RowKey). number_of (at_row z 1).kind) (key_same (at_row l 0) head e) ∙ first.numbered 1 in cc)
+
 no_item : (k : Kind) → is_entry k ≡ true → (is_data k ≡ false) × (is_shadow k ≡ false) × (is_lockset k ≡ false)
 no_item k h = grind arith
 
@@ -63,16 +71,16 @@ module _ (m n : Rows) (k : RowKey) (same : (l : RowKey) → is_eq (key_cmp l k) 
   shadow_off : is_shadow k.kind ≡ false → SameShadows m n
   shadow_off off t x = chain_off m n k (shadow_key t x) same (aside_head t x) (kind_off is_shadow same_shadow (shadow_key t x) k refl off)
 
+  -- the rows of items and of shadows grow, where it is none of them
+  grow_off : is_data k.kind ≡ false → is_shadow k.kind ≡ false → AllGrow m n
+  grow_off off apart = others_grow m n k (λ head first. no_row_of head k first (off_number k.kind off apart)) same
+
   lockset_off : is_lockset k.kind ≡ false → (i : IntentId) (b : ℕ) (x : Item) → map.get n (lockset_key i b x) ≡ map.get m (lockset_key i b x)
   lockset_off off i b x = same (lockset_key i b x) (kinds_apart is_lockset (lockset_key i b x) k refl off)
 
--- no row goes
-abbrev pub RowsStay : Rows → Rows → Type 0
-RowsStay m n = (l : RowKey) → is_some (map.get m l) ≡ true → is_some (map.get n l) ≡ true
-
 -- a shadow that is there stays
-pub aside_stays : (m n : Rows) (t : TxId) (x : Item) → Sound (shadow_chain m t x) → Sound (shadow_chain n t x) → RowsStay m n → is_some (shadow_row m t x) ≡ true → is_some (shadow_row n t x) ≡ true
-aside_stays m n t x was now stay there = let head = aside_head t x in ap is_some (head_tail n (shadow_key t x) head now) ∙ stay (shadow_key t x) (sym (ap is_some (head_tail m (shadow_key t x) head was)) ∙ there)
+pub aside_stays : (m n : Rows) (t : TxId) (x : Item) → IsLinked (shadow_chain m t x) → IsLinked (shadow_chain n t x) → RowsStay m n → is_some (shadow_row m t x) ≡ true → is_some (shadow_row n t x) ≡ true
+aside_stays m n t x was now stay there = tail_there (shadow_chain n t x) now ∙ stay (shadow_key t x) (sym (tail_there (shadow_chain m t x) was) ∙ there)
 
 -- no query takes a row away
 pub query_keeps : (q : Query) (now : ℕ) (m : Rows) → RowsStay m (rows_after q now m)
@@ -187,6 +195,7 @@ module _ (d : Deployment) (m : Rows) (p q : PlainState) (known next : Known) (va
   -- no row changes
   pub frame_still : Frame d m m p q known next
   frame_still = record {
+    grows = same_grow m m refl;
     rows = λ k e. e;
     notes = λ x a w e. e;
     shadows = λ t x apart. refl;
@@ -203,9 +212,10 @@ module _ (d : Deployment) (m : Rows) (p q : PlainState) (known next : Known) (va
     owns_same t end x same own = record { owner = ap (λ (c : Content). c.owner) (sym same) ∙ own; notes = λ a free. ap (λ (c : Content). note_at c.notes a) same }
 
     -- the items are as before
-    frame_apart : RowsStay m n → ((x : Item) → content_of n x ≡ content_of m x) → ((t : TxId) (x : Item) → (IsWriting d known t → ⊥) → shadow_chain n t x ≡ shadow_chain m t x)
+    frame_apart : AllGrow m n → RowsStay m n → ((x : Item) → content_of n x ≡ content_of m x) → ((t : TxId) (x : Item) → (IsWriting d known t → ⊥) → shadow_chain n t x ≡ shadow_chain m t x)
         → ((t : TxId) (z : ℕ × Bool) (i : IntentId) (x : Item) → tx_end d next t ≡ Some z → IsOf next t i → is_some (map.get n (lockset_key i t.begin x)) ≡ true → is_some (map.get m (lockset_key i t.begin x)) ≡ true) → FinishesStay m n → CallsStay m n → Frame d m n p q known next
-    frame_apart stay items shadows locksets finishes calls = record {
+    frame_apart grows stay items shadows locksets finishes calls = record {
+      grows = grows;
       rows = stay;
       notes = λ x a w e. ap (λ (c : Content). note_at c.notes a) (items x) ∙ e;
       shadows = shadows;
@@ -221,15 +231,15 @@ module _ (d : Deployment) (m : Rows) (p q : PlainState) (known next : Known) (va
     module _ (k : RowKey) (same : (l : RowKey) → is_eq (key_cmp l k) ≡ false → map.get n l ≡ map.get m l) (there : is_some (map.get n k) ≡ true) where
       frame_of : is_entry k.kind ≡ true → FinishesStay m n → CallsStay m n → Frame d m n p q known next
       frame_of kind = let off = no_item k.kind kind in
-          frame_apart (rows_stay m n k same (λ e. there)) (content_off m n k same off.0) (λ t x apart. shadow_off m n k same off.1 t x) (λ t z i x e is here. ap is_some (sym (lockset_off m n k same off.2 i t.begin x)) ∙ here)
+          frame_apart (grow_off m n k same off.0 off.1) (rows_stay m n k same (λ e. there)) (content_off m n k same off.0) (λ t x apart. shadow_off m n k same off.1 t x) (λ t z i x e is here. ap is_some (sym (lockset_off m n k same off.2 i t.begin x)) ∙ here)
 
       pub frame_entry : is_entry k.kind ≡ true → (has_finish (map.get m k) ≡ true → has_finish (map.get n k) ≡ true) → ((g : ℕ) → option_map func_called (map.get m k) ≡ Some g → option_map func_called (map.get n k) ≡ Some g) → Frame d m n p q known next
       frame_entry kind ends calls = frame_of kind (finishes_on m n k same ends) (calls_on m n k same calls)
 
     -- the rows of a shadow, of a transaction that an instance is to write in
-    module _ (s : TxId) (y : Item) (alone : ChangedAlone (shadow_key s y) m n) (stay : RowsStay m n) (writing : IsWriting d known s) where
+    module _ (s : TxId) (y : Item) (alone : ChangedAlone (shadow_key s y) m n) (grows : AllGrow m n) (stay : RowsStay m n) (writing : IsWriting d known s) where
       pub frame_shadow : Frame d m n p q known next
-      frame_shadow = let k = shadow_key s y in frame_apart stay (λ x. ap content (item_aside m n s y alone x)) (λ t x apart. by_key t x apart (is_eq (key_cmp (shadow_key t x) k)) refl)
+      frame_shadow = let k = shadow_key s y in frame_apart grows stay (λ x. ap content (item_aside m n s y alone x)) (λ t x apart. by_key t x apart (is_eq (key_cmp (shadow_key t x) k)) refl)
           (λ t z i x e is here. ap is_some (sym (lockset_kept m n k alone refl i t.begin x)) ∙ here) (finishes_kept m n k alone refl) (calls_kept m n k alone refl)
         where
           by_key : (t : TxId) (x : Item) → (IsWriting d known t → ⊥) → (b : Bool) → is_eq (key_cmp (shadow_key t x) (shadow_key s y)) ≡ b → shadow_chain n t x ≡ shadow_chain m t x
@@ -237,13 +247,14 @@ module _ (d : Deployment) (m : Rows) (p q : PlainState) (known next : Known) (va
           by_key t x apart false e = other_aside m n s y alone t x e
 
     -- the rows of an item
-    module _ (y : Item) (alone : ChangedAlone (head_key y) m n) (stay : RowsStay m n) where
+    module _ (y : Item) (alone : ChangedAlone (head_key y) m n) (grows : AllGrow m n) (stay : RowsStay m n) where
       others_hold : (x : Item) → is_eq (item_cmp y x) ≡ false → content_of n x ≡ content_of m x
       others_hold x other = ap content (other_item m n y alone x other)
 
       pub frame_item : ((a : Place) (w : Note) → note_at (content_of m y).notes a ≡ Some w → note_at (content_of n y).notes a ≡ Some w)
           → ((t : TxId) (z : ℕ × Bool) → tx_end d next t ≡ Some z → (content_of n y).owner ≡ Some (ByTx t) → StillOwns next (content_of m y) (content_of n y) t z.0) → Frame d m n p q known next
       frame_item notes owners = record {
+        grows = grows;
         rows = stay;
         notes = λ x. by_item y x (λ x. (a : Place) (w : Note) → note_at (content_of m x).notes a ≡ Some w → note_at (content_of n x).notes a ≡ Some w) notes (λ other a w e. ap (λ (c : Content). note_at c.notes a) (others_hold x other) ∙ e);
         shadows = λ t x apart. other_shadows m n y alone t x;
@@ -261,8 +272,8 @@ module _ (d : Deployment) (m : Rows) (p q : PlainState) (known next : Known) (va
       frame_held held = frame_item (λ a w e. ap (λ (c : Content). note_at c.notes a) held ∙ e) (λ t z e own. owns_same t z.0 y held own)
 
     -- .. after an operation outside
-    pub frame_done : (y : Item) (at : Place) (op : CellOp) → RowsStay m n → DoneRows m n y at op → Frame d m n p q known next
-    frame_done y at op stay did = frame_item y did.same stay
+    pub frame_done : (y : Item) (at : Place) (op : CellOp) → AllGrow m n → RowsStay m n → DoneRows m n y at op → Frame d m n p q known next
+    frame_done y at op grows stay did = frame_item y did.same grows stay
         (λ a w e. ap (λ (c : Content). note_at c.notes a) did.here ∙ note_stays (content_of m y).notes at a (note_after op (content_of m y).value) w did.none e)
         (λ t z e own. absurd (no_tx at.intent (content_of n y).owner (subst (λ (c : Content). IsFreeFor at.intent c.owner) (sym did.here) (free_after op at.intent (content_of m y).owner did.free)) t own))
       where
@@ -287,7 +298,7 @@ module _ (d : Deployment) (m : Rows) (p q : PlainState) (known next : Known) (va
 
   -- that a member asks for a lock, of no transaction that has ended
   pub frame_lockset : (j : IntentId) (b : ℕ) (y : Item) → ((t : TxId) (z : ℕ × Bool) → tx_end d next t ≡ Some z → IsOf next t j → t.begin ≡ b → ⊥) → Frame d m (set_row m (lockset_key j b y) (Some Row.Lockset)) p q known next
-  frame_lockset j b y none = frame_apart asked (rows_stay m asked key same (λ e. ap is_some (row_there key (Some Row.Lockset)))) (content_off m asked key same refl) (λ t x apart. shadow_off m asked key same refl t x)
+  frame_lockset j b y none = frame_apart asked (grow_off m asked key same refl refl) (rows_stay m asked key same (λ e. ap is_some (row_there key (Some Row.Lockset)))) (content_off m asked key same refl) (λ t x apart. shadow_off m asked key same refl t x)
       (λ t z i x e is here. by_key t z i x e is here (is_eq (key_cmp (lockset_key i t.begin x) key)) refl) (finishes_off m asked key same refl) (calls_off m asked key same refl)
     where
       key : RowKey

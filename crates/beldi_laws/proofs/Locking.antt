@@ -1,9 +1,10 @@
 -- The turns of an operation of a transaction up to its lock: a read looks whether a value was kept for it, the row is put that says that
 -- the lock is asked for, and the lock of the item is tried.
-use Rattle.beldi_daal.specs.declared.cell.WriteAt.TheVariants.{Try}
+use Rattle.beldi_daal.specs.{Walk.walk_at, declared.cell.WriteAt.TheVariants.Try}
+use Rattle.beldi_lock.specs.Locked.{SeesItem}
 use Rattle.beldi_known.{specs.Acts.Told, proofs.Lists.elsewhere}
-use Rattle.beldi_laws.proofs.Names.{Answer, AtItem, Begun, Bool, ByTx, Cause, ChangedAlone, Content, Core, Deployment, DidAs, DidOnce, Effect, Fits, Found, Frame, Goes, HasLock, InOperation, Inside, IntentId, IsAnswer, IsDeath, IsFreePlace, IsFront, IsSoundChain, Item, Kind, Known, Knows, List, Lock, LockAt, LockTold, Lockset, Logs, Look, Matches, None, Note, OfBegin, Option, Owner, Place, Plain, PutLockset, Query, Released, Right, Row, RowKey, Rows, Run, RunTx, Sane, Says, Some, Stage, TxAt, TxId, Value, Wait, WriteAt, WriteGoes, WriteWalk, [], act, age_of, ahead_by, ahead_front, ahead_set, ap, arith, aside_apart, asks_of, begin_of, behind_asks, behind_locks, behind_looks, behind_looks_dead, by_op, content_apart, content_of, death_answer, death_in, death_is_older, deaths_go, decision_key, did_lists, died, died_at, died_lists, dies, dies_inside, done_to, effect_after, effect_of, end_place, ended_by, false, given_goes, given_in, given_of, grows_self, has_asked, head_key, held, id_cmp, if◌then◌else◌, inl, inr, inserted, is_data, is_eq, is_item, is_shadow, is_some, item_asks, item_goes, item_of, kind_off, last_step, length, listed, lists_same, lock_answer, lock_did, lock_in, lock_is_there, lock_leads, lock_on, lock_or, locked_goes, lockset_ahead, lockset_key, lockset_put, log_key, looked, moved, no_row, none_out, note_at, note_goes, note_here, note_is_ahead, note_pushed, noted, noted_or, other_key, other_owner, other_shadows, owed_lockset, place_eq, place_of, place_same, put_goes, put_lockset, refl, root_key, rows_after, rows_go, said, same_data, same_shadow, same_some, sane_died, set_here, set_others, set_row, shadow_key, shadow_row, subst, sym, told, told_by, touched, true, true_false, turn_next, turned_by, tx_after, tx_end, tx_here_asks, tx_here_says, tx_now, tx_of, tx_says, unchanged, undecided, value_at, walk_so, with_note, write_asks, write_goes, ℕ, ◌++◌, ◌<◌, ◌∙◌, ◌∷◌, ◌≡◌}
-use Rattle.beldi_laws.proofs.Frames.{NoFinish, RowsStay, frame_held, frame_item, frame_lockset, is_entry, items_stay, no_finish, nobody_new, nobody_set, none_finish, query_keeps, query_notes}
+use Rattle.beldi_laws.proofs.Names.{AllGrow, Answer, AtItem, Begun, Bool, ByTx, Cause, ChangedAlone, Content, Core, Deployment, DidAs, DidOnce, Effect, Fits, Found, Frame, Goes, HasLock, InOperation, Inside, IntentId, IsAnswer, IsDeath, IsFreePlace, IsFront, IsLinkedItem, Item, Kind, Known, Knows, List, Lock, LockAt, LockTold, Lockset, Logs, Look, Matches, None, Note, OfBegin, Option, Owner, Place, Plain, PutLockset, Query, Released, Right, Row, RowKey, Rows, RowsStay, Run, RunTx, Sane, Says, SeesAt, SeesBoth, Some, Stage, TxAt, TxId, Value, Wait, WriteAt, WriteGoes, WriteWalk, [], act, age_of, ahead_by, ahead_front, ahead_set, ap, arith, aside_apart, asks_of, begin_of, behind_asks, behind_locks, behind_looks, behind_looks_dead, by_op, cell_at, chain, content_apart, content_of, death_answer, death_in, death_is_older, deaths_go, decision_key, did_lists, died, died_at, died_lists, dies, dies_inside, done_to, effect_after, effect_of, end_place, ended_by, false, given_goes, given_in, given_of, grows_self, has_asked, head_key, held, id_cmp, if◌then◌else◌, inl, inr, inserted, is_data, is_eq, is_item, is_shadow, is_some, item_asks, item_goes, item_of, kind_off, last_step, length, listed, lists_same, lock_answer, lock_did, lock_in, lock_is_there, lock_leads, lock_on, lock_or, locked_goes, lockset_ahead, lockset_key, lockset_put, log_key, looked, moved, no_row, none_out, note_at, note_goes, note_here, note_is_ahead, note_pushed, noted, noted_or, other_key, other_owner, other_shadows, owed_lockset, place_eq, place_of, place_same, put_goes, put_lockset, reads_begin, refl, root_key, rows_after, rows_go, said, same_data, same_shadow, same_some, sane_died, set_here, set_others, set_row, shadow_chain, shadow_key, shadow_row, subst, sym, told, told_by, touched, true, true_false, turn_next, turned_by, tx_after, tx_end, tx_here_asks, tx_here_says, tx_now, tx_of, tx_says, unchanged, undecided, value_at, walk_so, walks_begin, with_note, write_asks, write_goes, ℕ, ◌++◌, ◌<◌, ◌∙◌, ◌∷◌, ◌≡◌}
+use Rattle.beldi_laws.proofs.Frames.{NoFinish, frame_held, frame_item, frame_lockset, is_entry, items_stay, no_finish, nobody_new, nobody_set, none_finish, query_keeps, query_notes}
 use Rattle.beldi_laws.proofs.{Ages.Holder, Ages.dies_so, Ages.free_of, Ages.holder_made, Ages.only_one, Settling.settled_operated, Grown.grown_moved, Grown.grows_moved, Grown.moved_more, Keeping.as_it_was, Keeping.set_shadows, Keeping.stays_by, Moves.AfterQuery, Moves.Kept, Moves.SameRoots, Moves.Stays, Others.kept_moving, Owed.content_kept, Owed.contents_kept, Owed.others_list, Ended.ended_at, Shown.holds_here, Shown.settled, Turns.Freed, Turns.Leaves, Cases.false_by}
 use Rattle.beldi_laws.proofs.Names.map
 use Rattle.beldi_laws.proofs.InTx as in_tx
@@ -100,8 +101,8 @@ module _ (d : Deployment) (c : Core) (m : Rows) (i : ℕ) (r : Run) (g : Begun) 
   asks_it a z = subst (λ y. AfterQuery d h.plain c.now m (λ u. turn_next c i r (turned_by d r g (tx_here_says r.id g.machine.steps e a (Some o) u))) (asks_of r.func place own e a y)) (sym (item_touched e ∙ touch)) z
 
   -- what it finds where it asks for its lock
-  in_lock : (n : Rows) (l : LockAt) → OfBegin (begin_of o) (TxAt.Lock l) → (has_asked (TxAt.Lock l) ≡ true → is_some (map.get n (lockset_key r.id (begin_of o) item)) ≡ true) → InOperation d n h.plain h.known r.id r.func o g.machine.steps e (TxAt.Lock l) x
-  in_lock n l begin asked = record { begin = begin; asked = asked; locked = tt; found = λ q made same. none_found e l (shadow_row n own item) (value_at h.plain item) }
+  in_lock : (n : Rows) (l : LockAt) → OfBegin (begin_of o) (TxAt.Lock l) → (has_asked (TxAt.Lock l) ≡ true → is_some (map.get n (lockset_key r.id (begin_of o) item)) ≡ true) → SeesItem l place (chain n (head_key item)) → InOperation d n h.plain h.known r.id r.func o g.machine.steps e (TxAt.Lock l) x
+  in_lock n l begin asked sees = record { begin = begin; asked = asked; locked = tt; sees = sees; found = λ q made same. none_found e l (shadow_row n own item) (value_at h.plain item) }
 
   -- it goes on in its operation, or has the answer that is known
   goes_at : (b : TxAt) (n : Rows) (after : IntentId → Bool) → SameRoots m n → Kept h n h.plain h.known after → Fits e b → InOperation d n h.plain h.known r.id r.func o g.machine.steps e b x → Comes (Says.On (Stage.Tx b) None) n
@@ -205,7 +206,7 @@ module _ (d : Deployment) (c : Core) (m : Rows) (i : ℕ) (r : Run) (g : Begun) 
         by_answer b left ok = absurd ok
 
     by_row : (v : Option Row) → map.get m log_row ≡ v → Comes (tx_says TxAt.Log (given_goes (begin_of o) (given_of (said (act Look c.now v).1)))) m
-    by_row None there = goes_at (TxAt.Lock (Lockset (begin_of o))) m h.locked (λ t. refl) (as_it_was h) (looks_lock e (Lockset (begin_of o)) fits) (in_lock m (Lockset (begin_of o)) refl (λ asked. cc))
+    by_row None there = goes_at (TxAt.Lock (Lockset (begin_of o))) m h.locked (λ t. refl) (as_it_was h) (looks_lock e (Lockset (begin_of o)) fits) (in_lock m (Lockset (begin_of o)) refl (λ asked. cc) tt)
     by_row (Some w) there = turns.by_answer k
         (λ left. let clash = sym there ∙ sym (its_row (length k.instance.answers) (turns.step_here k left)) ∙ no_row d m h.known h.locked h.rows r.id k.instance k.made in cc)
         (λ a rest left. subst (λ z. Comes (Says.Answers z None) m) (sym (behind_row a rest left w there)) (replays m a rest left (λ t. refl) (as_it_was h)))
@@ -235,20 +236,20 @@ module _ (d : Deployment) (c : Core) (m : Rows) (i : ℕ) (r : Run) (g : Begun) 
         (no_finish m asked_now lock_row (set_others m lock_row (Some Row.Lockset)) d h.known refl)
 
   module _ (fits : Fits e (TxAt.Lock (Lockset (begin_of o)))) where
-    by_lockset : (v : Option Row) → map.get m lock_row ≡ v → Comes (tx_says (TxAt.Lock (Lockset (begin_of o))) (lock_leads place e (put_goes (begin_of o) (said (act PutLockset c.now v).1)))) (set_row m lock_row (act PutLockset c.now v).0)
+    by_lockset : (v : Option Row) → map.get m lock_row ≡ v → Comes (tx_says (TxAt.Lock (Lockset (begin_of o))) (lock_leads place e (put_goes (said (act PutLockset c.now v).1)))) (set_row m lock_row (act PutLockset c.now v).0)
     by_lockset None there = turns.by_answer k
-        (λ left. goes_at (TxAt.Lock (AtItem Try)) (set_row m lock_row (Some Row.Lockset)) h.locked (in_tx.set_roots m r.func (Kind.Lockset r.id (begin_of o) x.0 x.1) (Some Row.Lockset) refl) (asked_kept left)
-        (fits_lock e (Lockset (begin_of o)) (AtItem Try) fits) (in_lock (set_row m lock_row (Some Row.Lockset)) (AtItem Try) tt (λ asked. ap is_some (set_here m lock_row (Some Row.Lockset)))))
+        (λ left. goes_at (TxAt.Lock (AtItem (Try 0))) (set_row m lock_row (Some Row.Lockset)) h.locked (in_tx.set_roots m r.func (Kind.Lockset r.id (begin_of o) x.0 x.1) (Some Row.Lockset) refl) (asked_kept left)
+        (fits_lock e (Lockset (begin_of o)) (AtItem (Try 0)) fits) (in_lock (set_row m lock_row (Some Row.Lockset)) (AtItem (Try 0)) tt (λ asked. ap is_some (set_here m lock_row (Some Row.Lockset))) (walks_begin (chain (set_row m lock_row (Some Row.Lockset)) (head_key item)) place)))
         (λ a rest left. absurd (lockset_there a rest left there))
-    by_lockset (Some w) there = subst (λ n. Comes (Says.On (Stage.Tx (TxAt.Lock (AtItem Try))) None) n) (sym (unchanged m lock_row (Some w) (sym there)))
-        (goes_at (TxAt.Lock (AtItem Try)) m h.locked (λ t. refl) (as_it_was h) (fits_lock e (Lockset (begin_of o)) (AtItem Try) fits) (in_lock m (AtItem Try) tt (λ asked. ap is_some there)))
+    by_lockset (Some w) there = subst (λ n. Comes (Says.On (Stage.Tx (TxAt.Lock (AtItem (Try 0)))) None) n) (sym (unchanged m lock_row (Some w) (sym there)))
+        (goes_at (TxAt.Lock (AtItem (Try 0))) m h.locked (λ t. refl) (as_it_was h) (fits_lock e (Lockset (begin_of o)) (AtItem (Try 0)) fits) (in_lock m (AtItem (Try 0)) tt (λ asked. ap is_some there) (walks_begin (chain m (head_key item)) place)))
 
   pub lockset_turn : (b : ℕ) → OfBegin (begin_of o) (TxAt.Lock (Lockset b)) → Fits e (TxAt.Lock (Lockset b)) → Turns (TxAt.Lock (Lockset b))
   unfolding Comes
   lockset_turn b same fits = subst (λ z. Turns (TxAt.Lock (Lockset z))) (sym same) (asks_it (TxAt.Lock (Lockset (begin_of o))) (by_lockset (fits_lock e (Lockset b) (Lockset (begin_of o)) fits) (map.get m lock_row) refl))
 
   -- ---- the lock of the item, by rows of which its own changed
-  module _ (w : WriteAt) (fits : Fits e (TxAt.Lock (AtItem w))) (asked : is_some (map.get m lock_row) ≡ true) (n : Rows) (alone : ChangedAlone (head_key item) m n) (sound : IsSoundChain n item) (stay : RowsStay m n)
+  module _ (w : WriteAt) (fits : Fits e (TxAt.Lock (AtItem w))) (asked : is_some (map.get m lock_row) ≡ true) (n : Rows) (alone : ChangedAlone (head_key item) m n) (linked : IsLinkedItem n item) (rows_grow : AllGrow m n) (stay : RowsStay m n)
       (notes_on : (p : Place) (u : Note) → note_at (content_of m item).notes p ≡ Some u → note_at (content_of n item).notes p ≡ Some u) where
     roots : SameRoots m n
     roots t = ap is_some (other_key m n item alone (root_key t) refl)
@@ -261,30 +262,43 @@ module _ (d : Deployment) (c : Core) (m : Rows) (i : ℕ) (r : Run) (g : Begun) 
     unfinished next = none_finish m n (head_key item) alone d next refl
 
     -- what it finds past its lock
-    in_past : (b : TxAt) → OfBegin (begin_of o) b → HasLock b place (content_of n item) → ((y : Option Row) (u : Value) → Found e b y u) → InOperation d n h.plain h.known r.id r.func o g.machine.steps e b x
-    in_past b begin has found = record { begin = begin; asked = λ past. asked_still; locked = has; found = λ q made now. found (shadow_row n own item) (value_at h.plain item) }
+    in_past : (b : TxAt) → OfBegin (begin_of o) b → HasLock b place (content_of n item) → SeesBoth n place own item b → ((y : Option Row) (u : Value) → Found e b y u) → InOperation d n h.plain h.known r.id r.func o g.machine.steps e b x
+    in_past b begin has sees found = record { begin = begin; asked = λ past. asked_still; locked = has; sees = sees; found = λ q made now. found (shadow_row n own item) (value_at h.plain item) }
 
     -- the item holds what it held
     as_held : content_of n item ≡ content_of m item → Stays h n
-    as_held whole = stays_by h n (other_shadows m n item alone) (content_kept d m n item alone h.known h.locked sound whole h.rows) (λ y. others_list m n item alone y (contents_kept d m n item alone whole y) ∙ h.values y)
-        (frame_held d m h.plain h.plain h.known h.known (items_stay d m h.plain h.plain h.known refl) (nobody_new d h.known) n item alone stay whole) (unfinished h.known)
+    as_held whole = stays_by h n (other_shadows m n item alone) (content_kept d m n item alone h.known h.locked linked whole h.rows) (λ y. others_list m n item alone y (contents_kept d m n item alone whole y) ∙ h.values y)
+        (frame_held d m h.plain h.plain h.known h.known (items_stay d m h.plain h.plain h.known refl) (nobody_new d h.known) n item alone rows_grow stay whole) (unfinished h.known)
 
-    tries : (u : WriteAt) → content_of n item ≡ content_of m item → Comes (Says.On (Stage.Tx (TxAt.Lock (AtItem u))) None) n
-    tries u whole = goes_at (TxAt.Lock (AtItem u)) n h.locked roots (as_held whole) (fits_lock e (AtItem w) (AtItem u) fits) (in_lock n (AtItem u) tt (λ past. asked_still))
+    tries : (u : WriteAt) → content_of n item ≡ content_of m item → SeesAt (chain n (head_key item)) place (cell_at u) → Comes (Says.On (Stage.Tx (TxAt.Lock (AtItem u))) None) n
+    tries u whole seen = goes_at (TxAt.Lock (AtItem u)) n h.locked roots (as_held whole) (fits_lock e (AtItem w) (AtItem u) fits) (in_lock n (AtItem u) tt (λ past. asked_still) seen)
+
+    -- it stays where it is, or waits: for an owner, or where no row can follow the last one
+    stays_here : Stays h n → Comes Says.Stays n
+    unfolding Comes
+    stays_here kept = turns.stays_on d c m i r g h live k finds n roots kept
+
+    waits : (u : Owner) → Stays h n → Comes (Says.Waits (Wait.Held u)) n
+    unfolding Comes
+    waits u kept = turns.held d c m i r g h live k u n roots kept
+
+    worn : Stays h n → Comes (Says.Waits Wait.Worn) n
+    unfolding Comes
+    worn kept = turns.worn d c m i r g h live k n roots kept
 
     -- a note of another kind is not of the lock: it stays where it is
-    other_note : (u : Note) (first : Bool) → is_locks u ≡ false → note_at (content_of n item).notes place ≡ Some u → DidOnce place (ByTx own) Lock first (content_of m item) (content_of n item) → Comes (Says.On (Stage.Tx (TxAt.Lock (AtItem w))) None) n
+    other_note : (u : Note) (first : Bool) → is_locks u ≡ false → note_at (content_of n item).notes place ≡ Some u → DidOnce place (ByTx own) Lock first (content_of m item) (content_of n item) → Comes Says.Stays n
     other_note u true off there l = absurd (not_new (dies (ByTx own) Lock (content_of m item).owner) u off (new_note place (ByTx own) (content_of m item) (content_of n item) (dies (ByTx own) Lock (content_of m item).owner) u l.1 l.0 there))
-    other_note u false off there whole = tries w whole
+    other_note u false off there whole = stays_here (as_held whole)
 
     -- with its lock it goes on
     goes_past : (after : IntentId → Bool) → Kept h n h.plain h.known after → note_at (content_of n item).notes place ≡ Some Note.Got → Comes (tx_says (TxAt.Lock (AtItem w)) (locked_goes e)) n
     goes_past after kept got = by_effect e refl
       where
         by_effect : (f : Effect) → f ≡ e → Comes (tx_says (TxAt.Lock (AtItem w)) (locked_goes f)) n
-        by_effect (Effect.Read t y) f = goes_at TxAt.Shadow n after roots kept (subst (λ z. Fits z TxAt.Shadow) f tt) (in_past TxAt.Shadow tt got (λ z u. subst (λ q. Found q TxAt.Shadow z u) f tt))
-        by_effect (Effect.Write t y u) f = goes_at (TxAt.Write Try) n after roots kept (subst (λ z. Fits z (TxAt.Write Try)) f tt) (in_past (TxAt.Write Try) tt got (λ z u. subst (λ q. Found q (TxAt.Write Try) z u) f tt))
-        by_effect (Effect.CondWrite t y l p u) f = goes_at TxAt.Shadow n after roots kept (subst (λ z. Fits z TxAt.Shadow) f tt) (in_past TxAt.Shadow tt got (λ z u. subst (λ q. Found q TxAt.Shadow z u) f tt))
+        by_effect (Effect.Read t y) f = goes_at (TxAt.Shadow 0) n after roots kept (subst (λ z. Fits z (TxAt.Shadow 0)) f tt) (in_past (TxAt.Shadow 0) tt got (reads_begin (shadow_chain n own item)) (λ z u. subst (λ q. Found q (TxAt.Shadow 0) z u) f tt))
+        by_effect (Effect.Write t y u) f = goes_at (TxAt.Write (Try 0)) n after roots kept (subst (λ z. Fits z (TxAt.Write (Try 0))) f tt) (in_past (TxAt.Write (Try 0)) tt got (walks_begin (shadow_chain n own item) place) (λ z u. subst (λ q. Found q (TxAt.Write (Try 0)) z u) f tt))
+        by_effect (Effect.CondWrite t y l p u) f = goes_at TxAt.Seek n after roots kept (subst (λ z. Fits z TxAt.Seek) f tt) (in_past TxAt.Seek tt got tt (λ z u. subst (λ q. Found q TxAt.Seek z u) f tt))
         by_effect f same = let clash = ap touched same ∙ touch in cc
 
     -- ---- at the front, where the place had no note
@@ -304,12 +318,12 @@ module _ (d : Deployment) (c : Core) (m : Rows) (i : ℕ) (r : Run) (g : Begun) 
             by_test b = grind arith
 
         taken_matches : Matches d n h.known taken
-        taken_matches = as_run left (λ y p. ChangedAlone (head_key y) m n → IsSoundChain n y → note_at (content_of m y).notes p ≡ None → other_owner (ByTx own) (content_of m y).owner ≡ None
+        taken_matches = as_run left (λ y p. ChangedAlone (head_key y) m n → IsLinkedItem n y → note_at (content_of m y).notes p ≡ None → other_owner (ByTx own) (content_of m y).owner ≡ None
             → content_of n y ≡ record { value = (content_of m y).value; owner = Some (ByTx own); notes = (content_of m y).notes ++ (p, Note.Got) ∷ [] } → Matches d n h.known taken)
-            (λ alone sound none free did. lock_did d h.known h.locked r.id k.instance k.made unlocked own (tx_is left) x (front left).touch m n alone sound none free did h.rows) alone sound none free did
+            (λ alone linked none free did. lock_did d h.known h.locked r.id k.instance k.made unlocked own (tx_is left) x (front left).touch m n alone linked none free did h.rows) alone linked none free did
 
         taken_frame : Frame d m n h.plain h.plain h.known h.known
-        taken_frame = frame_item d m h.plain h.plain h.known h.known (items_stay d m h.plain h.plain h.known refl) (nobody_new d h.known) n item alone stay notes_on
+        taken_frame = frame_item d m h.plain h.plain h.known h.known (items_stay d m h.plain h.plain h.known refl) (nobody_new d h.known) n item alone rows_grow stay notes_on
             (λ t z ended owned. let mine : own ≡ t = same_owner (sym (ap (λ (z : Content). z.owner) did) ∙ owned) in let clash = sym (not_ended left) ∙ ap (tx_end d h.known) mine ∙ ended in cc)
           where
             same_owner : {s t : TxId} → Some (ByTx s) ≡ Some (ByTx t) → s ≡ t
@@ -355,7 +369,7 @@ module _ (d : Deployment) (c : Core) (m : Rows) (i : ℕ) (r : Run) (g : Begun) 
         died_matches : Matches d n next h.locked
         died_matches = dies_inside d h.known h.locked h.locked r.id k.instance k.made (none_out h.locked r.id unlocked) own (tx_is left) m h.rows x.0 x.1 j n (front left).touch
             (subst (λ l. map.get m l ≡ Some Row.Lockset) (λ j. lockset_key r.id (sym (in_tx.begin_is r.id r.func o) j) (sym same_item j)) (in_tx.lockset_is (map.get m lock_row) (owed_lockset d (begin_of o) item r.id (map.get h.known r.id)) (lockset_ahead d h.known (begin_of o) item r.id (map.get h.known r.id)) (h.rows.keys lock_row) asked))
-            unlocked its_alone (back (λ y p. IsSoundChain n y) sound) (back (λ y p. note_at (content_of m y).notes p ≡ None) none) (back (λ y p. content_of n y ≡ with_note (content_of m y) p (Note.Died j)) did)
+            unlocked its_alone (back (λ y p. IsLinkedItem n y) linked) (back (λ y p. note_at (content_of m y).notes p ≡ None) none) (back (λ y p. content_of n y ≡ with_note (content_of m y) p (Note.Died j)) did)
 
         -- no transaction of the instance ended there
         not_there : (t : TxId) (z : ℕ × Bool) → tx_end d next t ≡ Some z → place ≡ end_place t z.0 → ⊥
@@ -373,7 +387,7 @@ module _ (d : Deployment) (c : Core) (m : Rows) (i : ℕ) (r : Run) (g : Begun) 
         not_free t z p ended (inr last) same = let l = few_now left in let w = turns.step_here k left in let step : g.machine.steps ≡ p.step = ap (λ (y : Place). y.step) same in let is_last = last.0 in omega (arith, l, w, step, is_last)
 
         died_frame : Frame d m n h.plain h.plain h.known next
-        died_frame = frame_item d m h.plain h.plain h.known next (items_stay d m h.plain h.plain next refl) (nobody_set d h.known r.id (moved d r.id k.instance a) (ap is_some k.made)) n item alone stay notes_on
+        died_frame = frame_item d m h.plain h.plain h.known next (items_stay d m h.plain h.plain next refl) (nobody_set d h.known r.id (moved d r.id k.instance a) (ap is_some k.made)) n item alone rows_grow stay notes_on
             (λ t z ended owned. record {
               owner = ap (λ (y : Content). y.owner) (sym did) ∙ owned;
               notes = λ p free. ap (λ (y : Content). note_at y.notes p) did ∙ note_pushed (content_of m item).notes place p (Note.Died j) none ∙ off t z p ended free (place_eq place p) refl;
@@ -426,7 +440,7 @@ module _ (d : Deployment) (c : Core) (m : Rows) (i : ℕ) (r : Run) (g : Begun) 
         let same : Answer.Aborted (record { place = place_of r.id (length k.answers); holder = Some j }) ≡ a = noted_death (place_of r.id (length k.answers)) a j (ap (λ u. lock_answer (place_of r.id (length k.answers)) (noted u)) (sym noted_so) ∙ (told_here a rest left).says) in
         subst (λ z. Comes (Says.Answers z None) n) (sym same ∙ ap (λ q. Answer.Aborted (record { place = place_of r.id q; holder = Some j })) (sym (turns.at_steps k))) (replays n a rest left roots (as_held whole)))
 
-    by_note : (u : Note) (first : Bool) → note_at (content_of n item).notes place ≡ Some u → DidOnce place (ByTx own) Lock first (content_of m item) (content_of n item) → Comes (tx_says (TxAt.Lock (AtItem w)) (lock_leads place e (note_goes w u first))) n
+    by_note : (u : Note) (first : Bool) → note_at (content_of n item).notes place ≡ Some u → DidOnce place (ByTx own) Lock first (content_of m item) (content_of n item) → Comes (tx_says (TxAt.Lock (AtItem w)) (lock_leads place e (note_goes u first))) n
     by_note Note.Got true got l = taken_now l.0 (dies (ByTx own) Lock (content_of m item).owner) refl l.1 got
     by_note Note.Got false got whole = goes_past h.locked (as_held whole) got
     by_note (Note.Died j) true there l = died_now l.0 j (dies (ByTx own) Lock (content_of m item).owner) refl l.1 there
@@ -435,28 +449,29 @@ module _ (d : Deployment) (c : Core) (m : Rows) (i : ℕ) (r : Run) (g : Begun) 
     by_note (Note.Cond b) first there l = other_note (Note.Cond b) first refl there l
     by_note Note.Freed first there l = other_note Note.Freed first refl there l
 
-    waits : (u : Owner) → Stays h n → Comes (Says.Waits (Wait.Held u)) n
-    unfolding Comes
-    waits u kept = turns.held d c m i r g h live k u n roots kept
-
-    by_goes : (z : WriteGoes) → Logs place (ByTx own) Lock (walk_so z) (content_of m item) (content_of n item) → Comes (tx_says (TxAt.Lock (AtItem w)) (lock_leads place e (item_goes w z))) n
-    by_goes (WriteGoes.On u) whole = tries u whole
-    by_goes (WriteGoes.Done u first) l = by_note u first l.0 l.1
-    by_goes WriteGoes.NotOwner l = tries w l.2
-    by_goes (WriteGoes.Held u) l = waits u (as_held l.2)
-
-  -- .. by the act of its walk
-  module _ (w : WriteAt) (fits : Fits e (TxAt.Lock (AtItem w))) (asked : is_some (map.get m lock_row) ≡ true) where
     abbrev walk : WriteWalk
     walk = record { home = r.func; item = Plain x.0 x.1; place = place; who = ByTx own; op = Lock; at = w }
 
-    by_walk : let q = write_asks (head_key item) place (ByTx own) Lock w in Comes (tx_says (TxAt.Lock (AtItem w)) (lock_leads place e (item_goes w (write_goes Note.Got (told_by q c.now m))))) (rows_after q c.now m)
+    by_goes : (z : WriteGoes) → Logs place (ByTx own) Lock (walk_so z) (content_of m item) (content_of n item) → SeesAt (chain n (head_key item)) place (cell_at (walk_at walk z).at) → Comes (tx_says (TxAt.Lock (AtItem w)) (lock_leads place e (item_goes z))) n
+    by_goes (WriteGoes.On u) whole seen = tries u whole seen
+    by_goes WriteGoes.Stays whole seen = stays_here (as_held whole)
+    by_goes (WriteGoes.Done u first) l seen = by_note u first l.0 l.1
+    by_goes WriteGoes.NotOwner l seen = stays_here (as_held l.2)
+    by_goes (WriteGoes.Held u) l seen = waits u (as_held l.2)
+    by_goes WriteGoes.Worn l seen = worn (as_held l.1)
+
+  -- .. by the act of its walk
+  module _ (w : WriteAt) (fits : Fits e (TxAt.Lock (AtItem w))) (asked : is_some (map.get m lock_row) ≡ true) (sees : SeesAt (chain m (head_key item)) place (cell_at w)) where
+    abbrev own_walk : WriteWalk
+    own_walk = record { home = r.func; item = Plain x.0 x.1; place = place; who = ByTx own; op = Lock; at = w }
+
+    by_walk : let q = write_asks (head_key item) place (ByTx own) Lock w in Comes (tx_says (TxAt.Lock (AtItem w)) (lock_leads place e (item_goes (write_goes Note.Got w (told_by q c.now m))))) (rows_after q c.now m)
     by_walk =
         let q : Query = write_asks (head_key item) place (ByTx own) Lock w in
-        let logged = by_op walk m (rows_after q c.now m) (h.rows.chains item) w c.now refl in
-        by_goes w fits asked (rows_after q c.now m) logged.others logged.sound (query_keeps q c.now m) (query_notes q c.now m item) (write_goes Note.Got (told_by q c.now m)) logged.logs
+        let logged = by_op own_walk m (rows_after q c.now m) c.now (h.rows.chains item) sees refl in
+        by_goes w fits asked (rows_after q c.now m) logged.others logged.linked logged.grows (query_keeps q c.now m) (query_notes q c.now m item) (write_goes Note.Got w (told_by q c.now m)) logged.logs logged.sees
 
   pub lock_turn : (l : LockAt) → Fits e (TxAt.Lock l) → InOperation d m h.plain h.known r.id r.func o g.machine.steps e (TxAt.Lock l) x → Turns (TxAt.Lock l)
   unfolding Comes
   lock_turn (Lockset b) fits found = lockset_turn b found.begin fits
-  lock_turn (AtItem w) fits found = asks_it (TxAt.Lock (AtItem w)) (by_walk w fits (found.asked refl))
+  lock_turn (AtItem w) fits found = asks_it (TxAt.Lock (AtItem w)) (by_walk w fits (found.asked refl) found.sees)

@@ -130,6 +130,7 @@ if_plan S b p q g h = grind arith
 abbrev starts_by : Option Wait → Bool → Bool
 starts_by None starts = starts
 starts_by (Some (Wait.Held o)) starts = false
+starts_by (Some Wait.Worn) starts = false
 starts_by (Some (Wait.Result j)) starts = true
 
 -- that run knows what it has to
@@ -167,6 +168,7 @@ module _ (d : Deployment) (p : PlainState) (c : Core) (m : Rows) (r : Run) (s : 
   unfolding AfterThat
   followed None knows = if_plan AfterMade s.starts _ _ (λ t. after_opened (callee_of r) (knows t)) (λ t. none_more)
   followed (Some (Wait.Held u)) knows = silent (Seen.Held u) refl refl
+  followed (Some Wait.Worn) knows = silent Seen.Worn refl refl
   followed (Some (Wait.Result j)) knows =
       if_plan AfterThat (has_run c.runs j) _ _ (λ t. silent (Seen.NotYet j) refl refl)
       (λ t. if_plan AfterThat (is_crowded c) _ _ (λ u. silent Seen.Crowded refl refl) (λ u. after_started (callee_of r) (knows refl) u))
@@ -211,6 +213,7 @@ module _ (c : Core) where
   unfolding MaybeStarted
   after_so o id x None = if_plan (λ (q : Core × Option ℕ). MaybeStarted c q.0) x.starts _ _ (λ t. opened_so o) (λ t. inl refl)
   after_so o id x (Some (Wait.Held u)) = inl refl
+  after_so o id x (Some Wait.Worn) = inl refl
   after_so o id x (Some (Wait.Result j)) =
       if_plan (λ (z : Core × Seen). MaybeStarted c z.0) (has_run c.runs j) _ _ (λ t. inl refl)
       (λ t. if_plan (λ (z : Core × Seen). MaybeStarted c z.0) (is_crowded c) _ _ (λ u. inl refl) (λ u. started_so o))

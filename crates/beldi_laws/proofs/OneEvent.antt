@@ -160,6 +160,7 @@ module _ (i : ℕ) (id : IntentId) (s : Turned) (c : Core) where
   turn_tells : (o : Option Run) (w : Option Wait) → s.wait ≡ w → Unmarked s → TurnTells i id s c (after_turn c o id (says_of s) w)
   turn_tells o None is unmarked = if_plan MadeTells s.starts _ _ (λ t. opened_tells o) (λ t. unmoved (c, None) refl)
   turn_tells o (Some (Wait.Held w)) is unmarked = waits_tells (unmarked (Wait.Held w) is) (Seen.Held w) refl refl
+  turn_tells o (Some Wait.Worn) is unmarked = waits_tells (unmarked Wait.Worn is) Seen.Worn refl refl
   turn_tells o (Some (Wait.Result callee)) is unmarked =
       let none = unmarked (Wait.Result callee) is in
       if_plan (TurnTells i id s c) (has_run c.runs callee) _ _

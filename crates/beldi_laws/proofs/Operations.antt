@@ -1,11 +1,12 @@
 -- The turns of an operation on an item: they rest on the law that a chain is a logged cell, and on what each operation is.
 use Rattle.beldi_plain.specs.declared.kind.Kind.{Kind}
 use Rattle.beldi_row.specs.declared.key.Kind.TheVariants as kinds
+use Rattle.beldi_daal.specs.Walk.{walk_at}
 use Rattle.beldi_known.specs.Owed.{noted}
-use Rattle.beldi_laws.proofs.Names.{Answer, Answers, Begun, CellOp, ChangedAlone, Core, Deployment, DidOnce, DoneRows, Effect, Frame, Grows, Inside, Instance, IntentId, IsAnswer, IsFree, IsSoundChain, IsTrue, Item, Known, Knows, List, LoggedTurn, Logs, Matches, None, Note, OnItem, Place, Plain, PlainState, Query, Right, Rows, Run, SameShadows, Sane, Says, Some, Step, TxId, Value, WriteAt, WriteGoes, WriteWalk, [], ahead_set, answer_after, answer_noted, answers_it, ap, arith, by_op, cell_key, cell_of, cell_op, commit_in, content_of, does_so, done_note, done_says, effect_before, effect_of, enabled_step, false, free_at_operation, head_key, holds, if_answers, if◌then◌else◌, is_begin, is_eq, is_some, item_in, item_total, item_touched, kind_of, length, moved, moved_one, no_root, no_tx, nobody_else, none_out, note_after, note_at, note_done, note_here, note_of, note_of_op, noted_answer, op_of, operate, operation_answers, operation_done, operation_step, option_and_then, other_shadows, place_of, put_asks, put_says, refl, root_key, rows_after, same_some, set_agrees, sets, slice_get, subst, sym, tied_itself, told_by, touched_by, true, turn_next, turned_by, tx_after, tx_now, unbarred, value_at, walk_so, wants_answer, write_asks, write_goes, write_says, ℕ, ◌∙◌, ◌∷◌, ◌≡◌, Mark, Owner, Stage}
+use Rattle.beldi_laws.proofs.Names.{AllGrow, Answer, Answers, Begun, CellOp, ChangedAlone, Core, Deployment, DidOnce, DoneRows, Effect, Frame, Grows, Inside, Instance, IntentId, IsAnswer, IsFree, IsLinkedItem, IsTrue, Item, Known, Knows, List, LoggedTurn, Logs, Matches, None, Note, OnItem, Place, Plain, PlainState, Query, Right, Rows, Run, SameShadows, Sane, Says, SeesAt, SeesPut, Some, Step, TxId, Value, WriteAt, WriteGoes, WriteWalk, [], ahead_set, answer_after, answer_noted, answers_it, ap, arith, by_op, cell_at, cell_key, cell_of, cell_op, chain, commit_in, content_of, does_so, done_note, done_says, effect_before, effect_of, enabled_step, false, free_at_operation, head_key, holds, if_answers, if◌then◌else◌, is_begin, is_eq, is_some, item_in, item_total, item_touched, kind_of, length, moved, moved_one, no_root, no_tx, nobody_else, none_out, note_after, note_at, note_done, note_here, note_of, note_of_op, noted_answer, op_of, operate, operation_answers, operation_done, operation_step, option_and_then, other_shadows, place_of, put_asks, put_says, refl, root_key, rows_after, same_some, set_agrees, sets, slice_get, subst, sym, tied_itself, told_by, touched_by, true, turn_next, turned_by, tx_after, tx_now, unbarred, value_at, walk_so, wants_answer, write_asks, write_goes, write_says, ℕ, ◌∙◌, ◌∷◌, ◌≡◌, Mark, Owner, Stage}
 use Rattle.beldi_laws.proofs.Moves.{AfterTurn, AfterQuery, SameRoots, change_entered, Entered, Kept, Stays}
 use Rattle.beldi_laws.proofs.Frames.{frame_done, frame_held, item_stays, items_stay, nobody_new, nobody_set, none_finish, query_keeps}
-use Rattle.beldi_laws.proofs.Turns.{effect_here, answer_here, step_here, effect_next, wants_it, fits, not_over, goes_on, held, ends, replays, steps_on, outside_here, tx_step, tx_next, plain_there, unlocked_there}
+use Rattle.beldi_laws.proofs.Turns.{effect_here, answer_here, step_here, effect_next, wants_it, fits, not_over, goes_on, held, worn, ends, stays_on, replays, steps_on, outside_here, tx_step, tx_next, plain_there, unlocked_there}
 use Rattle.beldi_laws.proofs.{Settling.settled_grown, Settling.settled_outside, Others.kept_moving, Keeping.goes_answered, Keeping.stays_by, Shown.value_here, Shown.holds_here, Shown.legal_sane, Shown.settled, Owed.note_if, Owed.note_there, Owed.content_kept, Owed.contents_kept, Owed.others_list, Owed.done_lists, KeptSane.answered_kept, Outside.is_call, Grown.grows_moved}
 use Rattle.beldi_laws.proofs.Names.map
 
@@ -40,7 +41,7 @@ told_back e o n a back same = ap (if_answers e) (sym (ap (option_and_then noted_
 
 -- ---- the turn
 module _ (d : Deployment) (c : Core) (m : Rows) (i : ℕ) (r : Run) (g : Begun) (h : Right d c m) (live : map.get c.runs i ≡ Some r) (k : Knows d h.known r g) (finds : Inside m h.plain c.book k g.stage) (out : tx_after d r.id k.instance k.answers ≡ None)
-    (e : Effect) {o : OnItem} (so : op_of e ≡ Some o) (is : g.machine.effect ≡ e) (at : WriteAt) where
+    (e : Effect) {o : OnItem} (so : op_of e ≡ Some o) (is : g.machine.effect ≡ e) (at : WriteAt) (sees : SeesPut m r.func (place_of r.id g.machine.steps) at (cell_op e)) where
   abbrev op : CellOp
   op = cell_of o.does
 
@@ -75,7 +76,7 @@ module _ (d : Deployment) (c : Core) (m : Rows) (i : ℕ) (r : Run) (g : Begun) 
   abbrev After : Says → Type 0
   After s = AfterTurn d h.plain c i r (turned_by d r g s) n
 
-  module _ (same : ChangedAlone (head_key item) m n) (sound : IsSoundChain n item) where
+  module _ (same : ChangedAlone (head_key item) m n) (linked : IsLinkedItem n item) (rows_grow : AllGrow m n) where
     roots : SameRoots m n
     roots t = ap is_some (same (root_key t) (no_root t r.func (kinds.Data o.table o.key 0) refl))
 
@@ -83,8 +84,8 @@ module _ (d : Deployment) (c : Core) (m : Rows) (i : ℕ) (r : Run) (g : Begun) 
     same_shadows = other_shadows m n item same
 
     kept : content_of n item ≡ content_of m item → Stays h n
-    kept held = stays_by h n same_shadows (content_kept d m n item same h.known h.locked sound held h.rows) (λ x. others_list m n item same x (contents_kept d m n item same held x) ∙ h.values x)
-        (frame_held d m h.plain h.plain h.known h.known (items_stay d m h.plain h.plain h.known refl) (nobody_new d h.known) n item same (query_keeps asks c.now m) held)
+    kept held = stays_by h n same_shadows (content_kept d m n item same h.known h.locked linked held h.rows) (λ x. others_list m n item same x (contents_kept d m n item same held x) ∙ h.values x)
+        (frame_held d m h.plain h.plain h.known h.known (items_stay d m h.plain h.plain h.known refl) (nobody_new d h.known) n item same rows_grow (query_keeps asks c.now m) held)
         (none_finish m n (head_key item) same d h.known refl)
 
     -- it was done now: it is the instance's next
@@ -128,7 +129,7 @@ module _ (d : Deployment) (c : Core) (m : Rows) (i : ℕ) (r : Run) (g : Begun) 
 
       did_here : DoneRows m n (item_in k.instance.func o) (place_of r.id (length k.instance.answers)) op
       did_here = subst (λ s. DoneRows m n (item_in k.instance.func o) (place_of r.id s) op) (step_here k left)
-          (subst (λ f. DoneRows m n (item_in f o) place op) (sym k.func) (record { same = same; sound = sound; none = did.0; free = did.1.0; here = did.1.1 }))
+          (subst (λ f. DoneRows m n (item_in f o) place op) (sym k.func) (record { same = same; linked = linked; none = did.0; free = did.1.0; here = did.1.1 }))
 
       open_still : k.instance.outcome ≡ None
       open_still = not_over h k left (subst (λ z. IsTrue (wants_answer z)) (sym is) (wants_it place None e a answers_so))
@@ -154,7 +155,7 @@ module _ (d : Deployment) (c : Core) (m : Rows) (i : ℕ) (r : Run) (g : Begun) 
       unlocked = unlocked_there d c m i r g h live k finds out e is left
 
       frame : Frame d m n h.plain state h.known next
-      frame = frame_done d m h.plain state h.known next (item_stays d m h.plain state next y (sets o.does old) refl unowned) (nobody_set d h.known r.id (moved d r.id k.instance a) (ap is_some k.made)) n y (place_of r.id (length k.instance.answers)) op (query_keeps asks c.now m) did_here
+      frame = frame_done d m h.plain state h.known next (item_stays d m h.plain state next y (sets o.does old) refl unowned) (nobody_set d h.known r.id (moved d r.id k.instance a) (ap is_some k.made)) n y (place_of r.id (length k.instance.answers)) op rows_grow (query_keeps asks c.now m) did_here
 
       grows : Grows h.known next
       grows = grows_moved d h.known r.id k.instance a k.made
@@ -201,16 +202,19 @@ module _ (d : Deployment) (c : Core) (m : Rows) (i : ℕ) (r : Run) (g : Begun) 
     done_before [] left w noted same = absurd (not_yet left w noted)
     done_before (b ∷ rest) left w noted same = again b rest left w noted same
 
-    by_says : (z : WriteGoes) → Logs place (Owner.Intent r.id) op (walk_so z) (content_of m item) (content_of n item) → After (write_says e z)
-    by_says (WriteGoes.On to) held = goes_on d c m i r g h live k finds out e is n (Stage.Write to) roots (kept held) (ap is_some so)
-    by_says (WriteGoes.Done w true) l = done_now k.later refl w l.0 l.1
-    by_says (WriteGoes.Done w false) l = done_before k.later refl w (ap (λ x. note_at x.notes place) (sym l.1) ∙ l.0) l.1
-    by_says WriteGoes.NotOwner l = ends d c m i r g h live k n roots (kept l.2)
-    by_says (WriteGoes.Held w) l = held d c m i r g h live k w n roots (kept l.2)
+    -- it goes on to what it sees then
+    by_says : (z : WriteGoes) → Logs place (Owner.Intent r.id) op (walk_so z) (content_of m item) (content_of n item) → SeesAt (chain n (head_key item)) place (cell_at (walk_at walk z).at) → After (write_says e z)
+    by_says (WriteGoes.On to) whole seen = goes_on d c m i r g h live k finds out e is n (Stage.Write to) roots (kept whole) (ap is_some so, subst (SeesPut n r.func place to) (sym (its_cell e o so)) seen)
+    by_says WriteGoes.Stays whole seen = stays_on d c m i r g h live k finds n roots (kept whole)
+    by_says (WriteGoes.Done w true) l seen = done_now k.later refl w l.0 l.1
+    by_says (WriteGoes.Done w false) l seen = done_before k.later refl w (ap (λ x. note_at x.notes place) (sym l.1) ∙ l.0) l.1
+    by_says WriteGoes.NotOwner l seen = ends d c m i r g h live k n roots (kept l.2)
+    by_says (WriteGoes.Held w) l seen = held d c m i r g h live k w n roots (kept l.2)
+    by_says WriteGoes.Worn l seen = worn d c m i r g h live k n roots (kept l.1)
 
-  pub operation_turn : AfterQuery d h.plain c.now m (λ u. turn_next c i r (turned_by d r g (put_says e (note_done e) u))) (put_asks r.id r.func g.machine.steps at (cell_op e))
+  pub operation_turn : AfterQuery d h.plain c.now m (λ u. turn_next c i r (turned_by d r g (put_says e at (note_done e) u))) (put_asks r.id r.func g.machine.steps at (cell_op e))
   operation_turn =
-      let z = write_goes (done_note op) (told_by asks c.now m) in
-      let logged : LoggedTurn walk m n (walk_so z) = by_op walk m n (h.rows.chains item) at c.now refl in
-      subst (λ x. AfterQuery d h.plain c.now m (λ u. turn_next c i r (turned_by d r g (put_says e (note_of_op x) u))) (put_asks r.id r.func g.machine.steps at x)) (sym (its_cell e o so))
-      (by_says logged.others logged.sound z logged.logs)
+      let z = write_goes (done_note op) at (told_by asks c.now m) in
+      let logged : LoggedTurn walk (walk_at walk z) m n (walk_so z) = by_op walk m n c.now (h.rows.chains item) (subst (SeesPut m r.func place at) (its_cell e o so) sees) refl in
+      subst (λ x. AfterQuery d h.plain c.now m (λ u. turn_next c i r (turned_by d r g (put_says e at (note_of_op x) u))) (put_asks r.id r.func g.machine.steps at x)) (sym (its_cell e o so))
+      (by_says logged.others logged.linked logged.grows z logged.logs logged.sees)

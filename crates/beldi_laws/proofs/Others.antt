@@ -1,6 +1,7 @@
 -- What the runs of others have found in the rows stays, through an event that keeps its frame.
 use Rattle.beldi_txn.specs.Tx.{op_of}
-use Rattle.beldi_laws.proofs.Names.{Answer, Async, AtStage, Begun, Beside, Bool, ByTx, Call, CondWrite, Content, Core, DecidedAt, Deployment, Effect, End, EndAt, EndWalk, Entry, Found, Frame, Goes, Grown, Grows, HasLock, InItem, InOperation, Inside, Instance, IntentId, IsDecided, IsWriting, Item, Known, Knows, List, LockedAtEnds, Matches, None, Note, OpenTx, Option, Outcome, Own, Place, PlainState, Read, Released, Return, Right, Row, Rows, Run, RunTx, Sane, Some, Stage, TxAt, TxId, Txs, Value, Visit, Visited, [], ahead_by, along, along_append, ap, append-nil, append_assoc, arith, begin_of, child_of, content_of, effect_after, effect_of, end_of, end_walk, ended_by, ended_stays, eq-eqb, false, few_answers, front_is, got_before, got_by, if◌then◌else◌, in_tx, is_at, is_begin, is_eq, is_item, is_on, is_opened, is_past, is_sent, is_some, item_total, key_in, last_step, length, length-append, listed, lockset_key, log_key, no_decision, none_begun, note_at, note_is_ahead, now_open, place_of, plain_owner, refl, same_some, shadow_row, subst, sym, tail, tied_itself, touched, true, true_false, tx_after, tx_end, tx_now, tx_of, tx_self, txs_after, txs_by, txs_pushed, value_at, value_in, ℕ, ◌&&◌, ◌++◌, ◌<◌, ◌||◌, ◌∙◌, ◌∷◌, ◌≡◌}
+use Rattle.beldi_step.specs.Run.{OnCell}
+use Rattle.beldi_laws.proofs.Names.{AllGrow, Answer, Async, AtItem, AtStage, Begun, Beside, Bool, ByTx, Call, Chain, CondWrite, Content, Core, DecidedAt, Deployment, Effect, End, EndAt, EndWalk, Entry, Found, Frame, Goes, Grown, Grows, HasLock, InItem, InOperation, Inside, Instance, IntentId, IsDecided, IsWriting, Item, Known, Knows, List, LockedAtEnds, Lockset, Matches, None, Note, OpenTx, Option, Outcome, Own, Place, PlainState, Read, Released, Return, Right, Row, Rows, RowsGrow, Run, RunTx, Sane, Sees, SeesPut, Some, Stage, TxAt, TxId, Txs, Value, Visit, Visited, WriteAt, [], ahead_by, along, along_append, ap, append-nil, append_assoc, arith, aside_head, begin_of, cell_at, cell_op, chain, child_of, content_of, effect_after, effect_of, end_of, end_walk, ended_by, ended_stays, eq-eqb, false, few_answers, front_is, got_before, got_by, head_key, if◌then◌else◌, in_tx, is_at, is_begin, is_eq, is_item, is_on, is_opened, is_past, is_sent, is_some, item_head, item_total, key_in, last_step, length, length-append, listed, lockset_key, log_key, no_decision, none_begun, note_at, note_is_ahead, now_open, others_keep, place_of, plain_owner, readers_keep, refl, same_some, shadow_chain, shadow_key, shadow_row, subst, sym, tail, tied_itself, touched, true, true_false, tx_after, tx_end, tx_now, tx_of, tx_self, txs_after, txs_by, txs_pushed, value_at, value_in, ℕ, ◌&&◌, ◌++◌, ◌<◌, ◌||◌, ◌∙◌, ◌∷◌, ◌≡◌}
 use Rattle.beldi_laws.proofs.{Closing.settled_after, Frames.NoFinish, Frames.aside_stays, Grown.tx_stays, InTx.no_begin, InTx.wants_one, Lives.PlacesOn, Lives.keeps_still, Lives.made_stays, Lives.no_more, Lives.outcome_stays, Lives.stands_still, OpenOf.open_begun, OpenOf.own_begin, OpenOf.tx_open, Moves.Kept, Shown.Settled, Shown.Shows, Shown.legal_sane, Turns.all_here, Turns.at_steps, Turns.by_answer, Turns.effect_next, Turns.step_here, Turns.wanted_here, Visits.visit_stays}
 use Rattle.beldi_laws.proofs.Names.map
 use Rattle.beldi_laws.proofs.Names.plain
@@ -55,9 +56,26 @@ lock_noted a p c h g = grind arith
 lock_stays : (a : TxAt) (p : Place) (c e : Content) → ((w : Note) → note_at c.notes p ≡ Some w → note_at e.notes p ≡ Some w) → HasLock a p c → HasLock a p e
 lock_stays a p c e stay h = grind arith
 
+-- what it sees of the rows stays, where those of the item and of the shadow grow
+sees_stay : (a : TxAt) (p : Place) (f g u v : Chain) → RowsGrow f u → RowsGrow g v → Sees a p f g → Sees a p u v
+sees_stay TxAt.Log p f g u v item aside h = tt
+sees_stay (TxAt.Lock (Lockset b)) p f g u v item aside h = tt
+sees_stay (TxAt.Lock (AtItem w)) p f g u v item aside h = others_keep f u p (cell_at w) item h
+sees_stay TxAt.Seek p f g u v item aside h = tt
+sees_stay (TxAt.Shadow r) p f g u v item aside h = readers_keep g v r aside h
+sees_stay (TxAt.Item r) p f g u v item aside h = readers_keep f u r item h
+sees_stay (TxAt.Keep w) p f g u v item aside h = tt
+sees_stay (TxAt.Head w) p f g u v item aside h = tt
+sees_stay (TxAt.Write w) p f g u v item aside h = others_keep g v p (cell_at w) aside h
+
+-- .. outside a transaction, too
+puts_stay : (m n : Rows) (func : ℕ) (p : Place) (at : WriteAt) (o : Option OnCell) → AllGrow m n → SeesPut m func p at o → SeesPut n func p at o
+puts_stay m n func p at None grows h = tt
+puts_stay m n func p at (Some o) grows h = let x : Item = record { func = func; table = o.table; key = o.key } in others_keep (chain m (head_key x)) (chain n (head_key x)) p (cell_at at) (grows (head_key x) (item_head x)) h
+
 -- what it found stays, where the shadow does, but of a write, and the plain value does, past the lock
 found_stays : (e : Effect) (a : TxAt) (s u : Option Row) (v w : Value) → (is_some (op_of e) ≡ false → u ≡ s) → (is_some s ≡ true → is_some u ≡ true) → (past_lock a ≡ true → w ≡ v) → Found e a s v → Found e a u w
-found_stays (Read t k) TxAt.Item s u v w same there keeps h = same refl ∙ h
+found_stays (Read t k) (TxAt.Item z) s u v w same there keeps h = same refl ∙ h
 found_stays (Read t k) (TxAt.Keep x) s u v w same there keeps h = (λ i. value_in (same refl i) (keeps refl i)) ∙ h
 found_stays (CondWrite t k r o y) (TxAt.Head x) s u v w same there keeps h = λ none. keeps refl ∙ h (grind (arith, none, there))
 found_stays (CondWrite t k r o y) (TxAt.Write x) s u v w same there keeps h = there h
@@ -186,6 +204,8 @@ module _ (d : Deployment) (c : Core) (m n : Rows) (h : Right d c m) (q : PlainSt
         begin = s.begin;
         asked = λ b. frame.rows (lockset_key r.id (begin_of o) item) (s.asked b);
         locked = lock_stays a (place_of r.id g.machine.steps) (content_of m item) (content_of n item) (λ b. frame.notes item (place_of r.id g.machine.steps) b) s.locked;
+        sees = sees_stay a (place_of r.id g.machine.steps) (chain m (head_key item)) (shadow_chain m tx item) (chain n (head_key item)) (shadow_chain n tx item)
+            (frame.grows (head_key item) (item_head item)) (frame.grows (shadow_key tx item) (aside_head tx item)) s.sees;
         found = λ y there short.
             let left = front y there short in
             found_stays e a (shadow_row m tx item) (shadow_row n tx item) (value_at h.plain item) (value_at q item)
@@ -196,7 +216,7 @@ module _ (d : Deployment) (c : Core) (m n : Rows) (h : Right d c m) (q : PlainSt
         where
           -- a shadow that is there stays
           there_still : is_some (shadow_row m tx item) ≡ true → is_some (shadow_row n tx item) ≡ true
-          there_still = aside_stays m n tx item (h.rows.asides tx item).sound (shows.rows.asides tx item).sound frame.rows
+          there_still = aside_stays m n tx item (h.rows.asides tx item).linked (shows.rows.asides tx item).linked frame.rows
 
           front : (y : Instance) → map.get next r.id ≡ Some y → length y.answers ≡ g.machine.steps → k.answers ≡ j.answers
           front y there short =
@@ -235,9 +255,10 @@ module _ (d : Deployment) (c : Core) (m n : Rows) (h : Right d c m) (q : PlainSt
 
   at_stage : (more : List Entry) → PlacesOn d c.book more h.known next → (s : Stage) (e : Effect) (o : Option RunTx) → g.machine.effect ≡ e → g.tx ≡ o → AtStage m h.plain c.book k s e o → AtStage n q more (stands_still k j made w) s e o
   at_stage more on Stage.Ask (Read t x) None is open_now s = s
-  at_stage more on Stage.Walk (Read t x) None is open_now s = s
+  at_stage more on (Stage.Walk row) (Read t x) None is open_now s =
+      let y : Item = record { func = r.func; table = t; key = x } in readers_keep (chain m (head_key y)) (chain n (head_key y)) row (frame.grows (head_key y) (item_head y)) s
   at_stage more on (Stage.Keep v seen) (Read t x) None is open_now s = keeps_still next k j made w c.book more on (record { func = r.func; table = t; key = x }) v seen s
-  at_stage more on (Stage.Write at) e None is open_now s = s
+  at_stage more on (Stage.Write at) e None is open_now s = (s.0, puts_stay m n r.func (place_of r.id g.machine.steps) at (cell_op e) frame.grows s.1)
   at_stage more on (Stage.Call at) (Call f a) o is open_now s = (s.0, callee_stays g.machine.steps (is_opened at) s.1)
   at_stage more on (Stage.Async at) (Async f a) None is open_now s = (s.0, callee_stays g.machine.steps (is_sent at) s.1)
   at_stage more on Stage.Back (Return u) o is open_now s = s

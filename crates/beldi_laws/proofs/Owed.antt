@@ -1,6 +1,6 @@
 -- What the rows have of a step outside transactions: what its answer owes, or nothing where it has none.
 use Rattle.std.specs.Prelude.{take}
-use Rattle.beldi_laws.proofs.Names.{Answer, Bool, ChangedAlone, Content, Deployment, DoneRows, Effect, Instance, IntentId, IsAside, IsFreeFor, IsSoundChain, Item, ItemMatches, Known, List, LogMatches, Matches, None, Note, Operation, Option, Place, PlainState, Rows, ShadowMatches, Some, TxsMatch, Value, [], ahead_by, answered_note, ap, append-nil, arith, at_step, begins, by_item, cell_of, chains_alone, commit_in, cond, content, content_of, decision_by, decision_key, does_so, effect_after, effect_before, effect_of, end_of, eq-eqb, eq_by_cmp_equiv, eqb-true, false, free_after, head_key, if◌then◌else◌, is_decided, is_eq, is_mark, is_some, item_total, keys_alone, last_step, length, listed, lists_same, log_key, no_tx, none_by, note_at, note_by, note_of, note_or, op_of, or_none, or_null, or_old, other_item, other_key, other_shadows, owed_note, owed_value, own_value, place_of, plain_set, read_at, refl, row_at, set_if, sets, slice_get, subst, sym, take_front, tied_itself, true, tx_after, tx_at, tx_now, unbarred, value_at, value_for, value_or, ℕ, ◌&&◌, ◌==◌, ◌||◌, ◌∙◌, ◌≡◌}
+use Rattle.beldi_laws.proofs.Names.{Answer, Bool, ChangedAlone, Content, Deployment, DoneRows, Effect, Instance, IntentId, IsAside, IsFreeFor, IsLinkedItem, Item, ItemMatches, Known, List, LogMatches, Matches, None, Note, Operation, Option, Place, PlainState, Rows, ShadowMatches, Some, TxsMatch, Value, [], ahead_by, answered_note, ap, append-nil, arith, at_step, begins, by_item, cell_of, chains_alone, commit_in, cond, content, content_of, decision_by, decision_key, does_so, effect_after, effect_before, effect_of, end_of, eq-eqb, eq_by_cmp_equiv, eqb-true, false, free_after, head_key, if◌then◌else◌, is_decided, is_eq, is_mark, is_some, item_total, keys_alone, last_step, length, listed, lists_same, log_key, no_tx, none_by, note_at, note_by, note_of, note_or, op_of, or_none, or_null, or_old, other_item, other_key, other_shadows, owed_note, owed_value, own_value, place_of, plain_set, read_at, refl, row_at, set_if, sets, slice_get, subst, sym, take_front, tied_itself, true, tx_after, tx_at, tx_now, unbarred, value_at, value_for, value_or, ℕ, ◌&&◌, ◌==◌, ◌||◌, ◌∙◌, ◌≡◌}
 use Rattle.beldi_laws.proofs.Outside.{is_of_tx}
 use Rattle.beldi_laws.proofs.Names.map
 
@@ -49,10 +49,10 @@ module _ (d : Deployment) (m n : Rows) (y : Item) (same : ChangedAlone (head_key
   pub contents_kept : content_of n y ≡ content_of m y → (x : Item) → content_of n x ≡ content_of m x
   contents_kept held x = by_item y x (λ x. content_of n x ≡ content_of m x) held (λ other. ap content (other_item m n y same x other))
 
-  pub content_kept : (known : Known) (locked : IntentId → Bool) → IsSoundChain n y → content_of n y ≡ content_of m y → Matches d m known locked → Matches d n known locked
-  content_kept known locked sound held h = record {
+  pub content_kept : (known : Known) (locked : IntentId → Bool) → IsLinkedItem n y → content_of n y ≡ content_of m y → Matches d m known locked → Matches d n known locked
+  content_kept known locked linked held h = record {
     keys = keys_alone d known m n (head_key y) refl same h.keys;
-    chains = chains_alone m n y same sound h.chains;
+    chains = chains_alone m n y same linked h.chains;
     asides = λ t x. subst IsAside (sym (other_shadows m n y same t x)) (h.asides t x);
     items = λ x. subst (ItemMatches d known locked x) (sym (contents_kept held x)) (h.items x);
     shadows = λ t x. subst (ShadowMatches d known t x) (ap content (sym (other_shadows m n y same t x))) (h.shadows t x);

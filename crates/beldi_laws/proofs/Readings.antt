@@ -1,6 +1,7 @@
 -- The turns of a read.
-use Rattle.beldi_laws.proofs.Names.{Answer, Answers, Begun, BelongsEarlier, Core, Deployment, Frame, Grows, Inside, IsAnswer, IsKeptLate, IsStateAt, Item, Keeps, Known, Knows, List, LogMatches, Look, Matches, None, On, Option, Place, Plain, PlainState, PutRead, Read, ReadGoes, ReadWalk, ReadsContent, Right, Row, RowKey, Rows, Run, Sane, Says, Some, Stage, Tell, TxId, Value, WasThere, [], act, ahead_set, answered, ap, arith, ask_says, back, begun_lists, by_chain, commit_in, content_of, count_changes, effect_of, false, front, front_all, front_back, given_in, given_of, got_begun, grown_answer, grows_at, head_key, holds, in_the_way, inl, is_some, item_touched, keep_says, kept_late, kept_of, length, linear, linear_changes, listed, log_key, looked, moved, moved_one, no_root, no_tx, nobody_else, none_out, not_moved, nothing, op_of, option_map, or_null, owed_read, place_of, read_added, read_goes, read_so, refl, root_key, row_added, run_from, run_grows, runs_on, said, same_some, set_others, set_row, slice_get, stage_says, subst, sym, touched_by, turn_next, turned_by, tx_after, tx_now, txs_after, unchanged, unowned, value_at, walk_says, wants_answer, with_answer, ℕ, ◌∙◌, ◌∷◌, ◌≡◌, ◌≤◌, Entry, Kind, Mark, Owner}
-use Rattle.beldi_laws.proofs.Turns.{effect_here, answer_here, all_here, step_here, effect_next, fits, not_over, goes_on, held, replays, steps_on, tx_next, plain_there, unlocked_there}
+use Rattle.beldi_daal.specs.ReadWalk.{read_at}
+use Rattle.beldi_laws.proofs.Names.{Answer, Answers, Begun, BelongsEarlier, Core, Deployment, Frame, Grows, Inside, IsAnswer, IsKeptLate, IsStateAt, Item, Keeps, Known, Knows, List, LogMatches, Look, Matches, None, On, Option, Place, Plain, PlainState, PutRead, Read, ReadGoes, ReadTurn, ReadWalk, ReadsAt, Right, Row, RowKey, Rows, Run, Sane, Says, Some, Stage, Tell, TxId, Value, WasThere, [], act, ahead_set, answered, ap, arith, ask_says, at_row, back, begun_lists, by_read, chain, commit_in, content_of, count_changes, effect_of, false, front, front_all, front_back, given_in, given_of, got_begun, grown_answer, grows_at, head_key, holds, in_the_way, inl, is_some, item_touched, keep_says, kept_late, kept_of, length, linear, linear_changes, listed, log_key, looked, moved, moved_one, no_root, no_tx, nobody_else, none_out, not_moved, nothing, op_of, option_map, or_null, owed_read, place_of, read_added, read_goes, read_so, reads_begin, refl, root_key, row_added, run_from, run_grows, runs_on, said, same_some, set_others, set_row, slice_get, stage_says, subst, sym, touched_by, turn_next, turned_by, tx_after, tx_now, txs_after, unchanged, unowned, value_at, walk_says, wants_answer, with_answer, ℕ, ◌∙◌, ◌∷◌, ◌≡◌, ◌≤◌, Entry, Kind, Mark, Owner}
+use Rattle.beldi_laws.proofs.Turns.{effect_here, answer_here, all_here, step_here, effect_next, fits, not_over, goes_on, held, stays_on, replays, steps_on, tx_next, plain_there, unlocked_there}
 use Rattle.beldi_laws.proofs.{Lives.places_late, Moves.AfterAct, Moves.AfterTurn, Moves.Entered, Moves.Kept, Frames.frame_log, Frames.items_stay, Frames.no_finish, Frames.nobody_set, Settling.settled_grown, Settling.settled_outside, Others.kept_moving, Grown.grows_moved, Keeping.as_it_was, Keeping.goes_answered, Keeping.set_shadows, Shown.value_here, Shown.holds_here, Shown.settled, Owed.value_if, Owed.read_there, KeptSane.answered_kept, Outside.is_call}
 use Rattle.beldi_laws.proofs.Names.map
 
@@ -40,15 +41,15 @@ module _ (d : Deployment) (c : Core) (m : Rows) (i : ℕ) (r : Run) (g : Begun) 
   replays_it u v rest left same = replays d c m i r g h live k finds out (Read t key) is m (Answer.Value v) rest (λ u. refl) (as_it_was h) (left ∙ ap (λ w. Answer.Value w ∷ rest) (sym (same_some same)))
 
   -- ---- it asks for what was given
-  walks : Left (On Stage.Walk None) m
+  walks : (row : ℕ) → ReadsAt (chain m (head_key item)) row → Left (On (Stage.Walk row) None) m
   unfolding Left
-  walks = goes_on d c m i r g h live k finds out (Read t key) is m Stage.Walk (λ u. refl) (as_it_was h) tt
+  walks row sees = goes_on d c m i r g h live k finds out (Read t key) is m (Stage.Walk row) (λ u. refl) (as_it_was h) sees
 
   abbrev asked : Option Row → Type 0
   asked w = let z = act Look c.now w in Left (ask_says (given_of (said z.1))) (set_row m (log_key r.func place) z.0)
 
   ask_by : (later : List Answer) → k.later ≡ later → (w : Option Row) → map.get m (log_key r.func place) ≡ w → asked w
-  ask_by [] left None at = left_still (On Stage.Walk None) (log_key r.func place) None at walks
+  ask_by [] left None at = left_still (On (Stage.Walk 0) None) (log_key r.func place) None at (walks 0 (reads_begin (chain m (head_key item))))
   ask_by [] left (Some w) at = let clash = given_here [] left (Some w) at in cc
   ask_by (Answer.Value u ∷ rest) left None at = let clash = given_here (Answer.Value u ∷ rest) left None at in cc
   ask_by (Answer.Value u ∷ rest) left (Some w) at =
@@ -83,19 +84,23 @@ module _ (d : Deployment) (c : Core) (m : Rows) (i : ℕ) (r : Run) (g : Begun) 
   none_owns : in_the_way (Some (Owner.Intent r.id)) (content_of m item).owner ≡ None → (t : TxId) → (content_of m item).owner ≡ Some (Owner.Tx t) → ⊥
   none_owns free = no_tx r.id (content_of m item).owner (unowned r.id (content_of m item).owner free)
 
-  abbrev walk : ReadWalk
-  walk = record { home = r.func; item = Plain t key; who = Some (Owner.Intent r.id) }
+  -- .. at this row
+  module _ (row : ℕ) (sees : ReadsAt (chain m (head_key item)) row) where
+    abbrev walk : ReadWalk
+    walk = record { home = r.func; item = Plain t key; who = Some (Owner.Intent r.id); row = row }
 
-  walked : (z : ReadGoes) → ReadsContent walk.who (read_so z) (content_of m item) → AfterTurn d h.plain c i r (turned_by d r g (walk_says (count_changes c.book) z)) m
-  walked ReadGoes.On never = absurd never
-  walked (ReadGoes.Got None) empty = found None (sym (value_here h item (none_owns (ap (λ x. in_the_way (Some (Owner.Intent r.id)) x.owner) empty))) ∙ ap (λ x. x.value) empty) (ap (λ x. in_the_way (Some (Owner.Intent r.id)) x.owner) empty)
-  walked (ReadGoes.Got (Some v)) there = found (Some v) (sym (value_here h item (none_owns there.0)) ∙ sym there.1) there.0
-  walked (ReadGoes.Held o) way = held d c m i r g h live k o m (λ u. refl) (as_it_was h)
+    walked : (z : ReadGoes) → ReadTurn walk (read_at walk z) m (read_so z) → AfterTurn d h.plain c i r (turned_by d r g (walk_says (count_changes c.book) z)) m
+    unfolding Left
+    walked (ReadGoes.On to) turn = walks to turn.sees
+    walked ReadGoes.Stays turn = stays_on d c m i r g h live k finds m (λ u. refl) (as_it_was h)
+    walked (ReadGoes.Got None) turn = found None (sym (value_here h item (none_owns (ap (λ x. in_the_way (Some (Owner.Intent r.id)) x.owner) turn.reads))) ∙ ap (λ x. x.value) turn.reads) (ap (λ x. in_the_way (Some (Owner.Intent r.id)) x.owner) turn.reads)
+    walked (ReadGoes.Got (Some v)) turn = found (Some v) (sym (value_here h item (none_owns turn.reads.0)) ∙ sym turn.reads.1) turn.reads.0
+    walked (ReadGoes.Held o) turn = held d c m i r g h live k o m (λ u. refl) (as_it_was h)
 
-  pub walk_turn : AfterRead Stage.Walk (head_key item) (act Look c.now (map.get m (head_key item)))
-  walk_turn =
-      let z = read_goes walk.who (said (act Look c.now (map.get m (head_key item))).1) in
-      subst (AfterTurn d h.plain c i r (turned_by d r g (walk_says (count_changes c.book) z))) (sym (looked c.now (head_key item) m)) (walked z (by_chain walk c.now m (h.rows.chains item)))
+    pub walk_turn : let k = at_row (head_key item) row in AfterRead (Stage.Walk row) k (act Look c.now (map.get m k))
+    walk_turn =
+        let z = read_goes walk.who (said (act Look c.now (map.get m (at_row (head_key item) row))).1) in
+        subst (AfterTurn d h.plain c i r (turned_by d r g (walk_says (count_changes c.book) z))) (sym (looked c.now (at_row (head_key item) row) m)) (walked z (by_read walk m c.now (h.rows.chains item) sees))
 
   -- ---- it keeps what it found
   module _ (v : Value) (seen : ℕ) (at : Keeps d c.book r.id k.answers k.later item v seen) where

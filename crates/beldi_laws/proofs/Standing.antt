@@ -244,8 +244,8 @@ module _ (d : Deployment) (m : Rows) (p : PlainState) (known : Known) (locked : 
         root_open m (root_key t) z.instance (map.get m (root_key t)) refl (subst (RootMatches true (map.get m (root_key t))) z.is (h.rows.keys (root_key t))) (z.outcome ∙ none);
     locks = holder_owns d m p known locked h;
     owned = λ x t own. owned_so d m p known locked h x legal t own;
-    sound = h.rows.chains;
-    shadows = λ t x. (h.rows.asides t x).sound;
+    linked = h.rows.chains;
+    shadows = λ t x. (h.rows.asides t x).linked;
   }
 
 -- the run of the book is one

@@ -1,8 +1,9 @@
 -- The turns of a run: where it stands, and what each thing that a stage says leaves.
 use Rattle.std.specs.Prelude.{is_some}
 use Rattle.beldi_lang.specs.declared.effect.Effect.TheVariants.{Lock}
+use Rattle.beldi_links.specs.Links.{At}
 use Rattle.beldi_step.specs.Run.{callee_of}
-use Rattle.beldi_laws.proofs.Names.{Answer, Async, AtStage, Begins, Begun, Bool, ByTx, Call, Caller, CondWrite, Core, Deployment, Effect, End, Entry, Grown, Inherited, Inside, Instance, IntentId, IsAnswer, IsAt, IsOutside, IsTrue, Item, Known, Knows, KnowsAt, List, Machine, Mark, None, OpenTx, Option, Outcome, Own, Owner, Place, PlainState, Prefix, Read, Released, Return, Right, Rows, Run, RunAt, RunTx, SaneInstance, Says, Some, Stage, StandsAt, TxId, Unlock, Write, [], and_once, answer_at_once, ap, append-nil, append_assoc, arith, at, at_effect, at_next, at_stage, caller_in, content_of, effect_after, effect_before, effect_of, entry_of, false, first_stage, get_after, get_set, goes, goes_from, goes_to, going_now, has_callees, has_no_hops, id_exact, id_total, if◌then◌else◌, is_waited, key_in, last_stage, length, marked, moved, none_by, open_after, open_of, outside_parts, over, own_tx, place_of, refl, run_on, run_on_prefix, run_once, same_some, slice_get, stands, subst, sym, take, take-append_seam, takes, takes_if, true, turned_by, tx_after, tx_at, tx_now, txs_after, unlocked_outside, wants, wants_answer, ℕ, ◌++◌, ◌∙◌, ◌∷◌, ◌≡◌, AsyncAt, CallAt, Wait}
+use Rattle.beldi_laws.proofs.Names.{Answer, Async, AtStage, Begins, Begun, Bool, ByTx, Call, Caller, CondWrite, Core, Deployment, Effect, End, Entry, Grown, Inherited, Inside, Instance, IntentId, IsAnswer, IsAt, IsOutside, IsTrue, Item, Known, Knows, KnowsAt, List, Machine, Mark, None, OpenTx, Option, Outcome, Own, Owner, Place, PlainState, Prefix, Read, Released, Return, Right, Rows, Run, RunAt, RunTx, SaneInstance, Says, SeesAt, Some, Stage, StandsAt, TxId, Unlock, Write, [], and_once, answer_at_once, ap, append-nil, append_assoc, arith, at, at_effect, at_next, at_stage, caller_in, cell_key, chain, content_of, effect_after, effect_before, effect_of, entry_of, false, first_stage, get_after, get_set, goes, goes_from, goes_to, going_now, has_callees, has_no_hops, id_exact, id_total, if◌then◌else◌, is_waited, key_in, last_stage, length, marked, moved, none_by, open_after, open_of, outside_parts, over, own_tx, place_of, refl, run_on, run_on_prefix, run_once, same_some, slice_get, stands, subst, sym, take, take-append_seam, takes, takes_if, true, turned_by, tx_after, tx_at, tx_now, txs_after, unlocked_outside, walks_begin, wants, wants_answer, ℕ, ◌++◌, ◌∙◌, ◌∷◌, ◌≡◌, AsyncAt, CallAt, Wait}
 use Rattle.beldi_laws.proofs.Moves.{AfterTurn, SameRoots, Kept, Led, Stays, Entered, led_still, turned, KnowsCallee, quiet, entered}
 use Rattle.beldi_laws.proofs.{Cases.by_list, Shown.Shows, Shown.legal_sane, Lives.places_same, Lives.run_on as live_on, Lives.stands_still, OpenOf.called_in, OpenOf.open_begun, OpenOf.open_none, OpenOf.open_pushed, OpenOf.own_begin, Outside.outside_more, Outside.plain_here, Released.released_next, Released.released_on, Grown.grown_same, Grown.grown_moved, Grown.moved_more}
 use Rattle.beldi_laws.proofs.Names.map
@@ -16,16 +17,20 @@ module _ {d : Deployment} (n : Rows) (p : PlainState) (book : List Entry) {known
   by_hops : (v w : Stage) (e : Effect) (z : Option RunTx) → (has_callees id ≡ true → AtStage n p book k v e z) → (b : Bool) → has_callees id ≡ b → (if b then Some v else None) ≡ Some w → AtStage n p book k w e z
   by_hops v w e z knows b hops is = grind arith
 
+  -- the walk of a write sees what it has to at the first row
+  begins : (t : ℕ) (x : List ℕ) → (true ≡ true) × SeesAt (chain n (cell_key home t x)) (place_of id s.steps) (At.Try 0)
+  begins t x = (refl, walks_begin (chain n (cell_key home t x)) (place_of id s.steps))
+
   -- a body returns in no transaction of its own, and in the one that it was called in to who waits
   pub first_stands : (e : Effect) (z : Option RunTx) (w : Stage) → (is_some z ≡ true → (u : Outcome) → e ≡ Return u → is_waited c ≡ true) → first_stage id c z s.steps e ≡ Some w → AtStage n p book k w e z
   first_stands (Read t x) None w waits is = first (Read t x) None is tt
-  first_stands (Read t x) (Some a) w waits is = first (Read t x) (Some a) is (tt, record { begin = tt; asked = λ b. cc; locked = tt; found = λ q made same. tt })
-  first_stands (Write t x v) None w waits is = first (Write t x v) None is refl
-  first_stands (Write t x v) (Some a) w waits is = first (Write t x v) (Some a) is (tt, record { begin = refl; asked = λ b. cc; locked = tt; found = λ q made same. tt })
-  first_stands (CondWrite t x r u v) None w waits is = first (CondWrite t x r u v) None is refl
-  first_stands (CondWrite t x r u v) (Some a) w waits is = first (CondWrite t x r u v) (Some a) is (tt, record { begin = refl; asked = λ b. cc; locked = tt; found = λ q made same. tt })
-  first_stands (Lock t x) None w waits is = first (Lock t x) None is refl
-  first_stands (Unlock t x) None w waits is = first (Unlock t x) None is refl
+  first_stands (Read t x) (Some a) w waits is = first (Read t x) (Some a) is (tt, record { begin = tt; asked = λ b. cc; locked = tt; sees = tt; found = λ q made same. tt })
+  first_stands (Write t x v) None w waits is = first (Write t x v) None is (begins t x)
+  first_stands (Write t x v) (Some a) w waits is = first (Write t x v) (Some a) is (tt, record { begin = refl; asked = λ b. cc; locked = tt; sees = tt; found = λ q made same. tt })
+  first_stands (CondWrite t x r u v) None w waits is = first (CondWrite t x r u v) None is (begins t x)
+  first_stands (CondWrite t x r u v) (Some a) w waits is = first (CondWrite t x r u v) (Some a) is (tt, record { begin = refl; asked = λ b. cc; locked = tt; sees = tt; found = λ q made same. tt })
+  first_stands (Lock t x) None w waits is = first (Lock t x) None is (begins t x)
+  first_stands (Unlock t x) None w waits is = first (Unlock t x) None is (begins t x)
   first_stands (Call f a) z w waits is = by_hops (Stage.Call CallAt.Open) w (Call f a) z (λ h. (h, λ b. cc)) (has_callees id) refl is
   first_stands (Async f a) None w waits is = by_hops (Stage.Async AsyncAt.Open) w (Async f a) None (λ h. (h, λ b. cc)) (has_callees id) refl is
   first_stands (End commit) (Some (Own y)) w waits is = first (End commit) (Some (Own y)) is refl
@@ -228,6 +233,10 @@ module _ (d : Deployment) (c : Core) (m : Rows) (i : ℕ) (r : Run) (g : Begun) 
   -- it waits where it stands: for an owner, or for a callee of which a run may be started
   pub held : (o : Owner) (n : Rows) → SameRoots m n → Stays h n → Leaves (Says.Waits (Wait.Held o)) n
   held o n roots kept = quiet d c m n i r h live roots (turned_by d r g (Says.Waits (Wait.Held o))) h.known h.locked refl refl (stays_as n kept) (λ e. cc) kept
+
+  -- .. or where no row can follow the last one of an item
+  pub worn : (n : Rows) → SameRoots m n → Stays h n → Leaves (Says.Waits Wait.Worn) n
+  worn n roots kept = quiet d c m n i r h live roots (turned_by d r g (Says.Waits Wait.Worn)) h.known h.locked refl refl (stays_as n kept) (λ e. cc) kept
 
   pub awaits : (j : IntentId) (n : Rows) → SameRoots m n → Stays h n → KnowsCallee d n h.plain c.book h.known r (turned_by d r g (Says.Waits (Wait.Result j))) (Some (Wait.Result j)) → Leaves (Says.Waits (Wait.Result j)) n
   awaits j n roots kept callee = quiet d c m n i r h live roots (turned_by d r g (Says.Waits (Wait.Result j))) h.known h.locked refl refl (stays_as n kept) callee kept

@@ -1,6 +1,6 @@
 -- What is so of the visits of an end: it is so once the decision is there, and stays through what others do.
 use Rattle.beldi_txn.specs.{Tx.op_of, Visited.Leaves, Visited.item_in, Way.callee_of}
-use Rattle.beldi_laws.proofs.Names.{AreMarked, AreReleased, AreSound, AtEnd, Bool, ByTx, Called, Core, Deployment, Effect, EndWalk, Frame, Grows, Instance, IntentId, IsCall, IsDecided, IsFreePlace, IsMember, IsOf, IsWay, IsWithin, IsWriting, Item, Known, List, Matches, Member, None, Option, Outcome, OwnedAreUnmarked, Owner, ParticipantsAreReleased, PlainState, Right, Row, Rows, Sane, Some, TookPart, TxId, Visited, [], ahead_by, ap, arith, at_calls, at_step, commit_in, content_of, decided_over, effect_after, effect_of, eqb-true, false, first_end, free_place, if◌then◌else◌, inl, inr, is_closed, is_decided, is_mark, is_own, is_some, last_step, length, lock_row, none_by, note_at, note_by, note_or, now_open, owed_note, owner_of, owns, refl, shadow_value, slice_get, slice_get_within, sym, tail, take, true, tx_after, tx_end, tx_now, visited_by, visits_stand, ℕ, ◌&&◌, ◌==◌, ◌||◌, ◌∙◌, ◌∷◌, ◌≡◌}
+use Rattle.beldi_laws.proofs.Names.{AreLinked, AreMarked, AreReleased, AtEnd, Bool, ByTx, Called, Core, Deployment, Effect, EndWalk, Frame, Grows, Instance, IntentId, IsCall, IsDecided, IsFreePlace, IsMember, IsOf, IsWay, IsWithin, IsWriting, Item, Known, List, Matches, Member, None, Option, Outcome, OwnedAreUnmarked, Owner, ParticipantsAreReleased, PlainState, Right, Row, Rows, Sane, Some, TookPart, TxId, Visited, [], ahead_by, ap, arith, at_calls, at_step, commit_in, content_of, decided_over, effect_after, effect_of, eqb-true, false, first_end, free_place, if◌then◌else◌, inl, inr, is_closed, is_decided, is_mark, is_own, is_some, last_step, length, lock_row, none_by, note_at, note_by, note_or, now_open, owed_note, owner_of, owns, refl, shadow_value, slice_get, slice_get_within, sym, tail, take, true, tx_after, tx_end, tx_now, visited_by, visits_stand, ℕ, ◌&&◌, ◌==◌, ◌||◌, ◌∙◌, ◌∷◌, ◌≡◌}
 use Rattle.beldi_laws.proofs.Members.{IsKnownCall, TakesPart, call_known, call_there, callee_is, calls_joined, members_joined, took_part}
 use Rattle.beldi_laws.proofs.{Closing.before_part, Closing.closed_there, Closing.finish_there, Closing.owner_is, Closing.owns_it, Shown.Shows, Widths.answered_small, Cases.false_by}
 use Rattle.beldi_laws.proofs.Names.map
@@ -15,8 +15,8 @@ no_outcome : (d : Deployment) (q : Instance) → ((o : Outcome) → effect_of d 
 no_outcome d q none over = none_by q.outcome (λ o e. none o (over o e))
 
 module _ (d : Deployment) (m : Rows) (known : Known) (locked : IntentId → Bool) (h : Matches d m known locked) (sane : Sane d known) where
-  pub sound_rows : (w : EndWalk) → AreSound w m
-  sound_rows w f i = let x : Item = record { func = f; table = i.0; key = i.1 } in (h.chains x, (h.asides w.tx x).sound)
+  pub linked_rows : (w : EndWalk) → AreLinked w m
+  linked_rows w f i = let x : Item = record { func = f; table = i.0; key = i.1 } in (h.chains x, (h.asides w.tx x).linked)
 
   module _ (t : TxId) (z : ℕ × Bool) (ended : tx_end d known t ≡ Some z) (marks : OwnedAreUnmarked d m known) where
     -- an item with a note at a place where it is given back is not the transaction's
@@ -36,11 +36,13 @@ module _ (d : Deployment) (m : Rows) (known : Known) (locked : IntentId → Bool
       from = tt;
       member = (tt, tt);
       gives = tt;
+      sees = tt;
+      asked = tt;
       callees = λ c call at. absurd at.1;
       freed = λ q r here past. absurd past;
       released = released t z ended;
       marked = marked_rows;
-      sound = sound_rows (first_end t z.0 z.1);
+      linked = linked_rows (first_end t z.0 z.1);
     }
 
   -- ---- who took part comes to no step as late as that at which its items are given back
@@ -134,6 +136,8 @@ module _ (d : Deployment) (c : Core) (m n : Rows) (h : Right d c m) (q : PlainSt
 
   leaves : (owner : Instance) → map.get next s.intent ≡ Some owner → owner.func ≡ s.func → OwnedAreUnmarked d n next → AreReleased w n → Leaves w m n
   leaves owner made func marks released = record {
+    stay = frame.rows;
+    grows = frame.grows;
     decision = λ before. decided_then owner made func;
     asides = λ f i. ap (λ z. shadow_value (tail z)) (frame.shadows s (item f i) not_writing);
     way = member_on w.visit.way;
@@ -143,7 +147,7 @@ module _ (d : Deployment) (c : Core) (m n : Rows) (h : Right d c m) (q : PlainSt
     items = item_on;
     released = released;
     marks = marked_rows d n next after then_rows then_sane s z then_ended marks;
-    sound = sound_rows d n next after then_rows then_sane w;
+    linked = linked_rows d n next after then_rows then_sane w;
   }
 
 -- ---- what a run at its end has found stays

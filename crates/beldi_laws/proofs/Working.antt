@@ -3,14 +3,14 @@
 use Rattle.beldi_row.specs.{Act.absent, Act.added, Act.here as row_here, Act.present}
 use Rattle.beldi_known.{specs.Contents.IsAside, specs.InsideLaws.KeepsValue, proofs.Inside.shadow_kept}
 use Rattle.beldi_chain.proofs.Heads.{same_rows}
-use Rattle.beldi_txn.specs.{TxTurn.AsideMoves, TxTurn.HasLock, TxTurn.ShadowMoves, TxTurn.is_going, TxTurn.key_asked, TxWalk.said_of, declared.tx.TxGoes.TxGoes}
+use Rattle.beldi_txn.specs.{TxTurn.AsideMoves, TxTurn.HasLock, TxTurn.ShadowMoves, TxTurn.head_asked, TxTurn.is_going, TxWalk.said_of, declared.tx.TxGoes.TxGoes}
 use Rattle.beldi_txn.proofs.TxTurn.{Leads as Turned, turns}
-use Rattle.beldi_daal.specs.declared.cell.WriteAt.TheVariants.{Try}
+use Rattle.beldi_daal.specs.{declared.cell.WriteAt.TheVariants.Try}
 use Rattle.beldi_txn.specs.Tx.{item_goes, note_goes, tx_goes}
-use Rattle.beldi_laws.proofs.Names.{Answer, Begun, Bool, ByTx, Cause, CellOp, ChangedAlone, Content, Core, Deployment, Effect, Fits, Found, Frame, Goes, InItem, InOperation, Inside, IntentId, IsAnswer, IsFront, IsOpen, Item, Kind, Known, Knows, List, LockedOut, Look, MakeCell, Matches, None, Note, Option, Owner, Place, PutRead, Query, ReadGoes, Rel, Right, Row, RowKey, Rows, Run, RunTx, Sane, Says, Some, Sound, Stage, Told, TxAt, TxId, Value, WriteAt, WriteGoes, [], act, ahead_set, ap, arith, aside_key, asked, begin_of, begun_lists, behind_locks, behind_looks, behind_tests, behind_writes, content, content_of, death_in, decision_key, did, done_to, effect_of, false, first_rows_go, got_begun, grows_self, head_goes, head_key, head_made, held_or, id_cmp, id_total, if◌then◌else◌, inl, inr, is_begin, is_eq, is_some, item_asks, item_leads, keep_goes, length, listed, listed_open, listed_under, lock_answer, lock_or, lockset_key, log_key, looked, moved, no_log, no_shadow_note, note_after, note_at, note_here, noted, noted_or, other_owner, passes, place_of, read_goes, read_inside, reads_go, refl, root_key, rows_after, said, sane_read, sane_tested, sane_wrote, set_others, set_row, shadow_chain, shadow_key, shadow_lists, shadow_made, shadow_of, shadow_read, shadow_row, shadow_value, subst, sym, test_inside, test_on, tested, tests_go, tied_itself, told_by, touched, true, turn_next, turned_by, tx_after, tx_here_asks, tx_here_says, tx_now, tx_of, tx_says, unchanged, undecided, value_at, value_in, write_asks, write_goes, write_inside, write_leads, write_on, writes_go, writes_on, ℕ, ◌++◌, ◌∙◌, ◌∷◌, ◌≡◌, ◌⊎◌}
-use Rattle.beldi_laws.proofs.Frames.{NoFinish, NobodyJoins, RowsStay, aside_stays, frame_log, frame_shadow, items_stay, no_finish, nobody_new, nobody_set, none_finish, query_keeps}
+use Rattle.beldi_laws.proofs.Names.{AllGrow, Answer, Begun, Bool, ByTx, Cause, CellOp, ChangedAlone, Content, Core, Deployment, Effect, Fits, Found, Frame, Goes, InItem, InOperation, Inside, IntentId, IsAnswer, IsFront, IsLinked, IsOpen, Item, Kind, Known, Knows, List, LockedOut, Look, MakeCell, Matches, None, Note, Option, Owner, Place, PutRead, Query, ReadGoes, ReadsAt, Rel, Right, Row, RowKey, Rows, RowsStay, Run, RunTx, Sane, Says, SeesAt, SeesBoth, Some, Stage, Told, TxAt, TxId, Value, Wait, WriteAt, WriteGoes, [], act, ahead_set, ap, arith, aside_key, asked, at_row, begin_of, begun_lists, behind_locks, behind_looks, behind_tests, behind_writes, cell_at, chain, content, content_of, death_in, decision_key, did, done_to, effect_of, false, first_rows_go, got_begun, grows_self, if◌then◌else◌, head_key, head_made, held_or, id_cmp, id_total, inl, inr, is_begin, is_eq, is_some, item_asks, item_leads, keep_goes, length, listed, listed_open, listed_under, lock_answer, lock_or, lockset_key, log_key, looked, moved, no_log, no_shadow_note, note_after, note_at, note_here, noted, noted_or, other_owner, passes, place_of, read_goes, read_inside, reads_go, refl, root_key, rows_after, said, sane_read, sane_tested, sane_wrote, seek_goes, set_others, set_row, shadow_chain, shadow_key, shadow_lists, shadow_made, shadow_of, shadow_read, shadow_row, shadow_value, subst, sym, test_inside, test_on, tested, tests_go, tied_itself, told_by, touched, true, turn_next, turned_by, tx_after, tx_here_asks, tx_here_says, tx_now, tx_of, tx_says, unchanged, undecided, value_at, value_in, write_asks, write_goes, write_inside, write_leads, write_on, writes_go, writes_on, ℕ, ◌++◌, ◌∙◌, ◌∷◌, ◌≡◌, ◌⊎◌}
+use Rattle.beldi_laws.proofs.Frames.{NoFinish, NobodyJoins, aside_stays, frame_log, frame_shadow, items_stay, no_finish, nobody_new, nobody_set, none_finish, query_keeps}
 use Rattle.beldi_laws.proofs.InTx.{frees_none, open_still, item_self, goes_at, replays, set_roots, same_item, effect_so, wants_here, short, known_answers, answers_so, at_front, now, tx_is, front, apart, opened as opened_here, owned as owned_here, was_locked}
-use Rattle.beldi_laws.proofs.{Settling.settled_operated, Grown.grown_moved, Grown.grows_moved, Grown.moved_more, Keeping.as_it_was, Moves.AfterQuery, Moves.AfterTurn, Moves.SameRoots, Moves.Kept, Moves.Stays, Others.kept_moving, Shown.settled, Turns.at_steps, Turns.by_answer, Turns.sane_instance, Turns.all_here, Turns.step_here, Turns.answers_on, Turns.stays_on}
+use Rattle.beldi_laws.proofs.{Settling.settled_operated, Grown.grown_moved, Grown.grows_moved, Grown.moved_more, Keeping.as_it_was, Moves.AfterQuery, Moves.AfterTurn, Moves.SameRoots, Moves.Kept, Moves.Stays, Others.kept_moving, Shown.settled, Turns.at_steps, Turns.by_answer, Turns.sane_instance, Turns.all_here, Turns.step_here, Turns.answers_on, Turns.stays_on, Turns.worn}
 use Rattle.beldi_laws.proofs.Names.map
 use Rattle.beldi_laws.proofs.Names.maps
 use Rattle.beldi_laws.proofs.Names.txn
@@ -67,7 +67,7 @@ pub record HasLocked (m : Rows) (r : Run) (o : RunTx) (step : ℕ) (x : ℕ × L
 -- an operation was done to a shadow, at its place, and to nothing else
 record Wrote (m n : Rows) (s : TxId) (y : Item) (p : Place) (op : CellOp) : Type 0 where
   pub alone : ChangedAlone (shadow_key s y) m n
-  pub sound : Sound (shadow_chain n s y)
+  pub linked : IsLinked (shadow_chain n s y)
   pub none : note_at (shadow_of m s y).notes p ≡ None
   pub so : shadow_of n s y ≡ done_to p (ByTx s) op (shadow_of m s y)
 
@@ -111,21 +111,23 @@ module _ (d : Deployment) (c : Core) (m : Rows) (i : ℕ) (r : Run) (g : Begun) 
     abbrev Led : TxAt → Query → Rows → TxGoes → Type 0
     Led a q n z = Turned r.func place own e x.0 x.1 a q m n z
 
-    led : (a : TxAt) → Fits e a → HasLock a place (content_of m item) → let q = item_asks r.func place own e x.0 x.1 a in Led a q (rows_after q c.now m) (tx_goes place own.begin e a (told_by q c.now m))
-    led a fits got = turns r.func place own x.0 x.1 e a c.now m (record { item = h.rows.chains item; shadow = (h.rows.asides own item).sound; unowned = (h.rows.asides own item).unowned; fits = fits; locked = got })
+    led : (a : TxAt) → Fits e a → HasLock a place (content_of m item) → SeesBoth m place own item a → let q = item_asks r.func place own e x.0 x.1 a in Led a q (rows_after q c.now m) (tx_goes place own.begin e a (told_by q c.now m))
+    led a fits got sees = turns r.func place own x.0 x.1 e a c.now m (record { item = h.rows.chains item; shadow = (h.rows.asides own item).linked; unowned = (h.rows.asides own item).unowned; fits = fits; locked = got; sees = sees })
 
     -- a Look leaves all rows
     looks : (a : TxAt) (z : RowKey) (s : TxGoes) → Led a (Query.Act z Look) (rows_after (Query.Act z Look) c.now m) s → (Led a (Query.Act z Look) m s → Leaves (tx_says a s) m) → Leaves (tx_says a s) (rows_after (Query.Act z Look) c.now m)
     looks a z s l by = subst (Leaves (tx_says a s)) (sym (looked c.now z m)) (by (subst (λ n. Led a (Query.Act z Look) n s) (looked c.now z m) l))
 
-    abbrev ItemLed : TxGoes → Type 0
-    ItemLed s = Led TxAt.Item (Query.Act (head_key item) Look) m s
+    abbrev ItemLed : ℕ → TxGoes → Type 0
+    ItemLed row s = Led (TxAt.Item row) (Query.Act (at_row (head_key item) row) Look) m s
 
-    by_item : (z : ReadGoes) → ((u : Value) → ItemLed (item_leads e u) → Leaves (tx_says TxAt.Item (item_leads e u)) m) → ItemLed (item_goes e z) → Leaves (tx_says TxAt.Item (item_goes e z)) m
-    by_item ReadGoes.On leads l = stays_here
-    by_item (ReadGoes.Got None) leads l = leads Value.Null l
-    by_item (ReadGoes.Got (Some u)) leads l = leads u l
-    by_item (ReadGoes.Held w) leads l = stays_here
+    by_item : (row : ℕ) (z : ReadGoes) → ((n : ℕ) → ItemLed row (TxGoes.On (TxAt.Item n)) → Leaves (Says.On (Stage.Tx (TxAt.Item n)) None) m) → ((u : Value) → ItemLed row (item_leads e u) → Leaves (tx_says (TxAt.Item row) (item_leads e u)) m)
+        → ItemLed row (item_goes e z) → Leaves (tx_says (TxAt.Item row) (item_goes e z)) m
+    by_item row (ReadGoes.On n) on leads l = on n l
+    by_item row ReadGoes.Stays on leads l = stays_here
+    by_item row (ReadGoes.Got None) on leads l = leads Value.Null l
+    by_item row (ReadGoes.Got (Some u)) on leads l = leads u l
+    by_item row (ReadGoes.Held w) on leads l = stays_here
 
     -- rows of its shadow that it leaves before its answer: of a write, or with the plain value
     abbrev Changes : Rows → Type 0
@@ -224,7 +226,7 @@ module _ (d : Deployment) (c : Core) (m : Rows) (i : ℕ) (r : Run) (g : Begun) 
       joins_none a = nobody_set d h.known r.id (moved d r.id k.instance a) (ap is_some k.made)
 
       -- ---- rows of which those of its shadow changed, for a write
-      module _ (n : Rows) (alone : ChangedAlone (shadow_key own its_item) m n) (stay : RowsStay m n) (writes : is_some (txn.op_of e) ≡ true) where
+      module _ (n : Rows) (alone : ChangedAlone (shadow_key own its_item) m n) (rows_grow : AllGrow m n) (stay : RowsStay m n) (writes : is_some (txn.op_of e) ≡ true) where
         roots : SameRoots m n
         roots t = ap is_some (aside_key m n own its_item alone (root_key t) refl)
 
@@ -232,7 +234,7 @@ module _ (d : Deployment) (c : Core) (m : Rows) (i : ℕ) (r : Run) (g : Begun) 
         lists = shadow_lists m own undecided_here its_item n alone
 
         frame : (next : Known) → NobodyJoins d h.known next → Frame d m n h.plain h.plain h.known next
-        frame next joins = frame_shadow d m h.plain h.plain h.known next (items_stay d m h.plain h.plain next refl) joins n own its_item alone stay
+        frame next joins = frame_shadow d m h.plain h.plain h.known next (items_stay d m h.plain h.plain next refl) joins n own its_item alone rows_grow stay
             (record { writer = r.id; instance = k.instance; made = k.made; now = inside; writes = ap (λ z. is_some (txn.op_of z)) now_is ∙ writes })
 
         unfinished : (next : Known) → NoFinish d m n next
@@ -264,28 +266,34 @@ module _ (d : Deployment) (c : Core) (m : Rows) (i : ℕ) (r : Run) (g : Begun) 
     abbrev log : RowKey
     log = log_key r.func place
 
-    -- it looks at its shadow
-    shadow_turn : Turn read TxAt.Shadow
+    -- it looks at a row of its shadow
+    shadow_turn : (row : ℕ) → ReadsAt (shadow_chain m own read_item) row → Turn read (TxAt.Shadow row)
     unfolding Leaves
-    shadow_turn =
-        let z : ReadGoes = read_goes None (told_by (Query.Act (shadow_key own read_item) Look) c.now m) in
-        looks read is (t, key) refl l TxAt.Shadow (shadow_key own read_item) (shadow_read z) (led read is (t, key) refl l TxAt.Shadow tt l.got) (by z)
+    shadow_turn row sees =
+        let k = at_row (shadow_key own read_item) row in
+        let z : ReadGoes = read_goes None (told_by (Query.Act k Look) c.now m) in
+        looks read is (t, key) refl l (TxAt.Shadow row) k (shadow_read z) (led read is (t, key) refl l (TxAt.Shadow row) tt l.got sees) (by z)
       where
-        by : (z : ReadGoes) → Led read is (t, key) refl l TxAt.Shadow (Query.Act (shadow_key own read_item) Look) m (shadow_read z) → Leaves (tx_says TxAt.Shadow (shadow_read z)) m
-        by ReadGoes.On s = stays_here read is (t, key) refl l
-        by (ReadGoes.Got None) s = moves_on read is (t, key) refl l TxAt.Item tt (record { begin = tt; asked = λ u. l.asked; locked = l.got; found = λ q made same. s.finds })
-        by (ReadGoes.Got (Some v)) s = moves_on read is (t, key) refl l (TxAt.Keep v) tt (record { begin = tt; asked = λ u. l.asked; locked = l.got; found = λ q made same. value_found (shadow_row m own read_item) (value_at h.plain read_item) v s.finds })
+        by : (z : ReadGoes) → Led read is (t, key) refl l (TxAt.Shadow row) (Query.Act (at_row (shadow_key own read_item) row) Look) m (shadow_read z) → Leaves (tx_says (TxAt.Shadow row) (shadow_read z)) m
+        by (ReadGoes.On n) s = moves_on read is (t, key) refl l (TxAt.Shadow n) tt (record { begin = tt; asked = λ u. l.asked; locked = l.got; sees = s.stands.sees; found = λ q made same. tt })
+        by ReadGoes.Stays s = stays_here read is (t, key) refl l
+        by (ReadGoes.Got None) s = moves_on read is (t, key) refl l (TxAt.Item 0) tt (record { begin = tt; asked = λ u. l.asked; locked = l.got; sees = s.stands.sees; found = λ q made same. s.finds })
+        by (ReadGoes.Got (Some v)) s = moves_on read is (t, key) refl l (TxAt.Keep v) tt (record { begin = tt; asked = λ u. l.asked; locked = l.got; sees = tt; found = λ q made same. value_found (shadow_row m own read_item) (value_at h.plain read_item) v s.finds })
         by (ReadGoes.Held w) s = stays_here read is (t, key) refl l
 
-    -- it looks at the item, where it has no shadow
-    item_turn : (k.later ≡ [] → shadow_row m own read_item ≡ None) → Turn read TxAt.Item
+    -- it looks at a row of the item, where it has no shadow
+    item_turn : (row : ℕ) → ReadsAt (chain m (head_key read_item)) row → (k.later ≡ [] → shadow_row m own read_item ≡ None) → Turn read (TxAt.Item row)
     unfolding Leaves
-    item_turn none =
-        let z : ReadGoes = read_goes None (told_by (Query.Act (head_key read_item) Look) c.now m) in
-        looks read is (t, key) refl l TxAt.Item (head_key read_item) (item_goes read z) (led read is (t, key) refl l TxAt.Item tt l.got) (by_item read is (t, key) refl l z (λ u s. moves_on read is (t, key) refl l (TxAt.Keep u) tt (record {
+    item_turn row sees none =
+        let p = at_row (head_key read_item) row in
+        let z : ReadGoes = read_goes None (told_by (Query.Act p Look) c.now m) in
+        looks read is (t, key) refl l (TxAt.Item row) p (item_goes read z) (led read is (t, key) refl l (TxAt.Item row) tt l.got sees) (by_item read is (t, key) refl l row z
+        (λ n s. moves_on read is (t, key) refl l (TxAt.Item n) tt (record { begin = tt; asked = λ w. l.asked; locked = l.got; sees = s.stands.sees; found = λ q made step. none (at_front d c m r g h k o here read is (t, key) refl q made step) }))
+        (λ u s. moves_on read is (t, key) refl l (TxAt.Keep u) tt (record {
           begin = tt;
           asked = λ w. l.asked;
           locked = l.got;
+          sees = tt;
           found = λ q made step. let left = (at_front d c m r g h k o here read is (t, key) refl) q made step in ap (λ w. value_in w (value_at h.plain read_item)) (none left) ∙ sym (plain_there read is (t, key) refl l left) ∙ sym s.finds;
         })))
 
@@ -338,7 +346,7 @@ module _ (d : Deployment) (c : Core) (m : Rows) (i : ℕ) (r : Run) (g : Begun) 
 
   -- what it does to the shadow, as its instance has that
   abbrev DoneAt : Effect → ℕ × List ℕ → CellOp → WriteAt → Rows → Type 0
-  DoneAt e x op w n = let y : Item = record { func = k.instance.func; table = x.0; key = x.1 } in RowsStay m n → Wrote m n own y (place_of r.id (length k.instance.answers)) op → Leaves (tx_says (TxAt.Write w) (note_goes e (note_after op (shadow_of m own y).value))) n
+  DoneAt e x op w n = let y : Item = record { func = k.instance.func; table = x.0; key = x.1 } in AllGrow m n → RowsStay m n → Wrote m n own y (place_of r.id (length k.instance.answers)) op → Leaves (tx_says (TxAt.Write w) (note_goes e (note_after op (shadow_of m own y).value))) n
 
   module _ (e : Effect) (is : g.machine.effect ≡ e) (x : ℕ × List ℕ) (touch : touched e ≡ Some x) (l : HasLocked m r o g.machine.steps x) (op : CellOp) (writes : txn.op_of e ≡ Some op) (has_note : (b : Answer) (rest : List Answer) → k.later ≡ b ∷ rest → HasNote e x b) where
     abbrev aside_of : Item
@@ -352,7 +360,7 @@ module _ (d : Deployment) (c : Core) (m : Rows) (i : ℕ) (r : Run) (g : Begun) 
     none_yet left = as_ran e is x touch l left (λ y p. note_at (shadow_of m own y).notes p ≡ None) (no_shadow_note d m h.known h.locked h.rows r.id k.instance k.made own (record { func = k.instance.func; table = x.0; key = x.1 }))
 
     -- a turn that asks its shadow, and changes it
-    module _ (a : TxAt) (q : Query) (asks : key_asked q ≡ shadow_key own aside_of) (s : TxGoes) (t : Led e is x touch l a q (rows_after q c.now m) s) where
+    module _ (a : TxAt) (q : Query) (asks : head_asked q ≡ shadow_key own aside_of) (s : TxGoes) (t : Led e is x touch l a q (rows_after q c.now m) s) where
       abbrev left_rows : Rows
       left_rows = rows_after q c.now m
 
@@ -360,7 +368,7 @@ module _ (d : Deployment) (c : Core) (m : Rows) (i : ℕ) (r : Run) (g : Begun) 
       alone = subst (λ y. ChangedAlone y m left_rows) asks t.others
 
       aside : IsAside (shadow_chain left_rows own aside_of)
-      aside = record { sound = t.stands.shadow; unowned = t.stands.unowned }
+      aside = record { linked = t.stands.shadow; unowned = t.stands.unowned }
 
       same_roots : SameRoots m left_rows
       same_roots u = ap is_some (aside_key m left_rows own aside_of alone (root_key u) refl)
@@ -374,7 +382,7 @@ module _ (d : Deployment) (c : Core) (m : Rows) (i : ℕ) (r : Run) (g : Begun) 
 
       -- .. or its shadow has the notes that it had
       stays_moved : note_at (shadow_of m own aside_of).notes place ≡ None → Matches d left_rows h.known h.locked → (k.later ≡ [] → Changes e is x touch l left_rows) → Stays h left_rows
-      stays_moved none matches by = at_front_by none (λ left. unanswered e is x touch l left left_rows (as_its e is x touch l left (λ y p. ChangedAlone (shadow_key own y) m left_rows) alone) (query_keeps q c.now m) (ap is_some writes) (by left) matches)
+      stays_moved none matches by = at_front_by none (λ left. unanswered e is x touch l left left_rows (as_its e is x touch l left (λ y p. ChangedAlone (shadow_key own y) m left_rows) alone) t.grows (query_keeps q c.now m) (ap is_some writes) (by left) matches)
 
       -- how the shadow changed, as the law of the turn says it
       abbrev Moves : Type 0
@@ -386,18 +394,24 @@ module _ (d : Deployment) (c : Core) (m : Rows) (i : ℕ) (r : Run) (g : Begun) 
       stays_by on by (inr (none, inr wrote)) = let clash = sym on ∙ wrote.1 in cc
 
       -- so it goes on to a write of its shadow, or stays
-      goes_to : (b : WriteAt) → Stays h left_rows → Fits e (TxAt.Write b) → note_at (content_of left_rows aside_of).notes place ≡ Some Note.Got → (k.later ≡ [] → Found e (TxAt.Write b) (shadow_row left_rows own aside_of) (value_at h.plain aside_of)) → Leaves (Says.On (Stage.Tx (TxAt.Write b)) None) left_rows
+      goes_to : (b : WriteAt) → Stays h left_rows → Fits e (TxAt.Write b) → SeesAt (shadow_chain left_rows own aside_of) place (cell_at b) → note_at (content_of left_rows aside_of).notes place ≡ Some Note.Got → (k.later ≡ [] → Found e (TxAt.Write b) (shadow_row left_rows own aside_of) (value_at h.plain aside_of)) → Leaves (Says.On (Stage.Tx (TxAt.Write b)) None) left_rows
       unfolding Leaves
-      goes_to b kept fits got found = goes_at d c m i r g h live k finds o tx here e is x touch (TxAt.Write b) left_rows h.locked same_roots kept fits (record {
+      goes_to b kept fits sees got found = goes_at d c m i r g h live k finds o tx here e is x touch (TxAt.Write b) left_rows h.locked same_roots kept fits (record {
         begin = tt;
         asked = λ z. ap is_some (aside_key m left_rows own aside_of alone (lockset_key r.id (begin_of o) aside_of) refl) ∙ l.asked;
         locked = got;
+        sees = sees;
         found = λ y made step. found (at_front d c m r g h k o here e is x touch y made step);
       })
 
       stays_so : Stays h left_rows → Leaves Says.Stays left_rows
       unfolding Leaves
       stays_so = stays_on d c m i r g h live k finds left_rows same_roots
+
+      -- no row can follow the last one
+      worn_so : Stays h left_rows → Leaves (Says.Waits Wait.Worn) left_rows
+      unfolding Leaves
+      worn_so = worn d c m i r g h live k left_rows same_roots
 
       -- it is answered by the note that its place has then: that of the known answer, or its own
       answers_by : (w : WriteAt) (u : Note) → note_at (shadow_of left_rows own aside_of).notes place ≡ Some u → ((left : k.later ≡ []) → DoneAt e x op w left_rows) → Moves → Leaves (tx_says (TxAt.Write w) (note_goes e u)) left_rows
@@ -411,7 +425,7 @@ module _ (d : Deployment) (c : Core) (m : Rows) (i : ℕ) (r : Run) (g : Begun) 
           let z : Content = shadow_of m own aside_of in
           let note : u ≡ note_after op z.value = maps.same_some (sym has ∙ ap (λ (y : Content). note_at y.notes place) wrote.0 ∙ note_here z.notes place (note_after op z.value) none) in
           subst (λ y. Leaves (tx_says (TxAt.Write w) (note_goes e y)) left_rows) (sym (as_its e is x touch l left (λ y p. u ≡ note_after op (shadow_of m own y).value) note))
-          (done left (query_keeps q c.now m) (as_its e is x touch l left (λ y p. Wrote m left_rows own y p op) (record { alone = alone; sound = aside.sound; none = none; so = wrote.0 }))))
+          (done left t.grows (query_keeps q c.now m) (as_its e is x touch l left (λ y p. Wrote m left_rows own y p op) (record { alone = alone; linked = aside.linked; none = none; so = wrote.0 }))))
 
   -- ---- a write
   module _ (t : ℕ) (key : List ℕ) (v : Value) (is : g.machine.effect ≡ Effect.Write t key v) (l : HasLocked m r o g.machine.steps (t, key)) where
@@ -433,15 +447,15 @@ module _ (d : Deployment) (c : Core) (m : Rows) (i : ℕ) (r : Run) (g : Begun) 
         )
 
     write_done : (w : WriteAt) (n : Rows) (left : k.later ≡ []) → DoneAt write (t, key) (CellOp.Write v) w n
-    write_done w n left stay z =
+    write_done w n left rows_grow stay z =
         let y : Item = record { func = k.instance.func; table = t; key = key } in
         let wants = now_is write is (t, key) refl l left in
-        written write is (t, key) refl l left n z.alone stay refl Answer.Done (λ z e. cc)
+        written write is (t, key) refl l left n z.alone rows_grow stay refl Answer.Done (λ z e. cc)
         (writes_go d m h.plain h.known h.locked (after write is (t, key) refl l) r.id k.instance own t key v n (opened write is (t, key) refl l left) (stands write is (t, key) refl l left) (out write is (t, key) refl l) z.alone (was write is (t, key) refl l left) wants
         (wrote_so (place_of r.id (length k.instance.answers)) (ByTx own) v (shadow_of m own y) (shadow_of n own y) z.none (h.rows.asides own y).unowned z.so))
         (sane_wrote d h.known h.sane r.id k.instance k.made t key v wants)
         (write_inside d h.known h.locked (after write is (t, key) refl l) r.id k.instance k.made (out write is (t, key) refl l) own (inside write is (t, key) refl l left) m h.rows t key v n wants (lockset write is (t, key) refl l left) (was write is (t, key) refl l left)
-        z.alone z.sound z.none z.so)
+        z.alone z.linked z.none z.so)
 
     abbrev write_query : WriteAt → Query
     write_query w = write_asks write_row place (ByTx own) (CellOp.Write v) w
@@ -449,19 +463,20 @@ module _ (d : Deployment) (c : Core) (m : Rows) (i : ℕ) (r : Run) (g : Begun) 
     abbrev WriteLed : WriteAt → TxGoes → Type 0
     WriteLed w s = Led write is (t, key) refl l (TxAt.Write w) (write_query w) (rows_after (write_query w) c.now m) s
 
-    write_turn : (w : WriteAt) → Turn write (TxAt.Write w)
+    write_turn : (w : WriteAt) → SeesAt (chain m write_row) place (cell_at w) → Turn write (TxAt.Write w)
     unfolding Leaves
-    write_turn w = by (write_goes Note.Wrote (told_by (write_query w) c.now m)) (led write is (t, key) refl l (TxAt.Write w) tt l.got)
+    write_turn w sees = by (write_goes Note.Wrote w (told_by (write_query w) c.now m)) (led write is (t, key) refl l (TxAt.Write w) tt l.got sees)
       where
-        its : key_asked (write_query w) ≡ write_row
-        its = asked write_row place (ByTx own) (CellOp.Write v) w
+        its : head_asked (write_query w) ≡ write_row
+        its = asked write_row (λ n. refl) refl place (ByTx own) (CellOp.Write v) w
 
         kept : (s : TxGoes) (a : WriteLed w s) → is_going (said_of (TxAt.Write w) s) ≡ true → Stays h (rows_after (write_query w) c.now m)
         kept s a on = stays_by write is (t, key) refl l (CellOp.Write v) refl write_note (TxAt.Write w) (write_query w) its s a on (λ left same. inl (item_self r.func t key)) a.shadow
 
         by : (z : WriteGoes) → WriteLed w (write_leads write z) → Leaves (tx_says (TxAt.Write w) (write_leads write z)) (rows_after (write_query w) c.now m)
-        by (WriteGoes.On b) a = goes_to write is (t, key) refl l (CellOp.Write v) refl write_note (TxAt.Write w) (write_query w) its (TxGoes.On (TxAt.Write b)) a b (kept (TxGoes.On (TxAt.Write b)) a refl) tt a.stands.locked (λ left. tt)
+        by (WriteGoes.On b) a = goes_to write is (t, key) refl l (CellOp.Write v) refl write_note (TxAt.Write w) (write_query w) its (TxGoes.On (TxAt.Write b)) a b (kept (TxGoes.On (TxAt.Write b)) a refl) tt a.stands.sees a.stands.locked (λ left. tt)
         by (WriteGoes.Done Note.Wrote first) a = answers_by write is (t, key) refl l (CellOp.Write v) refl write_note (TxAt.Write w) (write_query w) its TxGoes.Done a w Note.Wrote a.so (write_done w (rows_after (write_query w) c.now m)) a.shadow
+        by WriteGoes.Worn a = worn_so write is (t, key) refl l (CellOp.Write v) refl write_note (TxAt.Write w) (write_query w) its TxGoes.Worn a (kept TxGoes.Worn a refl)
         by z a = stays_so write is (t, key) refl l (CellOp.Write v) refl write_note (TxAt.Write w) (write_query w) its TxGoes.Stays a (kept TxGoes.Stays a refl)
 
   -- ---- a write of which a condition is tested
@@ -476,24 +491,28 @@ module _ (d : Deployment) (c : Core) (m : Rows) (i : ℕ) (r : Run) (g : Begun) 
     test_row = shadow_key own test_item
 
     -- it looks for its shadow
-    seek_turn : Turn test TxAt.Shadow
+    seek_turn : Turn test TxAt.Seek
     unfolding Leaves
-    seek_turn = let u : Told = told_by (Query.Act test_row Look) c.now m in looks test is (t, key) refl l TxAt.Shadow test_row (head_goes u) (led test is (t, key) refl l TxAt.Shadow tt l.got) (by u)
+    seek_turn = let u : Told = told_by (Query.Act test_row Look) c.now m in looks test is (t, key) refl l TxAt.Seek test_row (seek_goes u) (led test is (t, key) refl l TxAt.Seek tt l.got tt) (by u)
       where
-        by : (u : Told) → Led test is (t, key) refl l TxAt.Shadow (Query.Act test_row Look) m (head_goes u) → Leaves (tx_says TxAt.Shadow (head_goes u)) m
-        by (said absent) s = moves_on test is (t, key) refl l TxAt.Item tt (record { begin = tt; asked = λ z. l.asked; locked = l.got; found = λ q made same. tt })
-        by (said (row_here w)) s = moves_on test is (t, key) refl l (TxAt.Write Try) tt (record { begin = tt; asked = λ z. l.asked; locked = l.got; found = λ q made same. s.finds })
+        by : (u : Told) → Led test is (t, key) refl l TxAt.Seek (Query.Act test_row Look) m (seek_goes u) → Leaves (tx_says TxAt.Seek (seek_goes u)) m
+        by (said absent) s = moves_on test is (t, key) refl l (TxAt.Item 0) tt (record { begin = tt; asked = λ z. l.asked; locked = l.got; sees = s.stands.sees; found = λ q made same. tt })
+        by (said (row_here w)) s = moves_on test is (t, key) refl l (TxAt.Write (Try 0)) tt (record { begin = tt; asked = λ z. l.asked; locked = l.got; sees = s.stands.sees; found = λ q made same. s.finds })
         by u s = stays_here test is (t, key) refl l
 
-    -- it looks at the item
-    value_turn : Turn test TxAt.Item
+    -- it looks at a row of the item
+    value_turn : (row : ℕ) → ReadsAt (chain m (head_key test_item)) row → Turn test (TxAt.Item row)
     unfolding Leaves
-    value_turn =
-        let z : ReadGoes = read_goes None (told_by (Query.Act (head_key test_item) Look) c.now m) in
-        looks test is (t, key) refl l TxAt.Item (head_key test_item) (item_goes test z) (led test is (t, key) refl l TxAt.Item tt l.got) (by_item test is (t, key) refl l z (λ w s. moves_on test is (t, key) refl l (TxAt.Head w) tt (record {
+    value_turn row sees =
+        let p = at_row (head_key test_item) row in
+        let z : ReadGoes = read_goes None (told_by (Query.Act p Look) c.now m) in
+        looks test is (t, key) refl l (TxAt.Item row) p (item_goes test z) (led test is (t, key) refl l (TxAt.Item row) tt l.got sees) (by_item test is (t, key) refl l row z
+        (λ n s. moves_on test is (t, key) refl l (TxAt.Item n) tt (record { begin = tt; asked = λ w. l.asked; locked = l.got; sees = s.stands.sees; found = λ q made same. tt }))
+        (λ w s. moves_on test is (t, key) refl l (TxAt.Head w) tt (record {
           begin = tt;
           asked = λ z. l.asked;
           locked = l.got;
+          sees = tt;
           found = λ q made step none. sym (plain_there test is (t, key) refl l (at_front d c m r g h k o here test is (t, key) refl q made step)) ∙ sym s.finds;
         })))
 
@@ -517,16 +536,16 @@ module _ (d : Deployment) (c : Core) (m : Rows) (i : ℕ) (r : Run) (g : Begun) 
 
     head_turn : (w : Value) → (k.later ≡ [] → shadow_row m own test_item ≡ None → value_at h.plain test_item ≡ w) → Turn test (TxAt.Head w)
     unfolding Leaves
-    head_turn w saw = by (told_by (head_query w) c.now m) (led test is (t, key) refl l (TxAt.Head w) tt l.got)
+    head_turn w saw = by (told_by (head_query w) c.now m) (led test is (t, key) refl l (TxAt.Head w) tt l.got tt)
       where
         kept : (s : TxGoes) (a : HeadLed w s) → ShadowMoves test (TxAt.Head w) place (ByTx own) (said_of (TxAt.Head w) s) (shadow_chain m own test_item) (shadow_chain (rows_after (head_query w) c.now m) own test_item) → Stays h (rows_after (head_query w) c.now m)
         kept s a (inl same) = stays_unmoved test is (t, key) refl l (CellOp.Cond u y v) refl test_note (TxAt.Head w) (head_query w) refl s a same
         kept s a (inr made) = stays_moved test is (t, key) refl l (CellOp.Cond u y v) refl test_note (TxAt.Head w) (head_query w) refl s a made.0
-            (shadow_made d h.known h.locked m h.rows own test_item (rows_after (head_query w) c.now m) a.others (record { sound = a.stands.shadow; unowned = a.stands.unowned }) made.1 (ap (λ (z : Content). z.notes) made.2))
+            (shadow_made d h.known h.locked m h.rows own test_item (rows_after (head_query w) c.now m) a.others (record { linked = a.stands.shadow; unowned = a.stands.unowned }) made.1 (ap (λ (z : Content). z.notes) made.2))
             (λ left. inr (inl (made.1, ap (λ (z : Content). z.value) made.2 ∙ sym (saw left made.1))))
 
-        goes : HeadLed w (TxGoes.On (TxAt.Write Try)) → Leaves (Says.On (Stage.Tx (TxAt.Write Try)) None) (rows_after (head_query w) c.now m)
-        goes a = goes_to test is (t, key) refl l (CellOp.Cond u y v) refl test_note (TxAt.Head w) (head_query w) refl (TxGoes.On (TxAt.Write Try)) a Try (kept (TxGoes.On (TxAt.Write Try)) a a.shadow) tt a.stands.locked (λ left. a.finds)
+        goes : HeadLed w (TxGoes.On (TxAt.Write (Try 0))) → Leaves (Says.On (Stage.Tx (TxAt.Write (Try 0))) None) (rows_after (head_query w) c.now m)
+        goes a = goes_to test is (t, key) refl l (CellOp.Cond u y v) refl test_note (TxAt.Head w) (head_query w) refl (TxGoes.On (TxAt.Write (Try 0))) a (Try 0) (kept (TxGoes.On (TxAt.Write (Try 0))) a a.shadow) tt a.stands.sees a.stands.locked (λ left. a.finds)
 
         by : (z : Told) → HeadLed w (head_made z) → Leaves (tx_says (TxAt.Head w) (head_made z)) (rows_after (head_query w) c.now m)
         by (said added) a = goes a
@@ -535,16 +554,16 @@ module _ (d : Deployment) (c : Core) (m : Rows) (i : ℕ) (r : Run) (g : Begun) 
 
     module _ (has : k.later ≡ [] → is_some (shadow_row m own test_item) ≡ true) where
       test_done : (w : WriteAt) (n : Rows) (left : k.later ≡ []) → DoneAt test (t, key) (CellOp.Cond u y v) w n
-      test_done w n left stay z =
+      test_done w n left rows_grow stay z =
           let a : Item = record { func = k.instance.func; table = t; key = key } in
           let b : Bool = passes (shadow_of m own a).value u y in
           let wants = now_is test is (t, key) refl l left in
-          written test is (t, key) refl l left n z.alone stay refl (Answer.Value (Value.Bool b)) (λ z e. cc)
+          written test is (t, key) refl l left n z.alone rows_grow stay refl (Answer.Value (Value.Bool b)) (λ z e. cc)
           (tests_go d m h.plain h.known h.locked (after test is (t, key) refl l) r.id k.instance own t key u y v b n (opened test is (t, key) refl l left) (stands test is (t, key) refl l left) (out test is (t, key) refl l) z.alone (was test is (t, key) refl l left) wants
           (as_its test is (t, key) refl l left (λ a p. is_some (shadow_row m own a) ≡ true) (has left)) (tested_so (place_of r.id (length k.instance.answers)) (ByTx own) u y v (shadow_of m own a) (shadow_of n own a) z.none (h.rows.asides own a).unowned z.so))
           (sane_tested d h.known h.sane r.id k.instance k.made t key u y v b wants)
           (test_inside d h.known h.locked (after test is (t, key) refl l) r.id k.instance k.made (out test is (t, key) refl l) own (inside test is (t, key) refl l left) m h.rows t key u y v n b wants (lockset test is (t, key) refl l left) (was test is (t, key) refl l left)
-          z.alone z.sound z.none _ z.so)
+          z.alone z.linked z.none _ z.so)
 
       abbrev test_query : WriteAt → Query
       test_query w = write_asks test_row place (ByTx own) (CellOp.Cond u y v) w
@@ -552,39 +571,42 @@ module _ (d : Deployment) (c : Core) (m : Rows) (i : ℕ) (r : Run) (g : Begun) 
       abbrev TestLed : WriteAt → TxGoes → Type 0
       TestLed w s = Led test is (t, key) refl l (TxAt.Write w) (test_query w) (rows_after (test_query w) c.now m) s
 
-      test_turn : (w : WriteAt) → Turn test (TxAt.Write w)
+      test_turn : (w : WriteAt) → SeesAt (chain m test_row) place (cell_at w) → Turn test (TxAt.Write w)
       unfolding Leaves
-      test_turn w = by (write_goes (Note.Cond true) (told_by (test_query w) c.now m)) (led test is (t, key) refl l (TxAt.Write w) tt l.got)
+      test_turn w sees = by (write_goes (Note.Cond true) w (told_by (test_query w) c.now m)) (led test is (t, key) refl l (TxAt.Write w) tt l.got sees)
         where
-          its : key_asked (test_query w) ≡ test_row
-          its = asked test_row place (ByTx own) (CellOp.Cond u y v) w
+          its : head_asked (test_query w) ≡ test_row
+          its = asked test_row (λ n. refl) refl place (ByTx own) (CellOp.Cond u y v) w
 
           kept : (s : TxGoes) (a : TestLed w s) → is_going (said_of (TxAt.Write w) s) ≡ true → Stays h (rows_after (test_query w) c.now m)
           kept s a on = stays_by test is (t, key) refl l (CellOp.Cond u y v) refl test_note (TxAt.Write w) (test_query w) its s a on (λ left same. inr (inr (has left, same))) a.shadow
 
           by : (z : WriteGoes) → TestLed w (write_leads test z) → Leaves (tx_says (TxAt.Write w) (write_leads test z)) (rows_after (test_query w) c.now m)
-          by (WriteGoes.On b) a = goes_to test is (t, key) refl l (CellOp.Cond u y v) refl test_note (TxAt.Write w) (test_query w) its (TxGoes.On (TxAt.Write b)) a b (kept (TxGoes.On (TxAt.Write b)) a refl) tt a.stands.locked
-              (λ left. aside_stays m (rows_after (test_query w) c.now m) own test_item (h.rows.asides own test_item).sound a.stands.shadow (query_keeps (test_query w) c.now m) (has left))
+          by (WriteGoes.On b) a = goes_to test is (t, key) refl l (CellOp.Cond u y v) refl test_note (TxAt.Write w) (test_query w) its (TxGoes.On (TxAt.Write b)) a b (kept (TxGoes.On (TxAt.Write b)) a refl) tt a.stands.sees a.stands.locked
+              (λ left. aside_stays m (rows_after (test_query w) c.now m) own test_item (h.rows.asides own test_item).linked a.stands.shadow (query_keeps (test_query w) c.now m) (has left))
           by (WriteGoes.Done (Note.Cond b) first) a = answers_by test is (t, key) refl l (CellOp.Cond u y v) refl test_note (TxAt.Write w) (test_query w) its (TxGoes.Value (Value.Bool b)) a w (Note.Cond b)
               (a.so.2 ∙ ap (λ z. Some (Note.Cond z)) (sym (same_bool a.so.1))) (test_done w (rows_after (test_query w) c.now m)) a.shadow
+          by WriteGoes.Worn a = worn_so test is (t, key) refl l (CellOp.Cond u y v) refl test_note (TxAt.Write w) (test_query w) its TxGoes.Worn a (kept TxGoes.Worn a refl)
           by z a = stays_so test is (t, key) refl l (CellOp.Cond u y v) refl test_note (TxAt.Write w) (test_query w) its TxGoes.Stays a (kept TxGoes.Stays a refl)
 
   -- ---- every stage past the lock
   pub working_turn : (e : Effect) (a : TxAt) → g.machine.effect ≡ e → is_past a ≡ true → Fits e a → InItem d m h.plain h.known r.id r.func o g.machine.steps e a (touched e) → Turn e a
   working_turn e TxAt.Log is past fits f = cc
   working_turn e (TxAt.Lock w) is past fits f = cc
-  working_turn (Effect.Read t key) TxAt.Shadow is past fits f = shadow_turn t key is (record { asked = f.asked refl; got = f.locked })
-  working_turn (Effect.Read t key) TxAt.Item is past fits f = item_turn t key is (record { asked = f.asked refl; got = f.locked }) (λ left. f.found k.instance k.made (sym (step_here k left)))
+  working_turn (Effect.Read t key) (TxAt.Shadow row) is past fits f = shadow_turn t key is (record { asked = f.asked refl; got = f.locked }) row f.sees
+  working_turn (Effect.Read t key) (TxAt.Item row) is past fits f = item_turn t key is (record { asked = f.asked refl; got = f.locked }) row f.sees (λ left. f.found k.instance k.made (sym (step_here k left)))
   working_turn (Effect.Read t key) (TxAt.Keep v) is past fits f = keep_turn t key is (record { asked = f.asked refl; got = f.locked }) v (λ left. f.found k.instance k.made (sym (step_here k left)))
+  working_turn (Effect.Read t key) TxAt.Seek is past fits f = absurd fits
   working_turn (Effect.Read t key) (TxAt.Head v) is past fits f = absurd fits
   working_turn (Effect.Read t key) (TxAt.Write w) is past fits f = absurd fits
-  working_turn (Effect.Write t key v) (TxAt.Write w) is past fits f = write_turn t key v is (record { asked = f.asked refl; got = f.locked }) w
+  working_turn (Effect.Write t key v) (TxAt.Write w) is past fits f = write_turn t key v is (record { asked = f.asked refl; got = f.locked }) w f.sees
   working_turn (Effect.Write t key v) b is past fits f = absurd fits
-  working_turn (Effect.CondWrite t key u y v) TxAt.Shadow is past fits f = seek_turn t key u y v is (record { asked = f.asked refl; got = f.locked })
-  working_turn (Effect.CondWrite t key u y v) TxAt.Item is past fits f = value_turn t key u y v is (record { asked = f.asked refl; got = f.locked })
+  working_turn (Effect.CondWrite t key u y v) TxAt.Seek is past fits f = seek_turn t key u y v is (record { asked = f.asked refl; got = f.locked })
+  working_turn (Effect.CondWrite t key u y v) (TxAt.Shadow row) is past fits f = absurd fits
+  working_turn (Effect.CondWrite t key u y v) (TxAt.Item row) is past fits f = value_turn t key u y v is (record { asked = f.asked refl; got = f.locked }) row f.sees
   working_turn (Effect.CondWrite t key u y v) (TxAt.Keep w) is past fits f = absurd fits
   working_turn (Effect.CondWrite t key u y v) (TxAt.Head w) is past fits f = head_turn t key u y v is (record { asked = f.asked refl; got = f.locked }) w (λ left. f.found k.instance k.made (sym (step_here k left)))
-  working_turn (Effect.CondWrite t key u y v) (TxAt.Write w) is past fits f = test_turn t key u y v is (record { asked = f.asked refl; got = f.locked }) (λ left. f.found k.instance k.made (sym (step_here k left))) w
+  working_turn (Effect.CondWrite t key u y v) (TxAt.Write w) is past fits f = test_turn t key u y v is (record { asked = f.asked refl; got = f.locked }) (λ left. f.found k.instance k.made (sym (step_here k left))) w f.sees
   working_turn e b is past fits f = absurd fits
 
 -- ---- of a run that stands in a transaction, as its stage asks it

@@ -8,13 +8,15 @@ use Rattle.beldi_lang.specs.declared.effect.Effect.{Effect, TheVariants.Read, Th
 use Rattle.beldi_plain.specs.{Item.Item, Plain.Instance, Plain.PlainState, Plain.value_at, Plain.effect_of, Plain.outcome_of}
 use Rattle.beldi_order.specs.{Inside.IsBelow, Txs.tx_now}
 use Rattle.beldi_row.specs.{Key.RowKey, declared.notes.Note.Note, declared.row.Row.Row, Log.note_at, Table.Rows}
-use Rattle.beldi_chain.specs.Content.{Content}
+use Rattle.beldi_chain.specs.{Chain.chain, Content.Content}
+use Rattle.beldi_links.specs.Links.{AllGrow, SeesAt}
+use Rattle.beldi_daal.specs.{Cell.cell_key, Logged.at_of, declared.cell.WriteAt.WriteAt}
 use Rattle.beldi_lock.specs.declared.lock.LockAt.TheVariants.{Lockset}
 use Rattle.beldi_invokelog.specs.InvokeLog.{invoke_key}
 use Rattle.beldi_intent.specs.Intent.{intent_key}
-use Rattle.beldi_txn.specs.{declared.tx.TxAt.TxAt, declared.end.Visit.Visit, declared.end_walk.EndWalk.EndWalk, Tx.op_of, End.end_place, End.first_end, Invokes.func_called, TxTurn.HasLock, Visited.AreReleased}
-use Rattle.beldi_step.specs.{declared.run.OpenTx.OpenTx, declared.run.RunTx.RunTx, Run.begin_of, Run.own_tx, Run.place_of, Run.tx_of, Tables.value_in}
-use Rattle.beldi_known.specs.{Stands.key_in, Contents.content_of, Contents.lockset_key, Contents.shadow_chain, Contents.shadow_row, Known.Known, Known.last_step, Known.tx_end}
+use Rattle.beldi_txn.specs.{declared.tx.TxAt.TxAt, declared.end.Visit.Visit, declared.end_walk.EndWalk.EndWalk, Tx.op_of, End.end_place, End.first_end, Invokes.func_called, TxTurn.HasLock, TxTurn.Sees, Visited.AreReleased}
+use Rattle.beldi_step.specs.{declared.run.OpenTx.OpenTx, declared.run.RunTx.RunTx, Run.OnCell, Run.begin_of, Run.own_tx, Run.place_of, Run.tx_of, Tables.value_in}
+use Rattle.beldi_known.specs.{Stands.key_in, Contents.content_of, Contents.head_key, Contents.lockset_key, Contents.shadow_chain, Contents.shadow_row, Known.Known, Known.last_step, Known.tx_end}
 
 -- ---- an operation inside
 -- its begin, where it asks for the lock
@@ -31,16 +33,22 @@ has_asked a = true
 -- what it found, by the last row of the shadow and the plain value of the item: a read keeps what the transaction sees, and the shadow
 -- of a condition is made with the plain value
 abbrev pub Found : Effect → TxAt → Option Row → Value → Type 0
-Found (Read t k) TxAt.Item shadow v = shadow ≡ None
+Found (Read t k) (TxAt.Item n) shadow v = shadow ≡ None
 Found (Read t k) (TxAt.Keep u) shadow v = value_in shadow v ≡ u
 Found (CondWrite t k r o w) (TxAt.Head u) shadow v = shadow ≡ None → v ≡ u
 Found (CondWrite t k r o w) (TxAt.Write s) shadow v = is_some shadow ≡ true
 Found e a shadow v = Unit {0}
 
+-- the rows of an item that a transaction works on, and of its shadow of it
+abbrev pub SeesBoth : Rows → Place → TxId → Item → TxAt → Type 0
+SeesBoth m p t x a = Sees a p (chain m (head_key x)) (shadow_chain m t x)
+
 pub record InOperation (d : Deployment) (m : Rows) (p : PlainState) (known : Known) (id : IntentId) (func : ℕ) (o : RunTx) (step : ℕ) (e : Effect) (a : TxAt) (i : ℕ × List ℕ) : Type 0 where
   pub begin : OfBegin (begin_of o) a
   pub asked : has_asked a ≡ true → is_some (map.get m (lockset_key id (begin_of o) (record { func = func; table = i.0; key = i.1 }))) ≡ true
   pub locked : HasLock a (place_of id step) (content_of m (record { func = func; table = i.0; key = i.1 }))
+  -- it sees what it has to of the rows
+  pub sees : SeesBoth m (place_of id step) (tx_of id func o) (record { func = func; table = i.0; key = i.1 }) a
   -- where its instance was not answered since
   pub found : (q : Instance) → map.get known id ≡ Some q → length q.answers ≡ step
       → let x : Item = record { func = func; table = i.0; key = i.1 } in Found e a (shadow_row m (tx_of id func o) x) (value_at p x)
@@ -48,6 +56,12 @@ pub record InOperation (d : Deployment) (m : Rows) (p : PlainState) (known : Kno
 abbrev pub InItem : Deployment → Rows → PlainState → Known → IntentId → ℕ → RunTx → ℕ → Effect → TxAt → Option (ℕ × List ℕ) → Type 0
 InItem d m p known id func o step e a None = Unit {0}
 InItem d m p known id func o step e a (Some i) = InOperation d m p known id func o step e a i
+
+-- ---- an operation outside
+-- what its walk sees of the rows of its item
+abbrev pub SeesPut : Rows → ℕ → Place → WriteAt → Option OnCell → Type 0
+SeesPut m func p at None = Unit {0}
+SeesPut m func p at (Some o) = SeesAt (chain m (cell_key func o.table o.key)) p (at_of at)
 
 -- ---- an end
 abbrev pub end_walk : IntentId → ℕ → OpenTx → ℕ → Bool → Visit → EndWalk
@@ -110,6 +124,8 @@ has_finish (Some (Row.Intent i)) = is_some i.finish
 has_finish r = false
 
 pub record Frame (d : Deployment) (m n : Rows) (p q : PlainState) (known next : Known) : Type 0 where
+  -- the rows of items and shadows grow
+  pub grows : AllGrow m n
   -- no row and no note goes
   pub rows : (k : RowKey) → is_some (map.get m k) ≡ true → is_some (map.get n k) ≡ true
   pub notes : (x : Item) (a : Place) (w : Note) → note_at (content_of m x).notes a ≡ Some w → note_at (content_of n x).notes a ≡ Some w

@@ -9,13 +9,16 @@ use Rattle.beldi_book.specs.{declared.entry.Entry.Entry, Order.count_changes, Or
 use Rattle.beldi_plain.specs.{Item.Item, Plain.AllShort, Plain.Instance, Plain.PlainState, Plain.nothing, Plain.value_at, Guard.IsGuarded, Holds.holds, Operation.op_of, Operation.touched, Legal.run_of}
 use Rattle.beldi_order.specs.{Laws.IsStateAt, Txs.along, Txs.effect_after}
 use Rattle.beldi_row.specs.{declared.row.Body.Body, Table.Rows}
+use Rattle.beldi_chain.specs.Chain.{chain}
+use Rattle.beldi_links.specs.Links.{ReadsAt}
+use Rattle.beldi_daal.specs.Cell.{cell_key}
 use Rattle.beldi_intent.specs.Intent.{root_key}
 use Rattle.beldi_txn.specs.{declared.end.EndAt.EndAt, declared.end.EndAt.TheVariants.Decide, TxTurn.Fits, Visited.Visited}
 use Rattle.beldi_call.specs.declared.{async_call.AsyncAt.AsyncAt, call.CallAt.CallAt}
-use Rattle.beldi_step.specs.{declared.run.Run.Run, declared.run.RunAt.TheVariants.Looks, declared.run.RunAt.TheVariants.Registers, declared.run.RunAt.TheVariants.Begins, declared.run.RunTx.RunTx, declared.run.RunTx.TheVariants.Own, Run.is_waited, Run.open_after, Run.end_mark, Run.within, declared.run.Begun.Begun, declared.run.Stage.Stage, Host.Core, Host.most_runs}
+use Rattle.beldi_step.specs.{declared.run.Run.Run, declared.run.RunAt.TheVariants.Looks, declared.run.RunAt.TheVariants.Registers, declared.run.RunAt.TheVariants.Begins, declared.run.RunTx.RunTx, declared.run.RunTx.TheVariants.Own, Run.cell_op, Run.is_waited, Run.open_after, Run.place_of, Run.end_mark, Run.within, declared.run.Begun.Begun, declared.run.Stage.Stage, Host.Core, Host.most_runs}
 use Rattle.beldi_step.specs.declared.run.RunAt as standing
 use Rattle.beldi_known.specs.{Rows.IsBodyOf, Known.Known, Matches.Matches, Matches.LockedAtEnds, Sane.Sane, Stands.key_in, Beside.Beside, InsideLaws.HoldersInsideAreMade, Listed.listed, Shadows.Shadows}
-use Rattle.beldi_laws.specs.Inside.{InItem, Released, end_walk, OwnedAreUnmarked, OwnersCallNobody, OwnersHaveNotEnded, ParticipantsAreReleased, ParticipantsHaveRows}
+use Rattle.beldi_laws.specs.Inside.{InItem, Released, SeesPut, end_walk, OwnedAreUnmarked, OwnersCallNobody, OwnersHaveNotEnded, ParticipantsAreReleased, ParticipantsHaveRows}
 
 -- ---- where a run stands
 -- what a run is in after these answers: the transaction that it was called in, or its own one, with what was aborted in it
@@ -74,11 +77,11 @@ is_sent a = true
 -- ---- what a run knows and has found in the rows, at each stage of its effect
 module _ {d : Deployment} (m : Rows) (p : PlainState) (book : List Entry) {known : Known} {id : IntentId} {home : ℕ} {c : Option Caller} {s : Machine} {o : Option RunTx} (k : StandsAt d known id home c s o) where
   abbrev pub AtStage : Stage → Effect → Option RunTx → Type 0
-  -- outside a transaction: where a value is to be kept, where its read belongs
+  -- outside a transaction: what a walk sees of the rows, and, where a value is to be kept, where its read belongs
   AtStage Stage.Ask (Read t x) None = Unit {0}
-  AtStage Stage.Walk (Read t x) None = Unit {0}
+  AtStage (Stage.Walk r) (Read t x) None = ReadsAt (chain m (cell_key home t x)) r
   AtStage (Stage.Keep v seen) (Read t x) None = Keeps d book id k.answers k.later (record { func = home; table = t; key = x }) v seen
-  AtStage (Stage.Write at) e None = is_some (op_of e) ≡ true
+  AtStage (Stage.Write at) e None = (is_some (op_of e) ≡ true) × SeesPut m home (place_of id s.steps) at (cell_op e)
   -- what it opened is known
   AtStage (Stage.Async at) (Async f a) None = (has_callees id ≡ true) × (is_sent at ≡ true → is_some (map.get known (child_of id s.steps)) ≡ true)
   AtStage (Stage.Call at) (Call f a) o = (has_callees id ≡ true) × (is_opened at ≡ true → is_some (map.get known (child_of id s.steps)) ≡ true)

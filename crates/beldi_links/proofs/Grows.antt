@@ -1,10 +1,12 @@
 -- What the acts of others leave of the rows that a walk sees.
+use Rattle.std.specs.FinMap as map
+use Rattle.std.specs.Ordering.{is_eq}
 use Rattle.std.proofs.lemmas.Option.{none-some}
-use Rattle.std.proofs.Common.{◌≡◌, ◌⊎◌, inl, inr, ℕ, ◌+◌, ◌<◌, length, Option, None, Some, refl, ap, sym, ◌∙◌, subst, arith}
+use Rattle.std.proofs.Common.{◌≡◌, ◌⊎◌, inl, inr, ℕ, ◌+◌, ◌<◌, Bool, true, false, length, Option, None, Some, refl, ap, sym, ◌∙◌, subst, arith}
 use Rattle.beldi_value.specs.declared.{place.Owner.Owner, place.Place.Place, value.Value.Value}
-use Rattle.beldi_row.specs.{declared.row.Cell.Cell, declared.row.Row.Row, Log.note_at}
-use Rattle.beldi_chain.specs.Chain.{Chain}
-use Rattle.beldi_links.specs.{Laws.GrownAreFrozen, Laws.MakingGrows, Laws.OneRowGrows, Laws.OthersKeep, Links.At, Links.FitsAt, Links.LeadsTo, Links.Meets, Links.SetTo, Links.GrowsBy, Links.IsPassed, Links.Linkable, Links.Passed, Links.RowGrows, Links.RowsGrow, Links.StandsAt, Links.Told, Links.ToldBy, Links.most_entries}
+use Rattle.beldi_row.{specs.declared.key.Kind.Kind, specs.declared.row.Cell.Cell, specs.declared.row.Row.Row, specs.Key.RowKey, specs.Key.at_row, specs.Key.key_cmp, specs.Key.kind_at, specs.Key.row_of, specs.Log.most_entries, specs.Log.note_at, specs.Table.Rows, proofs.Gets.key_same}
+use Rattle.beldi_chain.{specs.Chain.Chain, specs.Chain.IsHead, specs.Chain.chain, specs.Chain.is_row_of, proofs.Heads.chain_off, proofs.Heads.chain_other}
+use Rattle.beldi_links.specs.{Laws.GrownAreFrozen, Laws.MakingGrows, Laws.OneItemGrows, Laws.OneRowGrows, Laws.OthersGrow, Laws.OthersKeep, Laws.ReadersKeep, Links.AllGrow, Links.At, Links.FitsAt, Links.LeadsTo, Links.Meets, Links.SetTo, Links.GrowsBy, Links.IsPassed, Links.Linkable, Links.Passed, Links.RowGrows, Links.RowsGrow, Links.StandsAt, Links.Told, Links.ToldBy}
 use Rattle.beldi_links.proofs.Ways.{few, meetings_stay, none_next, same_or}
 
 -- ---- a cell that is there
@@ -89,8 +91,11 @@ meets_still f g grow r m = meetings_stay f g (grown_are_frozen f g grow) r m
 pub others_keep : OthersKeep
 others_keep f g p (At.Try r) grow h = (meets_still f g grow r h.0, passed f g p grow r h.2 h.1, stands f g grow r h.2)
 others_keep f g p At.Make grow h = tt
-others_keep f g p (At.Append r v o) grow h = (meets_still f g grow r h.0, passed f g p grow r (there_is f r h.2.cell h.2.there) h.1, told f g p grow r v o h.2)
-others_keep f g p (At.Link r) grow h = (meets_still f g grow r h.0, passed f g p grow r (there_is f r h.2.cell h.2.there) h.1, linkable f g p grow r h.2)
+others_keep f g p (At.Append n v o) grow (r, after, meets, all, is) = (r, after, meets_still f g grow r meets, passed f g p grow r (there_is f r is.cell is.there) all, told f g p grow r v o is)
+others_keep f g p (At.Link n) grow (r, after, meets, all, is) = (r, after, meets_still f g grow r meets, passed f g p grow r (there_is f r is.cell is.there) all, linkable f g p grow r is)
+
+pub readers_keep : ReadersKeep
+readers_keep f g r grow h = (meets_still f g grow r h.0, stands f g grow r h.1)
 
 -- ---- one row that is set
 grows_self : (z : Option ℕ) (c : Cell) → GrowsBy z c c
@@ -141,3 +146,42 @@ first_grows f g s none set = record {
   rows = rows_by f g 0 (Some s) set (subst (λ z. RowGrows z (Some s)) (sym (none 0)) tt);
   fresh = λ n k d c free at there. absurd (none-some c (sym (none k) ∙ there));
 }
+
+-- ---- all items
+same_rows_grow : (f g : Chain) → ((n : ℕ) → g n ≡ f n) → RowsGrow f g
+same_rows_grow f g same = record {
+  rows = λ n. subst (RowGrows (f n)) (sym (same n)) (row_stays (f n));
+  fresh = λ n k d c none at there. absurd (none-some d (sym none ∙ sym (same n) ∙ at));
+}
+
+pub same_grow : (m n : Rows) → n ≡ m → AllGrow m n
+same_grow m n same head is = same_rows_grow (chain m head) (chain n head) (λ i. ap (λ z. map.get z (at_row head i)) same)
+
+pub item_grows : OneItemGrows
+item_grows m n head is alone grows k first = by_key (is_eq (key_cmp k head)) refl
+  where
+    by_key : (b : Bool) → is_eq (key_cmp k head) ≡ b → RowsGrow (chain m k) (chain n k)
+    by_key true e = subst (λ z. RowsGrow (chain m z) (chain n z)) (sym (key_same k head e)) grows
+    by_key false e = same_rows_grow (chain m k) (chain n k) (λ i. ap (λ (f : Chain). f i) (chain_other m n head k alone first e))
+
+pub others_grow : OthersGrow
+others_grow m n l off same head is = same_rows_grow (chain m head) (chain n head) (λ i. ap (λ (f : Chain). f i) (chain_off m n l head same is (off head is)))
+
+kind_twice : (k : Kind) → kind_at (kind_at k 0) 1 ≡ kind_at k 1
+kind_twice (Kind.Data t x r) = refl
+kind_twice (Kind.Shadow y t x r) = refl
+kind_twice (Kind.Intent i) = refl
+kind_twice (Kind.ReadLog a) = refl
+kind_twice (Kind.Invoke a) = refl
+kind_twice (Kind.Lockset i b t x) = refl
+
+-- a row of another kind is of no item
+pub no_item : (l : RowKey) → row_of (kind_at l.kind 1) ≡ 0 → (head : RowKey) → IsHead head → is_row_of head l ≡ false
+no_item l flat head is = by_test (is_row_of head l) refl
+  where
+    by_test : (b : Bool) → is_row_of head l ≡ b → is_row_of head l ≡ false
+    by_test true e =
+        let first = key_same (at_row l 0) head e in
+        let one : row_of (at_row head 1).kind ≡ 0 = ap (λ (z : RowKey). row_of (at_row z 1).kind) (sym first) ∙ ap row_of (kind_twice l.kind) ∙ flat in
+        absurd (let two = is.numbered 1 in omega (arith, one, two))
+    by_test false e = e

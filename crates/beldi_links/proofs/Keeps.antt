@@ -3,10 +3,10 @@ use Rattle.std.proofs.lemmas.{Bool.eqb-false, Bool.false_from_ne_true, Bool.ne_e
 use Rattle.std.specs.Ordering.{is_eq}
 use Rattle.std.specs.FinMap as map
 use Rattle.std.proofs.Common.{◌≡◌, ◌⊎◌, inl, inr, ℕ, zero, suc, ◌+◌, ◌<◌, ◌≤◌, ◌==◌, false, cond, [], ◌∷◌, ◌++◌, length, length-append, Option, None, Some, refl, ap, sym, ◌∙◌, subst, arith, append_assoc, append-nil}
-use Rattle.beldi_row.{specs.Key.RowKey, specs.Key.key_cmp, specs.Key.row_of, specs.declared.row.Cell.Cell, specs.declared.row.Row.Row, specs.Log.NoneTwice, proofs.Gets.got, proofs.Gets.key_same, proofs.Gets.key_self, proofs.Logs.once_pushed}
-use Rattle.beldi_chain.{specs.Chain.Chain, specs.Chain.Sound, specs.Chain.at_row, specs.Chain.content, specs.Chain.most_rows, specs.Chain.most_rows_are, specs.Content.Content, specs.Content.SoundAt, specs.Content.content_in, specs.Content.log_of, proofs.OneRow.one_content}
-use Rattle.beldi_links.specs.Laws.{EntriesKeepLinks, FirstRowIsLinked, LastRowIsSet, LinkingChangesNothing, LinkingKeepsLinks, MakingChangesNothing, MakingKeepsLinks, OneRowIsLinked, RowIsSet}
-use Rattle.beldi_links.specs.Links.{Fits, FitsAt, FitsNext, Frozen, IsSpare, LeadsTo, Linked, LinkedFrom, SetTo, before, behind, most_entries, own}
+use Rattle.beldi_row.{specs.Key.RowKey, specs.Key.at_row, specs.Key.key_cmp, specs.Key.row_of, specs.declared.row.Cell.Cell, specs.declared.row.Row.Row, specs.Log.NoneTwice, specs.Log.most_entries, proofs.Gets.got, proofs.Gets.key_same, proofs.Gets.key_self, proofs.Logs.once_pushed}
+use Rattle.beldi_chain.specs.{Chain.Chain, Chain.content, Chain.most_rows, Chain.most_rows_are, Content.Content, Content.log_of}
+use Rattle.beldi_links.specs.Laws.{EntriesKeepLinks, FirstRowIsLinked, LastRowIsSet, LinkingChangesNothing, LinkingKeepsLinks, MakingChangesNothing, MakingKeepsLinks, RowIsSet}
+use Rattle.beldi_links.specs.Links.{Fits, FitsAt, FitsNext, Frozen, IsSpare, LeadsTo, IsLinked, Linked, LinkedFrom, SetTo, before, behind, own}
 use Rattle.beldi_links.proofs.Ways.{before_join, before_kept, content_is, few, kept, leads_still, none_next, one_cell, one_step, same_or, then_way}
 use Rattle.beldi_links.proofs.{Grows.first_grows, Meets.no_more}
 
@@ -223,58 +223,46 @@ linking_keeps f g l s is less set = record {
     by_rest n (inl here) = (subst (LeadsTo g 0) (sym here) (way_on f g l s is less set), ([], here))
     by_rest n (inr w) = (leads_still f g still 0 n w.0, then_way g n l.last (l.last + 1) (leads_still f g still n l.last w.1) to_last)
 
--- ---- one row, or none
-module _ (f : Chain) (sound : Sound f) where
-  none_else : (n : ℕ) (c : Cell) → f (suc n) ≡ Some (Row.Cell c) → ⊥
-  none_else n c is = none-some (Row.Cell c) (sym (sound.alone n) ∙ is)
+-- ---- the first row
+pub none_linked : (f : Chain) → ((n : ℕ) → f n ≡ None) → IsLinked f
+none_linked f none = subst (λ z. LinkedFrom z f) (sym (none 0)) none
 
-  one_row : (c : Cell) → f 0 ≡ Some (Row.Cell c) → SoundAt (Some (Row.Cell c)) → length c.log ≤ most_entries → Linked f
-  one_row c is fit most = record {
+module _ (f g : Chain) (s : Cell) (none : (n : ℕ) → f n ≡ None) (set : SetTo f 0 (Some (Row.Cell s)) g) (ends : s.next ≡ None) (fit : Fits s) where
+  none_else : (n : ℕ) → g (suc n) ≡ None
+  none_else n = set.others (suc n) (ne_eqb (suc n) 0 (λ e. omega (arith, e))) ∙ none (suc n)
+
+  no_cell : (n : ℕ) (c : Cell) → g (suc n) ≡ Some (Row.Cell c) → ⊥
+  no_cell n c is = none-some (Row.Cell c) (sym (none_else n) ∙ is)
+
+  few_rows : 0 < most_rows
+  few_rows = subst (λ z. 0 < z) (sym most_rows_are) (omega arith)
+
+  one_row : s.log ≡ [] → Linked g
+  one_row log = record {
     last = 0;
-    tail = c;
+    tail = s;
     way = ([], refl);
-    there = is;
-    ends = fit.0;
-    few = subst (λ z. 0 < z) (sym most_rows_are) (omega arith);
+    there = set.here;
+    ends = ends;
+    few = few_rows;
     fits = fits;
-    once = subst (λ (z : Content). NoneTwice z.notes) (sym (one_content f sound ∙ ap content_in is)) fit.1;
-    spare = λ s at. absurd (none_else 0 s at);
+    once = subst NoneTwice (sym (ap (λ (z : Content). z.notes) (content_is g [] 0 s refl set.here ends few_rows) ∙ log)) tt;
+    spare = λ q at. absurd (no_cell 0 q at);
     numbers = numbers;
     rest = rest;
   }
     where
-      fits : (n : ℕ) → FitsAt (f n)
-      fits zero = subst FitsAt (sym is) (record { entries = subst (λ z. FitsNext z (length c.log)) (sym fit.0) most; marked = fit.2; dangled = fit.3 })
-      fits (suc n) = subst FitsAt (sym (sound.alone n)) tt
+      fits : (n : ℕ) → FitsAt (g n)
+      fits zero = subst FitsAt (sym set.here) fit
+      fits (suc n) = subst FitsAt (sym (none_else n)) tt
 
-      numbers : (n : ℕ) (d : Cell) (k : ℕ) → f n ≡ Some (Row.Cell d) → d.next ≡ Some k → k ≡ n + 1
-      numbers zero d k at next = absurd (none_next d k (subst (λ (z : Cell). z.next ≡ None) (one_cell c d (sym is ∙ at)) fit.0) next)
-      numbers (suc n) d k at next = absurd (none_else n d at)
+      numbers : (n : ℕ) (d : Cell) (k : ℕ) → g n ≡ Some (Row.Cell d) → d.next ≡ Some k → k ≡ n + 1
+      numbers zero d k at next = absurd (none_next d k (subst (λ (z : Cell). z.next ≡ None) (one_cell s d (sym set.here ∙ at)) ends) next)
+      numbers (suc n) d k at next = absurd (no_cell n d at)
 
-      rest : (n : ℕ) (d : Cell) → f n ≡ Some (Row.Cell d) → (n ≡ 0 + 1) ⊎ (LeadsTo f 0 n × LeadsTo f n 0)
+      rest : (n : ℕ) (d : Cell) → g n ≡ Some (Row.Cell d) → (n ≡ 0 + 1) ⊎ (LeadsTo g 0 n × LeadsTo g n 0)
       rest zero d at = inr (([], refl), ([], refl))
-      rest (suc n) d at = absurd (none_else n d at)
-
-  by_head : (y : Option Row) → f 0 ≡ y → SoundAt y → length (log_of y) ≤ most_entries → LinkedFrom y f
-  by_head None is fit most = none
-    where
-      none : (n : ℕ) → f n ≡ None
-      none zero = is
-      none (suc n) = sound.alone n
-  by_head (Some (Row.Cell c)) is fit most = one_row c is fit most
-  by_head (Some r) is fit most = absurd fit
-
-pub one_linked : OneRowIsLinked
-one_linked f sound most = by_head f sound (f 0) refl sound.head most
+      rest (suc n) d at = absurd (no_cell n d at)
 
 pub first_linked : FirstRowIsLinked
-first_linked f g s none set ends log fits = (one_row g sound s set.here sound_here (subst (λ z. FitsNext z (length s.log)) ends fits.entries), first_grows f g (Row.Cell s) none set)
-  where
-    sound_here : SoundAt (Some (Row.Cell s))
-    sound_here = (ends, subst NoneTwice (sym log) tt, fits.marked, fits.dangled)
-
-    sound : Sound g
-    sound = record {
-      head = subst SoundAt (sym set.here) sound_here;
-      alone = λ n. set.others (suc n) (ne_eqb (suc n) 0 (λ e. omega (arith, e))) ∙ none (suc n);
-    }
+first_linked f g s none set ends log fits = (one_row f g s none set ends fits log, first_grows f g (Row.Cell s) none set)

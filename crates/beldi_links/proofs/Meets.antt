@@ -1,11 +1,11 @@
 -- Where a walk stands, and what it passed.
-use Rattle.std.proofs.lemmas.Option.{none-some}
-use Rattle.std.proofs.Common.{◌≡◌, ◌⊎◌, inl, inr, ℕ, ◌+◌, ◌<◌, ◌≤◌, Bool, true, false, List, [], ◌∷◌, ◌++◌, length, Option, None, Some, nat_lt, if◌then◌else◌, refl, ap, sym, ◌∙◌, subst, arith, append_assoc, ltb-true, ltb-false}
+use Rattle.std.proofs.lemmas.{Bool.eqb-false, Option.none-some}
+use Rattle.std.proofs.Common.{◌≡◌, ◌⊎◌, inl, inr, ℕ, ◌+◌, ◌<◌, ◌≤◌, Bool, true, false, List, [], ◌∷◌, ◌++◌, length, is_some, Option, None, Some, nat_lt, if◌then◌else◌, refl, ap, sym, ◌∙◌, subst, arith, append_assoc, ltb-true, ltb-false}
 use Rattle.beldi_value.specs.declared.place.Place.{Place}
-use Rattle.beldi_row.specs.{declared.notes.Note.Note, declared.row.Cell.Cell, declared.row.Row.Row, Log.note_at, Log.place_eq}
+use Rattle.beldi_row.specs.{declared.notes.Note.Note, declared.row.Cell.Cell, declared.row.Row.Row, Log.most_entries, Log.note_at, Log.place_eq}
 use Rattle.beldi_chain.specs.{Chain.Chain, Content.Content, Content.log_of}
-use Rattle.beldi_links.specs.{Laws.FullIsSeen, Laws.LastIsLast, Laws.MeetingsGoOn, Laws.NextIsSeen, Laws.NoneIsNoted, Laws.NotedIsNoted, Laws.PassedGoesOn, Laws.SpareIsMade, Laws.SpareIsSeen, Laws.WalksBegin, Laws.WalksEnd, Links.IsPassed, Links.IsSpare, Links.LeadsTo, Links.Linked, Links.Meets, Links.Passed, Links.StandsAt, Links.Steps, Links.ToldBy, Links.before}
-use Rattle.beldi_links.proofs.Ways.{before_join, content_is, few, join, none_next, one_cell, then_way}
+use Rattle.beldi_links.specs.{Laws.FullIsSeen, Laws.LastIsLast, Laws.LinkedIsSeen, Laws.MeetingsGoOn, Laws.NextIsRead, Laws.NextIsSeen, Laws.NoneIsNoted, Laws.NotedIsNoted, Laws.PassedGoesOn, Laws.ReadsBegin, Laws.SpareIsMade, Laws.SpareIsSeen, Laws.WalksBegin, Laws.WalksEnd, Links.FitsAt, Links.IsPassed, Links.IsSpare, Links.LeadsTo, Links.Linked, Links.Meets, Links.Passed, Links.StandsAt, Links.Steps, Links.ToldBy, Links.before}
+use Rattle.beldi_links.proofs.Ways.{before_join, content_is, few, join, none_next, one_cell, same_or, then_way}
 
 -- ---- ways from one row
 -- from one on a way to a later one
@@ -122,25 +122,43 @@ walks_begin f p = (record { at = 0; head = ([], refl); here = ([], refl) }, (λ 
     stands None = refl
     stands (Some y) = tt
 
+-- one that only reads stands at a row that leads to the last
+next_stands : (f : Chain) (l : Linked f) (r : ℕ) (c : Cell) (k : ℕ) → f r ≡ Some (Row.Cell c) → c.next ≡ Some k → Meets f k × StandsAt (f k) k
+next_stands f l r c k is next =
+    let way = goes_on f l r c k is next in
+    let here = row_there f k way.0 l.last l.tail l.there way.1 in
+    (record { at = l.last; head = l.way; here = way }, subst (λ z. StandsAt z k) (sym here.1) tt)
+
+pub next_is_read : NextIsRead
+next_is_read f l r c k is next = next_stands f l r c k is next
+
+pub reads_begin : ReadsBegin
+reads_begin f = (record { at = 0; head = ([], refl); here = ([], refl) }, stands (f 0))
+  where
+    stands : (y : Option Row) → StandsAt y 0
+    stands None = refl
+    stands (Some y) = tt
+
 pub full_is_seen : FullIsSeen
-full_is_seen f p r c h is full none = (h.0, h.1, record { cell = c; there = is; full = full; none = none; told = by_next c.next })
+full_is_seen f p r c h is full none less = (r, record { next = refl; few = less }, h.0, h.1, record { cell = c; there = is; full = full; none = none; told = by_next c.next })
   where
     by_next : (z : Option ℕ) → ToldBy z c c.value c.owner
     by_next None = (refl, refl)
     by_next (Some k) = tt
 
 pub spare_is_seen : SpareIsSeen
-spare_is_seen f p r v o s h is = (h.0, h.1, record { cell = h.2.cell; there = h.2.there; full = h.2.full; none = h.2.none; spare = s; after = is })
+spare_is_seen f p n v o s (r, after, meets, passed, told) is =
+    (r, after, meets, passed, record { cell = told.cell; there = told.there; full = told.full; none = told.none; spare = s; after = ap f (sym after.next) ∙ is })
 
 -- the row that was full is the last, where there is none of the next number
 pub spare_is_made : SpareIsMade
-spare_is_made f l p r v o s (meets, passed, told) none value owner log next = by_next told.cell.next refl told.told
+spare_is_made f l p n v o s (r, next_one, meets, passed, told) none value owner log next = by_next told.cell.next refl told.told
   where
-    by_next : (z : Option ℕ) → told.cell.next ≡ z → ToldBy z told.cell v o → (r ≡ l.last) × IsSpare l.tail s
+    by_next : (z : Option ℕ) → told.cell.next ≡ z → ToldBy z told.cell v o → (n ≡ l.last + 1) × IsSpare l.tail s
     by_next None ends was =
         let at : r ≡ l.last = last_is_last f l.last l.tail l.way l.there l.ends r told.cell meets told.there ends in
         let cell : told.cell ≡ l.tail = one_cell told.cell l.tail (sym told.there ∙ ap f at ∙ l.there) in (
-          at,
+          next_one.next ∙ ap (λ z. z + 1) at,
           record {
             value = value ∙ sym was.0 ∙ ap (λ (z : Cell). z.value) cell;
             owner = owner ∙ sym was.1 ∙ ap (λ (z : Cell). z.owner) cell;
@@ -152,7 +170,62 @@ spare_is_made f l p r v o s (meets, passed, told) none value owner log next = by
     by_next (Some k) after was =
         let way = goes_on f l r told.cell k told.there after in
         let here = row_there f k way.0 l.last l.tail l.there way.1 in
-        absurd (none-some (Row.Cell here.0) (sym none ∙ ap f (sym (l.numbers r told.cell k told.there after)) ∙ here.1))
+        absurd (none-some (Row.Cell here.0) (sym none ∙ ap f (next_one.next ∙ sym (l.numbers r told.cell k told.there after)) ∙ here.1))
+
+-- the row before the one that is to be linked has a next: the walk passed it
+pub linked_is_seen : LinkedIsSeen
+linked_is_seen f l p n r c k (q, after, meets, passed, link) one is next =
+    let at : q ≡ r = (let a = after.next in omega (arith, a, one)) in
+    let cell : link.cell ≡ c = one_cell link.cell c (sym link.there ∙ ap f at ∙ is) in
+    next_is_seen f l p r c k (subst (Passed f p) at passed) is next (ap (λ (z : Cell). note_at z.log p) (sym cell) ∙ link.none)
+
+-- ---- the rows below one that is there are there
+-- of those on a way, whose numbers go up by one
+on_way : (f : Chain) → ((n : ℕ) (c : Cell) (k : ℕ) → f n ≡ Some (Row.Cell c) → c.next ≡ Some k → k ≡ n + 1) → (r : ℕ) (ks : List ℕ) (n : ℕ) → Steps f r ks n → (i : ℕ) → r ≤ i → i < n → is_some (f i) ≡ true
+on_way f numbers r [] n way i low high = let w : r ≡ n = way in absurd (omega (arith, w, low, high))
+on_way f numbers r (k ∷ ks) n (c, is, next, less, way) i low high = by_order (nat_lt r i) refl (λ more. on_way f numbers k ks n way i more high)
+  where
+    by_order : (b : Bool) → nat_lt r i ≡ b → (k ≤ i → is_some (f i) ≡ true) → is_some (f i) ≡ true
+    by_order true e further =
+        let more = ltb-true r i e in
+        let one = numbers r c k is next in
+        further (omega (arith, more, one))
+    by_order false e further =
+        let most = ltb-false r i e in
+        let same : r ≡ i = omega (arith, most, low) in
+        ap is_some (ap f (sym same) ∙ is)
+
+pub rows_below : (f : Chain) (l : Linked f) (k i : ℕ) (r : Row) → f k ≡ Some r → i ≤ k → is_some (f i) ≡ true
+rows_below f l k i r is most = by_kind r is (subst FitsAt is (l.fits k))
+  where
+    to_last : i ≤ l.last → is_some (f i) ≡ true
+    to_last most = same_or i l.last
+        (λ at. ap is_some (ap f at ∙ l.there))
+        (λ off. on_way f l.numbers 0 l.way.0 l.last l.way.1 i (omega arith) (let ne = eqb-false i l.last off in below ne most))
+      where
+        below : (i ≡ l.last → ⊥) → i ≤ l.last → i < l.last
+        below ne most = by_order (nat_lt i l.last) refl
+          where
+            by_order : (b : Bool) → nat_lt i l.last ≡ b → i < l.last
+            by_order true e = ltb-true i l.last e
+            by_order false e = let m = ltb-false i l.last e in absurd (ne (omega (arith, m, most)))
+
+    by_kind : (r : Row) → f k ≡ Some r → FitsAt (Some r) → is_some (f i) ≡ true
+    by_kind (Row.Cell c) is fits = by_rest (l.rest k c is)
+      where
+        by_rest : (k ≡ l.last + 1) ⊎ (LeadsTo f 0 k × LeadsTo f k l.last) → is_some (f i) ≡ true
+        by_rest (inl e) = same_or i k
+            (λ at. ap is_some (ap f at ∙ is))
+            (λ off. let ne = eqb-false i k off in to_last (by_less ne))
+          where
+            by_less : (i ≡ k → ⊥) → i ≤ l.last
+            by_less ne = by_order (nat_lt i k) refl
+              where
+                by_order : (b : Bool) → nat_lt i k ≡ b → i ≤ l.last
+                by_order true e' = let m = ltb-true i k e' in omega (arith, m, e)
+                by_order false e' = let m = ltb-false i k e' in absurd (ne (omega (arith, m, most)))
+        by_rest (inr w) = let m = few f k w.1.0 l.last w.1.1 in to_last (omega (arith, m, most))
+    by_kind r is fits = absurd fits
 
 -- ---- a note on the way
 pub passed_by : (es fs : List (Place × Note)) (p : Place) → note_at es p ≡ None → note_at (es ++ fs) p ≡ note_at fs p

@@ -1,9 +1,11 @@
 -- What is so of linked rows, whatever acts there are.
-use Rattle.std.specs.Prelude.{◌≡◌, ℕ, ◌+◌, ◌<◌, ◌≤◌, List, [], ◌∷◌, ◌++◌, length, Option, Some, None}
+use Rattle.std.specs.Prelude.{◌≡◌, false, ℕ, ◌+◌, ◌<◌, ◌≤◌, List, [], ◌∷◌, ◌++◌, length, Option, Some, None}
+use Rattle.std.specs.Ordering.{is_eq}
+use Rattle.std.specs.FinMap as map
 use Rattle.beldi_value.specs.declared.{place.Owner.Owner, place.Place.Place, value.Value.Value}
-use Rattle.beldi_row.specs.{declared.notes.Note.Note, declared.row.Cell.Cell, declared.row.Row.Row, Key.RowKey, Log.note_at, Table.Rows, Table.set_row}
-use Rattle.beldi_chain.specs.{Chain.Chain, Chain.IsHead, Chain.Sound, Chain.at_row, Chain.chain, Chain.content, Chain.most_rows, Chain.tail, Content.log_of}
-use Rattle.beldi_links.specs.Links.{At, Fits, Frozen, IsLinked, IsSpare, LeadsTo, Linked, Meets, Passed, RowGrows, RowsGrow, SeesAt, SetTo, Steps, before, behind, most_entries, own}
+use Rattle.beldi_row.specs.{declared.notes.Note.Note, declared.row.Cell.Cell, declared.row.Row.Row, Key.RowKey, Key.at_row, Key.key_cmp, Log.most_entries, Log.note_at, Table.Rows, Table.set_row}
+use Rattle.beldi_chain.specs.{Chain.Chain, Chain.ChangedAlone, Chain.IsHead, Chain.chain, Chain.content, Chain.is_row_of, Chain.most_rows, Chain.tail}
+use Rattle.beldi_links.specs.Links.{AllGrow, At, Fits, Frozen, IsLinked, IsSpare, LeadsTo, Linked, Meets, Passed, ReadsAt, RowGrows, RowsGrow, SeesAt, SetTo, Steps, before, behind, own}
 
 -- ---- what a chain holds
 -- what its last row does, behind the notes of the rows before it
@@ -54,10 +56,6 @@ LinkingKeepsLinks = (f g : Chain) (l : Linked f) (s : Cell) → f (l.last + 1) �
 abbrev pub FirstRowIsLinked : Type 0
 FirstRowIsLinked = (f g : Chain) (s : Cell) → ((n : ℕ) → f n ≡ None) → SetTo f 0 (Some (Row.Cell s)) g → s.next ≡ None → s.log ≡ [] → Fits s → Linked g × RowsGrow f g
 
--- one row that is sound by itself, or none, is linked
-abbrev pub OneRowIsLinked : Type 0
-OneRowIsLinked = (f : Chain) → Sound f → length (log_of (f 0)) ≤ most_entries → IsLinked f
-
 -- ---- ways, and where a walk stands
 -- a way stays where rows with a next do
 abbrev pub KeepsSteps : Type 0
@@ -89,15 +87,26 @@ NextIsSeen = (f : Chain) (l : Linked f) (p : Place) (r : ℕ) (c : Cell) (k : �
 
 -- a row is full that has not its place
 abbrev pub FullIsSeen : Type 0
-FullIsSeen = (f : Chain) (p : Place) (r : ℕ) (c : Cell) → SeesAt f p (At.Try r) → f r ≡ Some (Row.Cell c) → length c.log ≡ most_entries → note_at c.log p ≡ None → SeesAt f p (At.Append r c.value c.owner)
+FullIsSeen = (f : Chain) (p : Place) (r : ℕ) (c : Cell) → SeesAt f p (At.Try r) → f r ≡ Some (Row.Cell c) → length c.log ≡ most_entries → note_at c.log p ≡ None → r + 1 < most_rows → SeesAt f p (At.Append (r + 1) c.value c.owner)
 
 -- where it was told that a row is full, and there is none of the next number, that row is the last; what the walk makes is to follow it
 abbrev pub SpareIsMade : Type 0
-SpareIsMade = (f : Chain) (l : Linked f) (p : Place) (r : ℕ) (v : Value) (o : Option Owner) (s : Cell) → SeesAt f p (At.Append r v o) → f (r + 1) ≡ None → s.value ≡ v → s.owner ≡ o → s.log ≡ [] → s.next ≡ None → (r ≡ l.last) × IsSpare l.tail s
+SpareIsMade = (f : Chain) (l : Linked f) (p : Place) (n : ℕ) (v : Value) (o : Option Owner) (s : Cell) → SeesAt f p (At.Append n v o) → f n ≡ None → s.value ≡ v → s.owner ≡ o → s.log ≡ [] → s.next ≡ None → (n ≡ l.last + 1) × IsSpare l.tail s
 
 -- .. and where there is one, it goes on to link that
 abbrev pub SpareIsSeen : Type 0
-SpareIsSeen = (f : Chain) (p : Place) (r : ℕ) (v : Value) (o : Option Owner) (s : Cell) → SeesAt f p (At.Append r v o) → f (r + 1) ≡ Some (Row.Cell s) → SeesAt f p (At.Link r)
+SpareIsSeen = (f : Chain) (p : Place) (n : ℕ) (v : Value) (o : Option Owner) (s : Cell) → SeesAt f p (At.Append n v o) → f n ≡ Some (Row.Cell s) → SeesAt f p (At.Link n)
+
+-- .. and where a row that it links has a next, it goes on to that
+abbrev pub LinkedIsSeen : Type 0
+LinkedIsSeen = (f : Chain) (l : Linked f) (p : Place) (n : ℕ) (r : ℕ) (c : Cell) (k : ℕ) → SeesAt f p (At.Link n) → n ≡ r + 1 → f r ≡ Some (Row.Cell c) → c.next ≡ Some k → SeesAt f p (At.Try k)
+
+-- ---- what a walk sees that only reads: at the first row, and at the next of one
+abbrev pub ReadsBegin : Type 0
+ReadsBegin = (f : Chain) → ReadsAt f 0
+
+abbrev pub NextIsRead : Type 0
+NextIsRead = (f : Chain) (l : Linked f) (r : ℕ) (c : Cell) (k : ℕ) → f r ≡ Some (Row.Cell c) → c.next ≡ Some k → ReadsAt f k
 
 -- ---- .. after the acts of others
 abbrev pub MeetingsStay : Type 0
@@ -118,3 +127,14 @@ OneRowGrows = (f g : Chain) (r : ℕ) (c d : Row) → f r ≡ Some c → SetTo f
 -- .. and where one is made that is to follow the last
 abbrev pub MakingGrows : Type 0
 MakingGrows = (f g : Chain) (l : Linked f) (s : Row) → f (l.last + 1) ≡ None → SetTo f (l.last + 1) (Some s) g → RowsGrow f g
+
+-- .. as does what one that only reads sees
+abbrev pub ReadersKeep : Type 0
+ReadersKeep = (f g : Chain) (r : ℕ) → RowsGrow f g → ReadsAt f r → ReadsAt g r
+
+-- all items' rows grow where one item's do, and all others stay; and where no row of an item changed
+abbrev pub OneItemGrows : Type 0
+OneItemGrows = (m n : Rows) (head : RowKey) → IsHead head → ChangedAlone head m n → RowsGrow (chain m head) (chain n head) → AllGrow m n
+
+abbrev pub OthersGrow : Type 0
+OthersGrow = (m n : Rows) (l : RowKey) → ((head : RowKey) → IsHead head → is_row_of head l ≡ false) → ((q : RowKey) → is_eq (key_cmp q l) ≡ false → map.get n q ≡ map.get m q) → AllGrow m n

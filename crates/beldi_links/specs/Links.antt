@@ -1,8 +1,8 @@
 -- Rows of an item that are linked, of which each has eight entries at most: what they are, what acts leave of them, and what a walk knows.
 use Rattle.std.specs.Prelude.{◌≡◌, ◌⊎◌, ℕ, ◌+◌, ◌<◌, ◌≤◌, ◌==◌, false, List, [], ◌∷◌, ◌++◌, length, Option, Some, None}
 use Rattle.beldi_value.specs.declared.{place.Owner.Owner, place.Place.Place, value.Value.Value}
-use Rattle.beldi_row.specs.{declared.notes.Note.Note, declared.row.Cell.Cell, declared.row.Row.Row, Log.NoneTwice, Log.note_at}
-use Rattle.beldi_chain.specs.{Chain.Chain, Chain.content, Chain.most_rows, Content.Content, Content.log_of}
+use Rattle.beldi_row.specs.{declared.notes.Note.Note, declared.row.Cell.Cell, declared.row.Row.Row, Key.RowKey, Log.NoneTwice, Log.most_entries, Log.note_at, Table.Rows}
+use Rattle.beldi_chain.specs.{Chain.Chain, Chain.IsHead, Chain.chain, Chain.content, Chain.most_rows, Content.Content, Content.log_of}
 
 -- ---- ways
 -- from a row by these rows to another one, each the next of the one before, with a greater number
@@ -26,10 +26,7 @@ abbrev pub behind : List (Place × Note) → Content → Content
 behind es c = record c { notes = es ++ c.notes }
 
 -- ---- soundness
--- a row has at most so many entries, and one with a next exactly so many
-abbrev pub most_entries : ℕ
-most_entries = 8
-
+-- a row has at most as many entries as a cell may have, and one with a next exactly so many
 abbrev pub FitsNext : Option ℕ → ℕ → Type 0
 FitsNext None n = n ≤ most_entries
 FitsNext (Some k) n = n ≡ most_entries
@@ -105,8 +102,13 @@ pub record RowsGrow (f g : Chain) : Type 0 where
   pub rows : (n : ℕ) → RowGrows (f n) (g n)
   pub fresh : (n k : ℕ) (d c : Row) → f n ≡ None → g n ≡ Some d → f k ≡ Some c → k < n
 
+-- .. so it is of all items, and of all copies of them
+abbrev pub AllGrow : Rows → Rows → Type 0
+AllGrow m n = (head : RowKey) → IsHead head → RowsGrow (chain m head) (chain n head)
+
 -- ---- where a walk for a place stands
--- at a row; or it makes the first one; or it was told that a row is full, and makes the row after it; or it links the two
+-- at a row; or it makes the first one; or it was told that a row is full, and makes the row of this number, which is to follow that; or it
+-- links this
 pub data At : Type 0 where
   Try : ℕ → At
   Make : At
@@ -155,9 +157,18 @@ pub record Linkable (f : Chain) (p : Place) (r : ℕ) : Type 0 where
   pub spare : Cell
   pub after : f (r + 1) ≡ Some (Row.Cell spare)
 
+-- the number of the row that follows one, if it may have one
+pub record IsAfter (r n : ℕ) : Type 0 where
+  pub next : n ≡ r + 1
+  pub few : n < most_rows
+
 -- what it sees there
 abbrev pub SeesAt : Chain → Place → At → Type 0
 SeesAt f p (Try r) = Meets f r × Passed f p r × StandsAt (f r) r
 SeesAt f p Make = Unit {0}
-SeesAt f p (Append r v o) = Meets f r × Passed f p r × Told f p r v o
-SeesAt f p (Link r) = Meets f r × Passed f p r × Linkable f p r
+SeesAt f p (Append n v o) = (r : ℕ) × IsAfter r n × Meets f r × Passed f p r × Told f p r v o
+SeesAt f p (Link n) = (r : ℕ) × IsAfter r n × Meets f r × Passed f p r × Linkable f p r
+
+-- what a walk that only reads sees at a row
+abbrev pub ReadsAt : Chain → ℕ → Type 0
+ReadsAt f r = Meets f r × StandsAt (f r) r

@@ -1,6 +1,7 @@
 // The laws of linked rows.
 ghost use Rattle.beldi_links.specs.Laws.{ContentIs, TailIs, NotedIsNoted, NoneIsNoted, RowIsSet, LastRowIsSet};
-ghost use Rattle.beldi_links.specs.Laws.{EntriesKeepLinks, MakingChangesNothing, MakingKeepsLinks, LinkingChangesNothing, LinkingKeepsLinks, FirstRowIsLinked, OneRowIsLinked};
+ghost use Rattle.beldi_links.specs.Laws.{EntriesKeepLinks, MakingChangesNothing, MakingKeepsLinks, LinkingChangesNothing, LinkingKeepsLinks, FirstRowIsLinked};
+ghost use Rattle.beldi_links.specs.Laws.{LinkedIsSeen, NextIsRead, ReadsBegin, ReadersKeep, OneItemGrows, OthersGrow};
 ghost use Rattle.beldi_links.specs.Laws.{KeepsSteps, WalksEnd, MeetingsGoOn, LastIsLast, PassedGoesOn, WalksBegin, NextIsSeen, FullIsSeen, SpareIsMade, SpareIsSeen};
 ghost use Rattle.beldi_links.specs.Laws.{MeetingsStay, GrownAreFrozen, OthersKeep, OneRowGrows, MakingGrows};
 
@@ -64,11 +65,6 @@ pub fn first_row_is_linked()
     ensures { FirstRowIsLinked }
 {}
 
-/// An item of one sound row with eight entries at most is linked, and so is an item of no row.
-pub fn one_row_is_linked()
-    ensures { OneRowIsLinked }
-{}
-
 /// A way from row to row stays where rows with a next do.
 pub fn ways_stay()
     ensures { KeepsSteps }
@@ -120,6 +116,21 @@ pub fn spare_is_seen()
     ensures { SpareIsSeen }
 {}
 
+/// Where the row before that one has a next, the walk sees what it has to see at that next.
+pub fn linked_row_is_seen()
+    ensures { LinkedIsSeen }
+{}
+
+/// A walk that only reads sees at the first row what it has to see, also where there is none.
+pub fn reads_begin()
+    ensures { ReadsBegin }
+{}
+
+/// So it does at the next of a row.
+pub fn next_is_read()
+    ensures { NextIsRead }
+{}
+
 /// A walk stands where it stood, whatever is done to rows that have no next.
 pub fn meetings_stay()
     ensures { MeetingsStay }
@@ -135,6 +146,11 @@ pub fn others_keep_what_is_seen()
     ensures { OthersKeep }
 {}
 
+/// And so does what a walk sees that only reads.
+pub fn readers_keep_what_is_seen()
+    ensures { ReadersKeep }
+{}
+
 /// Rows grow where one of them does and the others stay.
 pub fn one_row_grows()
     ensures { OneRowGrows }
@@ -143,4 +159,14 @@ pub fn one_row_grows()
 /// They do where one is made that is to follow the last row: none was past that.
 pub fn making_grows()
     ensures { MakingGrows }
+{}
+
+/// The rows of all items grow where those of one do, and all other rows stay.
+pub fn items_grow_where_one_does()
+    ensures { OneItemGrows }
+{}
+
+/// They grow where a row changed that is of no item.
+pub fn items_grow_beside_other_rows()
+    ensures { OthersGrow }
 {}

@@ -5,11 +5,11 @@ use Rattle.beldi_value.specs.declared.{id.IntentId.IntentId, place.Owner.Owner, 
 use Rattle.beldi_row.specs.{declared.act.Act.TheVariants.PutLockset, Key.RowKey, declared.notes.Note.Note, Act.added, Act.present, declared.key.Kind.Kind}
 use Rattle.beldi_walk.specs.{declared.query.Query.Query, Query.Told, Query.said}
 use Rattle.beldi_daal.specs.{declared.cell.WriteAt.WriteAt, declared.cell.WriteAt.TheVariants.Try, declared.cell.WriteGoes.WriteGoes, Cell.cell_key, Cell.write_asks, Cell.write_goes, declared.cell.CellOp.CellOp}
-use Rattle.beldi_lock.specs.declared.{lock.LockAt.LockAt, lock.LockAt.TheVariants.Lockset, lock.LockAt.TheVariants.Item, lock.LockGoes.LockGoes, lock_walk.LockSays.LockSays, lock_walk.LockSays.TheVariants.Going, lock_walk.LockSays.TheVariants.Got, lock_walk.LockSays.TheVariants.Died, lock_walk.LockSays.TheVariants.Held, lock_walk.LockWalk.LockWalk}
+use Rattle.beldi_lock.specs.declared.{lock.LockAt.LockAt, lock.LockAt.TheVariants.Lockset, lock.LockAt.TheVariants.Item, lock.LockGoes.LockGoes, lock_walk.LockSays.LockSays, lock_walk.LockSays.TheVariants.Going, lock_walk.LockSays.TheVariants.Got, lock_walk.LockSays.TheVariants.Died, lock_walk.LockSays.TheVariants.Held, lock_walk.LockSays.TheVariants.Worn, lock_walk.LockWalk.LockWalk}
 
 -- where a lock begins
 abbrev pub lock_first : Owner → LockAt
-lock_first (Intent a) = Item Try
+lock_first (Intent a) = Item (Try 0)
 lock_first (Tx t) = Lockset t.begin
 
 -- the row that says that an intent asked for the lock of an item, in the transaction begun at a step
@@ -21,29 +21,31 @@ asks_at home t k p who (Lockset begin) = Query.Act (lockset_key home p.intent be
 asks_at home t k p who (Item at) = write_asks (cell_key home t k) p who CellOp.Lock at
 
 -- once the row is there, the item comes next
-abbrev pub put_goes : ℕ → Told → LockGoes
-put_goes begin (said added) = LockGoes.On (Item Try)
-put_goes begin (said present) = LockGoes.On (Item Try)
-put_goes begin t = LockGoes.On (Lockset begin)
+abbrev pub put_goes : Told → LockGoes
+put_goes (said added) = LockGoes.On (Item (Try 0))
+put_goes (said present) = LockGoes.On (Item (Try 0))
+put_goes t = LockGoes.Stays
 
 -- what the note of the place says; the lock stays at a note of another kind
-abbrev pub note_goes : WriteAt → Note → Bool → LockGoes
-note_goes at Note.Wrote first = LockGoes.On (Item at)
-note_goes at (Note.Cond b) first = LockGoes.On (Item at)
-note_goes at Note.Got first = LockGoes.Got first
-note_goes at (Note.Died a) first = LockGoes.Died a
-note_goes at Note.Freed first = LockGoes.On (Item at)
+abbrev pub note_goes : Note → Bool → LockGoes
+note_goes Note.Wrote first = LockGoes.Stays
+note_goes (Note.Cond b) first = LockGoes.Stays
+note_goes Note.Got first = LockGoes.Got first
+note_goes (Note.Died a) first = LockGoes.Died a
+note_goes Note.Freed first = LockGoes.Stays
 
-abbrev pub item_goes : WriteAt → WriteGoes → LockGoes
-item_goes at (WriteGoes.On next) = LockGoes.On (Item next)
-item_goes at (WriteGoes.Done n first) = note_goes at n first
-item_goes at WriteGoes.NotOwner = LockGoes.On (Item at)
-item_goes at (WriteGoes.Held o) = LockGoes.Held o
+abbrev pub item_goes : WriteGoes → LockGoes
+item_goes (WriteGoes.On next) = LockGoes.On (Item next)
+item_goes WriteGoes.Stays = LockGoes.Stays
+item_goes (WriteGoes.Done n first) = note_goes n first
+item_goes WriteGoes.NotOwner = LockGoes.Stays
+item_goes (WriteGoes.Held o) = LockGoes.Held o
+item_goes WriteGoes.Worn = LockGoes.Worn
 
 -- where a lock goes after it was told
 abbrev pub lock_goes : LockAt → Told → LockGoes
-lock_goes (Lockset begin) t = put_goes begin t
-lock_goes (Item at) t = item_goes at (write_goes Note.Got t)
+lock_goes (Lockset begin) t = put_goes t
+lock_goes (Item at) t = item_goes (write_goes Note.Got at t)
 
 -- ---- the walk
 abbrev pub first_lock : ℕ → Place → Owner → ℕ → List ℕ → LockWalk
@@ -55,15 +57,19 @@ lock_asks w = asks_at w.home w.table w.key w.place w.who w.at
 -- the walk stands where it stood, unless it goes on
 abbrev pub lock_at : LockWalk → LockGoes → LockWalk
 lock_at w (LockGoes.On at) = record w { at = at }
+lock_at w LockGoes.Stays = w
 lock_at w (LockGoes.Got first) = w
 lock_at w (LockGoes.Died a) = w
 lock_at w (LockGoes.Held o) = w
+lock_at w LockGoes.Worn = w
 
 abbrev pub lock_so : LockGoes → LockSays
 lock_so (LockGoes.On at) = Going
+lock_so LockGoes.Stays = Going
 lock_so (LockGoes.Got first) = Got first
 lock_so (LockGoes.Died a) = Died a
 lock_so (LockGoes.Held o) = Held o
+lock_so LockGoes.Worn = Worn
 
 -- the walk after it was told, and its answer
 abbrev pub lock_next : LockWalk → Told → LockWalk

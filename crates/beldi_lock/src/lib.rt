@@ -9,8 +9,8 @@
 //! - `LockWalk::turn` asks what the definition asks, in at most one call of the table, and goes and says by what was told,
 //!   whatever the table tells; unless it goes on, it stands where it stood, and so it does at an error (`Turned`), which
 //!   leaves the rows as before, but for a death that it was out of memory to tell (`an_error_leaves_the_rows` of `beldi_walk`).
-//! - Laws: a walk for a transaction first puts the row that says that the lock is asked for, and leaves all else. Where the item's chain
-//!   is sound, `Got` says that the place has got the lock, in this turn or before, and `Died` that it died, of the owner with
+//! - Laws: a walk for a transaction first puts the row that says that the lock is asked for, and leaves all else. Where the item's rows
+//!   are linked, and it sees what it has to where it stands, it leaves that so; `Got` says that the place has got the lock, in this turn or before, and `Died` that it died, of the owner with
 //!   this age; `Held` names the other owner who has the item and for whom who asks waits, and then the place has no note. A
 //!   lock that is taken is the owner's who asks, and no other had it. A transaction dies in this turn just where another owner has the
 //!   item that it is not older than; an intent never does (`a_lock_is_by_the_row`). What a place came to first stands for

@@ -1,7 +1,7 @@
 // What a lock asks of the rows of its item, and what follows from what is told.
 ghost use Rattle.std.specs.Prelude.{◌≡◌, true, IfOk, OnErr};
 ghost use Rattle.beldi_walk.specs.Query.{told_of, lends};
-ghost use Rattle.beldi_lock.specs.Lock.{lock_first, lockset_key as lockset_key_of, asks_at, put_goes, note_goes, lock_goes};
+ghost use Rattle.beldi_lock.specs.Lock.{lock_first, lockset_key as lockset_key_of, asks_at, put_goes, note_goes, item_goes, lock_goes};
 
 use beldi_daal::{CellOp, WriteAt, WriteGoes, cell_key, write_query, write_told};
 use beldi_row::{Act, Kind, Note, RowKey, Said};
@@ -10,7 +10,7 @@ use beldi_walk::{Heard, Query};
 use std::alloc::{AllocError, Global};
 
 /// Where a lock stands.
-#[derive(Clone, Copy, Debug, PartialEq, Eq)]
+#[derive(Drop)]
 pub enum LockAt {
     /// The row that says that the transaction, begun at this step, asks for the lock, is put next.
     Lockset(u32),
@@ -23,12 +23,16 @@ pub enum LockAt {
 pub enum LockGoes {
     /// It goes on from here.
     On(LockAt),
+    /// It stays where it stands.
+    Stays,
     /// The place has got the lock; `first` says that this act took it.
     Got { first: bool },
     /// The place died of the owner with this age, in this act or before.
     Died(IntentId),
     /// This owner, another than the one who asks, has the item, and who asks waits for it.
     Held(Owner),
+    /// No row can follow the item's last one, which is full.
+    Worn,
 }
 
 impl LockAt {
@@ -37,7 +41,7 @@ impl LockAt {
         ensures { result ≡ lock_first who.now }
     {
         match who {
-            Owner::Intent(_) => LockAt::Item(WriteAt::Try),
+            Owner::Intent(_) => LockAt::Item(WriteAt::Try(0)),
             Owner::Tx(tx) => LockAt::Lockset(tx.begin),
         }
     }
@@ -67,59 +71,67 @@ pub fn lock_query(
     key: &Str,
     place: Place,
     who: Owner,
-    at: LockAt,
+    at: &LockAt,
 ) -> Result<Apart<Query>, AllocError>
-    ensures { IfOk result (λ q. q ≡ asks_at home table key.now place who at) }
+    ensures { IfOk result (λ q. q ≡ asks_at home table key.now place who at.now) }
 {
     match at {
         LockAt::Lockset(begin) => {
             drop(who);
             let key = or_drop!(key.copy(alloc); place);
-            let row = lockset_key(home, place.intent, begin, table, key);
+            let row = lockset_key(home, place.intent, *begin, table, key);
             Query::act(alloc, row, Act::PutLockset)
         }
         LockAt::Item(at) => {
-            let row = or_drop!(cell_key(alloc, home, table, key); place, who);
+            let row = or_drop!(cell_key(alloc, home, table, key, 0); place, who);
             write_query(alloc, row, place, who, CellOp::Lock, at)
         }
     }
 }
 
 /// Where a lock goes after it was told. Out of memory only for what was lent.
-pub fn lock_told(alloc: Global, at: LockAt, heard: Heard<'_>) -> Result<LockGoes, AllocError>
-    ensures ok { IfOk result (λ g. g ≡ lock_goes at (told_of heard.entry)) }
+pub fn lock_told(alloc: Global, at: &LockAt, heard: Heard<'_>) -> Result<LockGoes, AllocError>
+    ensures ok { IfOk result (λ g. g ≡ lock_goes at.now (told_of heard.entry)) }
     ensures err { OnErr result (lends (told_of heard.entry) ≡ true) }
 {
     match at {
-        LockAt::Lockset(begin) => Ok(put_told(begin, heard)),
-        LockAt::Item(at) => match write_told(alloc, Note::Got, heard)? {
-            WriteGoes::On(at) => Ok(LockGoes::On(LockAt::Item(at))),
-            WriteGoes::Done { note, first } => Ok(note_told(at, note, first)),
-            WriteGoes::NotOwner => Ok(LockGoes::On(LockAt::Item(at))),
-            WriteGoes::Held(owner) => Ok(LockGoes::Held(owner)),
-        },
+        LockAt::Lockset(_) => Ok(put_told(heard)),
+        LockAt::Item(at) => Ok(item_told(write_told(alloc, Note::Got, at, heard)?)),
     }
 }
 
 // The item comes next once the row is there.
-fn put_told(begin: u32, heard: Heard<'_>) -> LockGoes
-    ensures { result ≡ put_goes begin (told_of heard.entry) }
+fn put_told(heard: Heard<'_>) -> LockGoes
+    ensures { result ≡ put_goes (told_of heard.entry) }
 {
     match heard {
         Heard::Said(Said::Added) | Heard::Said(Said::Present) => {
-            LockGoes::On(LockAt::Item(WriteAt::Try))
+            LockGoes::On(LockAt::Item(WriteAt::Try(0)))
         }
-        _ => LockGoes::On(LockAt::Lockset(begin)),
+        _ => LockGoes::Stays,
+    }
+}
+
+// Where a lock goes from the item.
+fn item_told(goes: WriteGoes) -> LockGoes
+    ensures { result ≡ item_goes goes }
+{
+    match goes {
+        WriteGoes::On(at) => LockGoes::On(LockAt::Item(at)),
+        WriteGoes::Done { note, first } => note_told(note, first),
+        WriteGoes::Stays | WriteGoes::NotOwner => LockGoes::Stays,
+        WriteGoes::Held(owner) => LockGoes::Held(owner),
+        WriteGoes::Worn => LockGoes::Worn,
     }
 }
 
 // What the note of the place says. The lock stays at a note of another kind, which no session leaves to a lock.
-fn note_told(at: WriteAt, note: Note, first: bool) -> LockGoes
-    ensures { result ≡ note_goes at note first }
+fn note_told(note: Note, first: bool) -> LockGoes
+    ensures { result ≡ note_goes note first }
 {
     match note {
         Note::Got => LockGoes::Got { first },
         Note::Died(age) => LockGoes::Died(age),
-        Note::Wrote | Note::Cond(_) | Note::Freed => LockGoes::On(LockAt::Item(at)),
+        Note::Wrote | Note::Cond(_) | Note::Freed => LockGoes::Stays,
     }
 }

@@ -4,9 +4,10 @@ ghost use Rattle.beldi_lock.specs.Lock.{first_lock};
 
 use crate::lock::{LockAt, LockGoes, lock_query, lock_told};
 use beldi_row::copy_owner;
-use beldi_value::{Apart, IntentId, Owner, Place, Str};
+use beldi_value::{Apart, IntentId, Owner, Place, Str, or_drop};
 use beldi_walk::{Heard, Query, Walk};
 use std::alloc::{AllocError, Global};
+use std::mem::replace;
 
 /// What a turn of the walk of a lock says.
 #[derive(Drop)]
@@ -19,7 +20,7 @@ pub enum LockSays {
     Died(IntentId),
     /// This owner, another than the one who asks, has the item, and who asks waits for it.
     Held(Owner),
-    /// No row can follow the item's last one, which is full. No turn says so as long as the rows of an item are not linked.
+    /// No row can follow the item's last one, which is full.
     Worn,
 }
 
@@ -48,19 +49,23 @@ impl Walk for LockWalk {
 
     fn ask(&self, alloc: Global) -> Result<Apart<Query>, AllocError> {
         let place = self.place.copy(alloc)?;
-        let who = copy_owner(&self.who, alloc)?;
-        lock_query(alloc, self.home, self.table, &self.key, place, who, self.at)
+        let who = or_drop!(copy_owner(&self.who, alloc); place);
+        lock_query(
+            alloc, self.home, self.table, &self.key, place, who, &self.at,
+        )
     }
 
     fn told(&mut self, alloc: Global, heard: Heard<'_>) -> Result<LockSays, AllocError> {
-        match lock_told(alloc, self.at, heard)? {
+        match lock_told(alloc, &self.at, heard)? {
             LockGoes::On(at) => {
-                self.at = at;
+                self.stand(at);
                 Ok(LockSays::Going)
             }
+            LockGoes::Stays => Ok(LockSays::Going),
             LockGoes::Got { first } => Ok(LockSays::Got { first }),
             LockGoes::Died(age) => Ok(LockSays::Died(age)),
             LockGoes::Held(owner) => Ok(LockSays::Held(owner)),
+            LockGoes::Worn => Ok(LockSays::Worn),
         }
     }
 }
@@ -79,5 +84,12 @@ impl LockWalk {
             who,
             at,
         }
+    }
+
+    // It stands here from now on.
+    fn stand(&mut self, at: LockAt)
+        ensures { self.new ≡ record self.old { at = at } }
+    {
+        drop(replace(&mut self.at, at));
     }
 }

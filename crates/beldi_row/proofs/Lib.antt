@@ -3,6 +3,7 @@ mod Fronts
 pub mod Gets
 pub mod Least
 pub mod Logs
+pub mod Room
 pub mod Rows
 pub mod Tells
 pub mod Unchanged

@@ -1,8 +1,9 @@
 -- The act table: what an act does to one row, and what it says.
-use Rattle.std.specs.Prelude.{◌≡◌, ℕ, Bool, true, false, ◌&&◌, ◌==◌, [], ◌∷◌, ◌++◌, Option, Some, None, Result, Ok, Err, if◌then◌else◌, slice_get}
+use Rattle.std.specs.Prelude.{◌≡◌, ℕ, Bool, true, false, ◌&&◌, ◌==◌, [], ◌∷◌, ◌++◌, length, Option, Some, None, if◌then◌else◌, slice_get}
+use Rattle.std.specs.Option.{option_copied}
 use Rattle.beldi_value.specs.{declared.value.Value.Value, declared.outcome.Outcome.Outcome, declared.place.Place.Place, declared.place.Owner.Owner, declared.id.IntentId.IntentId, Id.age_of, Id.is_older, declared.rel.Rel.Rel, Passes.passes, Same.same_value}
-use Rattle.beldi_row.specs.declared.act.Act.TheVariants.{Look, Issue, Bind, Register, End, Stamp, PutRead, OpenInvoke, CallBack, NoteRegistered, PutLockset, MakeCell, WriteCell, CondCell, LockCell, FreeCell}
-use Rattle.beldi_row.specs.{declared.notes.Note.Note, declared.notes.Note.TheVariants.Wrote, declared.notes.Note.TheVariants.Cond, declared.notes.Note.TheVariants.Got, declared.notes.Note.TheVariants.Died, declared.notes.Note.TheVariants.Freed, declared.row.Body.Body, declared.row.IntentRow.IntentRow, declared.row.InvokeRow.InvokeRow, declared.row.Cell.Cell, declared.row.Row.Row, declared.act.Act.Act, declared.act.Said.Said, declared.act.Change.Change, declared.table.TableErr.TableErr, declared.table.TableErr.TheVariants.OutOfMemory, Log.note_at, Log.note_of, Log.owner_eq}
+use Rattle.beldi_row.specs.declared.act.Act.TheVariants.{Look, Issue, Bind, Register, End, Stamp, PutRead, OpenInvoke, CallBack, NoteRegistered, PutLockset, MakeCell, WriteCell, CondCell, LockCell, FreeCell, LinkCell}
+use Rattle.beldi_row.specs.{declared.notes.Note.Note, declared.notes.Note.TheVariants.Wrote, declared.notes.Note.TheVariants.Cond, declared.notes.Note.TheVariants.Got, declared.notes.Note.TheVariants.Died, declared.notes.Note.TheVariants.Freed, declared.row.Body.Body, declared.row.IntentRow.IntentRow, declared.row.InvokeRow.InvokeRow, declared.row.Cell.Cell, declared.row.Row.Row, declared.act.Act.Act, declared.act.Said.Said, declared.act.Change.Change, Log.most_entries, Log.note_at, Log.note_of, Log.owner_eq}
 
 -- what an act says, without where it lies in memory
 pub data Tell : Type 0 where
@@ -25,6 +26,8 @@ pub data Tell : Type 0 where
   not_owner : Tell
   tested : Bool → Tell
   died : IntentId → Tell
+  packed : Value → Option Owner → Tell
+  not_full : Tell
 
 abbrev pub tell_of : Said → Tell
 tell_of Said.Absent = absent
@@ -46,6 +49,8 @@ tell_of (Said.Held o) = held o.now
 tell_of Said.NotOwner = not_owner
 tell_of (Said.Tested b) = tested b
 tell_of (Said.Died a) = died a.now
+tell_of (Said.Packed v o) = packed v.now (option_copied o)
+tell_of Said.NotFull = not_full
 
 -- ---- the acts on the row of an intent
 abbrev pub outcome_tell : Option Outcome → Tell
@@ -122,6 +127,13 @@ entered p n v o c = record c { value = v; owner = o; log = c.log ++ (p, n) ∷ [
 abbrev pub unless_held : Owner → Cell → Cell × Tell → Cell × Tell
 unless_held w c r = held_or c (other_owner w c.owner) r
 
+-- .. and where there is room for the entry: else the value and the owner are told
+abbrev pub is_full : Cell → Bool
+is_full c = length c.log == most_entries
+
+abbrev pub if_room : Cell → Cell × Tell → Cell × Tell
+if_room c r = if is_full c then (c, packed c.value c.owner) else r
+
 -- .. or where who asks owns it
 abbrev pub owns : Owner → Option Owner → Bool
 owns who None = false
@@ -136,14 +148,14 @@ given_or None w = w
 given_or (Some v) w = v
 
 abbrev pub write_at : Place → Owner → Value → Cell → Cell × Tell
-write_at p w v c = at_tail p c (unless_held w c (entered p Wrote v c.owner c, did))
+write_at p w v c = at_tail p c (unless_held w c (if_room c (entered p Wrote v c.owner c, did)))
 
 -- a condition, by the test of the value that is there
 abbrev pub cond_to : Bool → Place → Value → Cell → Cell × Tell
 cond_to b p v c = (entered p (Cond b) (if b then v else c.value) c.owner c, tested b)
 
 abbrev pub cond_at : Place → Owner → Rel → Value → Value → Cell → Cell × Tell
-cond_at p w r o v c = at_tail p c (unless_held w c (cond_to (passes c.value r o) p v c))
+cond_at p w r o v c = at_tail p c (unless_held w c (if_room c (cond_to (passes c.value r o) p v c)))
 
 -- a lock: who waits for another owner is an intent, or a transaction that is older than that owner; ..
 abbrev pub waits_for : Owner → Owner → Bool
@@ -152,17 +164,21 @@ waits_for (Owner.Tx t) o = is_older t.intent (age_of o)
 
 -- .. any other transaction dies there, and its death is kept, with that owner's age
 abbrev pub wait_or_die : Place → Owner → Cell → Owner → Cell × Tell
-wait_or_die p w c o = if waits_for w o then (c, held o) else (entered p (Died (age_of o)) c.value c.owner c, died (age_of o))
+wait_or_die p w c o = if waits_for w o then (c, held o) else if_room c (entered p (Died (age_of o)) c.value c.owner c, died (age_of o))
 
 abbrev pub owned_or : Place → Owner → Cell → Option Owner → Cell × Tell → Cell × Tell
 owned_or p w c None r = r
 owned_or p w c (Some o) r = wait_or_die p w c o
 
 abbrev pub lock_at : Place → Owner → Cell → Cell × Tell
-lock_at p w c = at_tail p c (owned_or p w c (other_owner w c.owner) (entered p Got c.value (Some w) c, did))
+lock_at p w c = at_tail p c (owned_or p w c (other_owner w c.owner) (if_room c (entered p Got c.value (Some w) c, did)))
 
 abbrev pub free_at : Place → Owner → Option Value → Cell → Cell × Tell
-free_at p w v c = at_tail p c (if_owned w c (entered p Freed (given_or v c.value) None c, did))
+free_at p w v c = at_tail p c (if_owned w c (if_room c (entered p Freed (given_or v c.value) None c, did)))
+
+-- the row of this number follows a full cell that none follows
+abbrev pub link_to : ℕ → Cell → Cell × Tell
+link_to n c = next_or c c.next (if is_full c then (record c { next = Some n }, next n) else (c, not_full))
 
 -- ---- the acts on a row of any kind: one that does not fit its kind changes nothing, and says this
 abbrev pub on_intent : (IntentRow → IntentRow × Tell) → Tell → Row → Row × Tell
@@ -204,6 +220,7 @@ on (WriteCell p w v) now r = on_cell (write_at p w v) no_row r
 on (CondCell p w k o v) now r = on_cell (cond_at p w k o v) no_row r
 on (LockCell p w s) now r = on_cell (lock_at p w) no_row r
 on (FreeCell p w v) now r = on_cell (free_at p w v) no_row r
+on (LinkCell n) now r = on_cell (link_to n) no_row r
 
 -- where no row is
 abbrev pub off : Act → ℕ → Option Row × Tell
@@ -223,6 +240,7 @@ off (WriteCell p w v) now = (None, no_row)
 off (CondCell p w k o v) now = (None, no_row)
 off (LockCell p w s) now = (None, no_row)
 off (FreeCell p w v) now = (None, no_row)
+off (LinkCell n) now = (None, no_row)
 
 abbrev pub stays : Row × Tell → Option Row × Tell
 stays r = (Some r.0, r.1)
@@ -285,13 +303,14 @@ said_by Change.Held r = cell_tell (λ c. held_tell c.owner) r
 said_by Change.NotOwner r = not_owner
 said_by (Change.Tested b) r = tested b
 said_by Change.Died r = cell_tell (λ c. died_tell c.owner) r
+said_by Change.Packed r = cell_tell (λ c. packed c.value c.owner) r
+said_by Change.NotFull r = not_full
 
 -- what stands in the way of an act on a cell is told, or else the act is done
 abbrev pub way_or : Option Change → Cell → Cell × Tell → Cell × Tell
 way_or None c r = r
 way_or (Some w) c r = (c, said_by w (Some (Row.Cell c)))
 
--- the row and the answer of a change are those of the act; out of memory, the row is as before
-abbrev pub Changes : Act → ℕ → Row → Row → Result Change TableErr → Type 0
-Changes a now before after (Ok c) = (after, said_by c (Some after)) ≡ on a now before
-Changes a now before after (Err e) = (after ≡ before) × (e ≡ OutOfMemory)
+-- the row and the answer of a change are those of the act
+abbrev pub Changes : Act → ℕ → Row → Row → Change → Type 0
+Changes a now before after c = (after, said_by c (Some after)) ≡ on a now before

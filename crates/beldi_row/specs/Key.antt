@@ -102,6 +102,15 @@ key_ticket k = ticket_of k.kind
 abbrev pub least_key : RowKey
 least_key = record { home = 0; kind = Intent (record { ticket = 0; hops = [] }) }
 
+-- the row of an item with this number; only an item, and a transaction's copy of one, has several
+abbrev pub kind_at : Kind → ℕ → Kind
+kind_at (Data t k r) n = Data t k n
+kind_at (Shadow x t k r) n = Shadow x t k n
+kind_at k n = k
+
+abbrev pub at_row : RowKey → ℕ → RowKey
+at_row k n = record { home = k.home; kind = kind_at k.kind n }
+
 -- the first row of an item of a function's own table, in the home of the function
 abbrev pub head_key : ℕ → ℕ → List ℕ → RowKey
 head_key home table key = record { home = home; kind = Data table key 0 }

@@ -1,5 +1,5 @@
 -- The notes of a cell, by place.
-use Rattle.std.specs.Prelude.{◌≡◌, ℕ, ◌+◌, Bool, false, ◌&&◌, ◌==◌, List, [], ◌∷◌, Option, Some, None, if◌then◌else◌, slice_get}
+use Rattle.std.specs.Prelude.{◌≡◌, refl, ℕ, ◌+◌, Bool, false, ◌&&◌, ◌==◌, List, [], ◌∷◌, Option, Some, None, if◌then◌else◌, slice_get}
 use lib.Pointwise.{pointwise}
 use Rattle.beldi_value.specs.declared.{id.IntentId.IntentId, place.Place.Place, place.Owner.Owner, place.Owner.TheVariants.Intent, place.Owner.TheVariants.Tx}
 use Rattle.beldi_row.specs.declared.notes.Note.{Note}
@@ -15,6 +15,14 @@ owner_eq (Intent a) (Intent b) = id_eq a b
 owner_eq (Tx s) (Tx t) = (id_eq s.intent t.intent && (s.begin == t.begin)) && (s.func == t.func)
 owner_eq (Intent a) (Tx t) = false
 owner_eq (Tx s) (Intent b) = false
+
+-- a cell has at most so many entries
+pub most_entries : ℕ
+most_entries = 8
+
+pub most_entries_are : most_entries ≡ 8
+unfolding most_entries
+most_entries_are = refl
 
 -- the first note of the place
 abbrev pub note_at : List (Place × Note) → Place → Option Note

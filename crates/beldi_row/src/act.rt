@@ -4,16 +4,16 @@ ghost use Rattle.beldi_value.specs.Same.{same_value};
 ghost use Rattle.beldi_row.specs.declared.row.Row as row_data;
 ghost use Rattle.beldi_row.specs.Act.{bind_to, end_with, stamp_with, call_back_to, register_to, kept_tell, on_intent, on_invoke, gone, off, said_by, Changes};
 
-use crate::cell::{free, lock, write, write_where};
+use crate::cell::{free, link, lock, write, write_where};
 use crate::notes::{Log, Note};
 use crate::row::{Body, Cell, IntentRow, InvokeRow, Row};
-use crate::table::TableErr;
 use beldi_value::{IntentId, Outcome, Owner, Place, Rel, Spare, Value};
 use std::alloc::Global;
 
 /// An act on one row. `Look` is for rows of any kind, `Issue`, `Bind`, `Register`, `End` and `Stamp` are for intents, `PutRead` for what
 /// reads were given, `OpenInvoke`, `CallBack` and `NoteRegistered` for calls, `PutLockset` for what a transaction asked the lock
-/// of, the others for cells. A cell that has the place already, or that a row follows, is left as it is.
+/// of, the others for cells. A cell that has the place already, or that a row follows, is left as it is, and so is a full one but for
+/// the row that follows it.
 #[derive(Drop)]
 pub enum Act {
     /// Reads the row.
@@ -86,6 +86,10 @@ pub enum Act {
         who: Owner,
         value: Option<Value>,
     },
+    /// Says which row follows a full cell, once.
+    LinkCell {
+        next: u32,
+    },
 }
 
 /// What an act says. It lends what lies in the row.
@@ -129,6 +133,10 @@ pub enum Said<'a> {
     Tested(bool),
     /// Who asked died now, of the owner with this age.
     Died(&'a IntentId),
+    /// The cell is full, so nothing was done: its value and its owner.
+    Packed(&'a Value, Option<&'a Owner>),
+    /// The cell is not full, so no row was linked to it.
+    NotFull,
 }
 
 /// What an act did: each says the same as the answer of `Said` with its name, but for what lies in the row.
@@ -154,6 +162,8 @@ pub enum Change {
     NotOwner,
     Tested(bool),
     Died,
+    Packed,
+    NotFull,
 }
 
 /// What an act makes where no row is, if anything. It takes no memory.
@@ -206,35 +216,35 @@ pub fn missing(act: &Act) -> Change
         Act::Bind { .. } | Act::End { .. } | Act::Stamp => Change::Gone,
         Act::CallBack { .. } | Act::NoteRegistered => Change::Gone,
         Act::WriteCell { .. } | Act::CondCell { .. } => Change::NoRow,
-        Act::LockCell { .. } | Act::FreeCell { .. } => Change::NoRow,
+        Act::LockCell { .. } | Act::FreeCell { .. } | Act::LinkCell { .. } => Change::NoRow,
     }
 }
 
-/// An act on a row that is there. Out of memory, the one error, the row is as before.
-pub fn apply(row: &mut Row, act: Act, now: u64) -> Result<Change, TableErr>
+/// An act on a row that is there. It takes no memory.
+pub fn apply(row: &mut Row, act: Act, now: u64) -> Change
     ensures { Changes act now row.old row.new result }
 {
     match act {
-        Act::Look | Act::OpenInvoke { func: _ } => Ok(Change::Row),
+        Act::Look | Act::OpenInvoke { func: _ } => Change::Row,
         Act::Register { body } => {
             drop(body);
-            Ok(Change::Row)
+            Change::Row
         }
-        Act::Issue | Act::PutLockset => Ok(Change::Present),
+        Act::Issue | Act::PutLockset => Change::Present,
         Act::MakeCell { value, owner } => {
             drop(value);
             drop(owner);
-            Ok(Change::Present)
+            Change::Present
         }
         Act::PutRead { value } => {
             drop(value);
-            Ok(kept(row))
+            kept(row)
         }
-        Act::Bind { func, args } => Ok(bind(row, func, args)),
-        Act::End { outcome, stamp } => Ok(end(row, outcome, stamp, now)),
-        Act::Stamp => Ok(stamp(row, now)),
-        Act::CallBack { outcome } => Ok(call_back(row, outcome)),
-        Act::NoteRegistered => Ok(note_registered(row)),
+        Act::Bind { func, args } => bind(row, func, args),
+        Act::End { outcome, stamp } => end(row, outcome, stamp, now),
+        Act::Stamp => stamp(row, now),
+        Act::CallBack { outcome } => call_back(row, outcome),
+        Act::NoteRegistered => note_registered(row),
         Act::WriteCell { place, who, value } => write(row, place, who, value),
         Act::CondCell {
             place,
@@ -245,6 +255,7 @@ pub fn apply(row: &mut Row, act: Act, now: u64) -> Result<Change, TableErr>
         } => write_where(row, place, who, rel, operand, value),
         Act::LockCell { place, who, spare } => lock(row, place, who, spare),
         Act::FreeCell { place, who, value } => free(row, place, who, value),
+        Act::LinkCell { next } => link(row, next),
     }
 }
 

@@ -1,13 +1,13 @@
-// The acts on a cell. Each leaves one that has the place already, or that a row follows, as it is.
-ghost use Rattle.std.specs.Prelude.{◌≡◌, Some, Option, is_some};
-ghost use Rattle.beldi_row.specs.Act.{Tell, at_tail, way_or, unless_held, if_owned, other_owner, owns, given_or, waits_for, Changes};
+// The acts on a cell. Each leaves one that has the place already, or that a row follows, as it is, and a full one but for the row
+// that follows it.
+ghost use Rattle.std.specs.Prelude.{◌≡◌, false, None, Some, Option, is_some};
+ghost use Rattle.beldi_row.specs.Act.{Tell, at_tail, way_or, unless_held, if_owned, if_room, is_full, link_to, said_by, other_owner, owns, given_or, waits_for, Changes};
 ghost use Rattle.beldi_row.specs.declared.row.Cell as cell_data;
 
 use crate::act::{Act, Change};
 use crate::notes::Note;
 use crate::row::{Cell, Row};
-use crate::table::TableErr;
-use beldi_value::{Owner, Place, Rel, Spare, Value, older, or_drop};
+use beldi_value::{Owner, Place, Rel, Spare, Value, older};
 
 // Whether the owner, if any, is another than `who`.
 fn is_held(owner: &Option<Owner>, who: &Owner) -> bool
@@ -42,22 +42,19 @@ fn in_the_way(cell: &Cell, place: &Place) -> Option<Change>
     }
 }
 
-// What stands in the way of a write: what stands in the way of any act, or another owner.
+// What stands in the way of a write: what stands in the way of any act, another owner, or that there is no room for an entry.
 fn in_the_way_of(cell: &Cell, place: &Place, who: &Owner) -> Option<Change>
-    ensures { (r : cell_data.Cell × Tell) → at_tail place.now cell.now (unless_held who.now cell.now r) ≡ way_or result cell.now r }
+    ensures way { (r : cell_data.Cell × Tell) → at_tail place.now cell.now (unless_held who.now cell.now (if_room cell.now r)) ≡ way_or result cell.now r }
+    ensures room { result ≡ None → is_full cell.now ≡ false }
 {
     match in_the_way(cell, place) {
         None if is_held(&cell.owner, who) => Some(Change::Held),
+        None if cell.log.is_full() => Some(Change::Packed),
         way => way,
     }
 }
 
-pub(crate) fn write(
-    row: &mut Row,
-    place: Place,
-    who: Owner,
-    value: Value,
-) -> Result<Change, TableErr>
+pub(crate) fn write(row: &mut Row, place: Place, who: Owner, value: Value) -> Change
     ensures { Changes (Act.WriteCell place who value) 0 row.old row.new result }
 {
     match row {
@@ -66,12 +63,12 @@ pub(crate) fn write(
             drop(place);
             drop(who);
             drop(value);
-            Ok(Change::NoRow)
+            Change::NoRow
         }
     }
 }
 
-fn write_cell(cell: &mut Cell, place: Place, who: Owner, value: Value) -> Result<Change, TableErr>
+fn write_cell(cell: &mut Cell, place: Place, who: Owner, value: Value) -> Change
     ensures { Changes (Act.WriteCell place who value) 0 (Row.Cell cell.old) (Row.Cell cell.new) result }
 {
     let way = in_the_way_of(cell, &place, &who);
@@ -79,11 +76,11 @@ fn write_cell(cell: &mut Cell, place: Place, who: Owner, value: Value) -> Result
     if let Some(change) = way {
         drop(place);
         drop(value);
-        return Ok(change);
+        return change;
     }
-    or_drop!(cell.log.push(place, Note::Wrote); value);
+    cell.log.push(place, Note::Wrote);
     cell.value = value;
-    Ok(Change::Did)
+    Change::Did
 }
 
 pub(crate) fn write_where(
@@ -93,7 +90,7 @@ pub(crate) fn write_where(
     rel: Rel,
     operand: Value,
     value: Value,
-) -> Result<Change, TableErr>
+) -> Change
     ensures { Changes (Act.CondCell place who rel operand value) 0 row.old row.new result }
 {
     match row {
@@ -103,7 +100,7 @@ pub(crate) fn write_where(
             drop(who);
             drop(operand);
             drop(value);
-            Ok(Change::NoRow)
+            Change::NoRow
         }
     }
 }
@@ -115,7 +112,7 @@ fn write_cell_where(
     rel: Rel,
     operand: Value,
     value: Value,
-) -> Result<Change, TableErr>
+) -> Change
     ensures { Changes (Act.CondCell place who rel operand value) 0 (Row.Cell cell.old) (Row.Cell cell.new) result }
 {
     let way = in_the_way_of(cell, &place, &who);
@@ -124,17 +121,17 @@ fn write_cell_where(
         drop(place);
         drop(operand);
         drop(value);
-        return Ok(change);
+        return change;
     }
     let passed = cell.value.passes(rel, &operand);
     drop(operand);
-    or_drop!(cell.log.push(place, Note::Cond(passed)); value);
+    cell.log.push(place, Note::Cond(passed));
     if passed {
         cell.value = value;
     } else {
         drop(value);
     }
-    Ok(Change::Tested(passed))
+    Change::Tested(passed)
 }
 
 // Whether who asks for the lock waits for this owner; where it does not, it dies.
@@ -147,12 +144,7 @@ fn waits(who: &Owner, owner: &Owner) -> bool
     }
 }
 
-pub(crate) fn lock(
-    row: &mut Row,
-    place: Place,
-    who: Owner,
-    spare: Spare,
-) -> Result<Change, TableErr>
+pub(crate) fn lock(row: &mut Row, place: Place, who: Owner, spare: Spare) -> Change
     ensures { Changes (Act.LockCell place who spare) 0 row.old row.new result }
 {
     match row {
@@ -161,19 +153,19 @@ pub(crate) fn lock(
             drop(place);
             drop(who);
             drop(spare);
-            Ok(Change::NoRow)
+            Change::NoRow
         }
     }
 }
 
-fn lock_cell(cell: &mut Cell, place: Place, who: Owner, spare: Spare) -> Result<Change, TableErr>
+fn lock_cell(cell: &mut Cell, place: Place, who: Owner, spare: Spare) -> Change
     ensures { Changes (Act.LockCell place who spare) 0 (Row.Cell cell.old) (Row.Cell cell.new) result }
 {
     if let Some(change) = in_the_way(cell, &place) {
         drop(place);
         drop(who);
         drop(spare);
-        return Ok(change);
+        return change;
     }
     match &cell.owner {
         Some(owner) if *owner != who => {
@@ -182,27 +174,32 @@ fn lock_cell(cell: &mut Cell, place: Place, who: Owner, spare: Spare) -> Result<
             if is_held {
                 drop(place);
                 drop(spare);
-                return Ok(Change::Held);
+                return Change::Held;
+            }
+            if cell.log.is_full() {
+                drop(place);
+                drop(spare);
+                return Change::Packed;
             }
             let age = spare.hold_id(owner.age());
-            cell.log.push(place, Note::Died(age))?;
-            Ok(Change::Died)
+            cell.log.push(place, Note::Died(age));
+            Change::Died
         }
         _ => {
             drop(spare);
-            or_drop!(cell.log.push(place, Note::Got); who);
+            if cell.log.is_full() {
+                drop(place);
+                drop(who);
+                return Change::Packed;
+            }
+            cell.log.push(place, Note::Got);
             cell.owner = Some(who);
-            Ok(Change::Did)
+            Change::Did
         }
     }
 }
 
-pub(crate) fn free(
-    row: &mut Row,
-    place: Place,
-    who: Owner,
-    value: Option<Value>,
-) -> Result<Change, TableErr>
+pub(crate) fn free(row: &mut Row, place: Place, who: Owner, value: Option<Value>) -> Change
     ensures { Changes (Act.FreeCell place who value) 0 row.old row.new result }
 {
     match row {
@@ -211,27 +208,25 @@ pub(crate) fn free(
             drop(place);
             drop(who);
             drop(value);
-            Ok(Change::NoRow)
+            Change::NoRow
         }
     }
 }
 
-// What stands in the way of the owner's giving the item back: what stands in the way of any act, or that it is not the owner.
+// What stands in the way of the owner's giving the item back: what stands in the way of any act, that it is not the owner, or
+// that there is no room for an entry.
 fn in_the_way_of_free(cell: &Cell, place: &Place, who: &Owner) -> Option<Change>
-    ensures { (r : cell_data.Cell × Tell) → at_tail place.now cell.now (if_owned who.now cell.now r) ≡ way_or result cell.now r }
+    ensures way { (r : cell_data.Cell × Tell) → at_tail place.now cell.now (if_owned who.now cell.now (if_room cell.now r)) ≡ way_or result cell.now r }
+    ensures room { result ≡ None → is_full cell.now ≡ false }
 {
     match in_the_way(cell, place) {
         None if !is_owned(&cell.owner, who) => Some(Change::NotOwner),
+        None if cell.log.is_full() => Some(Change::Packed),
         way => way,
     }
 }
 
-fn free_cell(
-    cell: &mut Cell,
-    place: Place,
-    who: Owner,
-    value: Option<Value>,
-) -> Result<Change, TableErr>
+fn free_cell(cell: &mut Cell, place: Place, who: Owner, value: Option<Value>) -> Change
     ensures { Changes (Act.FreeCell place who value) 0 (Row.Cell cell.old) (Row.Cell cell.new) result }
 {
     let way = in_the_way_of_free(cell, &place, &who);
@@ -239,12 +234,12 @@ fn free_cell(
     if let Some(change) = way {
         drop(place);
         drop(value);
-        return Ok(change);
+        return change;
     }
-    or_drop!(cell.log.push(place, Note::Freed); value);
+    cell.log.push(place, Note::Freed);
     cell.owner = None;
     set_given(&mut cell.value, value);
-    Ok(Change::Did)
+    Change::Did
 }
 
 // Sets the value, where one is given.
@@ -255,4 +250,26 @@ fn set_given(at: &mut Value, value: Option<Value>)
         Some(value) => *at = value,
         None => drop(value),
     }
+}
+
+pub(crate) fn link(row: &mut Row, next: u32) -> Change
+    ensures { Changes (Act.LinkCell next) 0 row.old row.new result }
+{
+    match row {
+        Row::Cell(cell) => link_cell(cell, next),
+        _ => Change::NoRow,
+    }
+}
+
+fn link_cell(cell: &mut Cell, next: u32) -> Change
+    ensures { Changes (Act.LinkCell next) 0 (Row.Cell cell.old) (Row.Cell cell.new) result }
+{
+    if let Some(row) = cell.next {
+        return Change::Next(row);
+    }
+    if !cell.log.is_full() {
+        return Change::NotFull;
+    }
+    cell.next = Some(next);
+    Change::Next(next)
 }

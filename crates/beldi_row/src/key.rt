@@ -2,7 +2,7 @@
 ghost use Rattle.std.specs.Prelude.{◌≡◌, IfOk, refl};
 ghost use Rattle.std.specs.Cmp.{partial_equiv_from_equiv, eq_by_cmp_equiv, partial_order_from_agreeing_total};
 ghost use Rattle.std.specs.Ordering.{as_partial_cmp, eq_by_cmp};
-ghost use Rattle.beldi_row.specs.Key.{kind_cmp, key_cmp, rank_of, ticket_of, key_ticket, least_key};
+ghost use Rattle.beldi_row.specs.Key.{kind_cmp, key_cmp, rank_of, ticket_of, key_ticket, least_key, kind_at, at_row};
 ghost use Rattle.beldi_row.specs.KeyOrder.{kind_total, key_total};
 
 use beldi_value::{IntentId, Owner, Place, Str, TxId};
@@ -105,6 +105,17 @@ impl Kind {
             Kind::Shadow { tx, .. } => tx.intent.ticket,
             Kind::Lockset { intent, .. } => intent.ticket,
         }
+    }
+}
+
+// Sets the number of the row, where it has one.
+fn set_row(kind: &mut Kind, number: u32)
+    ensures { kind.new ≡ kind_at kind.old number }
+{
+    match kind {
+        Kind::Data { row, .. } => *row = number,
+        Kind::Shadow { row, .. } => *row = number,
+        _ => {}
     }
 }
 
@@ -287,6 +298,15 @@ impl RowKey {
             home: self.home,
             kind: self.kind.copy(alloc)?,
         })
+    }
+
+    /// The key of the row of the same item with this number. The key of any other row stays as it is.
+    pub fn at_row(self, row: u32) -> RowKey
+        ensures { result ≡ at_row self row }
+    {
+        let RowKey { home, mut kind, .. } = self;
+        set_row(&mut kind, row);
+        RowKey::new(home, kind)
     }
 
     /// The ticket of the intent that the key names; 0 of an item's row, which names none.

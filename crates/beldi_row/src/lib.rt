@@ -2,14 +2,15 @@
 //! Its definitions: `specs/Key` and `specs/KeyOrder` (the order of keys), `specs/Log` (the notes of a cell by place),
 //! `specs/Act` (the act table: what each act does to a row, and what it says), `specs/Table` (rows as a map, and the
 //! words of the trait's contract: what an act leaves, when it is refused, which row is the next). `proofs/Rows`,
-//! `proofs/Gets`, `proofs/Logs`, `proofs/Tells` and `proofs/Unchanged` have lemmas that the crates above cite.
+//! `proofs/Gets`, `proofs/Logs`, `proofs/Room`, `proofs/Tells` and `proofs/Unchanged` have lemmas that the crates above cite.
 //!
 //! Proved:
 //! - `apply`, `made` and `missing` are the act table, and `tell` gives the answer that a change stands for (`Changes`,
 //!   `off`, `said_by`).
 //! - So an intent that asks for a lock waits for another owner, and so does a transaction that is older than that owner; any
 //!   other transaction dies there, and its death is kept with the owner's age (`wait_or_die` of `specs/Act`).
-//! - `Log::find` finds the note of a place (`is`, `note`).
+//! - `Log::find` finds the note of a place (`is`, `note`). A log has at most eight entries (`few`), and a full one takes
+//!   none: the act says what the cell has (`if_room`), and a full cell gets one row that follows it (`link_to`).
 //! - Keys compare by a total order.
 //! - The row after a key is the least of a greater key (`next_row_is_least`).
 //! - The trait `Table` says what a table owes. Contracts see one state of it (`TableState`): its rows, where it tells
@@ -21,7 +22,7 @@
 //! Files:
 //! - Code (`src/`): `key`, `row`, `notes` the log of a cell; `act` acts on one row, `cell` those on a cell, `telling` what is
 //!   said of a change; `table` the trait; `laws`.
-//! - Lemmas (`proofs/`): `Found`; `Least` the row after a key; `Rows`, `Gets`, `Logs`, `Tells`, `Unchanged`, also for the
+//! - Lemmas (`proofs/`): `Found`; `Least` the row after a key; `Rows`, `Gets`, `Logs`, `Room`, `Tells`, `Unchanged`, also for the
 //!   crates above; `Fronts` keys by their fronts.
 #![tactic(auto)]
 
@@ -38,7 +39,7 @@ pub use act::{Act, Change, Said, apply, made, missing};
 pub use beldi_value::Caller;
 pub use key::{Kind, RowKey, copy_owner, copy_tx};
 pub use laws::next_row_is_least;
-pub use notes::{Log, Note};
+pub use notes::{Entry, Log, MOST_ENTRIES, Note};
 pub use row::{Body, Cell, IntentRow, InvokeRow, Row};
 pub use table::{Opens, Table, TableErr};
 pub use telling::tell;

@@ -1,7 +1,7 @@
 // What is said of a change.
 ghost use Rattle.std.specs.Prelude.{◌≡◌, slice_get};
 ghost use Rattle.std.specs.Option.{option_copied};
-ghost use Rattle.beldi_row.specs.Act.{tell_of, said_by, ended_tell, other_tell, held_tell, died_tell, noted_tell};
+ghost use Rattle.beldi_row.specs.Act.{tell_of, said_by, ended_tell, other_tell, held_tell, died_tell, noted_tell, packed};
 ghost use Rattle.beldi_row.specs.Log.{note_of};
 
 use crate::act::{Change, Said};
@@ -27,11 +27,13 @@ pub fn tell(row: Option<&Row>, change: Change) -> Said<'_>
         (Change::Noted(index), Some(Row::Cell(cell))) => tell_noted(cell, index),
         (Change::Held, Some(Row::Cell(cell))) => tell_held(cell),
         (Change::Died, Some(Row::Cell(cell))) => tell_died(cell),
+        (Change::Packed, Some(Row::Cell(cell))) => tell_packed(cell),
         (Change::Kept, _) | (Change::Noted(_), _) | (Change::Held, _) => Said::NoRow,
-        (Change::Died, _) | (Change::NoRow, _) => Said::NoRow,
+        (Change::Died, _) | (Change::Packed, _) | (Change::NoRow, _) => Said::NoRow,
         (Change::Next(next), _) => Said::Next(next),
         (Change::NotOwner, _) => Said::NotOwner,
         (Change::Tested(passed), _) => Said::Tested(passed),
+        (Change::NotFull, _) => Said::NotFull,
     }
 }
 
@@ -78,4 +80,10 @@ fn tell_died(cell: &Cell) -> Said<'_>
         Some(owner) => Said::Died(owner.age()),
         None => Said::NoRow,
     }
+}
+
+fn tell_packed(cell: &Cell) -> Said<'_>
+    ensures { tell_of result ≡ packed cell.now.value cell.now.owner }
+{
+    Said::Packed(&cell.value, cell.owner.as_ref())
 }

@@ -1,14 +1,16 @@
 -- What the walks say of a shadow is what a logged cell says of it.
 use Rattle.std.proofs.Common.{◌≡◌, true, false, Option, None, Some, Ok, Err, refl, ap, sym, ◌∙◌, subst}
+use Rattle.beldi_walk.specs.Query.{Told}
 use Rattle.beldi_value.specs.declared.place.{Owner.Owner, Owner.TheVariants.Intent, Owner.TheVariants.Tx, Place.Place}
 use Rattle.beldi_row.{specs.declared.table.TableErr.TableErr, specs.declared.table.TableErr.TheVariants.OutOfMemory, specs.declared.table.TableErr.TheVariants.Failed, specs.declared.table.TableErr.TheVariants.Full, specs.Log.note_at, specs.Table.Rows, proofs.Tells.tells_map}
-use Rattle.beldi_chain.specs.{Chain.Sound, Chain.chain, Chain.content, Content.Content}
-use Rattle.beldi_daal.specs.Logged.{owner_after, dies, barred, DidAs, Logs, LoggedTurn, ReadsContent, ReadTurn as PlainRead}
-use Rattle.beldi_daal.{specs.declared.cell.CellOp.CellOp, specs.declared.cell.CellOp.TheVariants.Write, specs.declared.cell.CellOp.TheVariants.Cond, specs.declared.cell.CellOp.TheVariants.Lock, specs.declared.cell.CellOp.TheVariants.Free, specs.declared.walk.WriteSays.WriteSays, specs.declared.read_walk.ReadSays.ReadSays, proofs.Logged.writes_are_logged, proofs.Logged.reads_are_contents}
+use Rattle.beldi_chain.specs.{Chain.chain, Chain.content, Content.Content}
+use Rattle.beldi_links.specs.Links.{IsLinked, ReadsAt, SeesAt}
+use Rattle.beldi_daal.specs.Logged.{at_of, owner_after, dies, barred, DidAs, Logs, LoggedTurn, ReadsContent, LooksOn as PlainLooks, ReadTurn as PlainRead}
+use Rattle.beldi_daal.{specs.declared.cell.CellOp.CellOp, specs.declared.cell.CellOp.TheVariants.Write, specs.declared.cell.CellOp.TheVariants.Cond, specs.declared.cell.CellOp.TheVariants.Lock, specs.declared.cell.CellOp.TheVariants.Free, specs.declared.walk.WriteSays.WriteSays, specs.declared.read_walk.ReadSays.ReadSays, specs.declared.read_walk.ReadWalk.ReadWalk, proofs.Logged.writes_are_logged, proofs.Logged.reads_are_contents}
 use Rattle.beldi_daal.specs.ReadWalk as read
 use Rattle.beldi_daal.specs.Walk as write
-use Rattle.beldi_shadow.specs.Shadowed.{is_aside, write_key, read_key, DoneOnce, Writes, WriteTurn, Reads, ReadTurn, ShadowsAreLogged, ShadowsReadTheirOwn}
-use Rattle.beldi_shadow.specs.{declared.shadow.ShadowRead.ShadowRead, Shadow.first_read, Shadow.read_so, Shadow.write_so}
+use Rattle.beldi_shadow.specs.Shadowed.{is_aside, write_key, read_key, DoneOnce, Writes, WriteTurn, Reads, ReadTurn, LooksOn, ShadowsAreLogged, ShadowsReadTheirOwn}
+use Rattle.beldi_shadow.specs.{declared.shadow.ShadowRead.ShadowRead, declared.shadow.ShadowSays.ShadowSays, Shadow.read_next, Shadow.read_says, Shadow.read_so, Shadow.write_next, Shadow.write_so}
 
 -- ---- a write: nothing bars it, and nobody dies
 free : (who : Owner) (op : CellOp) → is_aside op ≡ true → barred op who None ≡ None
@@ -43,43 +45,50 @@ module _ (p : Place) (who : Owner) (op : CellOp) (aside : is_aside op ≡ true) 
   written (WriteSays.Done n false) l = ((l.0, subst (λ z. DoneOnce p who op z c d) (sym (ap (λ (z : Content). note_at z.notes p) (sym l.1) ∙ l.0)) l.1), as_before l.1)
   written WriteSays.NotOwner l = (l.2, as_before l.2)
   written (WriteSays.Held o) l = let clash = sym (ap (barred op who) unowned ∙ free who op aside) ∙ l.1 in cc
-  written WriteSays.Worn l = absurd l
+  written WriteSays.Worn l = (l, as_before l.1)
 
 pub shadows_are_logged : ShadowsAreLogged
 shadows_are_logged w x now old new s aside (Ok t, h, c) = tells_map
-    {P = λ m n. Sound (chain m (write_key w)) → LoggedTurn w.walk m n (write.walk_says w.walk t)}
-    {Q = λ m n. Sound (chain m (write_key w)) → (content (chain m (write_key w))).owner ≡ None → WriteTurn w m n s} old.rows new.rows
-    (λ m n turned sound unowned.
-    let l : LoggedTurn w.walk m n (write.walk_says w.walk t) = turned sound in
+    {P = λ m n. IsLinked (chain m (write_key w)) → SeesAt (chain m (write_key w)) w.walk.place (at_of w.walk.at) → LoggedTurn w.walk (write.walk_next w.walk t) m n (write.walk_says w.walk t)}
+    {Q = λ m n. IsLinked (chain m (write_key w)) → (content (chain m (write_key w))).owner ≡ None → SeesAt (chain m (write_key w)) w.walk.place (at_of w.walk.at) → WriteTurn w x m n s} old.rows new.rows
+    (λ m n turned linked unowned sees.
+    let l : LoggedTurn w.walk (write.walk_next w.walk t) m n (write.walk_says w.walk t) = turned linked sees in
     let z = written w.walk.place w.walk.who w.walk.op aside _ _ unowned (write.walk_says w.walk t) l.logs in
-    subst (WriteTurn w m n) (sym h.1) (record { others = l.others; writes = z.0; sound = l.sound; unowned = z.1 }))
+    subst (λ y. WriteTurn w y m n s) (sym h.0) (subst (WriteTurn w (write_next w t) m n) (sym h.1) (record { others = l.others; writes = z.0; linked = l.linked; unowned = z.1; sees = l.sees })))
     (writes_are_logged w.walk (write.walk_next w.walk t) now old new (write.walk_says w.walk t) (Ok t, (refl, refl), c))
 shadows_are_logged w x now old new s aside (Err v, h, c) = absurd h
 
--- ---- a read
+-- ---- a read, for nobody
 so : (c : Content) (s : ReadSays) → ReadsContent None s c → Reads (read_so s) c
 so c ReadSays.Going h = h
 so c (ReadSays.Got None) h = h
 so c (ReadSays.Got (Some v)) h = h.1
 so c (ReadSays.Held o) h = cc
 
-same : (w : ShadowRead) (m n : Rows) (e : TableErr) → PlainRead w.walk m n (Err e) → ReadTurn w m n (Err e)
-same w m n OutOfMemory h = h
-same w m n Failed h = h
-same w m n (Full live most) h = h
+module _ (w x : ShadowRead) (m n : Rows) where
+  looked : (s : ShadowSays) (t : Told) → w.walk.who ≡ None → x ≡ read_next w t → s ≡ read_says w t → PlainLooks w.walk (read.read_next w.walk t) m n (Ok (read.read_says w.walk t)) → LooksOn w x m n (Ok s)
+  looked s t nobody on says h = (
+    h.0,
+    λ linked sees.
+        let l : PlainRead w.walk (read.read_next w.walk t) m (read.read_says w.walk t) = h.1 linked sees in
+        let c = content (chain m (read_key w)) in
+        subst (λ y. ReadTurn w y m s) (sym on) (subst (ReadTurn w (read_next w t) m) (sym says)
+        (record { reads = so c (read.read_says w.walk t) (subst (λ o. ReadsContent o (read.read_says w.walk t) c) nobody l.reads); sees = l.sees })),
+  )
+
+  same : (y : ReadWalk) (e : TableErr) → PlainLooks w.walk y m n (Err e) → LooksOn w x m n (Err e)
+  same y OutOfMemory h = h
+  same y Failed h = h
+  same y (Full live most) h = h
 
 pub shadows_read_their_own : ShadowsReadTheirOwn
-shadows_read_their_own home tx t k y now old new (Ok s) (Ok v, h, c) =
-    let w = first_read home tx t k in tells_map
-    {P = λ m n. PlainRead w.walk m n (Ok (read.read_says w.walk v))} {Q = λ m n. ReadTurn w m n (Ok s)} old.rows new.rows
-    (λ m n turned. (turned.0, λ sound. subst (λ z. Reads z (content (chain m (read_key w)))) (sym h.1) (so (content (chain m (read_key w))) (read.read_says w.walk v) (turned.1 sound))))
-    (reads_are_contents w.walk w.walk now old new (Ok (read.read_says w.walk v)) (Ok v, (refl, refl), c))
-shadows_read_their_own home tx t k y now old new (Ok s) (Err v, h, c) = absurd h
-shadows_read_their_own home tx t k y now old new (Err e) (Ok v, h, c) =
-    let w = first_read home tx t k in tells_map
-    {P = λ m n. PlainRead w.walk m n (Err e)} {Q = λ m n. ReadTurn w m n (Err e)} old.rows new.rows (λ m n turned. same w m n e turned)
-    (reads_are_contents w.walk w.walk now old new (Err e) (Ok v, (refl, h.1, h.2), c))
-shadows_read_their_own home tx t k y now old new (Err e) (Err v, h, c) =
-    let w = first_read home tx t k in tells_map
-    {P = λ m n. PlainRead w.walk m n (Err e)} {Q = λ m n. ReadTurn w m n (Err e)} old.rows new.rows (λ m n turned. same w m n e turned)
+shadows_read_their_own w x now old new (Ok s) nobody (Ok t, h, c) = tells_map
+    {P = λ m n. PlainLooks w.walk (read.read_next w.walk t) m n (Ok (read.read_says w.walk t))} {Q = λ m n. LooksOn w x m n (Ok s)} old.rows new.rows (λ m n turned. looked w x m n s t nobody h.0 h.1 turned)
+    (reads_are_contents w.walk (read.read_next w.walk t) now old new (Ok (read.read_says w.walk t)) (Ok t, (refl, refl), c))
+shadows_read_their_own w x now old new (Ok s) nobody (Err v, h, c) = absurd h
+shadows_read_their_own w x now old new (Err e) nobody (Ok t, h, c) = tells_map
+    {P = λ m n. PlainLooks w.walk w.walk m n (Err e)} {Q = λ m n. LooksOn w x m n (Err e)} old.rows new.rows (λ m n turned. same w x m n w.walk e turned)
+    (reads_are_contents w.walk w.walk now old new (Err e) (Ok t, (refl, h.1, h.2), c))
+shadows_read_their_own w x now old new (Err e) nobody (Err v, h, c) = tells_map
+    {P = λ m n. PlainLooks w.walk w.walk m n (Err e)} {Q = λ m n. LooksOn w x m n (Err e)} old.rows new.rows (λ m n turned. same w x m n w.walk e turned)
     (reads_are_contents w.walk w.walk now old new (Err e) (Err v, (refl, h.1), c))

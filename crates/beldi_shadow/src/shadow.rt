@@ -17,12 +17,12 @@ pub enum ShadowSays {
     Got(Option<Value>),
     /// The place has this note.
     Noted(Note),
-    /// No row can follow the shadow's last one, which is full. No turn says so as long as the rows of an item are not linked.
+    /// The shadow's last row is full and has the greatest number of a row, so no row can follow it.
     Worn,
 }
 
-/// A walk to the value of a transaction's own copy of an item. It makes one Look a turn, leaves the rows as they are, and stands
-/// where it stood.
+/// A walk to the value of a transaction's own copy of an item. It makes one Look a turn, and leaves the rows as they are. Unless it says
+/// `Going` it stands where it stood.
 #[derive(Drop)]
 pub struct ShadowRead {
     walk: ReadWalk,

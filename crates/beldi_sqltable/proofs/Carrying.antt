@@ -13,7 +13,7 @@ adds_none true h = cc
 adds_none false h = cc
 
 -- ---- over rows that are told
-pub changed : (a : Act) (now : ℕ) (k : RowKey) (room : ℕ) (m : Rows) (r s : Row) (c : Change) → map.get m k ≡ Some r → Changes a now r s (Ok c) → ChangedOn a now k room (Some s) (Ok c) m (map.insert m k s)
+pub changed : (a : Act) (now : ℕ) (k : RowKey) (room : ℕ) (m : Rows) (r s : Row) (c : Change) → map.get m k ≡ Some r → Changes a now r s c → ChangedOn a now k room (Some s) (Ok c) m (map.insert m k s)
 changed a now k room m r s c here done =
     let acted : (Some s, said_by c (Some s)) ≡ act a now (map.get m k) = ap stays done ∙ ap (act a now) (sym here) in (
       ap (λ p. set_row m k p.0) acted,
@@ -43,7 +43,7 @@ looks : (now : ℕ) (k : RowKey) (room : ℕ) (m : Rows) (r : Option Row) → r 
 looks now k room m r is = (sym (looked now k m), ap here_tell is ∙ look_tell now (map.get m k), λ h. absurd (adds_none _ h))
 
 -- ---- over rows that may be told
-pub told_changed : (a : Act) (now : ℕ) (k : RowKey) (room : ℕ) (told after : Option Rows) (r s : Row) (c : Change) → IfSome told (λ m. map.get m k ≡ Some r) → after ≡ written {E = TableErr} k s (Ok tt) told → Changes a now r s (Ok c)
+pub told_changed : (a : Act) (now : ℕ) (k : RowKey) (room : ℕ) (told after : Option Rows) (r s : Row) (c : Change) → IfSome told (λ m. map.get m k ≡ Some r) → after ≡ written {E = TableErr} k s (Ok tt) told → Changes a now r s c
     → Tells told after (ChangedOn a now k room (Some s) (Ok c))
 told_changed a now k room None after r s c here is done = is
 told_changed a now k room (Some m) after r s c here is done =

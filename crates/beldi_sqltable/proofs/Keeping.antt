@@ -3,7 +3,7 @@ use Rattle.std.specs.{BTreeMap.is_at, BTreeSet.BTreeSet, BTreeSet.contains, Cmp.
 use Rattle.std.specs.FinMap as map
 use Rattle.std.specs.Prelude.{IfSome}
 use Rattle.std.proofs.lemmas.Cmp.{eq_by_cmp_equiv}
-use Rattle.std.proofs.Common.{◌≡◌, ℕ, ◌+◌, ◌<◌, Bool, true, false, not, ◌&&◌, ◌||◌, cond, Option, Some, None, Ok, refl, subst, ap, sym, ◌∙◌, if◌then◌else◌}
+use Rattle.std.proofs.Common.{◌≡◌, ℕ, ◌+◌, ◌<◌, Bool, true, false, not, ◌&&◌, ◌||◌, cond, Option, Some, None, Ok, is_some, refl, subst, ap, sym, ◌∙◌, if◌then◌else◌}
 use Rattle.beldi_row.{specs.Key.RowKey, specs.Key.key_cmp, specs.KeyOrder.key_exact, specs.KeyOrder.key_total, specs.Table.Rows, specs.Table.is_open, specs.declared.row.Row.Row, specs.declared.table.TableErr.TableErr, proofs.Gets.got}
 use Rattle.beldi_table.specs.Opened.{opened, Sets}
 use Rattle.beldi_sqltable.specs.{Kept.Lists, Kept.Keeps, Kept.Stood, Store.written}
@@ -101,3 +101,8 @@ has_room c room s known (Some m) h fits = subst (λ n. n < room) h.counted fits
 pub untold : (c : ℕ) (s : BTreeSet RowKey) (known : Bool) (told : Option Rows) → IfSome told (Keeps c s known) → known ≡ false → told ≡ None
 untold c s known None h not_known = refl
 untold c s known (Some m) h not_known = let clash : true ≡ false = sym h.surveyed ∙ not_known in cc
+
+-- a row that is there
+pub stood_there : (k : RowKey) (r : Row) (was : Bool) (told : Option Rows) → was ≡ is_open k.kind r → IfSome told (λ m. map.get m k ≡ Some r) → IfSome told (Stood k was false)
+stood_there k r was None is here = tt
+stood_there k r was (Some m) is here = record { stood_open = is ∙ ap (opened k) (sym here); stood_new = ap (λ o. not (is_some o)) (sym here) }

@@ -1,12 +1,14 @@
 -- Acts that leave the row that they find, by what they say.
 use Rattle.std.specs.FinMap as map
 use Rattle.std.specs.Prelude.{IfSome}
-use Rattle.std.proofs.Common.{◌≡◌, ℕ, Bool, true, false, Option, None, Some, Ok, slice_get, refl, subst, ap, sym, ◌∙◌, if◌then◌else◌}
+use Rattle.std.proofs.Common.{◌≡◌, ℕ, Bool, true, false, not, ◌&&◌, Option, None, Some, Ok, slice_get, refl, subst, ap, sym, ◌∙◌, if◌then◌else◌}
 use Rattle.beldi_value.specs.declared.{value.Value.Value, outcome.Outcome.Outcome, place.Place.Place, place.Owner.Owner}
 use Rattle.beldi_row.{specs.Key.RowKey, specs.KeyOrder.key_total, specs.KeyOrder.key_exact, specs.Table.Rows, specs.Table.Tells, specs.declared.row.Row.Row, specs.declared.row.Body.Body, specs.declared.row.IntentRow.IntentRow, specs.declared.row.InvokeRow.InvokeRow, specs.declared.row.Cell.Cell, specs.declared.notes.Note.Note, specs.declared.act.Act.Act, specs.declared.act.Change.Change, specs.declared.table.TableErr.TableErr, proofs.Rows.same_set}
-use Rattle.beldi_row.specs.Act.{Tell, bound, did, tested, died, Changes, on, on_intent, on_invoke, on_cell, said_by, intent_tell, cell_tell, other_tell, ended_tell, held_tell, noted_tell, bind_to, end_with, stamp_with, call_back_to, register_to, held_or, next_or, noted_or, owned_or, waits_for, owns, at_tail, other_owner}
+use Rattle.beldi_row.specs.Act.{Tell, bound, did, tested, died, held, packed, Changes, on, on_intent, on_invoke, on_cell, said_by, intent_tell, cell_tell, other_tell, ended_tell, held_tell, noted_tell, bind_to, end_with, stamp_with, call_back_to, register_to, held_or, next_or, noted_or, owned_or, waits_for, owns, at_tail, other_owner, if_room, is_full, entered, cond_to, given_or}
 use Rattle.beldi_row.specs.Log.{note_at, note_of}
-use Rattle.beldi_sqltable.{specs.Kept.leaves, specs.Store.settled, specs.RowTable.ChangedOn, proofs.Carrying.changed, proofs.Carrying.told_changed}
+use Rattle.beldi_row.specs.declared.notes.Note.TheVariants.{Wrote, Got, Died, Freed}
+use Rattle.beldi_value.specs.{Id.age_of, Passes.passes}
+use Rattle.beldi_sqltable.{specs.Kept.leaves, specs.Kept.links, specs.Store.settled, specs.RowTable.ChangedOn, proofs.Carrying.changed, proofs.Carrying.told_changed}
 
 -- what says that a row was changed
 abbrev sets : Tell → Bool
@@ -54,6 +56,7 @@ says_none Change.Kept (Some (Row.ReadLog v)) h = refl
 says_none Change.Kept r h = refl
 says_none (Change.Noted n) r h = of_cell (λ c. noted_tell (note_of (slice_get c.log n))) r (λ c. of_noted (note_of (slice_get c.log n)))
 says_none Change.Held r h = of_cell (λ c. held_tell c.owner) r (λ c. of_held c.owner)
+says_none Change.Packed r h = of_cell (λ c. packed c.value c.owner) r (λ c. refl)
 says_none c r h = refl
 
 -- ---- what does not say that it changed a row leaves it
@@ -107,41 +110,49 @@ if_noted c (Some n) r h = λ q. refl
 in_tail : (p : Place) (c : Cell) (r : Cell × Tell) → Leaves c r → Leaves c (at_tail p c r)
 in_tail p c r h = if_noted c (note_at c.log p) (next_or c c.next r) (if_next c c.next r h)
 
-waits : (b : Bool) (c d : Cell) (s t : Tell) → sets t ≡ true → Leaves c (if b then (c, s) else (d, t))
-waits true c d s t h = λ q. refl
-waits false c d s t h = λ q. let clash : true ≡ false = sym h ∙ q in cc
+unless : (b : Bool) (c : Cell) (t : Tell) (r : Cell × Tell) → Leaves c r → Leaves c (if b then (c, t) else r)
+unless true c t r h = λ q. refl
+unless false c t r h = h
+
+if_fits : (c : Cell) (r : Cell × Tell) → Leaves c r → Leaves c (if_room c r)
+if_fits c r h = unless (is_full c) c (packed c.value c.owner) r h
 
 if_owned_by : (p : Place) (w : Owner) (c : Cell) (o : Option Owner) (r : Cell × Tell) → Leaves c r → Leaves c (owned_or p w c o r)
 if_owned_by p w c None r h = h
-if_owned_by p w c (Some o) r h = waits (waits_for w o) c _ _ _ refl
+if_owned_by p w c (Some o) r h = unless (waits_for w o) c (held o) _ (if_fits c (entered p (Died (age_of o)) c.value c.owner c, died (age_of o)) (λ q. cc))
 
 if_own : (b : Bool) (c : Cell) (t : Tell) (r : Cell × Tell) → Leaves c r → Leaves c (if b then r else (c, t))
 if_own true c t r h = h
 if_own false c t r h = λ q. refl
 
-act_leaves : (a : Act) (now : ℕ) (r : Row) → Leaves r (on a now r)
-act_leaves (Act.Bind f v) now r = in_intent (λ i. bind_to f v i i.body) _ r (λ i. binds f v i i.body)
-act_leaves (Act.End o s) now r = in_intent (λ i. end_with o s now i i.outcome) _ r (λ i. ends o s now i i.outcome)
-act_leaves Act.Stamp now r = in_intent (λ i. stamp_with now i i.finish) _ r (λ i. stamps now i i.finish)
-act_leaves (Act.CallBack o) now r = in_invoke (λ i. call_back_to o i i.result) _ r (λ i. calls_back o i i.result)
-act_leaves Act.NoteRegistered now r = in_invoke (λ i. register_to i i.registered) _ r (λ i. registers i i.registered)
-act_leaves (Act.WriteCell p w v) now r = in_cell _ _ r (λ c. in_tail p c _ (if_held c (other_owner w c.owner) _ (λ q. cc)))
-act_leaves (Act.CondCell p w k o v) now r = in_cell _ _ r (λ c. in_tail p c _ (if_held c (other_owner w c.owner) _ (λ q. cc)))
-act_leaves (Act.LockCell p w s) now r = in_cell _ _ r (λ c. in_tail p c _ (if_owned_by p w c (other_owner w c.owner) _ (λ q. cc)))
-act_leaves (Act.FreeCell p w v) now r = in_cell _ _ r (λ c. in_tail p c _ (if_own (owns w c.owner) c _ _ (λ q. cc)))
-act_leaves a now r = λ q. refl
+act_leaves : (a : Act) (now : ℕ) (r : Row) → links a ≡ false → Leaves r (on a now r)
+act_leaves (Act.Bind f v) now r n = in_intent (λ i. bind_to f v i i.body) _ r (λ i. binds f v i i.body)
+act_leaves (Act.End o s) now r n = in_intent (λ i. end_with o s now i i.outcome) _ r (λ i. ends o s now i i.outcome)
+act_leaves Act.Stamp now r n = in_intent (λ i. stamp_with now i i.finish) _ r (λ i. stamps now i i.finish)
+act_leaves (Act.CallBack o) now r n = in_invoke (λ i. call_back_to o i i.result) _ r (λ i. calls_back o i i.result)
+act_leaves Act.NoteRegistered now r n = in_invoke (λ i. register_to i i.registered) _ r (λ i. registers i i.registered)
+act_leaves (Act.WriteCell p w v) now r n = in_cell _ _ r (λ c. in_tail p c _ (if_held c (other_owner w c.owner) _ (if_fits c (entered p Wrote v c.owner c, did) (λ q. cc))))
+act_leaves (Act.CondCell p w k o v) now r n = in_cell _ _ r (λ c. in_tail p c _ (if_held c (other_owner w c.owner) _ (if_fits c (cond_to (passes c.value k o) p v c) (λ q. cc))))
+act_leaves (Act.LockCell p w s) now r n = in_cell _ _ r (λ c. in_tail p c _ (if_owned_by p w c (other_owner w c.owner) _ (if_fits c (entered p Got c.value (Some w) c, did) (λ q. cc))))
+act_leaves (Act.FreeCell p w v) now r n = in_cell _ _ r (λ c. in_tail p c _ (if_own (owns w c.owner) c _ _ (if_fits c (entered p Freed (given_or v c.value) None c, did) (λ q. cc))))
+act_leaves (Act.LinkCell k) now r n = cc
+act_leaves a now r n = λ q. refl
 
 -- the row is there, and was left
-pub told_left : (a : Act) (now : ℕ) (k : RowKey) (room : ℕ) (told : Option Rows) (r s : Row) (c : Change) → IfSome told (λ m. map.get m k ≡ Some r) → Changes a now r s (Ok c) → leaves c ≡ true → Tells told told (ChangedOn a now k room (Some s) (Ok c))
-told_left a now k room None r s c here done leave = refl
-told_left a now k room (Some m) r s c here done leave =
-    let same : s ≡ r = ap (λ p. p.0) done ∙ act_leaves a now r (ap (λ p. sets p.1) (sym done) ∙ says_none c (Some s) leave) in
+pub told_left : (a : Act) (now : ℕ) (k : RowKey) (room : ℕ) (told : Option Rows) (r s : Row) (c : Change) → IfSome told (λ m. map.get m k ≡ Some r) → Changes a now r s c → links a ≡ false → leaves c ≡ true → Tells told told (ChangedOn a now k room (Some s) (Ok c))
+told_left a now k room None r s c here done apart leave = refl
+told_left a now k room (Some m) r s c here done apart leave =
+    let same : s ≡ r = ap (λ p. p.0) done ∙ act_leaves a now r apart (ap (λ p. sets p.1) (sym done) ∙ says_none c (Some s) leave) in
     subst (λ n. ChangedOn a now k room (Some s) (Ok c) m n) (ap (map.insert m k) same ∙ same_set key_total key_exact m k r here) (changed a now k room m r s c here done)
 
 -- the row is there, and was written where it was changed
-pub told_settled : (a : Act) (now : ℕ) (k : RowKey) (room : ℕ) (told after : Option Rows) (r s : Row) (c : Change) → IfSome told (λ m. map.get m k ≡ Some r) → after ≡ settled {E = TableErr} (leaves c) k s (Ok tt) told → Changes a now r s (Ok c)
-    → Tells told after (ChangedOn a now k room (Some s) (Ok c))
-told_settled a now k room told after r s c here is done = (elim (leaves c) as (λ b. leaves c ≡ b → after ≡ settled {E = TableErr} b k s (Ok tt) told → Tells told after (ChangedOn a now k room (Some s) (Ok c))) [
-  | true ↦ λ e same. subst (λ o. Tells told o (ChangedOn a now k room (Some s) (Ok c))) (sym same) (told_left a now k room told r s c here done e)
-  | false ↦ λ e wrote. told_changed a now k room told after r s c here wrote done
-]) refl is
+first : (b d : Bool) → (not b && d) ≡ true → (b ≡ false) × (d ≡ true)
+first true d h = cc
+first false d h = (refl, h)
+
+pub told_settled : (a : Act) (now : ℕ) (k : RowKey) (room : ℕ) (told after : Option Rows) (r s : Row) (c : Change) (left : Bool) → IfSome told (λ m. map.get m k ≡ Some r) → after ≡ settled {E = TableErr} left k s (Ok tt) told → left ≡ (not (links a) && leaves c)
+    → Changes a now r s c → Tells told after (ChangedOn a now k room (Some s) (Ok c))
+told_settled a now k room told after r s c true here is l done =
+    let p = first (links a) (leaves c) (sym l) in
+    subst (λ o. Tells told o (ChangedOn a now k room (Some s) (Ok c))) (sym is) (told_left a now k room told r s c here done p.0 p.1)
+told_settled a now k room told after r s c false here is l done = told_changed a now k room told after r s c here is done

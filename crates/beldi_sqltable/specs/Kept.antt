@@ -2,7 +2,7 @@
 use Rattle.std.specs.Prelude.{◌≡◌, ℕ, ◌≤◌, Bool, true, false, not, Result, Ok, Err}
 use Rattle.std.specs.FinMap as map
 use Rattle.std.specs.BTreeSet.{BTreeSet, contains}
-use Rattle.beldi_row.specs.{Key.RowKey, Key.key_cmp, Table.Rows, Table.one_more, declared.act.Change.Change, declared.table.TableErr.TableErr}
+use Rattle.beldi_row.specs.{Key.RowKey, Key.key_cmp, Table.Rows, Table.one_more, declared.act.Act.Act, declared.act.Change.Change, declared.table.TableErr.TableErr}
 use Rattle.beldi_table.specs.Opened.{opened}
 use Rattle.beldi_sqltable.specs.declared.store.StoreErr.{StoreErr}
 
@@ -40,7 +40,12 @@ pub record Blames {T : Type 0} (old new : ℕ) (result : Result T TableErr) : Ty
   pub later : old ≤ new
   pub counts : new ≡ faults_after result old
 
--- the change leaves the row as it was
+-- the act gives a row the next one, and says the same where it has that
+abbrev pub links : Act → Bool
+links (Act.LinkCell n) = true
+links a = false
+
+-- the change leaves the row as it was, where it is not of such an act
 abbrev pub leaves : Change → Bool
 leaves Change.Bound = false
 leaves Change.Did = false

@@ -4,7 +4,7 @@ ghost use Rattle.std.specs.Option.{option_copied};
 ghost use Rattle.std.proofs.Props.{props};
 ghost use Rattle.std.specs.FinMap as map;
 ghost use Rattle.beldi_row.specs.Table.{IsNotFull, entry_of};
-ghost use Rattle.beldi_sqltable.specs.Kept.{Keeps, Stood, Blames, leaves};
+ghost use Rattle.beldi_sqltable.specs.Kept.{Keeps, Stood, Blames, leaves, links};
 ghost use Rattle.beldi_sqltable.specs.Store.{Stepped, written, settled};
 
 use crate::calls::{open_store, read_row, row_after, write_row};
@@ -43,14 +43,22 @@ fn counted(n: u64) -> u32
     if n < 0xffff_ffff { n as u32 } else { u32::MAX }
 }
 
-// Whether a change leaves the row as it was.
-fn leaves(change: Change) -> bool
-    ensures { result ≡ leaves change }
+// Whether an act gives a row the next one: what it says does not show whether the row had that.
+fn links(act: &Act) -> bool
+    ensures { result ≡ links act.now }
 {
-    !matches!(
-        change,
-        Change::Bound | Change::Did | Change::Tested(_) | Change::Died
-    )
+    matches!(act, Act::LinkCell { .. })
+}
+
+// Whether a change leaves the row as it was, and is not of such an act.
+fn leaves(change: Change, links: bool) -> bool
+    ensures { result ≡ (not links && leaves change) }
+{
+    !links
+        && !matches!(
+            change,
+            Change::Bound | Change::Did | Change::Tested(_) | Change::Died
+        )
 }
 
 // Whether it is so now, and was not before.
@@ -176,21 +184,15 @@ impl<R: RowStore> RowTable<R> {
     }
 
     // The same for a row on which an act was done. Where the act left it as it was, nothing is written.
-    fn settle(
-        &mut self,
-        key: RowKey,
-        row: Row,
-        was_open: bool,
-        change: Change,
-    ) -> Result<(), TableErr>
+    fn settle(&mut self, key: RowKey, row: Row, was_open: bool, left: bool) -> Result<(), TableErr>
         requires { IfSome (R.rows self.old.store) (Stood key was_open false) }
-        ensures rows { R.rows self.new.store ≡ settled (leaves change) key row result (R.rows self.old.store) }
+        ensures rows { R.rows self.new.store ≡ settled left key row result (R.rows self.old.store) }
         ensures blames { Blames self.old.faults self.new.faults result }
         ensures fits { IsNotFull result }
         ensures room { self.new.room ≡ self.old.room }
         ensures found { IfOk result (λ _. self.new.found ≡ Some (key, row)) }
     {
-        if leaves(change) {
+        if left {
             drop(replace(&mut self.found, Some((key, row))));
             Ok(())
         } else {
@@ -198,7 +200,7 @@ impl<R: RowStore> RowTable<R> {
         }
     }
 
-    // An act on the row that stands at the key. Out of memory, the row is as before.
+    // An act on the row that stands at the key.
     fn change_row(
         &mut self,
         key: RowKey,
@@ -210,16 +212,12 @@ impl<R: RowStore> RowTable<R> {
         ensures { Carried act now key (table_state self.old) (table_state self.new) self.new.found result }
     {
         let was_open = is_open(key.kind(), &row);
-        match apply(&mut row, act, now) {
-            Ok(change) => match self.settle(key, row, was_open, change) {
-                Ok(()) => Ok(change),
-                Err(why) => Err(why),
-            },
-            Err(why) => {
-                drop(key);
-                drop(row);
-                Err(why)
-            }
+        let links = links(&act);
+        let change = apply(&mut row, act, now);
+        let left = leaves(change, links);
+        match self.settle(key, row, was_open, left) {
+            Ok(()) => Ok(change),
+            Err(why) => Err(why),
         }
     }
 

@@ -6,8 +6,9 @@
 //!   the mark of the act. `first_stage` is where an effect begins, or none where it is not carried out.
 //! - An operation inside a transaction asks as the transaction, and makes no entry (`tx_here_asks`, `tx_says`), and the entry is made with
 //!   the decision of the end, as a commit, or as a try with the cause of what was aborted (`end_mark`, `decided_says`). Then the end
-//!   visits all who took part (`end_here_asks`, `visit_says`). Inside, a run that comes to a lock, an unlock or a call that nobody
-//!   waits for is over (`first_stage`).
+//!   visits all who took part (`end_here_asks`, `visit_says`); where it comes to a full row that no row can follow, it waits, and the
+//!   run is as it was (`left_of`). Inside, a run that comes to a lock, an unlock or a call that nobody waits for is over
+//!   (`first_stage`).
 //! - What is called in a transaction is in it throughout, and the call, the operations and the return make no entry (`callee_by`,
 //!   `step_mark`, `back_says`). It is stamped by the owner's end, and not by its own (`close_asks`).
 //!

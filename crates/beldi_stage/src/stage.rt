@@ -4,6 +4,7 @@ ghost use Rattle.beldi_value.specs.Id.{has_callees};
 ghost use Rattle.beldi_value.specs.declared.value.Value.{Value};
 ghost use Rattle.beldi_value.specs.declared.place.Owner.TheVariants as owners;
 ghost use Rattle.beldi_walk.specs.Query.{told_of};
+ghost use Rattle.beldi_row.specs.Key.{at_row};
 ghost use Rattle.beldi_row.specs.declared.act.Act.TheVariants as acts;
 ghost use Rattle.beldi_walk.specs.declared.query.Query.TheVariants as queries;
 ghost use Rattle.beldi_call.specs.Call.{call_asks};
@@ -21,7 +22,7 @@ ghost use Rattle.beldi_step.specs.Run.{stage_asks, put_asks, stage_says, mark_of
 use crate::call_stage::{
     async_here, back_query, close_query, hear_async, hear_back, hear_call, hear_close, tell_query,
 };
-use crate::tx_stage::{decide_here, end_here, hear_end, hear_tx, tx_here};
+use crate::tx_stage::{decide_here, end_here, hear_decide, hear_end, hear_tx, tx_here};
 use beldi_call::{AsyncAt, CallAt, call_query};
 use beldi_daal::{
     CellOp, ReadGoes, WriteAt, WriteGoes, cell_key, read_told, write_query, write_told,
@@ -107,9 +108,9 @@ fn put_here(
     func: u16,
     step: u32,
     effect: &Effect,
-    at: WriteAt,
+    at: &WriteAt,
 ) -> Result<Apart<Query>, AllocError>
-    ensures { IfOk result (λ q. q ≡ put_asks id.now func step at (cell_op effect.now)) }
+    ensures { IfOk result (λ q. q ≡ put_asks id.now func step at.now (cell_op effect.now)) }
 {
     match effect {
         Effect::Write { table, key, value } => {
@@ -145,11 +146,11 @@ fn put_query(
     table: u16,
     key: &Str,
     op: CellOp,
-    at: WriteAt,
+    at: &WriteAt,
 ) -> Result<Apart<Query>, AllocError>
-    ensures { IfOk result (λ q. q ≡ put_asks id.now func step at (Some (record { table = table; key = key.now; op = op }))) }
+    ensures { IfOk result (λ q. q ≡ put_asks id.now func step at.now (Some (record { table = table; key = key.now; op = op }))) }
 {
-    let row = or_drop!(cell_key(alloc, func, table, key); op);
+    let row = or_drop!(cell_key(alloc, func, table, key, 0); op);
     let place = or_drop!(place_of(alloc, id, step); row, op);
     let who = Owner::Intent(or_drop!(id.copy(alloc); place, row, op));
     write_query(alloc, row, place, who, op, at)
@@ -177,11 +178,17 @@ fn keep_query(
     Query::act(alloc, log_key(func, place), Act::PutRead { value })
 }
 
-// A read looks at its item.
-fn item_query(alloc: Global, func: u16, table: u16, key: &Str) -> Result<Apart<Query>, AllocError>
-    ensures { IfOk result (λ q. q ≡ queries.Act (cell_key_of func table key.now) acts.Look) }
+// A read looks at this row of its item.
+fn item_query(
+    alloc: Global,
+    func: u16,
+    table: u16,
+    key: &Str,
+    row: u32,
+) -> Result<Apart<Query>, AllocError>
+    ensures { IfOk result (λ q. q ≡ queries.Act (at_row (cell_key_of func table key.now) row) acts.Look) }
 {
-    Query::look(alloc, cell_key(alloc, func, table, key)?)
+    Query::look(alloc, cell_key(alloc, func, table, key, row)?)
 }
 
 fn call_here(
@@ -211,8 +218,10 @@ pub fn stage_query(
     match (&begun.stage, begun.machine.wants()) {
         (Stage::Ask, _) => ask_query(alloc, id, func, step),
         (Stage::Keep { value, seen: _ }, _) => keep_query(alloc, id, func, step, value),
-        (Stage::Walk, Effect::Read { table, key }) => item_query(alloc, func, *table, key),
-        (Stage::Write(at), effect) => put_here(alloc, id, func, step, effect, *at),
+        (Stage::Walk(row), Effect::Read { table, key }) => {
+            item_query(alloc, func, *table, key, *row)
+        }
+        (Stage::Write(at), effect) => put_here(alloc, id, func, step, effect, at),
         (Stage::Tx(at), effect) => tx_here(alloc, id, func, step, effect, at, &begun.tx),
         (Stage::Decide(_), effect) => decide_here(alloc, id, func, effect, &begun.tx),
         (Stage::End(visit), effect) => end_here(
@@ -250,8 +259,8 @@ fn write_done(effect: &Effect, note: &Note, first: bool) -> Says
     }
 }
 
-/// What the stage of a run says of what it was told, when so many changes had been made; what the stage of an end has is moved. Out
-/// of memory, the error is the mark of its act.
+/// What the stage of a run says of what it was told, when so many changes had been made. What the stage of an end has is moved where
+/// the end goes on. Out of memory, the error is the mark of its act.
 pub fn hear(
     alloc: Global,
     id: &IntentId,
@@ -262,20 +271,29 @@ pub fn hear(
 ) -> Result<Says, Option<Mark>>
     ensures ok { IfOk result (λ s. s ≡ stage_says id.now func begun.old.caller begun.old.tx changes begun.old.machine.steps begun.old.machine.effect begun.old.stage (told_of heard.entry)) }
     ensures err { IfErr result (λ e. e ≡ mark_of (stage_says id.now func begun.old.caller begun.old.tx changes begun.old.machine.steps begun.old.machine.effect begun.old.stage (told_of heard.entry))) }
-    ensures left { begun.new ≡ at_stage begun.old (left_of begun.old.stage) }
+    ensures left { begun.new ≡ at_stage begun.old (left_of begun.old.stage result) }
 {
     let effect = begun.machine.wants();
     let step = begun.machine.steps();
     match &begun.stage {
         Stage::Ask => hear_ask(alloc, heard),
-        Stage::Walk => hear_walk(alloc, id, changes, heard),
+        Stage::Walk(_) => hear_walk(alloc, id, changes, heard),
         Stage::Keep { value, seen } => hear_keep(alloc, value, *seen, heard),
-        Stage::Write(_) => hear_write(alloc, effect, heard),
+        Stage::Write(at) => hear_write(alloc, effect, at, heard),
         Stage::Tx(at) => hear_tx(alloc, id, step, effect, at, &begun.tx, heard),
-        Stage::Decide(_) | Stage::End(_) => {
+        Stage::Decide(_) => {
             let stage = replace(&mut begun.stage, Stage::Close);
             let effect = begun.machine.wants();
-            hear_end(alloc, id, func, step, &begun.tx, effect, stage, heard)
+            hear_decide(alloc, &begun.tx, effect, stage, heard)
+        }
+        Stage::End(_) => {
+            let Begun {
+                machine,
+                tx,
+                stage,
+                ..
+            } = begun;
+            hear_end(alloc, id, func, step, tx, machine.wants(), stage, heard)
         }
         Stage::Call(at) => hear_call(alloc, id, &begun.tx, step, effect, *at, heard),
         Stage::Async(at) => hear_async(alloc, id, effect, *at, heard),
@@ -291,7 +309,7 @@ fn hear_ask(alloc: Global, heard: Heard<'_>) -> Result<Says, Option<Mark>>
 {
     match given_told(alloc, heard) {
         Err(_) => Err(None),
-        Ok(None) => Ok(Says::On(Stage::Walk, None)),
+        Ok(None) => Ok(Says::On(Stage::Walk(0), None)),
         Ok(Some(value)) => Ok(Says::Answers(Answer::Value(value), None)),
     }
 }
@@ -313,7 +331,8 @@ fn hear_walk(
     drop(who);
     match told {
         Err(_) => Err(None),
-        Ok(ReadGoes::On) => Ok(Says::On(Stage::Walk, None)),
+        Ok(ReadGoes::On(row)) => Ok(Says::On(Stage::Walk(row), None)),
+        Ok(ReadGoes::Stays) => Ok(Says::Stays),
         Ok(ReadGoes::Got(value)) => Ok(Says::On(
             Stage::Keep {
                 value: value.unwrap_or(Value::Null),
@@ -362,19 +381,26 @@ fn is_added(heard: &Heard<'_>) -> bool
 }
 
 // An act that lends made nothing, so it is out of memory only where there is no mark.
-fn hear_write(alloc: Global, effect: &Effect, heard: Heard<'_>) -> Result<Says, Option<Mark>>
-    ensures ok { IfOk result (λ s. s ≡ put_says effect.now (note_done_of effect.now) (told_of heard.entry)) }
-    ensures err { IfErr result (λ e. e ≡ mark_of (put_says effect.now (note_done_of effect.now) (told_of heard.entry))) }
+fn hear_write(
+    alloc: Global,
+    effect: &Effect,
+    at: &WriteAt,
+    heard: Heard<'_>,
+) -> Result<Says, Option<Mark>>
+    ensures ok { IfOk result (λ s. s ≡ put_says effect.now at.now (note_done_of effect.now) (told_of heard.entry)) }
+    ensures err { IfErr result (λ e. e ≡ mark_of (put_says effect.now at.now (note_done_of effect.now) (told_of heard.entry))) }
 {
     let Some(done) = note_done(effect) else {
         return Ok(Says::Ends(None, None));
     };
-    match write_told(alloc, done, heard) {
+    match write_told(alloc, done, at, heard) {
         Err(_) => Err(None),
         Ok(WriteGoes::On(at)) => Ok(Says::On(Stage::Write(at), None)),
+        Ok(WriteGoes::Stays) => Ok(Says::Stays),
         Ok(WriteGoes::Done { note, first }) => Ok(write_done(effect, &note, first)),
         Ok(WriteGoes::NotOwner) => Ok(Says::Ends(None, None)),
         Ok(WriteGoes::Held(owner)) => held(alloc, owner),
+        Ok(WriteGoes::Worn) => Ok(Says::Waits(Wait::Worn)),
     }
 }
 
@@ -481,10 +507,10 @@ pub fn first_stage(
     match effect {
         Effect::Read { .. } => Ok(Some(first_of(Stage::Ask, effect, tx))),
         Effect::Write { .. } | Effect::CondWrite { .. } => {
-            Ok(Some(first_of(Stage::Write(WriteAt::Try), effect, tx)))
+            Ok(Some(first_of(Stage::Write(WriteAt::Try(0)), effect, tx)))
         }
         Effect::Lock { .. } | Effect::Unlock { .. } => match tx {
-            None => Ok(Some(Stage::Write(WriteAt::Try))),
+            None => Ok(Some(Stage::Write(WriteAt::Try(0)))),
             Some(_) => Ok(None),
         },
         Effect::Call { .. } => Ok(first_call(id)),

@@ -1,10 +1,15 @@
 // The stages of an operation inside a transaction, and of its end: what they ask, and what they say of what they were told.
-ghost use Rattle.std.specs.Prelude.{◌≡◌, ℕ, IfOk, IfErr};
+ghost use Rattle.std.specs.Prelude.{◌≡◌, ℕ, None, Ok, IfOk, IfErr};
 ghost use Rattle.beldi_walk.specs.Query.{told_of};
 ghost use Rattle.beldi_txn.specs.Tx.{tx_asks, tx_goes};
 ghost use Rattle.beldi_txn.specs.End.{end_goes, decide_goes, first_visit, moved};
+ghost use Rattle.beldi_value.specs.declared.id.IntentId.{IntentId};
 ghost use Rattle.beldi_txn.specs.declared.end.EndGoes.TheVariants as ends;
-ghost use Rattle.beldi_step.specs.Run.{mark_of, place_of as place_at, own_tx as own_tx_of, tx_at as tx_at_of, tx_here_asks, end_here_asks, put_answer as put_answer_of, tx_says as tx_says_of, tx_here_says, visit_says as visit_says_of, decided_says, ending_says};
+ghost use Rattle.beldi_txn.specs.declared.end.Visit.{Visit};
+ghost use Rattle.beldi_step.specs.declared.run.Mark.{Mark};
+ghost use Rattle.beldi_step.specs.declared.run.Stage.TheVariants as stages;
+ghost use Rattle.beldi_step.specs.declared.run.Says.TheVariants as says;
+ghost use Rattle.beldi_step.specs.Run.{mark_of, place_of as place_at, own_tx as own_tx_of, tx_at as tx_at_of, tx_here_asks, end_here_asks, put_answer as put_answer_of, tx_says as tx_says_of, tx_here_says, visit_says as visit_says_of, decided_says, decide_here_says, end_here_says, end_left};
 
 use crate::stage::{look, mark_if, place_of};
 use beldi_lang::{Answer, Effect};
@@ -16,6 +21,7 @@ use beldi_txn::{
 use beldi_value::{Apart, IntentId, TxId, or_drop};
 use beldi_walk::{Heard, Query};
 use std::alloc::{AllocError, Global};
+use std::mem::replace;
 
 // A run's own transaction, which is open.
 fn own_tx(alloc: Global, id: &IntentId, func: u16, tx: &OpenTx) -> Result<TxId, AllocError>
@@ -171,6 +177,7 @@ fn tx_says(alloc: Global, at: &TxAt, goes: TxGoes) -> Result<Says, AllocError>
         TxGoes::Put => put_answer(alloc, at),
         TxGoes::Died(cause) => Ok(Says::Answers(Answer::Aborted(cause), None)),
         TxGoes::Held(owner) => Ok(Says::Waits(Wait::Held(Apart::new(alloc, owner)?))),
+        TxGoes::Worn => Ok(Says::Waits(Wait::Worn)),
         TxGoes::Value(value) => Ok(Says::Answers(Answer::Value(value), None)),
         TxGoes::Done => Ok(Says::Answers(Answer::Done, None)),
     }
@@ -186,31 +193,22 @@ fn put_answer(alloc: Global, at: &TxAt) -> Result<Says, AllocError>
     }
 }
 
-// What the stage of an end says of what it was told. Out of memory, it tells the mark of its act.
-pub(crate) fn hear_end(
+// What the decision of a transaction says of what it was told. Out of memory, it tells the mark of its act.
+pub(crate) fn hear_decide(
     alloc: Global,
-    id: &IntentId,
-    func: u16,
-    step: u32,
     tx: &Option<RunTx>,
     effect: &Effect,
     stage: Stage,
     heard: Heard<'_>,
 ) -> Result<Says, Option<Mark>>
-    ensures ok { IfOk result (λ s. s ≡ ending_says id.now func step tx.now effect.now stage (told_of heard.entry)) }
-    ensures err { IfErr result (λ e. e ≡ mark_of (ending_says id.now func step tx.now effect.now stage (told_of heard.entry))) }
+    ensures ok { (id : IntentId) (func step : ℕ) (m : Mark) → stage ≡ stages.Decide m → IfOk result (λ s. s ≡ decide_here_says id func step effect.now m tx.now (told_of heard.entry)) }
+    ensures err { (id : IntentId) (func step : ℕ) (m : Mark) → stage ≡ stages.Decide m → IfErr result (λ e. e ≡ mark_of (decide_here_says id func step effect.now m tx.now (told_of heard.entry))) }
 {
-    let (Effect::End { commit }, Some(RunTx::Own(tx))) = (effect, tx) else {
-        drop(stage);
-        return Ok(Says::Ends(None, None));
-    };
-    match stage {
-        Stage::Decide(mark) => decide(alloc, *commit, mark, heard),
-        Stage::End(visit) => match hear_visit(alloc, id, func, tx, step, *commit, visit, heard) {
-            Ok(says) => Ok(says),
-            Err(_) => Err(None),
-        },
-        stage => {
+    match (effect, tx, stage) {
+        (Effect::End { commit }, Some(RunTx::Own(_)), Stage::Decide(mark)) => {
+            decide(alloc, *commit, mark, heard)
+        }
+        (_, _, stage) => {
             drop(stage);
             Ok(Says::Ends(None, None))
         }
@@ -242,6 +240,31 @@ fn decided(alloc: Global, commit: bool, first: bool) -> Result<Apart<Visit>, All
     Apart::new(alloc, visit)
 }
 
+// What the visits of an end say of what they were told. Where it goes on, its visit is moved.
+pub(crate) fn hear_end(
+    alloc: Global,
+    id: &IntentId,
+    func: u16,
+    step: u32,
+    tx: &Option<RunTx>,
+    effect: &Effect,
+    stage: &mut Stage,
+    heard: Heard<'_>,
+) -> Result<Says, Option<Mark>>
+    ensures ok { (v : Visit) → stage.old ≡ stages.End v → IfOk result (λ s. s ≡ end_here_says id.now func step effect.now v tx.now (told_of heard.entry)) }
+    ensures err { (v : Visit) → IfErr result (λ e. e ≡ mark_of (end_here_says id.now func step effect.now v tx.now (told_of heard.entry))) }
+    ensures left { (v : Visit) → stage.old ≡ stages.End v → stage.new ≡ end_left v result }
+{
+    let (Effect::End { commit }, Some(RunTx::Own(tx)), Stage::End(visit)) = (effect, tx, &*stage)
+    else {
+        return Ok(Says::Ends(None, None));
+    };
+    match hear_visit(alloc, id, func, tx, step, *commit, visit.get(), heard) {
+        Ok(goes) => Ok(visited(*commit, stage, goes)),
+        Err(_) => Err(None),
+    }
+}
+
 fn hear_visit(
     alloc: Global,
     id: &IntentId,
@@ -249,30 +272,42 @@ fn hear_visit(
     tx: &OpenTx,
     step: u32,
     commit: bool,
-    visit: Apart<Visit>,
+    visit: &Visit,
     heard: Heard<'_>,
-) -> Result<Says, AllocError>
-    ensures { IfOk result (λ s. s ≡ visit_says_of commit visit (end_goes (own_tx_of id.now func tx.now) step commit visit.way visit.at (told_of heard.entry))) }
+) -> Result<EndGoes, AllocError>
+    ensures { IfOk result (λ g. g ≡ end_goes (own_tx_of id.now func tx.now) step commit visit.now.way visit.now.at (told_of heard.entry)) }
 {
     let who = own_tx(alloc, id, func, tx)?;
-    let goes = end_told(alloc, &who, step, commit, visit.get(), heard);
+    let goes = end_told(alloc, &who, step, commit, visit, heard);
     drop(who);
-    let goes = or_drop!(goes; visit);
-    Ok(visited(commit, visit, goes))
+    goes
 }
 
-fn visited(commit: bool, visit: Apart<Visit>, goes: EndGoes) -> Says
-    ensures { result ≡ visit_says_of commit visit goes }
+fn visited(commit: bool, stage: &mut Stage, goes: EndGoes) -> Says
+    ensures says { (v : Visit) → stage.old ≡ stages.End v → result ≡ visit_says_of commit v goes }
+    ensures left { (v : Visit) → stage.old ≡ stages.End v → stage.new ≡ end_left v (Ok result) }
 {
     match goes {
-        EndGoes::Done => {
-            drop(visit);
-            Says::Answers(Answer::Done, None)
-        }
-        goes => {
+        EndGoes::Done => Says::Answers(Answer::Done, None),
+        EndGoes::Worn => Says::Waits(Wait::Worn),
+        goes => go_on(commit, replace(stage, Stage::Close), goes),
+    }
+}
+
+// The visit goes on.
+fn go_on(commit: bool, stage: Stage, goes: EndGoes) -> Says
+    ensures { (v : Visit) → stage ≡ stages.End v → result ≡ says.On (stages.End (moved commit v goes)) None }
+{
+    match stage {
+        Stage::End(visit) => {
             let mut visit = visit;
             drop(visit.get_mut().go(commit, goes));
             Says::On(Stage::End(visit), None)
+        }
+        stage => {
+            drop(stage);
+            drop(goes);
+            Says::Ends(None, None)
         }
     }
 }

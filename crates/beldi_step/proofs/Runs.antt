@@ -28,6 +28,7 @@ same_ok h = cc
 abbrev pub starts_by : Option Wait → Bool → Bool
 starts_by None starts = starts
 starts_by (Some (Wait.Held o)) starts = false
+starts_by (Some Wait.Worn) starts = false
 starts_by (Some (Wait.Result i)) starts = true
 
 -- `P` of runs and their numbers; `T` of what a table tells to a query
@@ -100,6 +101,7 @@ module _ (P : ℕ → Run → Type 0) (T : Query → Told → Type 0) where
       followed : (w : Option Wait) → (starts_by w x.starts ≡ true → At (c.last_run + 1) o) → Goes c (after_turn c o id x w).0
       followed None new = either (λ (z : Core × Option ℕ). Goes c z.0) x.starts _ _ (λ t. may_begin (new t)) (λ t. stays)
       followed (Some (Wait.Held u)) new = stays
+      followed (Some Wait.Worn) new = stays
       followed (Some (Wait.Result j)) new = either (λ (z : Core × Seen). Goes c z.0) (has_run c.runs j) _ _ (λ t. stays) (λ t. either (λ (z : Core × Seen). Goes c z.0) (is_crowded c) _ _ (λ u. stays) (λ u. begun (new refl)))
 
   -- ---- by the event

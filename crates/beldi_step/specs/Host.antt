@@ -170,6 +170,7 @@ may_start c (Some r) = if has_run c.runs r.id || is_crowded c then (c, None) els
 abbrev pub after_turn : Core → Option Run → IntentId → TurnSays → Option Wait → Core × Seen
 after_turn c o id x None = made id x (if x.starts then may_start c o else (c, None))
 after_turn c o id x (Some (Wait.Held w)) = (c, Seen.Held w)
+after_turn c o id x (Some Wait.Worn) = (c, Seen.Worn)
 after_turn c o id x (Some (Wait.Result callee)) =
     if has_run c.runs callee then (c, Seen.NotYet callee) else
     if is_crowded c then (c, Seen.Crowded) else

@@ -3,7 +3,7 @@ use Rattle.std.specs.Prelude.{◌≡◌, ℕ, not, Bool, true, false, List, Opti
 use Rattle.beldi_value.specs.{Id.has_callees, Id.has_no_hops, Id.child_of, declared.id.IntentId.IntentId, declared.value.Value.Value, declared.outcome.Cause.Cause, declared.outcome.Outcome.Outcome, declared.place.Caller.Caller, declared.place.Place.Place, declared.place.TxId.TxId, declared.place.Owner.Owner}
 use Rattle.beldi_tree.specs.{declared.deployment.Deployment.Deployment, declared.deployment.Func.Func, Bindings.or_null, Names.func_at}
 use Rattle.beldi_lang.specs.{declared.effect.Effect.Effect, declared.effect.Answer.Answer, Callee.answer_of, declared.machine.Machine.Machine, Machine.begun as machine_begun, Machine.resumed}
-use Rattle.beldi_row.specs.{declared.act.Act.TheVariants.Look, declared.act.Act.TheVariants.PutRead, declared.row.Body.Body, Act.added, declared.notes.Note.Note, declared.notes.Note.TheVariants.Wrote, declared.notes.Note.TheVariants.Cond, declared.notes.Note.TheVariants.Got, declared.notes.Note.TheVariants.Died, declared.notes.Note.TheVariants.Freed}
+use Rattle.beldi_row.specs.{declared.act.Act.TheVariants.Look, declared.act.Act.TheVariants.PutRead, Key.at_row, declared.row.Body.Body, Act.added, declared.notes.Note.Note, declared.notes.Note.TheVariants.Wrote, declared.notes.Note.TheVariants.Cond, declared.notes.Note.TheVariants.Got, declared.notes.Note.TheVariants.Died, declared.notes.Note.TheVariants.Freed}
 use Rattle.beldi_walk.specs.{declared.query.Query.Query, declared.query.Query.TheVariants.Act, Query.Told, Query.said}
 use Rattle.beldi_daal.specs.{declared.cell.WriteAt.WriteAt, declared.cell.WriteAt.TheVariants.Try, declared.cell.WriteGoes.WriteGoes, declared.cell.ReadGoes.ReadGoes, declared.cell.CellOp.CellOp, Cell.cell_key, Cell.done_note, Cell.write_asks, Cell.write_goes, Cell.read_goes}
 use Rattle.beldi_readlog.specs.{declared.read_log.Kept.Kept, ReadLog.log_key, ReadLog.given_of, ReadLog.kept_of}
@@ -166,10 +166,10 @@ first_end id step commit (Some (Inherited x)) = None
 -- out, as a call is not whose callee has no id
 abbrev pub first_stage : IntentId → Option Caller → Option RunTx → ℕ → Effect → Option Stage
 first_stage id c o step (Effect.Read t k) = Some (first_of Ask (Effect.Read t k) o)
-first_stage id c o step (Effect.Write t k v) = Some (first_of (Write Try) (Effect.Write t k v) o)
-first_stage id c o step (Effect.CondWrite t k r u v) = Some (first_of (Write Try) (Effect.CondWrite t k r u v) o)
-first_stage id c o step (Effect.Lock t k) = first_outside (Some (Write Try)) o
-first_stage id c o step (Effect.Unlock t k) = first_outside (Some (Write Try)) o
+first_stage id c o step (Effect.Write t k v) = Some (first_of (Write (Try 0)) (Effect.Write t k v) o)
+first_stage id c o step (Effect.CondWrite t k r u v) = Some (first_of (Write (Try 0)) (Effect.CondWrite t k r u v) o)
+first_stage id c o step (Effect.Lock t k) = first_outside (Some (Write (Try 0))) o
+first_stage id c o step (Effect.Unlock t k) = first_outside (Some (Write (Try 0))) o
 first_stage id c o step (Effect.Call f a) = if has_callees id then Some (Call CallAt.Open) else None
 first_stage id c o step (Effect.Async f a) = first_outside (if has_callees id then Some (Async AsyncAt.Open) else None) o
 first_stage id c o step (Effect.End commit) = first_end id step commit o
@@ -177,9 +177,9 @@ first_stage id c o step (Effect.Return x) = Some (last_stage c)
 first_stage id c o step e = None
 
 -- ---- what is asked in the next turn. A stage of another effect, which does not come, looks at the intent's row.
-abbrev pub walk_asks : IntentId → ℕ → Effect → Query
-walk_asks id func (Effect.Read t k) = Act (cell_key func t k) Look
-walk_asks id func e = look_asks id func
+abbrev pub walk_asks : IntentId → ℕ → ℕ → Effect → Query
+walk_asks id func row (Effect.Read t k) = Act (at_row (cell_key func t k) row) Look
+walk_asks id func row e = look_asks id func
 
 abbrev pub put_asks : IntentId → ℕ → ℕ → WriteAt → Option OnCell → Query
 put_asks id func step at (Some o) = write_asks (cell_key func o.table o.key) (place_of id step) (Owner.Intent id) o.op at
@@ -227,7 +227,7 @@ close_asks id func o e = look_asks id func
 
 abbrev pub stage_asks : IntentId → ℕ → Option Caller → Option RunTx → ℕ → Effect → Stage → Query
 stage_asks id func c o step e Ask = Act (log_key func (place_of id step)) Look
-stage_asks id func c o step e Walk = walk_asks id func e
+stage_asks id func c o step e (Walk row) = walk_asks id func row e
 stage_asks id func c o step e (Keep v seen) = Act (log_key func (place_of id step)) (PutRead v)
 stage_asks id func c o step e (Write at) = put_asks id func step at (cell_op e)
 stage_asks id func c o step e (Tx at) = tx_here_asks id func step e at o
@@ -260,12 +260,13 @@ step_mark (Some o) first = None
 
 -- what was given to a read before is its answer
 abbrev pub ask_says : Option Value → Says
-ask_says None = On Walk None
+ask_says None = On (Walk 0) None
 ask_says (Some v) = Answers (Answer.Value v) None
 
 -- what a read found, when so many changes had been made. An item without a row is null.
 abbrev pub walk_says : ℕ → ReadGoes → Says
-walk_says changes ReadGoes.On = On Walk None
+walk_says changes (ReadGoes.On row) = On (Walk row) None
+walk_says changes ReadGoes.Stays = Stays
 walk_says changes (ReadGoes.Got v) = On (Keep (or_null v) changes) None
 walk_says changes (ReadGoes.Held o) = Waits (Wait.Held o)
 
@@ -281,13 +282,15 @@ done_says first None = Ends None None
 -- a run that is to give back what it does not own is over; no session comes to that
 abbrev pub write_says : Effect → WriteGoes → Says
 write_says e (WriteGoes.On at) = On (Write at) None
+write_says e WriteGoes.Stays = Stays
 write_says e (WriteGoes.Done n first) = done_says first (answer_noted e n)
 write_says e WriteGoes.NotOwner = Ends None None
 write_says e (WriteGoes.Held w) = Waits (Wait.Held w)
+write_says e WriteGoes.Worn = Waits Wait.Worn
 
-abbrev pub put_says : Effect → Option Note → Told → Says
-put_says e None t = Ends None None
-put_says e (Some n) t = write_says e (write_goes n t)
+abbrev pub put_says : Effect → WriteAt → Option Note → Told → Says
+put_says e at None t = Ends None None
+put_says e at (Some n) t = write_says e (write_goes n at t)
 
 -- what happens inside a transaction makes no entry. A value that was kept now is the answer.
 abbrev pub put_answer : TxAt → Says
@@ -300,6 +303,7 @@ tx_says a TxGoes.Stays = Stays
 tx_says a TxGoes.Put = put_answer a
 tx_says a (TxGoes.Died c) = Answers (Answer.Aborted c) None
 tx_says a (TxGoes.Held o) = Waits (Wait.Held o)
+tx_says a TxGoes.Worn = Waits Wait.Worn
 tx_says a (TxGoes.Value v) = Answers (Answer.Value v) None
 tx_says a TxGoes.Done = Answers Answer.Done None
 
@@ -315,6 +319,7 @@ decided_says commit m g = On (Decide m) None
 -- the end is answered when all items were given back
 abbrev pub visit_says : Bool → Visit → EndGoes → Says
 visit_says commit v EndGoes.Done = Answers Answer.Done None
+visit_says commit v EndGoes.Worn = Waits Wait.Worn
 visit_says commit v g = On (End (moved commit v g)) None
 
 abbrev pub decide_by_says : IntentId → ℕ → ℕ → Bool → Mark → Option RunTx → Told → Says
@@ -376,9 +381,9 @@ close_says id c e b = Ends None None
 -- `changes` is how many changes had been made
 abbrev pub stage_says : IntentId → ℕ → Option Caller → Option RunTx → ℕ → ℕ → Effect → Stage → Told → Says
 stage_says id func c o changes step e Ask t = ask_says (given_of t)
-stage_says id func c o changes step e Walk t = walk_says changes (read_goes (Some (Owner.Intent id)) t)
+stage_says id func c o changes step e (Walk row) t = walk_says changes (read_goes (Some (Owner.Intent id)) t)
 stage_says id func c o changes step e (Keep v seen) t = keep_says seen (kept_of v t)
-stage_says id func c o changes step e (Write at) t = put_says e (note_done e) t
+stage_says id func c o changes step e (Write at) t = put_says e at (note_done e) t
 stage_says id func c o changes step e (Tx at) t = tx_here_says id step e at o t
 stage_says id func c o changes step e (Decide m) t = decide_here_says id func step e m o t
 stage_says id func c o changes step e (End v) t = end_here_says id func step e v o t
@@ -496,16 +501,15 @@ body_found func at t = body_told func t
 abbrev pub plain_says : Option Mark → Bool → TurnSays
 plain_says m b = record { mark = m; over = b; starts = false; wait = None; reply = None }
 
--- the stage that is left by the end of a transaction, as what its stage has is moved; and what it says
-abbrev pub left_of : Stage → Stage
-left_of (Decide m) = Close
-left_of (End v) = Close
-left_of s = s
+-- the stage that is left by the end of a transaction, as what its stage has is moved: that of its visits, where they go on
+abbrev pub end_left : Visit → Result Says (Option Mark) → Stage
+end_left v (Ok (On s m)) = Close
+end_left v x = End v
 
-abbrev pub ending_says : IntentId → ℕ → ℕ → Option RunTx → Effect → Stage → Told → Says
-ending_says id func step o e (Decide m) t = decide_here_says id func step e m o t
-ending_says id func step o e (End v) t = end_here_says id func step e v o t
-ending_says id func step o e s t = Ends None None
+abbrev pub left_of : Stage → Result Says (Option Mark) → Stage
+left_of (Decide m) x = Close
+left_of (End v) x = end_left v x
+left_of s x = s
 
 -- an answer, with the run as it is after it
 abbrev pub followed : Run → TurnSays → Turned

@@ -70,8 +70,8 @@ pub enum Seen {
         live: u32,
         room: u32,
     },
-    /// The write asks for a row of its item past the greatest. It comes only where the rows of an item are linked: no act
-    /// says so yet.
+    /// The last row of the item, or of a transaction's own copy of it, that the run is at is full, and has the greatest number of a
+    /// row, 4,294,967,295, so that none can follow it: the run waits, and all is as before.
     Worn,
     /// 1,024 runs are live, and the event is a request or a restart, or has nothing to do but start a run: the turn of a run
     /// that waits for a callee without a live run, or the intent collector's at an intent that has none. All is as before.

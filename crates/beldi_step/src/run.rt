@@ -75,8 +75,8 @@ pub struct OpenTx {
 pub enum Stage {
     /// A read asks whether a value was kept for it.
     Ask,
-    /// A read looks at its item.
-    Walk,
+    /// A read looks at this row of its item.
+    Walk(u32),
     /// A read keeps the value that was found when `seen` changes had been made.
     Keep { value: Value, seen: u64 },
     /// An operation on an item stands here.
@@ -140,6 +140,8 @@ pub enum Wait {
     Held(Apart<Owner>),
     /// The call has no result yet; its callee has this id.
     Result(Apart<IntentId>),
+    /// No row can follow the last one of an item, which is full.
+    Worn,
 }
 
 /// What a stage says of what it was told.

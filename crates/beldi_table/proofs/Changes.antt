@@ -1,8 +1,8 @@
 -- A change of one row, over the rows as a map.
 use Rattle.std.specs.FinMap as map
 use Rattle.std.specs.{BTreeMap.BTreeMap, BTreeMap.get, BTreeMap.is_at}
-use Rattle.std.proofs.Common.{◌≡◌, ℕ, ◌<◌, Bool, true, false, cond, not, ◌&&◌, Option, None, Some, Ok, Err, refl, subst, ap, sym, ◌∙◌, is_some, IsTrue}
-use Rattle.beldi_row.{specs.KeyOrder.key_total, specs.KeyOrder.key_exact, specs.Key.key_cmp, specs.Act.Changes, specs.Act.on, specs.Act.off, specs.Act.act, specs.Act.said_by, specs.Act.stays, specs.Act.here_tell, specs.Table.Rows, specs.Table.adds, specs.Table.set_row, specs.Key.RowKey, specs.declared.row.Row.Row, specs.declared.act.Act.Act, specs.declared.act.Act.TheVariants.Look, specs.declared.act.Change.Change, specs.declared.table.TableErr.TableErr, specs.declared.table.TableErr.TheVariants.OutOfMemory, proofs.Rows.get_rows, proofs.Rows.one_set, proofs.Rows.get_set, proofs.Rows.same_set, proofs.Rows.none_removed, proofs.Unchanged.looked}
+use Rattle.std.proofs.Common.{◌≡◌, ℕ, ◌<◌, Bool, true, false, cond, not, ◌&&◌, Option, None, Some, Ok, refl, subst, ap, sym, ◌∙◌, is_some, IsTrue}
+use Rattle.beldi_row.{specs.KeyOrder.key_total, specs.KeyOrder.key_exact, specs.Key.key_cmp, specs.Act.Changes, specs.Act.on, specs.Act.off, specs.Act.act, specs.Act.said_by, specs.Act.stays, specs.Act.here_tell, specs.Table.Rows, specs.Table.adds, specs.Table.set_row, specs.Key.RowKey, specs.declared.row.Row.Row, specs.declared.act.Act.Act, specs.declared.act.Act.TheVariants.Look, specs.declared.act.Change.Change, proofs.Rows.get_rows, proofs.Rows.one_set, proofs.Rows.get_set, proofs.Rows.same_set, proofs.Rows.none_removed, proofs.Unchanged.looked}
 use Rattle.beldi_table.specs.MapTable.{ChangedOn}
 
 pub not_both : (b : Bool) → IsTrue b → b ≡ false → ⊥
@@ -33,22 +33,17 @@ one_added a now k room m n s c here some tells is fits = (
   λ h. fits,
 )
 
--- the row is there, and nothing changed
-unchanged : (k : RowKey) (m n : Rows) (r s : Row) → map.get m k ≡ Some r → n ≡ map.insert m k s → s ≡ r → n ≡ m
-unchanged k m n r s here is same = is ∙ ap (map.insert m k) same ∙ same_set key_total key_exact m k r here
-
--- both, over the maps of the code
+-- over the maps of the code
 pub applied : (a : Act) (now : ℕ) (k : RowKey) (room : ℕ) (m n : BTreeMap RowKey Row) (r s : Row) (c : Change) → get key_cmp m k ≡ Some r → ((q : RowKey) → get key_cmp n q ≡ cond (is_at (key_cmp k) q) (Some s) (get key_cmp m q))
-    → Changes a now r s (Ok c) → ChangedOn a now k room (map.from_entries m.entries) (map.from_entries n.entries) (map.get {R = key_cmp} (map.from_entries n.entries) k) (Ok c)
+    → Changes a now r s c → ChangedOn a now k room (map.from_entries m.entries) (map.from_entries n.entries) (map.get {R = key_cmp} (map.from_entries n.entries) k) (Ok c)
 applied a now k room m n r s c here rows done =
     there a now k room (map.from_entries m.entries) (map.from_entries n.entries) r s c (get_rows key_total key_exact m.entries k ∙ here) (one_set key_total key_exact m.entries n.entries k s rows) done
 
-pub unapplied : (a : Act) (now : ℕ) (k : RowKey) (m n : BTreeMap RowKey Row) (r s : Row) (e : TableErr) → get key_cmp m k ≡ Some r → ((q : RowKey) → get key_cmp n q ≡ cond (is_at (key_cmp k) q) (Some s) (get key_cmp m q))
-    → Changes a now r s (Err e) → (map.from_entries {R = key_cmp} n.entries ≡ map.from_entries m.entries) × (e ≡ OutOfMemory)
-unapplied a now k m n r s e here rows done = (
-  unchanged k (map.from_entries m.entries) (map.from_entries n.entries) r s (get_rows key_total key_exact m.entries k ∙ here) (one_set key_total key_exact m.entries n.entries k s rows) done.0,
-  done.1,
-)
+-- the row is there, and is set to what it was
+pub unapplied : (k : RowKey) (m n : BTreeMap RowKey Row) (r : Row) → get key_cmp m k ≡ Some r → ((q : RowKey) → get key_cmp n q ≡ cond (is_at (key_cmp k) q) (Some r) (get key_cmp m q))
+    → map.from_entries {R = key_cmp} n.entries ≡ map.from_entries m.entries
+unapplied k m n r here rows =
+    one_set key_total key_exact m.entries n.entries k r rows ∙ same_set key_total key_exact (map.from_entries m.entries) k r (get_rows key_total key_exact m.entries k ∙ here)
 
 -- one would be added
 pub would_add : (a : Act) (now : ℕ) (k : RowKey) (m : Rows) (s : Row) → map.get m k ≡ None → (off a now).0 ≡ Some s → IsTrue (adds a now k m)

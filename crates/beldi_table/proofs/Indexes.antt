@@ -2,8 +2,8 @@
 use Rattle.std.specs.{BTreeMap.BTreeMap, BTreeMap.get, BTreeMap.is_at, BTreeSet.BTreeSet, BTreeMap.Range.IsLeBy, BTreeSet.contains, BTreeSet.IsKeyRangeOf, BTreeSet.IsKeyInRange, declared.cmp.Ordering.TheVariants.Less, Map.lookup, Cmp.Equal-is, Ordering.is_gt, Ordering.ordering_reverse, declared.ops.Bound.TheVariants.Excluded, declared.ops.Bound.TheVariants.Unbounded}
 use Rattle.std.specs.Prelude.{IfSome, slice_get}
 use Rattle.std.specs.FinMap as map
-use Rattle.std.proofs.Common.{◌≡◌, ℕ, Bool, true, false, not, ◌&&◌, ◌||◌, cond, List, [], ◌∷◌, Option, Some, None, Result, Ok, Err, is_some, IsTrue, refl, subst, ap, sym, ◌∙◌}
-use Rattle.beldi_row.specs.{Key.RowKey, Key.key_cmp, KeyOrder.key_exact, KeyOrder.key_total, Table.is_open, Table.NoneOpen, Table.NoneOpenTo, Act.on, Act.on_cell, Act.on_invoke, Act.end_with, Act.stamp_with, Act.Tell, Act.Changes, declared.key.Kind.Kind, declared.row.Row.Row, declared.row.Cell.Cell, declared.row.IntentRow.IntentRow, declared.row.InvokeRow.InvokeRow, declared.act.Act.Act, declared.act.Change.Change, declared.table.TableErr.TableErr}
+use Rattle.std.proofs.Common.{◌≡◌, ℕ, Bool, true, false, not, ◌&&◌, ◌||◌, cond, List, [], ◌∷◌, Option, Some, None, is_some, IsTrue, refl, subst, ap, sym, ◌∙◌}
+use Rattle.beldi_row.specs.{Key.RowKey, Key.key_cmp, KeyOrder.key_exact, KeyOrder.key_total, Table.is_open, Table.NoneOpen, Table.NoneOpenTo, Act.on, Act.on_cell, Act.on_invoke, Act.end_with, Act.stamp_with, Act.Tell, Act.Changes, declared.key.Kind.Kind, declared.row.Row.Row, declared.row.Cell.Cell, declared.row.IntentRow.IntentRow, declared.row.InvokeRow.InvokeRow, declared.act.Act.Act, declared.act.Change.Change}
 use Rattle.beldi_value.specs.declared.outcome.Outcome.{Outcome}
 use Rattle.beldi_row.proofs.Rows.{get_rows}
 use Rattle.beldi_table.specs.Opened.{opened, Indexed, binds, switches, Sets}
@@ -57,13 +57,8 @@ opens (Act.WriteCell p w v) now k r = sym (in_cell k _ _ r)
 opens (Act.CondCell p w l o v) now k r = sym (in_cell k _ _ r)
 opens (Act.LockCell p w s) now k r = sym (in_cell k _ _ r)
 opens (Act.FreeCell p w v) now k r = sym (in_cell k _ _ r)
+opens (Act.LinkCell n) now k r = sym (in_cell k _ _ r)
 opens a now k r = refl
-
-unopened : (a : Act) (o : Bool) → (not (switches a) || o) && (binds a || o) ≡ o
-unopened (Act.Bind f v) o = and_true o
-unopened (Act.End p s) o = and_self o
-unopened Act.Stamp o = and_self o
-unopened a o = refl
 
 -- ---- what becomes of the keys
 is_it : (k q : RowKey) → is_at (key_cmp k) q ≡ true → k ≡ q
@@ -94,11 +89,10 @@ in_turn k f g s t u h i q =
     ]) (h q)
 
 -- ---- a row that was changed
-followed : (a : Act) (now : ℕ) (k : Kind) (r s : Row) (c : Result Change TableErr) → Changes a now r s c → (not (switches a) || is_open k s) && (binds a || is_open k r) ≡ is_open k s
-followed a now k r s (Ok c) h = subst (λ x. (not (switches a) || is_open k x) && (binds a || is_open k r) ≡ is_open k x) (sym (ap (λ p. p.0) h)) (opens a now k r)
-followed a now k r s (Err e) h = subst (λ x. (not (switches a) || is_open k s) && (binds a || is_open k x) ≡ is_open k s) h.0 (unopened a (is_open k s))
+followed : (a : Act) (now : ℕ) (k : Kind) (r s : Row) (c : Change) → Changes a now r s c → (not (switches a) || is_open k s) && (binds a || is_open k r) ≡ is_open k s
+followed a now k r s c h = subst (λ x. (not (switches a) || is_open k x) && (binds a || is_open k r) ≡ is_open k x) (sym (ap (λ p. p.0) h)) (opens a now k r)
 
-pub row_there : (a : Act) (now : ℕ) (k : RowKey) (r v : Row) (c : Result Change TableErr) (w z : Bool) (m n : BTreeMap RowKey Row) (s t u : BTreeSet RowKey) → w ≡ binds a → z ≡ switches a → Changes a now r v c → get key_cmp m k ≡ Some r
+pub row_there : (a : Act) (now : ℕ) (k : RowKey) (r v : Row) (c : Change) (w z : Bool) (m n : BTreeMap RowKey Row) (s t u : BTreeSet RowKey) → w ≡ binds a → z ≡ switches a → Changes a now r v c → get key_cmp m k ≡ Some r
     → Indexed m s → ((q : RowKey) → get key_cmp n q ≡ cond (is_at (key_cmp k) q) (Some v) (get key_cmp m q)) → Sets k (λ b. w || b) s t → Sets k (λ b. (not z || is_open k.kind v) && b) t u → Indexed n u
 row_there a now k r v c w z m n s t u may switched done here h rows put took =
     indexes k (Some v) (λ b. (not z || is_open k.kind v) && (w || b)) m n s u h rows (in_turn k (λ b. w || b) (λ b. (not z || is_open k.kind v) && b) s t u put took)

@@ -86,12 +86,9 @@ impl MapTable {
                     drop(act);
                     return Err(TableErr::OutOfMemory);
                 }
-                let applied = apply(row, act, now);
+                let change = apply(row, act, now);
                 follow(&mut self.open_keys, key, row, switched);
-                match applied {
-                    Ok(change) => Ok(Tried::Done(change)),
-                    Err(why) => Err(why),
-                }
+                Ok(Tried::Done(change))
             }
             None => Ok(Tried::Absent(act)),
         }
@@ -108,7 +105,8 @@ impl MapTable {
             | Change::Kept
             | Change::Noted(_)
             | Change::Held
-            | Change::Died => self.rows.get(key),
+            | Change::Died
+            | Change::Packed => self.rows.get(key),
             _ => None,
         }
     }

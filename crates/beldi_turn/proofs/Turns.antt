@@ -9,7 +9,7 @@ use Rattle.beldi_row.specs.declared.row.Body.{Body}
 use Rattle.beldi_walk.specs.Query.{Told}
 use Rattle.beldi_txn.specs.declared.end.{EndGoes.EndGoes, Visit.Visit}
 use Rattle.beldi_step.specs.declared.run.Says.TheVariants.{On, Stays, Opens, Starts, Waits, Answers, Ends}
-use Rattle.beldi_step.specs.Run.{Turns, within, run_told, told_at, turned_by, stage_says, decided_says, visit_says, decide_here_says, end_here_says, left_of, at_stage, mark_of, followed, plain_says, takes, at_state, goes_to, goes_from, begin_in, body_found}
+use Rattle.beldi_step.specs.Run.{Turns, within, run_told, told_at, turned_by, stage_says, decided_says, decide_here_says, end_here_says, end_left, left_of, at_stage, mark_of, followed, plain_says, takes, at_state, goes_to, goes_from, begin_in, body_found}
 use Rattle.beldi_step.specs.declared.run.{Mark.Mark, RunTx.RunTx, RunTx.TheVariants.Own, Run.Run, RunAt.RunAt, RunAt.TheVariants.Begins, Begun.Begun, Says.Says, Stage.Stage, Stage.TheVariants.Decide, Stage.TheVariants.End, Stage.TheVariants.Close, TurnSays.TurnSays}
 
 -- out of memory, the mark of its act is told
@@ -39,7 +39,7 @@ same_begun : (at : RunAt) (h g : Begun) → at ≡ Begins h → at ≡ Begins g 
 same_begun at h g this that = ap (begun_in h) (sym this ∙ that)
 
 -- ---- the end of a transaction
--- it looks at its stage no more, as it neither waits nor stays
+-- its decision looks at its stage no more, as it neither waits nor stays
 abbrev leaves_stage : Says → Bool
 leaves_stage Stays = false
 leaves_stage (Waits w) = false
@@ -49,17 +49,9 @@ decided_leaves : (commit : Bool) (m : Mark) (g : EndGoes) → leaves_stage (deci
 decided_leaves commit m (EndGoes.Decided first) = refl
 decided_leaves commit m g = refl
 
-visit_leaves : (commit : Bool) (v : Visit) (g : EndGoes) → leaves_stage (visit_says commit v g) ≡ true
-visit_leaves commit v EndGoes.Done = refl
-visit_leaves commit v g = refl
-
 decide_leaves : (id : IntentId) (func step : ℕ) (e : Effect) (m : Mark) (o : Option RunTx) (t : Told) → leaves_stage (decide_here_says id func step e m o t) ≡ true
 decide_leaves id func step (Effect.End commit) m (Some (Own o)) t = decided_leaves commit m _
 decide_leaves id func step e m o t = refl
-
-end_leaves : (id : IntentId) (func step : ℕ) (e : Effect) (v : Visit) (o : Option RunTx) (t : Told) → leaves_stage (end_here_says id func step e v o t) ≡ true
-end_leaves id func step (Effect.End commit) v (Some (Own o)) t = visit_leaves commit v _
-end_leaves id func step e v o t = refl
 
 -- so it turns alike from any stage
 left_so : (d : Deployment) (r : Run) (g : Begun) (s : Stage) (x : Says) → leaves_stage x ≡ true → turned_by d (record r { at = Begins (at_stage g s) }) (at_stage g s) x ≡ turned_by d r g x
@@ -71,19 +63,32 @@ left_so d r g s (Waits w) is = cc
 left_so d r g s (Answers a m) is = refl
 left_so d r g s (Ends m o) is = refl
 
+-- a visit is moved only where it goes on from another stage
+visit_so : (d : Deployment) (r : Run) (g : Begun) (v : Visit) (x : Says) → let s = end_left v (Ok x) in turned_by d (record r { at = Begins (at_stage g s) }) (at_stage g s) x ≡ turned_by d (record r { at = Begins (at_stage g (End v)) }) (at_stage g (End v)) x
+visit_so d r g v (On w m) = refl
+visit_so d r g v Stays = refl
+visit_so d r g v (Opens m) = refl
+visit_so d r g v (Starts a) = refl
+visit_so d r g v (Waits w) = refl
+visit_so d r g v (Answers a m) = refl
+visit_so d r g v (Ends m o) = refl
+
 turned_so : (d : Deployment) (r : Run) (g : Begun) (changes : ℕ) (t : Told) (s : Stage) →
     let x : Says = stage_says r.id r.func g.caller g.tx changes g.machine.steps g.machine.effect s t in
-    turned_by d (record r { at = Begins (at_stage g (left_of s)) }) (at_stage g (left_of s)) x ≡ turned_by d (record r { at = Begins (at_stage g s) }) (at_stage g s) x
+    let w : Stage = left_of s (Ok x) in
+    turned_by d (record r { at = Begins (at_stage g w) }) (at_stage g w) x ≡ turned_by d (record r { at = Begins (at_stage g s) }) (at_stage g s) x
 turned_so d r g changes t (Decide m) = left_so d (record r { at = Begins (at_stage g (Decide m)) }) (at_stage g (Decide m)) Close (decide_here_says r.id r.func g.machine.steps g.machine.effect m g.tx t) (decide_leaves r.id r.func g.machine.steps g.machine.effect m g.tx t)
-turned_so d r g changes t (End v) = left_so d (record r { at = Begins (at_stage g (End v)) }) (at_stage g (End v)) Close (end_here_says r.id r.func g.machine.steps g.machine.effect v g.tx t) (end_leaves r.id r.func g.machine.steps g.machine.effect v g.tx t)
+turned_so d r g changes t (End v) = visit_so d r g v (end_here_says r.id r.func g.machine.steps g.machine.effect v g.tx t)
 turned_so d r g changes t s = refl
 
 pub told_so : (d : Deployment) (changes : ℕ) (r s : Run) (g h : Begun) (x : Says) (t : Told) (y : Result TurnSays (Option Mark)) → r.at ≡ Begins g
-    → x ≡ stage_says r.id r.func g.caller g.tx changes g.machine.steps g.machine.effect g.stage t → h ≡ at_stage g (left_of g.stage) → Turns s y (turned_by d (record r { at = Begins h }) h x) → Turns s y (run_told d changes r t)
+    → x ≡ stage_says r.id r.func g.caller g.tx changes g.machine.steps g.machine.effect g.stage t → h ≡ at_stage g (left_of g.stage (Ok x)) → Turns s y (turned_by d (record r { at = Begins h }) h x) → Turns s y (run_told d changes r t)
 told_so d changes r s g h x t y at says left turns =
     let z : Says = stage_says r.id r.func g.caller g.tx changes g.machine.steps g.machine.effect g.stage t in
-    let here : Turns s y (turned_by d (record r { at = Begins (at_stage g (left_of g.stage)) }) (at_stage g (left_of g.stage)) z) =
-    subst (λ q. Turns s y (turned_by d (record r { at = Begins q }) q z)) left (subst (λ w. Turns s y (turned_by d (record r { at = Begins h }) h w)) says turns) in
+    let w : Stage = left_of g.stage (Ok z) in
+    let stands : h ≡ at_stage g w = subst (λ (q : Says). h ≡ at_stage g (left_of g.stage (Ok q))) says left in
+    let here : Turns s y (turned_by d (record r { at = Begins (at_stage g w) }) (at_stage g w) z) =
+    subst (λ q. Turns s y (turned_by d (record r { at = Begins q }) q z)) stands (subst (λ q. Turns s y (turned_by d (record r { at = Begins h }) h q)) says turns) in
     let there : Turns s y (turned_by d (record r { at = Begins g }) g z) = subst (Turns s y) (turned_so d r g changes t g.stage) here in
     subst (λ o. Turns s y (told_at d changes (record r { at = o }) o t)) (sym at) there
 

@@ -3,7 +3,7 @@ use Rattle.std.specs.Prelude.{is_some}
 use Rattle.beldi_value.specs.declared.place.Place.{Place}
 use Rattle.beldi_txn.specs.Visited.{Decides, OtherWalksLeave}
 use Rattle.beldi_txn.specs.declared.end.EndAt.TheVariants.{Shadow}
-use Rattle.beldi_txn.proofs.Names.{Callees, ChangedAlone, Decide, EndAt, EndSays, EndWalk, Free, Frees, IsDecided, Leaves, LeftAt, List, Member, Next, None, Option, Row, RowKey, Rows, Some, Stamp, Value, Visit, Visited, ap, aside_row, call_key, chain, chain_other, content, decision_row, false, free_place, inl, inr, intent_key, is_closed, is_own, item_in, item_row, key_asked, lock_row, rank_of, row_closed, shadow_value, subst, sym, tail, true, visited_by, walk_asks, ℕ, ◌∙◌, ◌≡◌, ◌∷◌, Called, CellOp, Owner, Stamps, owner_of, item_head}
+use Rattle.beldi_txn.proofs.Names.{AllGrow, Callees, ChangedAlone, Decide, EndAt, EndSays, EndWalk, Free, Frees, IsDecided, Leaves, LeftAt, List, Member, Next, None, Option, Row, RowKey, Rows, RowsStay, Some, Stamp, Value, Visit, Visited, ap, aside_row, call_key, chain, chain_other, content, decision_row, false, free_place, head_asked, inl, inr, intent_key, is_closed, is_own, item_in, item_row, lock_row, rank_of, refl, row_closed, shadow_value, subst, sym, tail, true, visited_by, walk_asks, ℕ, ◌∙◌, ◌≡◌, ◌∷◌, Called, CellOp, Owner, Stamps, owner_of, item_head}
 use Rattle.beldi_txn.proofs.{TxTurn.asked, TxTurn.aside_kept, TxTurn.item_kept, TxTurn.other_kind, Visited.by_key, Visited.call_kept, Visited.closed_by, Visited.way_kept, Locks.Item}
 use Rattle.beldi_txn.proofs.Names.map
 
@@ -93,18 +93,20 @@ module _ (w : EndWalk) (cs : List Called) (af : Option ℕ) (u : Option Value) (
   abbrev at : EndAt → Option Item → EndWalk
   at a i = record w { visit = record { way = cs; after = af; item = i; value = u; at = a } }
 
-  left : (a : EndAt) (i : Option Item) → ChangedAlone (key_asked (walk_asks (at a i))) m n → LeftAt a (at a i) i s m n → Keeps w m n
+  left : (a : EndAt) (i : Option Item) → ChangedAlone (head_asked (walk_asks (at a i))) m n → LeftAt a (at a i) i s m n → Keeps w m n
   left Decide i others h = decided w m n s others h
   left Callees i others h = still w m n h
   left Next i others h = still w m n h
-  left Shadow i others h = still w m n h
+  left (Shadow r) i others h = still w m n h
   left (Free f) None others h = still w m n h
-  left (Free f) (Some i) others h = freed w m n (visited_by w.tx cs).1 i (free_place w.tx w.end cs) u (subst (λ k. ChangedAlone k m n) (asked (item_row (visited_by w.tx cs).1 i) (free_place w.tx w.end cs) (Owner.Tx w.tx) (CellOp.Free u) f) others) h
+  left (Free f) (Some i) others h = freed w m n (visited_by w.tx cs).1 i (free_place w.tx w.end cs) u (subst (λ k. ChangedAlone k m n) (asked (item_row (visited_by w.tx cs).1 i) (λ r. refl) refl (free_place w.tx w.end cs) (Owner.Tx w.tx) (CellOp.Free u) f) others) h
   left Stamp i others h = stamped w m n (visited_by w.tx cs) others h
 
 -- what a turn keeps, and what is so after it, is all that an end bears
-borne : (w : EndWalk) (v : Visit) (m n : Rows) → Keeps w m n → Visited (record w { visit = v }) n → Leaves w m n
-borne w v m n k after = record {
+borne : (w : EndWalk) (v : Visit) (m n : Rows) → RowsStay m n → AllGrow m n → Keeps w m n → Visited (record w { visit = v }) n → Leaves w m n
+borne w v m n stay grows k after = record {
+  stay = stay;
+  grows = grows;
   decision = k.decision;
   asides = λ f q. ap (λ c. shadow_value (tail c)) (k.asides f q);
   way = λ h. (h.0, way_kept m n k.calls (owner_of w) w.visit.way h.1);
@@ -114,8 +116,8 @@ borne w v m n k after = record {
   items = k.items;
   released = after.released;
   marks = after.marked;
-  sound = after.sound;
+  linked = after.linked;
 }
 
 pub other_walks_leave : OtherWalksLeave
-other_walks_leave w x v m n s h = borne w x.visit m n (left w v.way v.after v.value m n s v.at v.item h.others h.left) (subst (λ y. Visited y n) h.same h.visited)
+other_walks_leave w x v m n s h = borne w x.visit m n h.stay h.grows (left w v.way v.after v.value m n s v.at v.item h.others h.left) (subst (λ y. Visited y n) h.same h.visited)

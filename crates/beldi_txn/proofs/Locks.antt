@@ -1,5 +1,5 @@
 -- The rows of the locks that an intent asked for in a transaction, in the order of their items.
-use Rattle.beldi_txn.proofs.Names.{Greater, IntentId, IsFirstFrom, IsNext, Kind, Less, List, None, Option, Ordering, Row, RowKey, Rows, Some, [], ap, between, by_parts, eq-eqb, eqb-true, false, id_cmp, id_eq, id_exact, id_same, id_self, id_total, if◌then◌else◌, irreflexive, item_after, item_of, items, key_cmp, key_exact, key_total, lockset_key, nat_cmp, nat_cmp_total, no_item, ordering_reverse, ordering_then, parts, refl, rest, sym, tied_itself, true, ℕ, ◌&&◌, ◌==◌, ◌∙◌, ◌≡◌}
+use Rattle.beldi_txn.proofs.Names.{Greater, IntentId, IsFirstFrom, IsNext, Kind, Less, List, None, Option, Ordering, Row, RowKey, Rows, Some, [], ap, between, by_parts, eq-eqb, eqb-true, false, id_cmp, id_eq, id_exact, id_same, id_self, id_total, if◌then◌else◌, irreflexive, is_some, item_after, item_of, items, key_cmp, key_exact, key_total, lockset_key, nat_cmp, nat_cmp_total, no_item, ordering_reverse, ordering_then, parts, refl, rest, sym, tied_itself, true, ℕ, ◌&&◌, ◌==◌, ◌∙◌, ◌≡◌}
 use Rattle.beldi_txn.proofs.Calls.{by_order, both}
 use Rattle.beldi_txn.proofs.Names.map
 
@@ -53,6 +53,11 @@ module _ (home : ℕ) (id : IntentId) (begin : ℕ) where
     where
       other : (room : ℕ) (s : Ordering) → ordering_then (nat_cmp home room) Greater ≡ Less → ordering_then (nat_cmp room home) s ≡ Less → (j : Item) × (record { home = room; kind = kind } ≡ ls j)
       other room s h g = between home room home Greater s (irreflexive home) h g ((j : Item) × (record { home = room; kind = kind } ≡ ls j)) (λ e f r z. let clash : Greater ≡ Less = r in cc)
+
+-- the row of an item that is told is there
+pub item_told : (home : ℕ) (id : IntentId) (begin : ℕ) (m : Rows) (k : RowKey) (j : Item) (e : Option (RowKey × Row)) → IsNext m k e → item_after home id begin e ≡ Some j → is_some (map.get m (lockset_key home id begin j.0 j.1)) ≡ true
+item_told home id begin m k j None next is = cc
+item_told home id begin m k j (Some e) next is = ap (λ z. is_some (map.get m z)) (sym (is_item home id begin e.0.home e.0.kind j is)) ∙ ap is_some next.1
 
 -- what the next row says of all rows of the transaction's locks
 module _ (home : ℕ) (id : IntentId) (begin : ℕ) (m : Rows) where

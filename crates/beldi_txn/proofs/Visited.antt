@@ -1,6 +1,6 @@
 -- The end of a transaction visits all who took part, and passes all rows of their locks, one after another.
-use Rattle.beldi_txn.{specs.declared.end.EndAt.TheVariants.Shadow, proofs.TxTurn.others_set, proofs.TxTurn.here_set, proofs.TxTurn.shadow_told, proofs.TxTurn.other_kind, proofs.TxTurn.item_kept, proofs.TxTurn.aside_kept, proofs.TxTurn.asked, proofs.Calls.by_order, proofs.Calls.next_call, proofs.Calls.first_call, proofs.Locks.Item, proofs.Locks.item_at, proofs.Locks.none_past, proofs.Locks.none_first, proofs.Locks.none_between, proofs.Locks.none_before}
-use Rattle.beldi_txn.proofs.Names.{AllFreed, AllReleased, AreClosed, AreFit, AreMarked, AreReleased, AreSound, AtEnd, Bool, Called, Callees, ChangedAlone, Content, Decide, DecidedAt, EndAt, EndGoes, EndTurn, EndWalk, EndsAreVisits, Free, Frees, Gives, HasItem, HasWay, IntentId, IsAfter, IsCall, IsDecided, IsFirstFrom, IsFrom, IsMember, IsNext, IsNextCall, IsPassed, IsPast, IsReleased, IsWay, IsWithin, Kind, Leaves, LeftAt, Less, Levels, List, LoggedTurn, Member, Next, None, Option, Place, Plain, PutRead, Query, Row, RowKey, Rows, Some, Sound, Stamp, StampAct, Stamps, StartsWithin, Try, TxId, Value, Visit, Visited, VisitsBegin, VisitsStand, WriteAt, WriteGoes, WriteSays, WriteWalk, [], act, alone_by, ap, arith, aside_row, back_from, by_op, call_after, call_goes, call_key, called_at, callee_of, calls_after, calls_goes, chain, chain_other, child_of, content, counts, decide_goes, decision_row, false, first_from, first_visit, free_first, free_place, freed_goes, func_called, given_value, has_callees, has_no_hops, head_tail, home_of, if◌then◌else◌, inl, inr, intent_key, invokes_after, is_closed, is_eq, is_none, is_own, is_owner, is_some, item_after, item_in, item_row, key_asked, key_cmp, key_exact, key_same, key_total, last_goes, left_row, lock_row, lockset_after, lockset_key, logged_so, looked, ltb-false, ltb-true, member_at, moved, next_goes, next_row, next_row_least, no_root, note_at, option_map, ordering_reverse, owner_of, owns, rank_of, refl, row_closed, rows_after, said, said_of, shadow_value, split_front, stamp_with, subst, suc, sym, tail, told_by, true, turned, unless_owned, value_goes, visited_by, walk_asks, walk_goes, walk_next, walk_says, write_goes, zero, ℕ, ◌++◌, ◌<◌, ◌∙◌, ◌∷◌, ◌≡◌, ◌≤◌, ◌⊎◌, Note, CellOp, Owner, EndSays, ReadGoes, item_head, aside_head}
+use Rattle.beldi_txn.{specs.declared.end.EndAt.TheVariants.Shadow, proofs.TxTurn.others_set, proofs.TxTurn.here_set, proofs.TxTurn.Reads, proofs.TxTurn.reads_on, proofs.TxTurn.other_kind, proofs.TxTurn.item_kept, proofs.TxTurn.aside_kept, proofs.TxTurn.asked, proofs.Calls.by_order, proofs.Calls.next_call, proofs.Calls.first_call, proofs.Locks.Item, proofs.Locks.item_at, proofs.Locks.item_told, proofs.Locks.none_past, proofs.Locks.none_first, proofs.Locks.none_between, proofs.Locks.none_before}
+use Rattle.beldi_txn.proofs.Names.{Act, AllFreed, AllGrow, AllReleased, AreClosed, AreFit, AreLinked, AreMarked, AreReleased, AtEnd, Bool, Called, Callees, CellOp, Chain, ChangedAlone, Content, Decide, DecidedAt, EndAt, EndGoes, EndSays, EndTurn, EndWalk, EndsAreVisits, Free, Frees, Gives, HasItem, HasWay, IntentId, IsAfter, IsCall, IsDecided, IsFirstFrom, IsFrom, IsLinked, IsMember, IsNext, IsNextCall, IsPassed, IsPast, IsReleased, IsWay, IsWithin, Kind, Leaves, LeftAt, Less, Levels, List, LoggedTurn, Look, Member, Next, None, Note, Option, Owner, Place, Plain, PutRead, Query, ReadGoes, Row, RowKey, Rows, RowsStay, SeesRows, Some, Stamp, StampAct, Stamps, StartsWithin, Try, TxId, Value, Visit, Visited, VisitsBegin, VisitsStand, WasAsked, WriteAt, WriteGoes, WriteSays, WriteWalk, [], act, alone_by, ap, arith, aside_head, aside_row, at_each, at_of, at_row, back_from, by_op, call_after, call_goes, call_key, called_at, callee_of, calls_after, calls_goes, chain, chain_other, child_of, content, counts, decide_goes, decision_row, false, first_from, first_visit, free_first, free_place, freed_goes, func_called, given_value, has_callees, has_no_hops, head_asked, home_of, if◌then◌else◌, inl, inr, intent_key, invokes_after, is_closed, is_eq, is_none, is_own, is_owner, is_some, item_after, item_head, item_in, item_row, key_cmp, key_exact, key_same, key_total, last_goes, left_row, lock_row, lockset_after, lockset_key, logged_at, logged_so, looked, ltb-false, ltb-true, member_at, moved, next_goes, next_row, next_row_least, no_root, note_at, of_no_item, option_map, ordering_reverse, others_grow, others_keep, owner_of, owns, rank_of, read_goes, readers_keep, reads_begin, refl, row_closed, rows_after, said, said_of, same_grow, shadow_value, split_front, stamp_with, subst, suc, sym, tail, told_by, true, turned, unless_owned, value_goes, visited_by, walk_asks, walk_goes, walk_next, walk_says, walks_begin, write_goes, zero, ℕ, ◌++◌, ◌<◌, ◌∙◌, ◌∷◌, ◌≡◌, ◌≤◌, ◌⊎◌}
 use Rattle.beldi_txn.proofs.Levels.{ends_in, member_more, way_more, way_front, way_last, levels_top, levels_with, levels_pushed, levels_last, levels_popped, member_fit}
 use Rattle.beldi_txn.proofs.Names.map
 
@@ -53,6 +53,26 @@ gives_stands : (a : EndAt) (i : Option Item) (w : EndWalk) (home : ℕ) (m n : R
 gives_stands (Free f) (Some j) w home m n h d = d ∙ given_same w.commit _ _ (h.asides home j)
 gives_stands a i w home m n h d = d
 
+sees_stands : (a : EndAt) (i : Option Item) (w : EndWalk) (home : ℕ) (m n : Rows) → AllGrow m n → SeesRows a w home m i → SeesRows a w home n i
+sees_stands (Shadow r) (Some j) w home m n grows d =
+    let k = aside_row w home j in readers_keep (chain m k) (chain n k) r (grows k (aside_head home w.tx j.0 j.1)) d
+sees_stands (Free f) (Some j) w home m n grows d =
+    let k = item_row home j in others_keep (chain m k) (chain n k) (free_place w.tx w.end w.visit.way) (at_of f) (grows k (item_head home j.0 j.1)) d
+sees_stands a i w home m n grows d = tt
+
+asked_stands : (a : EndAt) (i : Option Item) (w : EndWalk) (p : Member) (m n : Rows) → RowsStay m n → WasAsked a w p m i → WasAsked a w p n i
+asked_stands (Shadow r) (Some j) w p m n stay d = stay (lock_row w p j) d
+asked_stands (Free f) (Some j) w p m n stay d = stay (lock_row w p j) d
+asked_stands a i w p m n stay d = tt
+
+-- an act takes no row away
+rows_stay : (q : Query) (now : ℕ) (m : Rows) → RowsStay m (rows_after q now m)
+rows_stay = at_each (λ r s. is_some r ≡ true → is_some s ≡ true) (λ r h. h) stays
+  where
+    stays : (a : Act) (now : ℕ) (r : Option Row) → is_some r ≡ true → is_some (act a now r).0 ≡ true
+    stays a now None h = cc
+    stays a now (Some r) h = refl
+
 module _ (w : EndWalk) (m n : Rows) (h : Leaves w m n) where
   -- the callee of a member is a participant
   closed_more : (ds : List Called) (c : Called) → IsMember w m ds → IsCall m (visited_by w.tx ds) c → AtEnd (IsWithin w) ds c.step → is_closed m (callee_of (visited_by w.tx ds) c) ≡ true → is_closed n (callee_of (visited_by w.tx ds) c) ≡ true
@@ -87,29 +107,33 @@ visits_stand w m n v h = record {
   from = v.from;
   member = h.way v.member;
   gives = gives_stands w.visit.at w.visit.item w p.1 m n h v.gives;
+  sees = sees_stands w.visit.at w.visit.item w p.1 m n h.grows v.sees;
+  asked = asked_stands w.visit.at w.visit.item w p m n h.stay v.asked;
   callees = levels_stand w m n h w.visit.way (IsPassed w.visit.at w.visit.after) v.member v.callees;
   freed = λ q r here past. let s = row_in (map.get m (lock_row w p q)) (h.locks w.visit.way v.member q r here) in h.items p.1 q (v.freed q s.0 s.1 past);
   released = h.released;
   marked = h.marks;
-  sound = h.sound;
+  linked = h.linked;
 }
   where
     p : Member
     p = visited_by w.tx w.visit.way
 
 pub visits_begin : VisitsBegin
-visits_begin tx end commit m released marked sound = record {
+visits_begin tx end commit m released marked linked = record {
   decided = tt;
   item = refl;
   begins = (refl, refl);
   from = tt;
   member = (tt, tt);
   gives = tt;
+  sees = tt;
+  asked = tt;
   callees = λ c k at. absurd at.1;
   freed = λ q r here past. absurd past;
   released = released;
   marked = marked;
-  sound = sound;
+  linked = linked;
 }
 
 -- ---- the next call, and the next lock
@@ -128,7 +152,7 @@ at_end At (c ∷ cs) n h = tt
 -- ---- the decision
 -- a row that is there is this decision, or the end stays at it
 abbrev Decided_by : Bool → Row → EndGoes → Type 0
-Decided_by c r g = ((r ≡ Row.ReadLog (Value.Bool c)) × (g ≡ EndGoes.Decided false)) ⊎ ((r ≡ Row.ReadLog (Value.Bool c) → ⊥) × (g ≡ EndGoes.On Decide))
+Decided_by c r g = ((r ≡ Row.ReadLog (Value.Bool c)) × (g ≡ EndGoes.Decided false)) ⊎ ((r ≡ Row.ReadLog (Value.Bool c) → ⊥) × (g ≡ EndGoes.Stays))
 
 by_row : (c : Bool) (now : ℕ) (r : Row) → Decided_by c r (decide_goes c (said (act (PutRead (Value.Bool c)) now (Some r)).1))
 by_row true now (Row.ReadLog (Value.Bool true)) = inl (refl, refl)
@@ -197,7 +221,9 @@ module _ (x : TxId) (end : ℕ) (commit : Bool) where
   who cs = visited_by x cs
 
   pub record Leads (z : Visit) (q : Query) (m n : Rows) (g : EndGoes) : Type 0 where
-    pub others : ChangedAlone (key_asked q) m n
+    pub others : ChangedAlone (head_asked q) m n
+    pub stay : RowsStay m n
+    pub grows : AllGrow m n
     pub left : LeftAt z.at (walk z) z.item (said_of g) m n
     pub visited : Visited (walk (moved commit z g)) n
     pub done : said_of g ≡ EndSays.Done → IsDecided (walk z) n × AllReleased (walk z) n
@@ -212,33 +238,37 @@ module _ (x : TxId) (end : ℕ) (commit : Bool) where
 
   -- unless it is the last, it says what is so of where it goes
   moves : (z : Visit) (m : Rows) (g : EndGoes) → LeftAt z.at (walk z) z.item (said_of g) m m → (said_of g ≡ EndSays.Done → ⊥) → Visited (walk (moved commit z g)) m → Moves z m g
-  moves z m g left on v = record { others = λ k off. refl; left = left; visited = v; done = λ h. absurd (on h) }
+  moves z m g left on v = record { others = λ k off. refl; stay = λ k h. h; grows = same_grow m m refl; left = left; visited = v; done = λ h. absurd (on h) }
 
   -- at the same rows, all that is said of everyone is so at any visit
   goes_to : (z y : Visit) (m : Rows) → Visited (walk z) m → DecidedAt y.at (walk y) m → HasItem y.at y.item → HasWay y.at y.way y.after → IsFrom bare y.way y.after → IsMember bare m y.way
-      → Gives y.at (walk y) (who y.way).1 m y.item → Levels m owns_all (IsWithin bare) y.way (IsPassed y.at y.after)
+      → Gives y.at (walk y) (who y.way).1 m y.item → SeesRows y.at (walk y) (who y.way).1 m y.item → WasAsked y.at (walk y) (who y.way) m y.item → Levels m owns_all (IsWithin bare) y.way (IsPassed y.at y.after)
       → ((q : Item) (r : Row) → let p = who y.way in map.get m (lock_row bare p q) ≡ Some r → IsPast y.at (walk y) p y.item q → is_own bare (item_in p.1 m q) ≡ false) → Visited (walk y) m
-  goes_to z y m v decided item begins from member gives callees freed = record {
+  goes_to z y m v decided item begins from member gives sees asked callees freed = record {
     decided = decided;
     item = item;
     begins = begins;
     from = from;
     member = member;
     gives = gives;
+    sees = sees;
+    asked = asked;
     callees = callees;
     freed = freed;
     released = v.released;
     marked = v.marked;
-    sound = v.sound;
+    linked = v.linked;
   }
 
   -- to the calls of who is visited
   to_calls : (z : Visit) (cs : List Called) (af : Option ℕ) (u : Option Value) (m : Rows) → Visited (walk z) m → IsDecided bare m → IsFrom bare cs af → IsMember bare m cs → Levels m owns_all (IsWithin bare) cs (IsPassed Callees af)
       → Visited (walk (visit cs af None u Callees)) m
-  to_calls z cs af u m v decided from member callees = goes_to z (visit cs af None u Callees) m v decided refl tt from member tt callees (λ q r here past. absurd past)
+  to_calls z cs af u m v decided from member callees = goes_to z (visit cs af None u Callees) m v decided refl tt from member tt tt tt callees (λ q r here past. absurd past)
 
   -- ---- what a turn leaves of the rows
   record Shows (m n : Rows) : Type 0 where
+    stay : RowsStay m n
+    grows : AllGrow m n
     decision : IsDecided bare m → IsDecided bare n
     calls : (p : Member) (s : ℕ) → map.get n (call_key p.1 p.0 s) ≡ map.get m (call_key p.1 p.0 s)
     locks : (p : Member) (q : Item) → map.get n (lock_row bare p q) ≡ map.get m (lock_row bare p q)
@@ -248,7 +278,7 @@ module _ (x : TxId) (end : ℕ) (commit : Bool) where
     items : (f : ℕ) (q : Item) → (item_in f n q ≡ item_in f m q) ⊎ (is_own bare (item_in f n q) ≡ false)
     -- who is closed was so, or has given back all
     released : (c : Called) (cs : List Called) → IsMember bare m (c ∷ cs) → is_closed n (who (c ∷ cs)) ≡ true → (is_closed m (who (c ∷ cs)) ≡ true) ⊎ IsReleased bare m (who (c ∷ cs))
-    sound : AreSound bare n
+    linked : AreLinked bare n
 
   module _ (m n : Rows) (h : Shows m n) where
     call_back : (p : Member) (s : ℕ) → map.get m (call_key p.1 p.0 s) ≡ map.get n (call_key p.1 p.0 s)
@@ -280,6 +310,8 @@ module _ (x : TxId) (end : ℕ) (commit : Bool) where
     -- so the visit stands, wherever it is
     stands : (z : Visit) → Visited (walk z) m → Visited (walk z) n
     stands z v = visits_stand (walk z) m n v (record {
+      stay = h.stay;
+      grows = h.grows;
       decision = h.decision;
       asides = λ f q. ap (λ c. shadow_value (tail c)) (h.asides f q);
       way = λ w. (w.0, way_kept m n h.calls owns_all z.way w.1);
@@ -289,7 +321,7 @@ module _ (x : TxId) (end : ℕ) (commit : Bool) where
       items = own_on;
       released = released_on v.released;
       marks = marked_on v.marked;
-      sound = h.sound;
+      linked = h.linked;
     })
 
   -- ---- the decision
@@ -307,7 +339,7 @@ module _ (x : TxId) (end : ℕ) (commit : Bool) where
     dn = rows_after (walk_asks (walk dz)) now m
 
     put_first : map.get m dk ≡ None → Leads dz (walk_asks (walk dz)) m dn (EndGoes.Decided true)
-    put_first none = record { others = others; left = (none, there); visited = decides dn (stands m dn shows dz v) there; done = λ is. cc }
+    put_first none = record { others = others; stay = stay; grows = grows; left = (none, there); visited = decides dn (stands m dn shows dz v) there; done = λ is. cc }
       where
         s : Option Row
         s = (act (PutRead (Value.Bool commit)) now (map.get m dk)).0
@@ -317,6 +349,12 @@ module _ (x : TxId) (end : ℕ) (commit : Bool) where
 
         others : ChangedAlone dk m dn
         others = alone_by m dn dk refl (others_set m dk s)
+
+        stay : RowsStay m dn
+        stay = rows_stay (walk_asks (walk dz)) now m
+
+        grows : AllGrow m dn
+        grows = others_grow m dn dk (of_no_item dk refl) (others_set m dk s)
 
         same : (q : RowKey) → (rank_of q.kind ≡ 1 → ⊥) → map.get dn q ≡ map.get m q
         same = other_kind m dn dk others
@@ -329,6 +367,8 @@ module _ (x : TxId) (end : ℕ) (commit : Bool) where
 
         shows : Shows m dn
         shows = record {
+          stay = stay;
+          grows = grows;
           decision = λ is. there;
           calls = λ p s. same (call_key p.1 p.0 s) (λ y. cc);
           locks = λ p q. same (lock_row bare p q) (λ y. cc);
@@ -336,13 +376,13 @@ module _ (x : TxId) (end : ℕ) (commit : Bool) where
           closed = λ p c. ap row_closed (same (intent_key p.0 p.1) (λ y. cc)) ∙ c;
           items = λ f q. inl (ap content (same_item f q));
           released = λ c ds w k. inl (sym (ap row_closed (same (intent_key (who (c ∷ ds)).0 (who (c ∷ ds)).1) (λ y. cc))) ∙ k);
-          sound = λ f q. (subst Sound (sym (same_item f q)) (v.sound f q).0, subst Sound (sym (same_aside f q)) (v.sound f q).1);
+          linked = λ f q. (subst IsLinked (sym (same_item f q)) (v.linked f q).0, subst IsLinked (sym (same_aside f q)) (v.linked f q).1);
         }
 
     -- it was there, and stays as it is
     stood : (r : Row) (g : EndGoes) → map.get m dk ≡ Some r → Decided_by commit r g → Moves dz m g
     stood r g is (inl h) = let there = is ∙ ap (λ s. Some s) h.0 in subst (Moves dz m) (sym h.1) (moves dz m (EndGoes.Decided false) (there, refl) (λ e. cc) (decides m v there))
-    stood r g is (inr h) = subst (Moves dz m) (sym h.1) (moves dz m (EndGoes.On Decide) (λ was. h.0 (let e = sym is ∙ was in cc), refl) (λ e. cc) v)
+    stood r g is (inr h) = subst (Moves dz m) (sym h.1) (moves dz m EndGoes.Stays (λ was. h.0 (let e = sym is ∙ was in cc), refl) (λ e. cc) v)
 
     by_told : (o : Option Row) → map.get m dk ≡ o → Leads dz (walk_asks (walk dz)) m dn (decide_goes commit (said (act (PutRead (Value.Bool commit)) now o).1))
     by_told None is = put_first is
@@ -397,7 +437,7 @@ module _ (x : TxId) (end : ℕ) (commit : Bool) where
 
     to_locks : AreClosed m (who cs) (λ n. AtEnd (IsWithin bare) cs n × Unit {0}) → Moves cz m (EndGoes.On Next)
     to_locks closed = moves cz m (EndGoes.On Next) refl (λ h. cc)
-        (goes_to cz (visit cs af None u Next) m v v.decided tt tt v.from v.member tt (levels_with m owns_all (IsWithin bare) cs (IsPassed Callees af) (IsPassed Next af) v.callees closed) (λ q r here past. absurd past))
+        (goes_to cz (visit cs af None u Next) m v v.decided tt tt v.from v.member tt tt tt (levels_with m owns_all (IsWithin bare) cs (IsPassed Callees af) (IsPassed Next af) v.callees closed) (λ q r here past. absurd past))
 
     module _ (c : Called) (next : IsNextCall (who cs).1 (who cs).0 (calls_after x cs af) m (Some c)) where
       from : IsFrom bare cs (Some c.step)
@@ -444,12 +484,12 @@ module _ (x : TxId) (end : ℕ) (commit : Bool) where
   -- ---- the next item of who is visited
   -- a participant gets its finish next
   past_locks : (cs : List Called) (af : Option ℕ) (i : Option Item) (u : Option Value) (m : Rows) → let z = visit cs af i u Next in Visited (walk z) m → AllFreed bare m (who cs) → Moves z m (last_goes (is_owner cs))
-  past_locks [] af i u m v freed = record { others = λ k off. refl; left = refl; visited = v; done = λ h. (v.decided, record { owner = freed; closed = closed; freed = λ c cs member. (v.released c cs member (closed c cs member)).0 }) }
+  past_locks [] af i u m v freed = record { others = λ k off. refl; stay = λ k h. h; grows = same_grow m m refl; left = refl; visited = v; done = λ h. (v.decided, record { owner = freed; closed = closed; freed = λ c cs member. (v.released c cs member (closed c cs member)).0 }) }
     where
       closed : (c : Called) (cs : List Called) → IsMember bare m (c ∷ cs) → is_closed m (who (c ∷ cs)) ≡ true
       closed = all_closed m v.released (λ c k at. v.callees c k (at, tt))
   past_locks (c ∷ cs) af i u m v freed = moves (visit (c ∷ cs) af i u Next) m (EndGoes.On Stamp) refl (λ h. cc)
-      (goes_to (visit (c ∷ cs) af i u Next) (visit (c ∷ cs) af i u Stamp) m v v.decided tt refl tt v.member tt v.callees (λ q r here past. freed q r here))
+      (goes_to (visit (c ∷ cs) af i u Next) (visit (c ∷ cs) af i u Stamp) m v v.decided tt refl tt v.member tt tt tt v.callees (λ q r here past. freed q r here))
 
   module _ (cs : List Called) (af : Option ℕ) (u : Option Value) (m : Rows) (first : FindsFirstLock x (who cs) m) where
     abbrev nz : Option Item → Visit
@@ -471,9 +511,10 @@ module _ (x : TxId) (end : ℕ) (commit : Bool) where
 
     -- a commit looks at the shadow, and an abort gives the item back
     at_item : (i : Option Item) (v : Visited (walk (nz i)) m) (j : Item) → ((q : Item) (r : Row) → map.get m (lock_row bare (who cs) q) ≡ Some r → key_cmp (lock_row bare (who cs) q) (lock_row bare (who cs) j) ≡ Less → is_own bare (item_in (who cs).1 m q) ≡ false)
-        → (c : Bool) → commit ≡ c → Visited (walk (visit cs af (Some j) None (free_first c))) m
-    at_item i v j freed true is = goes_to (nz i) (visit cs af (Some j) None Shadow) m v v.decided refl tt v.from v.member is v.callees freed
-    at_item i v j freed false is = goes_to (nz i) (visit cs af (Some j) None (Free Try)) m v v.decided refl tt v.from v.member (ap (λ c. given_value c (tail (chain m (aside_row bare (who cs).1 j)))) (sym is)) v.callees freed
+        → is_some (map.get m (lock_row bare (who cs) j)) ≡ true → (c : Bool) → commit ≡ c → Visited (walk (visit cs af (Some j) None (free_first c))) m
+    at_item i v j freed asked true is = goes_to (nz i) (visit cs af (Some j) None (Shadow 0)) m v v.decided refl tt v.from v.member is (reads_begin (chain m (aside_row bare (who cs).1 j))) asked v.callees freed
+    at_item i v j freed asked false is = goes_to (nz i) (visit cs af (Some j) None (Free (Try 0))) m v v.decided refl tt v.from v.member (ap (λ c. given_value c (tail (chain m (aside_row bare (who cs).1 j)))) (sym is))
+        (walks_begin (chain m (item_row (who cs).1 j)) (free_place x end cs)) asked v.callees freed
 
     next_turn : (i : Option Item) (now : ℕ) → Visited (walk (nz i)) m → Turns (nz i) now m
     next_turn i now v = by (item_after (who cs).1 (who cs).0 x.begin found) refl
@@ -486,23 +527,33 @@ module _ (x : TxId) (end : ℕ) (commit : Bool) where
 
         by : (f : Option Item) → item_after (who cs).1 (who cs).0 x.begin found ≡ f → Moves (nz i) m (next_goes cs f)
         by None is = past_locks cs af i u m v (freed_all i v found least is)
-        by (Some j) is = moves (nz i) m (EndGoes.Item j.0 j.1) refl (λ h. cc) (at_item i v j (λ q r here less. freed_before i v j q r found least is here less) commit refl)
+        by (Some j) is = moves (nz i) m (EndGoes.Item j.0 j.1) refl (λ h. cc) (at_item i v j (λ q r here less. freed_before i v j q r found least is here less) (item_told (who cs).1 (who cs).0 x.begin m (key_after i) j found least is) commit refl)
 
   -- ---- the shadow of an item
-  look_turn : (cs : List Called) (af : Option ℕ) (j : Item) (u : Option Value) (now : ℕ) (m : Rows) → let z = visit cs af (Some j) u Shadow in Visited (walk z) m → Turns z now m
-  look_turn cs af j u now m v =
-      let z = visit cs af (Some j) u Shadow in
-      let k = aside_row bare (who cs).1 j in
-      let sound = (v.sound (who cs).1 j).1 in
-      let s = shadow_value (tail (chain m k)) in
-      let told = shadow_told now (map.get m k) sound.head ∙ ap (λ r. ReadGoes.Got (shadow_value r)) (sym (head_tail m k (aside_head (who cs).1 x j.0 j.1) sound)) in
-      subst (λ n. Leads z (walk_asks (walk z)) m n (walk_goes (walk z) (told_by (walk_asks (walk z)) now m))) (sym (looked now k m))
-      (subst (λ g. Moves z m (value_goes g)) (sym told)
-      (moves z m (EndGoes.Value s) refl (λ h. cc)
-      (goes_to z (visit cs af (Some j) s (Free Try)) m v v.decided refl tt v.from v.member (ap (λ c. given_value c (tail (chain m k))) (sym v.gives)) v.callees v.freed)))
+  look_turn : (cs : List Called) (af : Option ℕ) (j : Item) (u : Option Value) (r now : ℕ) (m : Rows) → let z = visit cs af (Some j) u (Shadow r) in Visited (walk z) m → Turns z now m
+  look_turn cs af j u r now m v =
+      subst (λ n. Leads z (walk_asks (walk z)) m n (walk_goes (walk z) (told_by (walk_asks (walk z)) now m))) (sym (looked now (at_row (aside_row bare (who cs).1 j) r) m))
+      (by (read_goes None (said (act Look now (chain m (aside_row bare (who cs).1 j) r)).1)) (reads_on (chain m (aside_row bare (who cs).1 j)) r now (v.linked (who cs).1 j).1 v.sees))
+    where
+      z : Visit
+      z = visit cs af (Some j) u (Shadow r)
+
+      f : Chain
+      f = chain m (aside_row bare (who cs).1 j)
+
+      valued : (s : Option Value) → shadow_value (tail f) ≡ s → Moves z m (EndGoes.Value s)
+      valued s is = moves z m (EndGoes.Value s) refl (λ h. cc)
+          (goes_to z (visit cs af (Some j) s (Free (Try 0))) m v v.decided refl tt v.from v.member (sym is ∙ ap (λ c. given_value c (tail f)) (sym v.gives))
+          (walks_begin (chain m (item_row (who cs).1 j)) (free_place x end cs)) v.asked v.callees v.freed)
+
+      by : (g : ReadGoes) → Reads f g → Moves z m (value_goes g)
+      by (ReadGoes.On n) sees = moves z m (EndGoes.On (Shadow n)) refl (λ h. cc) (goes_to z (visit cs af (Some j) u (Shadow n)) m v v.decided refl tt v.from v.member v.gives sees v.asked v.callees v.freed)
+      by (ReadGoes.Got None) none = valued None (ap shadow_value none)
+      by (ReadGoes.Got (Some w)) is = valued (Some w) is
+      by g other = absurd other
 
   -- ---- an item is given back
-  module _ (cs : List Called) (af : Option ℕ) (j : Item) (u : Option Value) (f : WriteAt) (m n : Rows) (v : Visited (walk (visit cs af (Some j) u (Free f))) m) where
+  module _ (cs : List Called) (af : Option ℕ) (j : Item) (u : Option Value) (f : WriteAt) (m n : Rows) (stay : RowsStay m n) (v : Visited (walk (visit cs af (Some j) u (Free f))) m) where
     abbrev fz : Visit
     fz = visit cs af (Some j) u (Free f)
 
@@ -519,7 +570,7 @@ module _ (x : TxId) (end : ℕ) (commit : Bool) where
     abbrev Became : Content → Content → Type 0
     Became c d = (d ≡ c) ⊎ (is_own bare d ≡ false)
 
-    module _ (s : WriteSays) (l : LoggedTurn as_free m n s) (became : Became (item_in (who cs).1 m j) (item_in (who cs).1 n j)) where
+    module _ (y : WriteWalk) (s : WriteSays) (l : LoggedTurn as_free y m n s) (became : Became (item_in (who cs).1 m j) (item_in (who cs).1 n j)) where
       abbrev fk : RowKey
       fk = item_row (who cs).1 j
 
@@ -534,6 +585,8 @@ module _ (x : TxId) (end : ℕ) (commit : Bool) where
 
       stood_free : Visited (walk fz) n
       stood_free = stands m n (record {
+        stay = stay;
+        grows = l.grows;
         decision = λ is. beside (decision_row bare) (λ y. cc) ∙ is;
         calls = λ p t. beside (call_key p.1 p.0 t) (λ y. cc);
         locks = λ p q. beside (lock_row bare p q) (λ y. cc);
@@ -543,40 +596,47 @@ module _ (x : TxId) (end : ℕ) (commit : Bool) where
             (λ e. subst (λ k. Became (content (chain m k)) (content (chain n k))) (sym e) became)
             (λ off. inl (ap content (other_item h q off)));
         released = λ c ds w k. inl (sym (ap row_closed (beside (intent_key (who (c ∷ ds)).0 (who (c ∷ ds)).1) (λ y. cc))) ∙ k);
-        sound = λ h q. (
-          by_key (item_row h q) fk (Sound (chain n (item_row h q)))
-              (λ e. subst (λ k. Sound (chain n k)) (sym e) l.sound)
-              (λ off. subst Sound (sym (other_item h q off)) (v.sound h q).0),
-          subst Sound (sym (same_aside h q)) (v.sound h q).1,
+        linked = λ h q. (
+          by_key (item_row h q) fk (IsLinked (chain n (item_row h q)))
+              (λ e. subst (λ k. IsLinked (chain n k)) (sym e) l.linked)
+              (λ off. subst IsLinked (sym (other_item h q off)) (v.linked h q).0),
+          subst IsLinked (sym (same_aside h q)) (v.linked h q).1,
         );
       }) fz v
 
       freed_to : (g : EndGoes) → Frees place (Owner.Tx x) u (item_in (who cs).1 m j) (item_in (who cs).1 n j) → (said_of g ≡ EndSays.Done → ⊥) → Visited (walk (moved commit fz g)) n → Frees_to g
       freed_to g left going w = record {
-        others = subst (λ y. ChangedAlone y m n) (sym (asked fk place (Owner.Tx x) (CellOp.Free u) f)) l.others;
+        others = subst (λ y. ChangedAlone y m n) (sym (asked fk (λ r. refl) refl place (Owner.Tx x) (CellOp.Free u) f)) l.others;
+        stay = stay;
+        grows = l.grows;
         left = left;
         visited = w;
         done = λ h. absurd (going h);
       }
 
-    -- it goes on at this item
-    again : (s : WriteSays) (l : LoggedTurn as_free m n s) (a : WriteAt) → item_in (who cs).1 n j ≡ item_in (who cs).1 m j → Frees_to (EndGoes.On (Free a))
-    again s l a same =
-        let w = stood_free s l (inl same) in
-        freed_to s l (inl same) (EndGoes.On (Free a)) (inl same) (λ h. cc) (goes_to fz (visit cs af (Some j) u (Free a)) n w w.decided refl tt w.from w.member w.gives w.callees w.freed)
+    -- it goes on at this item, or stays ..
+    on_item : (a : WriteAt) (l : LoggedTurn as_free (record as_free { at = a }) m n WriteSays.Going) → Frees_to (EndGoes.On (Free a))
+    on_item a l =
+        let y = record as_free { at = a } in
+        let w = stood_free y WriteSays.Going l (inl l.logs) in
+        freed_to y WriteSays.Going l (inl l.logs) (EndGoes.On (Free a)) (inl l.logs) (λ h. cc) (goes_to fz (visit cs af (Some j) u (Free a)) n w w.decided refl tt w.from w.member w.gives l.sees w.asked w.callees w.freed)
 
-    -- or past it, as it is not the transaction's
-    onward : (s : WriteSays) (l : LoggedTurn as_free m n s) → Frees place (Owner.Tx x) u (item_in (who cs).1 m j) (item_in (who cs).1 n j) → is_own bare (item_in (who cs).1 n j) ≡ false → Frees_to (EndGoes.On Next)
+    again : (s : WriteSays) (l : LoggedTurn as_free as_free m n s) → item_in (who cs).1 n j ≡ item_in (who cs).1 m j → (g : EndGoes) → moved commit fz g ≡ fz → (said_of g ≡ EndSays.Done → ⊥) → Frees_to g
+    again s l same g stays going = freed_to as_free s l (inl same) g (inl same) going (subst (λ z. Visited (walk z) n) (sym stays) (stood_free as_free s l (inl same)))
+
+    -- .. or goes past it, as it is not the transaction's
+    onward : (s : WriteSays) (l : LoggedTurn as_free as_free m n s) → Frees place (Owner.Tx x) u (item_in (who cs).1 m j) (item_in (who cs).1 n j) → is_own bare (item_in (who cs).1 n j) ≡ false → Frees_to (EndGoes.On Next)
     onward s l left not_own =
-        let w = stood_free s l (inr not_own) in
-        freed_to s l (inr not_own) (EndGoes.On Next) left (λ h. cc) (goes_to fz (visit cs af (Some j) u Next) n w w.decided tt tt w.from w.member tt w.callees
+        let w = stood_free as_free s l (inr not_own) in
+        freed_to as_free s l (inr not_own) (EndGoes.On Next) left (λ h. cc) (goes_to fz (visit cs af (Some j) u Next) n w w.decided tt tt w.from w.member tt tt tt w.callees
         (λ q r here past. by_order (key_cmp (lock_row bare (who cs) q) (lock_row bare (who cs) j)) (is_own bare (item_in (who cs).1 n q) ≡ false)
         (λ less. w.freed q r here less)
         (λ level. subst (λ (i : Item). is_own bare (item_in (who cs).1 n i) ≡ false) (sym (ap (λ (k : RowKey). item_at k.kind) (key_exact (lock_row bare (who cs) q) (lock_row bare (who cs) j) level))) not_own)
         (λ greater. absurd (past (key_total.antisymm (lock_row bare (who cs) j) (lock_row bare (who cs) q) ∙ ap ordering_reverse greater)))))
 
-    free_by : (g : WriteGoes) → LoggedTurn as_free m n (logged_so g) → Frees_to (freed_goes f g)
-    free_by (WriteGoes.On a) l = again (logged_so (WriteGoes.On a)) l a l.logs
+    free_by : (g : WriteGoes) → LoggedTurn as_free (logged_at as_free g) m n (logged_so g) → Frees_to (freed_goes g)
+    free_by (WriteGoes.On a) l = on_item a l
+    free_by WriteGoes.Stays l = again WriteSays.Going l l.logs EndGoes.Stays refl (λ h. cc)
     free_by (WriteGoes.Done nt true) l =
         let did = l.logs.1.1 in
         onward (WriteSays.Done nt true) l (inr (l.logs.1.0, is_owned (owns (Owner.Tx x) (item_in (who cs).1 m j).owner) None did.0, did.1)) (ap (is_own bare) did.1)
@@ -584,7 +644,8 @@ module _ (x : TxId) (end : ℕ) (commit : Bool) where
         let same = l.logs.1 in
         onward (WriteSays.Done nt false) l (inl same) (ap (is_own bare) same ∙ v.marked cs v.member j nt (ap (λ (c : Content). note_at c.notes place) (sym same) ∙ l.logs.0))
     free_by WriteGoes.NotOwner l = onward WriteSays.NotOwner l (inl l.logs.2) (ap (is_own bare) l.logs.2 ∙ is_owned (owns (Owner.Tx x) (item_in (who cs).1 m j).owner) (Some WriteSays.NotOwner) l.logs.1)
-    free_by (WriteGoes.Held o) l = again (WriteSays.Held o) l f l.logs.2
+    free_by (WriteGoes.Held o) l = again (WriteSays.Held o) l l.logs.2 EndGoes.Stays refl (λ h. cc)
+    free_by WriteGoes.Worn l = again WriteSays.Worn l l.logs.1 EndGoes.Worn refl (λ h. cc)
 
   -- ---- a participant gets its finish
   module _ (front : List Called) (c : Called) (af : Option ℕ) (i : Option Item) (u : Option Value) (now : ℕ) (m : Rows) (v : Visited (walk (visit (front ++ c ∷ []) af i u Stamp)) m) where
@@ -609,6 +670,12 @@ module _ (x : TxId) (end : ℕ) (commit : Bool) where
     alone : ChangedAlone pk m pn
     alone = alone_by m pn pk refl off_here
 
+    stay : RowsStay m pn
+    stay = rows_stay (walk_asks (walk pz)) now m
+
+    grows : AllGrow m pn
+    grows = others_grow m pn pk (of_no_item pk refl) off_here
+
     same_off : (k : RowKey) → (rank_of k.kind ≡ 0 → ⊥) → map.get pn k ≡ map.get m k
     same_off = other_kind m pn pk alone
 
@@ -627,6 +694,8 @@ module _ (x : TxId) (end : ℕ) (commit : Bool) where
 
     stood_stamp : Visited (walk pz) pn
     stood_stamp = stands m pn (record {
+      stay = stay;
+      grows = grows;
       decision = λ is. same_off (decision_row bare) (λ y. cc) ∙ is;
       calls = λ p t. same_off (call_key p.1 p.0 t) (λ y. cc);
       locks = λ p q. same_off (lock_row bare p q) (λ y. cc);
@@ -638,7 +707,7 @@ module _ (x : TxId) (end : ℕ) (commit : Bool) where
       released = λ d ds w k. let p = who (d ∷ ds) in by_key (intent_key p.0 p.1) pk ((is_closed m p ≡ true) ⊎ IsReleased bare m p)
           (λ e. inr (subst (λ (y : Member). IsReleased bare m y) (sym (same_member (who way) p (not_root m owns_all way v.member.1 (owner_not front c)) (not_root m owns_all (d ∷ ds) w.1 refl) e)) given_back))
           (λ off. inl (sym (ap row_closed (off_here (intent_key p.0 p.1) off)) ∙ k));
-      sound = λ h q. (subst Sound (sym (same_item h q)) (v.sound h q).0, subst Sound (sym (same_shadow h q)) (v.sound h q).1);
+      linked = λ h q. (subst IsLinked (sym (same_item h q)) (v.linked h q).0, subst IsLinked (sym (same_shadow h q)) (v.linked h q).1);
     }) pz v
 
     -- the caller's callees are closed up to this one
@@ -659,6 +728,8 @@ module _ (x : TxId) (end : ℕ) (commit : Bool) where
     stamp_turn : Turns pz now m
     stamp_turn = record {
       others = alone;
+      stay = stay;
+      grows = grows;
       left = stamped;
       visited = subst (λ (s : Option (List Called × Called)). Visited (walk (back_from pz s)) pn) (sym (split_front front c))
           (to_calls pz front (Some c.step) None pn stood_stamp stood_stamp.decided (begins_front front v.member.0).0 ((begins_front front v.member.0).1, way_front pn owns_all front c stood_stamp.member.1)
@@ -680,12 +751,13 @@ module _ (x : TxId) (end : ℕ) (commit : Bool) where
     turns cs af None u Callees calls locks v = call_turn cs af u m v now calls
     turns cs af (Some j) u Callees calls locks v = let clash = v.item in cc
     turns cs af i u Next calls locks v = next_turn cs af u m locks i now v
-    turns cs af (Some j) u Shadow calls locks v = look_turn cs af j u now m v
+    turns cs af (Some j) u (Shadow r) calls locks v = look_turn cs af j u r now m v
     turns cs af (Some j) u (Free f) calls locks v =
         let q = walk_asks (walk (visit cs af (Some j) u (Free f))) in
         let n = rows_after q now m in
-        free_by cs af j u f m n v (write_goes Note.Freed (told_by q now m)) (by_op (as_free cs af j u f m n v) m n (v.sound (who cs).1 j).0 f now refl)
-    turns cs af None u Shadow calls locks v = let clash = v.item in cc
+        let stay = rows_stay q now m in
+        free_by cs af j u f m n stay v (write_goes Note.Freed f (told_by q now m)) (by_op (as_free cs af j u f m n stay v) m n now (v.linked (who cs).1 j).0 v.sees refl)
+    turns cs af None u (Shadow r) calls locks v = let clash = v.item in cc
     turns cs af None u (Free f) calls locks v = let clash = v.item in cc
     turns cs af i u Stamp calls locks v =
         let e = ends_in cs v.begins in
@@ -699,4 +771,4 @@ ends_are_visits w x now old new s some hops h =
     let k = member_fit m (w.tx.intent, w.tx.func) w.visit.way fit some hops v.member.1 in
     let l = turns w.tx w.end w.commit now m w.visit.way w.visit.after w.visit.item w.visit.value w.visit.at
     (λ e next. first_call p.1 p.0 k.0 k.1 m e fit next) (λ e next. first_from p.1 p.0 k.0 k.1 w.tx.begin m e fit next) v in
-    record { others = l.others; left = l.left; same = refl; visited = l.visited; done = l.done }) w x old new s h
+    record { others = l.others; stay = l.stay; grows = l.grows; left = l.left; same = refl; visited = l.visited; done = l.done }) w x old new s h

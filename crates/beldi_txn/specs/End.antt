@@ -3,7 +3,7 @@
 -- the row of its next lock; and then to give a participant's row its finish.
 use Rattle.std.specs.Prelude.{ℕ, nat_lt, Bool, true, false, List, [], ◌∷◌, ◌++◌, Option, Some, None, if◌then◌else◌}
 use Rattle.beldi_value.specs.{declared.place.Place.Place, declared.place.TxId.TxId, declared.value.Value.Value, Id.has_callees, declared.place.Owner.Owner}
-use Rattle.beldi_row.specs.{declared.act.Act.TheVariants.Look, Act.added, Act.kept, declared.notes.Note.Note}
+use Rattle.beldi_row.specs.{declared.act.Act.TheVariants.Look, Key.at_row, Act.added, Act.kept, declared.notes.Note.Note}
 use Rattle.beldi_walk.specs.{declared.query.Query.Query, declared.query.Query.TheVariants.Act, Query.Told, Query.said}
 use Rattle.beldi_daal.specs.{declared.cell.ReadGoes.ReadGoes, declared.cell.WriteAt.WriteAt, declared.cell.WriteAt.TheVariants.Try, declared.cell.WriteGoes.WriteGoes, Cell.cell_key, Cell.shadow_key, Cell.read_goes, Cell.write_asks, Cell.write_goes, declared.cell.CellOp.CellOp}
 use Rattle.beldi_lock.specs.{Last.split_last, Lockset.most, Lockset.lockset_asks, Lockset.lockset_found}
@@ -41,9 +41,9 @@ free_place x end [] = end_place x end
 free_place x end (c ∷ cs) = record { intent = (visited_by x (c ∷ cs)).0; step = most }
 
 -- ---- what it asks; without an item, where one should be, for the first one
-abbrev pub shadow_asks : TxId → Member → Option (ℕ × List ℕ) → Query
-shadow_asks x p (Some i) = Act (shadow_key p.1 x i.0 i.1) Look
-shadow_asks x p None = lockset_asks p.1 p.0 x.begin None
+abbrev pub shadow_asks : TxId → Member → ℕ → Option (ℕ × List ℕ) → Query
+shadow_asks x p r (Some i) = Act (at_row (shadow_key p.1 x i.0 i.1) r) Look
+shadow_asks x p r None = lockset_asks p.1 p.0 x.begin None
 
 abbrev pub free_asks : TxId → Member → Place → Option Value → WriteAt → Option (ℕ × List ℕ) → Query
 free_asks x p at v w (Some i) = write_asks (cell_key p.1 i.0 i.1) at (Owner.Tx x) (CellOp.Free v) w
@@ -53,7 +53,7 @@ abbrev pub visit_asks : TxId → ℕ → Bool → List Called → Option ℕ →
 visit_asks x end commit cs after i v Decide = keep_asks x.func (begin_place x) (Value.Bool commit)
 visit_asks x end commit cs after i v Callees = let p = visited_by x cs in invokes_asks p.1 p.0 (calls_after x cs after)
 visit_asks x end commit cs after i v Next = let p = visited_by x cs in lockset_asks p.1 p.0 x.begin i
-visit_asks x end commit cs after i v Shadow = shadow_asks x (visited_by x cs) i
+visit_asks x end commit cs after i v (Shadow r) = shadow_asks x (visited_by x cs) r i
 visit_asks x end commit cs after i v (Free w) = free_asks x (visited_by x cs) (free_place x end cs) v w i
 visit_asks x end commit cs after i v Stamp = let p = visited_by x cs in stamp_asks p.0 p.1
 
@@ -61,14 +61,14 @@ visit_asks x end commit cs after i v Stamp = let p = visited_by x cs in stamp_as
 -- it stays at another decision than its own
 abbrev pub decided_by : Bool → Bool → EndGoes
 decided_by true true = EndGoes.Decided false
-decided_by true false = EndGoes.On Decide
-decided_by false true = EndGoes.On Decide
+decided_by true false = EndGoes.Stays
+decided_by false true = EndGoes.Stays
 decided_by false false = EndGoes.Decided false
 
 abbrev pub decide_goes : Bool → Told → EndGoes
 decide_goes commit (said added) = EndGoes.Decided true
 decide_goes commit (said (kept (Value.Bool b))) = decided_by commit b
-decide_goes commit t = EndGoes.On Decide
+decide_goes commit t = EndGoes.Stays
 
 -- the callee of a call is visited next; a call of an intent whose callees have no id is passed over
 abbrev pub call_goes : Bool → List Called → Called → EndGoes
@@ -91,30 +91,33 @@ next_goes cs (Some i) = EndGoes.Item i.0 i.1
 
 -- the item is given back with the shadow's value, if there is a shadow
 abbrev pub value_goes : ReadGoes → EndGoes
-value_goes ReadGoes.On = EndGoes.On Shadow
+value_goes (ReadGoes.On n) = EndGoes.On (Shadow n)
+value_goes ReadGoes.Stays = EndGoes.Stays
 value_goes (ReadGoes.Got v) = EndGoes.Value v
-value_goes (ReadGoes.Held o) = EndGoes.On Shadow
+value_goes (ReadGoes.Held o) = EndGoes.Stays
 
 -- the next item comes once this one was given back, or is another's; a free waits for nobody
-abbrev pub freed_goes : WriteAt → WriteGoes → EndGoes
-freed_goes w (WriteGoes.On next) = EndGoes.On (Free next)
-freed_goes w (WriteGoes.Done n first) = EndGoes.On Next
-freed_goes w WriteGoes.NotOwner = EndGoes.On Next
-freed_goes w (WriteGoes.Held o) = EndGoes.On (Free w)
+abbrev pub freed_goes : WriteGoes → EndGoes
+freed_goes (WriteGoes.On next) = EndGoes.On (Free next)
+freed_goes WriteGoes.Stays = EndGoes.Stays
+freed_goes (WriteGoes.Done n first) = EndGoes.On Next
+freed_goes WriteGoes.NotOwner = EndGoes.On Next
+freed_goes (WriteGoes.Held o) = EndGoes.Stays
+freed_goes WriteGoes.Worn = EndGoes.Worn
 
 abbrev pub end_goes : TxId → ℕ → Bool → List Called → EndAt → Told → EndGoes
 end_goes x end commit cs Decide t = decide_goes commit t
 end_goes x end commit cs Callees t = let p = visited_by x cs in calls_goes end p cs (invokes_found p.1 p.0 t)
 end_goes x end commit cs Next t = let p = visited_by x cs in next_goes cs (lockset_found p.1 p.0 x.begin t)
-end_goes x end commit cs Shadow t = value_goes (read_goes None t)
-end_goes x end commit cs (Free w) t = freed_goes w (write_goes Note.Freed t)
+end_goes x end commit cs (Shadow r) t = value_goes (read_goes None t)
+end_goes x end commit cs (Free w) t = freed_goes (write_goes Note.Freed w t)
 end_goes x end commit cs Stamp t = EndGoes.Back
 
 -- ---- the way on
 -- a commit gives an item back with the shadow's value, so it looks at the shadow
 abbrev pub free_first : Bool → EndAt
-free_first true = Shadow
-free_first false = Free Try
+free_first true = Shadow 0
+free_first false = Free (Try 0)
 
 -- at the calls of who is visited, after a step
 abbrev pub at_calls : List Called → Option ℕ → Visit
@@ -127,16 +130,20 @@ back_from v (Some s) = at_calls s.0 (Some s.1.step)
 
 abbrev pub moved : Bool → Visit → EndGoes → Visit
 moved commit v (EndGoes.On a) = record v { at = a }
+moved commit v EndGoes.Stays = v
+moved commit v EndGoes.Worn = v
 moved commit v (EndGoes.Decided first) = record v { at = Callees }
 moved commit v (EndGoes.Passed s) = record v { after = Some s }
 moved commit v (EndGoes.Callee cs) = at_calls cs None
 moved commit v (EndGoes.Item t k) = record v { item = Some (t, k); value = None; at = free_first commit }
-moved commit v (EndGoes.Value u) = record v { value = u; at = Free Try }
+moved commit v (EndGoes.Value u) = record v { value = u; at = Free (Try 0) }
 moved commit v EndGoes.Back = back_from v (split_last v.way)
 moved commit v EndGoes.Done = v
 
 abbrev pub said_of : EndGoes → EndSays
 said_of (EndGoes.On a) = EndSays.Going
+said_of EndGoes.Stays = EndSays.Going
+said_of EndGoes.Worn = EndSays.Worn
 said_of (EndGoes.Decided first) = EndSays.Decided first
 said_of (EndGoes.Passed s) = EndSays.Going
 said_of (EndGoes.Callee cs) = EndSays.Going

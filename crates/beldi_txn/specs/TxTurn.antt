@@ -2,16 +2,19 @@
 use Rattle.std.specs.Prelude.{◌≡◌, ◌⊎◌, ℕ, Bool, true, false, is_some, List, [], Option, Some, None, Ok}
 use Rattle.beldi_value.specs.declared.{id.IntentId.IntentId, outcome.Cause.Cause, place.Owner.Owner, place.Place.Place, place.TxId.TxId, value.Value.Value}
 use Rattle.beldi_lang.specs.declared.effect.Effect.{Effect, TheVariants.Read, TheVariants.Write, TheVariants.CondWrite}
-use Rattle.beldi_row.specs.{declared.row.Row.Row, Act.other_owner, Key.RowKey, Log.note_at, Table.Rows, Table.TableState, Table.Tells, declared.notes.Note.Note}
+use Rattle.beldi_row.specs.{declared.row.Row.Row, Act.other_owner, Key.RowKey, Key.at_row, Log.note_at, Table.Rows, Table.TableState, Table.Tells, declared.notes.Note.Note}
 use Rattle.beldi_walk.specs.{declared.query.Query.Query, declared.query.Query.TheVariants.Act, declared.query.Query.TheVariants.After, Walk.Turned}
-use Rattle.beldi_chain.specs.{Chain.Chain, Chain.ChangedAlone, Chain.Sound, Chain.chain, Chain.content, Chain.tail, Content.Content}
-use Rattle.beldi_daal.specs.{declared.cell.CellOp.CellOp, declared.cell.CellOp.TheVariants.Lock, Cell.cell_key, Cell.shadow_key, Logged.waited, Logged.dies, Logged.done_to, Logged.DidAs}
+use Rattle.beldi_chain.specs.{Chain.Chain, Chain.ChangedAlone, Chain.chain, Chain.content, Chain.tail, Content.Content}
+use Rattle.beldi_links.specs.Links.{AllGrow, IsLinked, ReadsAt, SeesAt}
+use Rattle.beldi_daal.specs.{declared.cell.CellOp.CellOp, declared.cell.CellOp.TheVariants.Lock, Cell.cell_key, Cell.shadow_key, Logged.at_of, Logged.waited, Logged.dies, Logged.done_to, Logged.DidAs}
+use Rattle.beldi_lock.specs.Locked.{SeesItem}
 use Rattle.beldi_readlog.specs.ReadLog.{log_key, given}
 use Rattle.beldi_txn.specs.{declared.tx.TxAt.TxAt, declared.tx.TxSays.TxSays, declared.tx_walk.TxWalk.TxWalk, Tx.item_of, Tx.op_of, TxWalk.first_tx, TxWalk.walk_asks, TxWalk.walk_next, TxWalk.walk_says}
 
 -- ---- where an operation may stand
 -- each has stages of its own
 abbrev pub Fits : Effect → TxAt → Type 0
+Fits (Read t k) TxAt.Seek = ⊥
 Fits (Read t k) (TxAt.Head v) = ⊥
 Fits (Read t k) (TxAt.Write w) = ⊥
 Fits (Read t k) a = Unit {0}
@@ -19,6 +22,7 @@ Fits (Write t k v) (TxAt.Lock l) = Unit {0}
 Fits (Write t k v) (TxAt.Write w) = Unit {0}
 Fits (Write t k v) a = ⊥
 Fits (CondWrite t k r o v) TxAt.Log = ⊥
+Fits (CondWrite t k r o v) (TxAt.Shadow n) = ⊥
 Fits (CondWrite t k r o v) (TxAt.Keep u) = ⊥
 Fits (CondWrite t k r o v) a = Unit {0}
 Fits e a = ⊥
@@ -36,18 +40,31 @@ item_key w t k = cell_key w.home t k
 abbrev pub aside_key : TxWalk → ℕ → List ℕ → RowKey
 aside_key w t k = shadow_key w.home w.tx t k
 
--- what it needs: both chains are sound, nobody owns the shadow, and it stands where it may
+-- what it sees of the rows of the item, and of those of the shadow
+abbrev pub Sees : TxAt → Place → Chain → Chain → Type 0
+Sees (TxAt.Lock l) p f g = SeesItem l p f
+Sees (TxAt.Shadow r) p f g = ReadsAt g r
+Sees (TxAt.Item r) p f g = ReadsAt f r
+Sees (TxAt.Write w) p f g = SeesAt g p (at_of w)
+Sees a p f g = Unit {0}
+
+-- what it needs: the rows of both are linked, nobody owns the shadow, it stands where it may, and sees what it has to
 pub record Stands (w : TxWalk) (t : ℕ) (k : List ℕ) (m : Rows) : Type 0 where
-  pub item : Sound (chain m (item_key w t k))
-  pub shadow : Sound (chain m (aside_key w t k))
+  pub item : IsLinked (chain m (item_key w t k))
+  pub shadow : IsLinked (chain m (aside_key w t k))
   pub unowned : (content (chain m (aside_key w t k))).owner ≡ None
   pub fits : Fits w.effect w.at
   pub locked : HasLock w.at w.place (content (chain m (item_key w t k)))
+  pub sees : Sees w.at w.place (chain m (item_key w t k)) (chain m (aside_key w t k))
 
 -- ---- what a turn leaves
 abbrev pub key_asked : Query → RowKey
 key_asked (Act k a) = k
 key_asked (After k) = k
+
+-- .. and the first row of its item, where it is a row of one
+abbrev pub head_asked : Query → RowKey
+head_asked q = at_row (key_asked q) 0
 
 -- the item changes only by the lock: the place had no note, and took the lock, or died of another owner
 abbrev pub LockMoves : Place → Owner → Content → Content → Type 0
@@ -57,9 +74,10 @@ abbrev pub ItemMoves : TxAt → Place → Owner → Content → Content → Type
 ItemMoves (TxAt.Lock l) p who c d = LockMoves p who c d
 ItemMoves a p who c d = d ≡ c
 
--- nothing is answered yet
+-- nothing is answered, and nothing was done
 abbrev pub is_going : TxSays → Bool
 is_going TxSays.Going = true
+is_going TxSays.Worn = true
 is_going s = false
 
 -- what the shadow holds changes only by this operation, which is answered at once
@@ -67,8 +85,8 @@ abbrev pub AsideMoves : Option CellOp → Place → Owner → TxSays → Content
 AsideMoves None p who s c d = d ≡ c
 AsideMoves (Some o) p who s c d = (d ≡ c) ⊎ ((d ≡ done_to p who o c) × (is_going s ≡ false))
 
--- the shadow's rows change only where its place had no note: by the operation, or by a first row, with the value that was found and no
--- notes; by what is said, and the shadow before and after
+-- the shadow's rows change only where its place had no note: by the operation, by a row that is to follow a full one, and its link, or
+-- by a first row, with the value that was found and no notes; by what is said, and the shadow before and after
 abbrev pub ShadowMoves : Effect → TxAt → Place → Owner → TxSays → Chain → Chain → Type 0
 ShadowMoves e (TxAt.Head v) p who s f g = (g ≡ f) ⊎ ((note_at (content f).notes p ≡ None) × (tail f ≡ None) × (content g ≡ record { value = v; owner = None; notes = [] }))
 ShadowMoves e (TxAt.Write w) p who s f g = (g ≡ f) ⊎ ((note_at (content f).notes p ≡ None) × AsideMoves (op_of e) p who s (content f) (content g))
@@ -81,12 +99,12 @@ shadow_value (Some (Row.Cell c)) = Some c.value
 shadow_value r = None
 
 abbrev pub Finds : TxAt → TxAt → Option Row → Value → Type 0
-Finds TxAt.Shadow (TxAt.Keep v) r w = shadow_value r ≡ Some v
-Finds TxAt.Shadow TxAt.Item r w = r ≡ None
-Finds TxAt.Shadow (TxAt.Write u) r w = is_some r ≡ true
+Finds (TxAt.Shadow n) (TxAt.Keep v) r w = shadow_value r ≡ Some v
+Finds (TxAt.Shadow n) (TxAt.Item k) r w = r ≡ None
+Finds TxAt.Seek (TxAt.Write u) r w = is_some r ≡ true
 Finds (TxAt.Head v) (TxAt.Write u) r w = is_some r ≡ true
-Finds TxAt.Item (TxAt.Keep v) r w = v ≡ w
-Finds TxAt.Item (TxAt.Head v) r w = v ≡ w
+Finds (TxAt.Item n) (TxAt.Keep v) r w = v ≡ w
+Finds (TxAt.Item n) (TxAt.Head v) r w = v ≡ w
 Finds a b r w = Unit {0}
 
 -- ---- what is said
@@ -109,13 +127,14 @@ abbrev pub IsSo : Effect → Place → Owner → TxSays → Option Value → Con
 IsSo e p who TxSays.Going g c d = Unit {0}
 IsSo e p who (TxSays.Died a) g c d = HasDied p a c
 IsSo e p who (TxSays.Held o) g c d = (note_at c.notes p ≡ None) × (waited who (other_owner who c.owner) ≡ Some o)
-IsSo e p who TxSays.Worn g c d = ⊥
+IsSo e p who TxSays.Worn g c d = Unit {0}
 IsSo e p who (TxSays.Value v) g c d = Gave e p v g d
 IsSo e p who TxSays.Done g c d = WasDone e p d
 
 pub record TxTurn (w x : TxWalk) (t : ℕ) (k : List ℕ) (m n : Rows) (s : TxSays) : Type 0 where
   -- all rows are as before but the one, or those of the item, that it asks for
-  pub others : ChangedAlone (key_asked (walk_asks w)) m n
+  pub others : ChangedAlone (head_asked (walk_asks w)) m n
+  pub grows : AllGrow m n
   pub item : ItemMoves w.at w.place (Owner.Tx w.tx) (content (chain m (item_key w t k))) (content (chain n (item_key w t k)))
   pub shadow : ShadowMoves w.effect w.at w.place (Owner.Tx w.tx) s (chain m (aside_key w t k)) (chain n (aside_key w t k))
   pub finds : Finds w.at x.at (tail (chain n (aside_key w t k))) (content (chain m (item_key w t k))).value

@@ -3,7 +3,7 @@ use Rattle.std.specs.Prelude.{ℕ}
 use Rattle.beldi_value.specs.declared.place.{Place.Place, TxId.TxId}
 use Rattle.beldi_lang.specs.declared.effect.Effect.{Effect}
 use Rattle.beldi_walk.specs.{declared.query.Query.Query, Query.Told}
-use Rattle.beldi_txn.specs.{declared.tx.TxAt.TxAt, declared.tx.TxGoes.TxGoes, declared.tx.TxSays.TxSays, declared.tx.TxSays.TheVariants.Going, declared.tx.TxSays.TheVariants.Died, declared.tx.TxSays.TheVariants.Held, declared.tx.TxSays.TheVariants.Value, declared.tx.TxSays.TheVariants.Done, declared.tx_walk.TxWalk.TxWalk, Tx.tx_first, Tx.tx_asks, Tx.tx_goes}
+use Rattle.beldi_txn.specs.{declared.tx.TxAt.TxAt, declared.tx.TxGoes.TxGoes, declared.tx.TxSays.TxSays, declared.tx.TxSays.TheVariants.Going, declared.tx.TxSays.TheVariants.Died, declared.tx.TxSays.TheVariants.Held, declared.tx.TxSays.TheVariants.Worn, declared.tx.TxSays.TheVariants.Value, declared.tx.TxSays.TheVariants.Done, declared.tx_walk.TxWalk.TxWalk, Tx.tx_first, Tx.tx_asks, Tx.tx_goes}
 
 -- ---- the way on
 -- what kept a value looks for it next; unless it goes on, any other stands where it stood
@@ -14,6 +14,7 @@ gone a TxGoes.Put = TxAt.Log
 gone a (TxGoes.Died c) = a
 gone a (TxGoes.Held o) = a
 gone a (TxGoes.Value v) = a
+gone a TxGoes.Worn = a
 gone a TxGoes.Done = a
 
 -- the value that was kept is the answer
@@ -28,6 +29,7 @@ said_of a TxGoes.Put = put_says a
 said_of a (TxGoes.Died c) = Died c
 said_of a (TxGoes.Held o) = Held o
 said_of a (TxGoes.Value v) = Value v
+said_of a TxGoes.Worn = Worn
 said_of a TxGoes.Done = Done
 
 -- ---- the walk

@@ -6,13 +6,14 @@ use Rattle.std.specs.FinMap as map
 use Rattle.beldi_value.specs.{declared.place.Owner.Owner, declared.place.Place.Place, declared.place.TxId.TxId, declared.value.Value.Value, Id.has_callees}
 use Rattle.beldi_row.specs.{declared.notes.Note.Note, declared.row.IntentRow.IntentRow, declared.row.Row.Row, Act.owns, Key.RowKey, Key.key_cmp, Log.note_at, Table.Rows, Table.TableState, Table.Tells}
 use Rattle.beldi_walk.specs.Walk.{Turned}
-use Rattle.beldi_chain.specs.{Chain.ChangedAlone, Chain.Sound, Chain.chain, Chain.content, Chain.tail, Content.Content}
-use Rattle.beldi_daal.specs.{declared.cell.CellOp.TheVariants.Free as FreeOp, Cell.cell_key, Cell.shadow_key, Logged.done_to}
+use Rattle.beldi_chain.specs.{Chain.ChangedAlone, Chain.chain, Chain.content, Chain.tail, Content.Content}
+use Rattle.beldi_links.specs.Links.{AllGrow, IsLinked, ReadsAt, SeesAt}
+use Rattle.beldi_daal.specs.{declared.cell.CellOp.TheVariants.Free as FreeOp, Cell.cell_key, Cell.shadow_key, Logged.at_of, Logged.done_to}
 use Rattle.beldi_lock.specs.{Lock.lockset_key, Lockset.AreHops, Lockset.AreFit}
 use Rattle.beldi_readlog.specs.ReadLog.{log_key}
 use Rattle.beldi_intent.specs.Intent.{intent_key}
 use Rattle.beldi_txn.specs.End.{begin_place, visited_by, free_place, first_end, walk_asks, walk_next, walk_says}
-use Rattle.beldi_txn.specs.{declared.way.Called.Called, Invokes.call_key, Invokes.func_called, Way.Member, Way.callee_of, Way.is_owner, declared.end.EndAt.EndAt, declared.end.EndAt.TheVariants.Decide, declared.end.EndAt.TheVariants.Callees, declared.end.EndAt.TheVariants.Next, declared.end.EndAt.TheVariants.Shadow, declared.end.EndAt.TheVariants.Free, declared.end.EndAt.TheVariants.Stamp, declared.end.EndSays.EndSays, declared.end.Visit.Visit, declared.end_walk.EndWalk.EndWalk, TxTurn.key_asked, TxTurn.shadow_value}
+use Rattle.beldi_txn.specs.{declared.way.Called.Called, Invokes.call_key, Invokes.func_called, Way.Member, Way.callee_of, Way.is_owner, declared.end.EndAt.EndAt, declared.end.EndAt.TheVariants.Decide, declared.end.EndAt.TheVariants.Callees, declared.end.EndAt.TheVariants.Next, declared.end.EndAt.TheVariants.Shadow, declared.end.EndAt.TheVariants.Free, declared.end.EndAt.TheVariants.Stamp, declared.end.EndSays.EndSays, declared.end.Visit.Visit, declared.end_walk.EndWalk.EndWalk, TxTurn.head_asked, TxTurn.shadow_value}
 
 -- ---- the rows: the decision, and by its table and key an item of a function, the transaction's shadow of it, and that a member asked
 -- for its lock
@@ -120,9 +121,21 @@ IsFrom w cs after = Unit {0}
 
 -- only a commit looks at the shadow; an item is given back with its value exactly where the transaction commits and has a shadow of it
 abbrev pub Gives : EndAt → EndWalk → ℕ → Rows → Option (ℕ × List ℕ) → Type 0
-Gives Shadow w home m i = w.commit ≡ true
+Gives (Shadow r) w home m i = w.commit ≡ true
 Gives (Free f) w home m (Some i) = w.visit.value ≡ given_value w.commit (tail (chain m (aside_row w home i)))
 Gives a w home m i = Unit {0}
+
+-- what it sees of the rows of the shadow that it looks at, and of those of the item that it gives back
+abbrev pub SeesRows : EndAt → EndWalk → ℕ → Rows → Option (ℕ × List ℕ) → Type 0
+SeesRows (Shadow r) w home m (Some i) = ReadsAt (chain m (aside_row w home i)) r
+SeesRows (Free f) w home m (Some i) = SeesAt (chain m (item_row home i)) (free_place w.tx w.end w.visit.way) (at_of f)
+SeesRows a w home m i = Unit {0}
+
+-- the row is there that says that the lock of the item was asked for
+abbrev pub WasAsked : EndAt → EndWalk → Member → Rows → Option (ℕ × List ℕ) → Type 0
+WasAsked (Shadow r) w p m (Some i) = is_some (map.get m (lock_row w p i)) ≡ true
+WasAsked (Free f) w p m (Some i) = is_some (map.get m (lock_row w p i)) ≡ true
+WasAsked a w p m i = Unit {0}
 
 -- the calls of who is visited are passed in the order of their steps
 abbrev pub IsPassed : EndAt → Option ℕ → ℕ → Type 0
@@ -151,9 +164,9 @@ IsPast Next w p (Some i) q = key_cmp (lock_row w p i) (lock_row w p q) ≡ Less 
 IsPast a w p None q = ⊥
 IsPast a w p (Some i) q = key_cmp (lock_row w p q) (lock_row w p i) ≡ Less
 
--- all chains of items and shadows are sound
-abbrev pub AreSound : EndWalk → Rows → Type 0
-AreSound w m = (f : ℕ) (q : ℕ × List ℕ) → Sound (chain m (item_row f q)) × Sound (chain m (aside_row w f q))
+-- the rows of all items and shadows are linked
+abbrev pub AreLinked : EndWalk → Rows → Type 0
+AreLinked w m = (f : ℕ) (q : ℕ × List ℕ) → IsLinked (chain m (item_row f q)) × IsLinked (chain m (aside_row w f q))
 
 -- an item with a note at a place where a member gives items back is not the transaction's
 abbrev pub AreMarked : EndWalk → Rows → Type 0
@@ -168,18 +181,24 @@ pub record Visited (w : EndWalk) (m : Rows) : Type 0 where
   -- the calls that lead to who is visited are there
   pub member : IsMember w m w.visit.way
   pub gives : Gives w.visit.at w (visited_by w.tx w.visit.way).1 m w.visit.item
+  pub sees : SeesRows w.visit.at w (visited_by w.tx w.visit.way).1 m w.visit.item
+  pub asked : WasAsked w.visit.at w (visited_by w.tx w.visit.way) m w.visit.item
   pub callees : Levels m (owner_of w) (IsWithin w) w.visit.way (IsPassed w.visit.at w.visit.after)
   -- no item is the transaction's whose lock who is visited asked for, and that was passed
   pub freed : (q : ℕ × List ℕ) (r : Row) → let p = visited_by w.tx w.visit.way in map.get m (lock_row w p q) ≡ Some r → IsPast w.visit.at w p w.visit.item q → is_own w (item_in p.1 m q) ≡ false
   pub released : AreReleased w m
   pub marked : AreMarked w m
-  pub sound : AreSound w m
+  pub linked : AreLinked w m
 
 -- the owner and all who took part have given back all, and all but the owner are closed
 pub record AllReleased (w : EndWalk) (m : Rows) : Type 0 where
   pub owner : AllFreed w m (owner_of w)
   pub closed : (c : Called) (cs : List Called) → IsMember w m (c ∷ cs) → is_closed m (visited_by w.tx (c ∷ cs)) ≡ true
   pub freed : (c : Called) (cs : List Called) → IsMember w m (c ∷ cs) → AllFreed w m (visited_by w.tx (c ∷ cs))
+
+-- no row goes
+abbrev pub RowsStay : Rows → Rows → Type 0
+RowsStay m n = (k : RowKey) → is_some (map.get m k) ≡ true → is_some (map.get n k) ≡ true
 
 -- ---- a turn of its own
 -- the decision is put once; the end stays at another decision than its own
@@ -213,7 +232,9 @@ LeftAt a w i s m n = n ≡ m
 
 pub record EndTurn (w x : EndWalk) (m n : Rows) (s : EndSays) : Type 0 where
   -- all rows are as before but the one, or those of the item, that it asks for
-  pub others : ChangedAlone (key_asked (walk_asks w)) m n
+  pub others : ChangedAlone (head_asked (walk_asks w)) m n
+  pub stay : RowsStay m n
+  pub grows : AllGrow m n
   pub left : LeftAt w.visit.at w w.visit.item s m n
   pub same : x ≡ record w { visit = x.visit }
   pub visited : Visited x n
@@ -225,10 +246,12 @@ EndsAreVisits = (w x : EndWalk) (now : ℕ) (old new : TableState) (s : EndSays)
     → Turned (walk_asks w) now (walk_next w) (walk_says w) w x old new (Ok s) → Tells old.rows new.rows (λ m n. AreFit m → Visited w m → EndTurn w x m n s)
 
 -- ---- what others do
--- rows that keep the decision and the values of the transaction's shadows, and have no further row of its calls and its locks; the
+-- rows that stay and grow, keep the decision and the values of the transaction's shadows, and have no further row of its calls and its locks; the
 -- calls on the way stand; who is closed stays so, and who becomes so has given back all; the transaction owns no item that it did not,
 -- and none that has a note at a place where items are given back
 pub record Leaves (w : EndWalk) (m n : Rows) : Type 0 where
+  pub stay : RowsStay m n
+  pub grows : AllGrow m n
   pub decision : IsDecided w m → IsDecided w n
   pub asides : (f : ℕ) (q : ℕ × List ℕ) → shadow_value (tail (chain n (aside_row w f q))) ≡ shadow_value (tail (chain m (aside_row w f q)))
   pub way : IsMember w m w.visit.way → IsMember w n w.visit.way
@@ -238,7 +261,7 @@ pub record Leaves (w : EndWalk) (m n : Rows) : Type 0 where
   pub items : (f : ℕ) (q : ℕ × List ℕ) → is_own w (item_in f m q) ≡ false → is_own w (item_in f n q) ≡ false
   pub released : AreReleased w n
   pub marks : AreMarked w n
-  pub sound : AreSound w n
+  pub linked : AreLinked w n
 
 abbrev pub VisitsStand : Type 0
 VisitsStand = (w : EndWalk) (m n : Rows) → Visited w m → Leaves w m n → Visited w n
@@ -246,7 +269,7 @@ VisitsStand = (w : EndWalk) (m n : Rows) → Visited w m → Leaves w m n → Vi
 -- it is so from the start, where no item has a note at a place where items are given back that is the transaction's, and who is
 -- closed has given back all
 abbrev pub VisitsBegin : Type 0
-VisitsBegin = (tx : TxId) (end : ℕ) (commit : Bool) (m : Rows) → let w = first_end tx end commit in AreReleased w m → AreMarked w m → AreSound w m → Visited w m
+VisitsBegin = (tx : TxId) (end : ℕ) (commit : Bool) (m : Rows) → let w = first_end tx end commit in AreReleased w m → AreMarked w m → AreLinked w m → Visited w m
 
 -- a turn of another walk of the same end, wherever that walk stands, is among what an end bears
 abbrev pub OtherWalksLeave : Type 0

@@ -23,9 +23,10 @@ use beldi_row::{Act, Note, Said};
 use beldi_value::{Apart, IntentId, Place, Str, TxId, Value, or_drop};
 use beldi_walk::{Heard, Query};
 use std::alloc::{AllocError, Global};
+use std::mem::replace;
 
 /// Where the end of a transaction stands.
-#[derive(Clone, Copy, Debug, PartialEq, Eq)]
+#[derive(Drop)]
 pub enum EndAt {
     /// The decision is put next.
     Decide,
@@ -33,8 +34,8 @@ pub enum EndAt {
     Callees,
     /// The next item is looked for, of those that who is visited asked the locks of.
     Next,
-    /// The transaction's own copy of the item is looked at next.
-    Shadow,
+    /// This row of the transaction's own copy of the item is looked at next.
+    Shadow(u32),
     /// The item is given back; its walk stands here.
     Free(WriteAt),
     /// The participant gets its finish next.
@@ -60,6 +61,10 @@ pub struct Visit {
 pub enum EndGoes {
     /// It goes on from here, with the same item.
     On(EndAt),
+    /// It stays where it stands.
+    Stays,
+    /// No row can follow the last one of the item, which is full: it stays where it stands.
+    Worn,
     /// The decision is there; `first` says that this act put it.
     Decided { first: bool },
     /// The callee of the call at this step has no id, so it is passed over.
@@ -83,7 +88,7 @@ pub enum EndSays {
     Going,
     /// The decision is there; `first` says that this turn put it.
     Decided { first: bool },
-    /// No row can follow the last one of an item, which is full. No turn says so as long as the rows of an item are not linked.
+    /// No row can follow the last one of an item, which is full.
     Worn,
     /// The owner was visited, and all who took part.
     Done,
@@ -110,11 +115,13 @@ impl Visit {
     {
         match goes {
             EndGoes::On(at) => {
-                self.at = at;
+                self.stand(at);
                 EndSays::Going
             }
+            EndGoes::Stays => EndSays::Going,
+            EndGoes::Worn => EndSays::Worn,
             EndGoes::Decided { first } => {
-                self.at = EndAt::Callees;
+                self.stand(EndAt::Callees);
                 EndSays::Decided { first }
             }
             EndGoes::Passed(step) => {
@@ -141,6 +148,13 @@ impl Visit {
         }
     }
 
+    // It stands here from now on.
+    fn stand(&mut self, at: EndAt)
+        ensures { self.new ≡ record self.old { at = at } }
+    {
+        drop(replace(&mut self.at, at));
+    }
+
     // To the callee that these calls lead to.
     fn to_callee(&mut self, way: Way)
         ensures { self.new ≡ at_calls way None }
@@ -155,15 +169,15 @@ impl Visit {
     {
         self.item = Some((table, key));
         self.value = None;
-        self.at = at;
+        self.stand(at);
     }
 
     // To the giving back of the item with this value.
     fn to_free(&mut self, value: Option<Value>)
-        ensures { self.new ≡ record self.old { value = value; at = EndAt.Free WriteAt.Try } }
+        ensures { self.new ≡ record self.old { value = value; at = EndAt.Free (WriteAt.Try 0) } }
     {
         self.value = value;
-        self.at = EndAt::Free(WriteAt::Try);
+        self.stand(EndAt::Free(WriteAt::Try(0)));
     }
 
     // To the calls of who is visited, after a step.
@@ -173,7 +187,7 @@ impl Visit {
         self.after = after;
         self.item = None;
         self.value = None;
-        self.at = EndAt::Callees;
+        self.stand(EndAt::Callees);
     }
 
     // From a participant to its caller.
@@ -192,9 +206,9 @@ fn at_first(commit: bool) -> EndAt
     ensures { result ≡ free_first commit }
 {
     if commit {
-        EndAt::Shadow
+        EndAt::Shadow(0)
     } else {
-        EndAt::Free(WriteAt::Try)
+        EndAt::Free(WriteAt::Try(0))
     }
 }
 
@@ -229,11 +243,11 @@ pub fn end_query(
     ensures { IfOk result (λ q. q ≡ visit_asks tx.now end commit visit.now.way visit.now.after visit.now.item visit.now.value visit.now.at) }
 {
     let way = &visit.way;
-    match visit.at {
+    match &visit.at {
         EndAt::Decide => decide_query(alloc, tx, commit),
         EndAt::Callees => calls_query(alloc, tx, way, visit.after),
         EndAt::Next => locks_query(alloc, tx, way, lent(&visit.item)),
-        EndAt::Shadow => look_query(alloc, tx, way, lent(&visit.item)),
+        EndAt::Shadow(row) => look_query(alloc, tx, way, *row, lent(&visit.item)),
         EndAt::Free(at) => free_query(alloc, tx, end, way, lent(&visit.item), &visit.value, at),
         EndAt::Stamp => finish_query(alloc, tx, way),
     }
@@ -279,13 +293,14 @@ fn look_query(
     alloc: Global,
     tx: &TxId,
     way: &Way,
+    row: u32,
     item: Option<(u16, &Str)>,
 ) -> Result<Apart<Query>, AllocError>
-    ensures { IfOk result (λ q. q ≡ shadow_asks tx.now (visited_by tx.now way.now) (item_lent item.entry)) }
+    ensures { IfOk result (λ q. q ≡ shadow_asks tx.now (visited_by tx.now way.now) row (item_lent item.entry)) }
 {
     match item {
         Some((table, key)) => {
-            Query::look(alloc, shadow_key(alloc, way.func(tx), tx, table, key)?)
+            Query::look(alloc, shadow_key(alloc, way.func(tx), tx, table, key, row)?)
         }
         None => locks_query(alloc, tx, way, None),
     }
@@ -298,13 +313,13 @@ fn free_query(
     way: &Way,
     item: Option<(u16, &Str)>,
     value: &Option<Value>,
-    at: WriteAt,
+    at: &WriteAt,
 ) -> Result<Apart<Query>, AllocError>
-    ensures { IfOk result (λ q. q ≡ free_asks tx.now (visited_by tx.now way.now) (freed_at tx.now end way.now) value.now at (item_lent item.entry)) }
+    ensures { IfOk result (λ q. q ≡ free_asks tx.now (visited_by tx.now way.now) (freed_at tx.now end way.now) value.now at.now (item_lent item.entry)) }
 {
     match item {
         Some((table, key)) => {
-            let row = cell_key(alloc, way.func(tx), table, key)?;
+            let row = cell_key(alloc, way.func(tx), table, key, 0)?;
             let place = or_drop!(free_place(alloc, tx, end, way); row);
             let op = CellOp::Free(or_drop!(copy_of(alloc, value); row, place));
             own_query(alloc, row, place, tx, op, at)
@@ -350,12 +365,12 @@ pub fn end_told(
     ensures ok { IfOk result (λ g. g ≡ end_goes tx.now end commit visit.now.way visit.now.at (told_of heard.entry)) }
     ensures err { OnErr result (lends (told_of heard.entry) ≡ true) }
 {
-    match visit.at {
+    match &visit.at {
         EndAt::Decide => Ok(decide_told(commit, heard)),
         EndAt::Callees => hear_call(alloc, tx, end, &visit.way, heard),
         EndAt::Next => hear_next(alloc, tx, &visit.way, heard),
-        EndAt::Shadow => Ok(hear_value(read_told(alloc, &None, heard)?)),
-        EndAt::Free(at) => Ok(hear_free(at, write_told(alloc, Note::Freed, heard)?)),
+        EndAt::Shadow(_) => Ok(hear_value(read_told(alloc, &None, heard)?)),
+        EndAt::Free(at) => Ok(hear_free(write_told(alloc, Note::Freed, at, heard)?)),
         EndAt::Stamp => Ok(EndGoes::Back),
     }
 }
@@ -445,7 +460,7 @@ pub fn decide_told(commit: bool, heard: Heard<'_>) -> EndGoes
     match heard {
         Heard::Said(Said::Added) => EndGoes::Decided { first: true },
         Heard::Said(Said::Kept(Value::Bool(kept))) => kept_decision(commit, *kept),
-        _ => EndGoes::On(EndAt::Decide),
+        _ => EndGoes::Stays,
     }
 }
 
@@ -454,7 +469,7 @@ fn kept_decision(commit: bool, kept: bool) -> EndGoes
 {
     match (commit, kept) {
         (true, true) | (false, false) => EndGoes::Decided { first: false },
-        _ => EndGoes::On(EndAt::Decide),
+        _ => EndGoes::Stays,
     }
 }
 
@@ -463,18 +478,20 @@ fn hear_value(said: ReadGoes) -> EndGoes
     ensures { result ≡ value_goes said }
 {
     match said {
+        ReadGoes::On(row) => EndGoes::On(EndAt::Shadow(row)),
         ReadGoes::Got(value) => EndGoes::Value(value),
-        ReadGoes::On | ReadGoes::Held(_) => EndGoes::On(EndAt::Shadow),
+        ReadGoes::Stays | ReadGoes::Held(_) => EndGoes::Stays,
     }
 }
 
 // The next item comes once this one was given back, now or before, or is another's. A free waits for nobody.
-fn hear_free(at: WriteAt, goes: WriteGoes) -> EndGoes
-    ensures { result ≡ freed_goes at goes }
+fn hear_free(goes: WriteGoes) -> EndGoes
+    ensures { result ≡ freed_goes goes }
 {
     match goes {
         WriteGoes::On(at) => EndGoes::On(EndAt::Free(at)),
         WriteGoes::Done { .. } | WriteGoes::NotOwner => EndGoes::On(EndAt::Next),
-        WriteGoes::Held(_) => EndGoes::On(EndAt::Free(at)),
+        WriteGoes::Stays | WriteGoes::Held(_) => EndGoes::Stays,
+        WriteGoes::Worn => EndGoes::Worn,
     }
 }

@@ -18,8 +18,8 @@
 //! - `TxWalk::turn` and `EndWalk::turn` ask what the definition asks, in at most one call of the table, and go and say by what was
 //!   told, whatever the table tells; at an error they stand where they stood (`Turned`), and the rows are as before, but for a death
 //!   that it was out of memory to tell (`an_error_leaves_the_rows` of `beldi_walk`).
-//! - Laws of an operation: where the chains of the item and of the transaction's copy are sound and nobody owns the copy, a turn
-//!   leaves all rows but the one, or those of the one item, that it asks for. The item changes only by the lock. The copy changes
+//! - Laws of an operation: where the rows of the item and of the transaction's copy are linked, nobody owns the copy, and the
+//!   operation sees what it has to where it stands, a turn leaves that so, and all rows but the one, or those of the one item, that it asks for. The item changes only by the lock. The copy changes
 //!   only by this operation, where its place had no note, or by a first row with the value that was found in the item. What is
 //!   found and what is kept is the copy's value, or without a copy the item's. What it answers is so of the rows: a read's value is
 //!   kept for its place; a write or a condition is noted in the copy at its place; a death is noted in the item at its place, with

@@ -4,10 +4,11 @@ ghost use Rattle.beldi_value.specs.declared.place.Owner.TheVariants as Owner;
 ghost use Rattle.beldi_row.specs.declared.act.Act.TheVariants as Act;
 ghost use Rattle.beldi_walk.specs.declared.query.Query.TheVariants as Query;
 ghost use Rattle.beldi_walk.specs.Query.{told_of, lends};
-ghost use Rattle.beldi_daal.specs.Cell.{write_asks};
+ghost use Rattle.beldi_row.specs.Key.{at_row};
+ghost use Rattle.beldi_daal.specs.Cell.{write_asks, cell_key as cell_key_of, shadow_key as shadow_key_of};
 ghost use Rattle.beldi_lock.specs.Lock.{lock_goes};
 ghost use Rattle.beldi_lock.specs.Lockset.{item_lent};
-ghost use Rattle.beldi_txn.specs.Tx.{tx_first, item_of as item_of_effect, op_of, done_of, tx_asks, item_asks, given_goes, locked_goes, lock_leads, shadow_read, head_goes, shadow_goes, item_leads, item_goes, keep_goes, head_made, note_goes, write_leads, died_goes, tx_goes};
+ghost use Rattle.beldi_txn.specs.Tx.{tx_first, item_of as item_of_effect, op_of, done_of, tx_asks, item_asks, given_goes, locked_goes, lock_leads, shadow_read, seek_goes, item_leads, item_goes, keep_goes, head_made, note_goes, write_leads, died_goes, tx_goes};
 ghost use Rattle.beldi_txn.specs.declared.tx.TxAt.TheVariants as TxAt;
 ghost use Rattle.beldi_txn.specs.TxWalk.{gone, put_says, said_of};
 
@@ -30,10 +31,12 @@ pub enum TxAt {
     Log,
     /// The lock of the item stands here.
     Lock(LockAt),
-    /// The transaction's own copy of the item is looked at next.
-    Shadow,
-    /// The item itself is looked at next, as the transaction has no copy of it.
-    Item,
+    /// A condition looks next whether the transaction has its own copy of the item.
+    Seek,
+    /// A read looks at this row of the transaction's own copy of the item next.
+    Shadow(u32),
+    /// This row of the item itself is looked at next, as the transaction has no copy of it.
+    Item(u32),
     /// A read keeps this value next.
     Keep(Value),
     /// The copy is made next, with this value.
@@ -55,6 +58,8 @@ pub enum TxGoes {
     Died(Cause),
     /// This owner has the item, and the transaction waits for it.
     Held(Owner),
+    /// No row can follow the last one of the item or of the transaction's copy, which is full.
+    Worn,
     /// The operation has this answer.
     Value(Value),
     /// The operation was done.
@@ -70,8 +75,7 @@ pub enum TxSays {
     Died(Cause),
     /// This owner, another than the transaction, has the item, and the transaction waits for it.
     Held(Owner),
-    /// No row can follow the last one of the item or of the transaction's copy, which is full. No turn says so as long as rows are
-    /// not linked.
+    /// No row can follow the last one of the item or of the transaction's copy, which is full.
     Worn,
     /// What a read found, or whether a conditional write wrote.
     Value(Value),
@@ -99,13 +103,14 @@ impl TxAt {
     {
         match goes {
             TxGoes::On(at) => {
-                *self = at;
+                drop(replace(self, at));
                 TxSays::Going
             }
             TxGoes::Put => put(replace(self, TxAt::Log)),
             TxGoes::Stays => TxSays::Going,
             TxGoes::Died(cause) => TxSays::Died(cause),
             TxGoes::Held(owner) => TxSays::Held(owner),
+            TxGoes::Worn => TxSays::Worn,
             TxGoes::Value(value) => TxSays::Value(value),
             TxGoes::Done => TxSays::Done,
         }
@@ -202,15 +207,19 @@ fn item_query(
         TxAt::Log => Query::look(alloc, log_key(home, place)),
         TxAt::Lock(at) => {
             let who = Owner::Tx(or_drop!(copy_tx(tx, alloc); place));
-            lock_query(alloc, home, table, key, place, who, *at)
+            lock_query(alloc, home, table, key, place, who, at)
         }
-        TxAt::Shadow => {
+        TxAt::Seek => {
             drop(place);
-            Query::look(alloc, shadow_key(alloc, home, tx, table, key)?)
+            look_aside(alloc, home, tx, table, key, 0)
         }
-        TxAt::Item => {
+        TxAt::Shadow(row) => {
             drop(place);
-            Query::look(alloc, cell_key(alloc, home, table, key)?)
+            look_aside(alloc, home, tx, table, key, *row)
+        }
+        TxAt::Item(row) => {
+            drop(place);
+            look_at(alloc, home, table, key, *row)
         }
         TxAt::Keep(value) => {
             let value = or_drop!(value.copy(alloc); place);
@@ -218,16 +227,51 @@ fn item_query(
         }
         TxAt::Head(value) => {
             drop(place);
-            head_query(alloc, shadow_key(alloc, home, tx, table, key)?, value)
+            head_query(alloc, home, tx, table, key, value)
         }
-        TxAt::Write(at) => aside_query(alloc, home, place, tx, effect, table, key, *at),
+        TxAt::Write(at) => aside_query(alloc, home, place, tx, effect, table, key, at),
     }
 }
 
-// Asks that the transaction's own copy be made, with this value.
-fn head_query(alloc: Global, row: RowKey, value: &Value) -> Result<Apart<Query>, AllocError>
-    ensures { IfOk result (λ q. q ≡ Query.Act row (Act.MakeCell value.now None)) }
+// Asks for this row of the transaction's own copy.
+fn look_aside(
+    alloc: Global,
+    home: u16,
+    tx: &TxId,
+    table: u16,
+    key: &Str,
+    row: u32,
+) -> Result<Apart<Query>, AllocError>
+    ensures { IfOk result (λ q. q ≡ Query.Act (at_row (shadow_key_of home tx.now table key.now) row) Act.Look) }
 {
+    Query::look(alloc, shadow_key(alloc, home, tx, table, key, row)?)
+}
+
+// Asks for this row of the item.
+fn look_at(
+    alloc: Global,
+    home: u16,
+    table: u16,
+    key: &Str,
+    row: u32,
+) -> Result<Apart<Query>, AllocError>
+    ensures { IfOk result (λ q. q ≡ Query.Act (at_row (cell_key_of home table key.now) row) Act.Look) }
+{
+    Query::look(alloc, cell_key(alloc, home, table, key, row)?)
+}
+
+// Asks that the transaction's own copy be made, with this value.
+fn head_query(
+    alloc: Global,
+    home: u16,
+    tx: &TxId,
+    table: u16,
+    key: &Str,
+    value: &Value,
+) -> Result<Apart<Query>, AllocError>
+    ensures { IfOk result (λ q. q ≡ Query.Act (shadow_key_of home tx.now table key.now) (Act.MakeCell value.now None)) }
+{
+    let row = shadow_key(alloc, home, tx, table, key, 0)?;
     let value = or_drop!(value.copy(alloc); row);
     Query::act(alloc, row, Act::MakeCell { value, owner: None })
 }
@@ -241,11 +285,11 @@ fn aside_query(
     effect: &Effect,
     table: u16,
     key: &Str,
-    at: WriteAt,
+    at: &WriteAt,
 ) -> Result<Apart<Query>, AllocError>
-    ensures { IfOk result (λ q. q ≡ item_asks home place tx.now effect.now table key.now (TxAt.Write at)) }
+    ensures { IfOk result (λ q. q ≡ item_asks home place tx.now effect.now table key.now (TxAt.Write at.now)) }
 {
-    let row = or_drop!(shadow_key(alloc, home, tx, table, key); place);
+    let row = or_drop!(shadow_key(alloc, home, tx, table, key, 0); place);
     match or_drop!(operation(alloc, effect); place, row) {
         Some(op) => own_query(alloc, row, place, tx, op, at),
         None => {
@@ -255,16 +299,16 @@ fn aside_query(
     }
 }
 
-// What the transaction asks of a row for an operation at this place.
+// What the transaction asks, by the key of the first row, for an operation at this place.
 pub(crate) fn own_query(
     alloc: Global,
     row: RowKey,
     place: Place,
     tx: &TxId,
     op: CellOp,
-    at: WriteAt,
+    at: &WriteAt,
 ) -> Result<Apart<Query>, AllocError>
-    ensures { IfOk result (λ q. q ≡ write_asks row place (Owner.Tx tx.now) op at) }
+    ensures { IfOk result (λ q. q ≡ write_asks row place (Owner.Tx tx.now) op at.now) }
 {
     let who = Owner::Tx(or_drop!(copy_tx(tx, alloc); row, place, op));
     write_query(alloc, row, place, who, op, at)
@@ -284,12 +328,13 @@ pub fn tx_told(
 {
     match at {
         TxAt::Log => Ok(given(begin, given_told(alloc, heard)?)),
-        TxAt::Lock(at) => hear_lock(alloc, place, effect, *at, heard),
-        TxAt::Shadow => hear_shadow(alloc, effect, heard),
-        TxAt::Item => Ok(item_said(effect, read_told(alloc, &None, heard)?)),
+        TxAt::Lock(at) => hear_lock(alloc, place, effect, at, heard),
+        TxAt::Seek => Ok(seek_said(heard)),
+        TxAt::Shadow(_) => Ok(shadow_said(read_told(alloc, &None, heard)?)),
+        TxAt::Item(_) => Ok(item_said(effect, read_told(alloc, &None, heard)?)),
         TxAt::Keep(_) => hear_keep(alloc, heard),
         TxAt::Head(_) => Ok(hear_head(heard)),
-        TxAt::Write(_) => Ok(written(effect, write_told(alloc, done_note(effect), heard)?)),
+        TxAt::Write(at) => Ok(written(effect, write_told(alloc, done_note(effect), at, heard)?)),
     }
 }
 
@@ -307,17 +352,19 @@ fn hear_lock(
     alloc: Global,
     place: &Place,
     effect: &Effect,
-    at: LockAt,
+    at: &LockAt,
     heard: Heard<'_>,
 ) -> Result<TxGoes, AllocError>
-    ensures ok { IfOk result (λ g. g ≡ lock_leads place.now effect.now (lock_goes at (told_of heard.entry))) }
+    ensures ok { IfOk result (λ g. g ≡ lock_leads place.now effect.now (lock_goes at.now (told_of heard.entry))) }
     ensures err { OnErr result (lends (told_of heard.entry) ≡ true) }
 {
     match lock_told(alloc, at, heard)? {
         LockGoes::On(at) => Ok(TxGoes::On(TxAt::Lock(at))),
+        LockGoes::Stays => Ok(TxGoes::Stays),
         LockGoes::Got { first: _ } => Ok(locked(effect)),
         LockGoes::Died(holder) => died(alloc, place, holder),
         LockGoes::Held(owner) => Ok(TxGoes::Held(owner)),
+        LockGoes::Worn => Ok(TxGoes::Worn),
     }
 }
 
@@ -326,8 +373,9 @@ fn locked(effect: &Effect) -> TxGoes
     ensures { result ≡ locked_goes effect.now }
 {
     match effect {
-        Effect::Read { .. } | Effect::CondWrite { .. } => TxGoes::On(TxAt::Shadow),
-        Effect::Write { .. } => TxGoes::On(TxAt::Write(WriteAt::Try)),
+        Effect::Read { .. } => TxGoes::On(TxAt::Shadow(0)),
+        Effect::Write { .. } => TxGoes::On(TxAt::Write(WriteAt::Try(0))),
+        Effect::CondWrite { .. } => TxGoes::On(TxAt::Seek),
         _ => TxGoes::Stays,
     }
 }
@@ -344,34 +392,25 @@ fn died(alloc: Global, place: &Place, holder: IntentId) -> Result<TxGoes, AllocE
     }))
 }
 
-// A read takes the value of the copy; a condition is tested there, if there is one.
-fn hear_shadow(alloc: Global, effect: &Effect, heard: Heard<'_>) -> Result<TxGoes, AllocError>
-    ensures ok { IfOk result (λ g. g ≡ shadow_goes effect.now (told_of heard.entry)) }
-    ensures err { OnErr result (lends (told_of heard.entry) ≡ true) }
-{
-    match effect {
-        Effect::Read { .. } => Ok(shadow_said(read_told(alloc, &None, heard)?)),
-        Effect::CondWrite { .. } => Ok(head_said(heard)),
-        _ => Ok(TxGoes::Stays),
-    }
-}
-
+// A read takes the value of the copy; without one, the item's.
 fn shadow_said(said: ReadGoes) -> TxGoes
     ensures { result ≡ shadow_read said }
 {
     match said {
+        ReadGoes::On(row) => TxGoes::On(TxAt::Shadow(row)),
         ReadGoes::Got(Some(value)) => TxGoes::On(TxAt::Keep(value)),
-        ReadGoes::Got(None) => TxGoes::On(TxAt::Item),
-        ReadGoes::On | ReadGoes::Held(_) => TxGoes::Stays,
+        ReadGoes::Got(None) => TxGoes::On(TxAt::Item(0)),
+        ReadGoes::Stays | ReadGoes::Held(_) => TxGoes::Stays,
     }
 }
 
-fn head_said(heard: Heard<'_>) -> TxGoes
-    ensures { result ≡ head_goes (told_of heard.entry) }
+// A condition is tested on the copy, if there is one.
+fn seek_said(heard: Heard<'_>) -> TxGoes
+    ensures { result ≡ seek_goes (told_of heard.entry) }
 {
     match heard {
-        Heard::Said(Said::Absent) => TxGoes::On(TxAt::Item),
-        Heard::Said(Said::Row(_)) => TxGoes::On(TxAt::Write(WriteAt::Try)),
+        Heard::Said(Said::Absent) => TxGoes::On(TxAt::Item(0)),
+        Heard::Said(Said::Row(_)) => TxGoes::On(TxAt::Write(WriteAt::Try(0))),
         _ => TxGoes::Stays,
     }
 }
@@ -381,9 +420,10 @@ fn item_said(effect: &Effect, said: ReadGoes) -> TxGoes
     ensures { result ≡ item_goes effect.now said }
 {
     match said {
+        ReadGoes::On(row) => TxGoes::On(TxAt::Item(row)),
         ReadGoes::Got(Some(value)) => item_found(effect, value),
         ReadGoes::Got(None) => item_found(effect, Value::Null),
-        ReadGoes::On | ReadGoes::Held(_) => TxGoes::Stays,
+        ReadGoes::Stays | ReadGoes::Held(_) => TxGoes::Stays,
     }
 }
 
@@ -415,7 +455,7 @@ fn hear_head(heard: Heard<'_>) -> TxGoes
 {
     match heard {
         Heard::Said(Said::Added) | Heard::Said(Said::Present) => {
-            TxGoes::On(TxAt::Write(WriteAt::Try))
+            TxGoes::On(TxAt::Write(WriteAt::Try(0)))
         }
         _ => TxGoes::Stays,
     }
@@ -428,7 +468,8 @@ fn written(effect: &Effect, goes: WriteGoes) -> TxGoes
     match goes {
         WriteGoes::On(at) => TxGoes::On(TxAt::Write(at)),
         WriteGoes::Done { note, first: _ } => noted(effect, note),
-        WriteGoes::NotOwner | WriteGoes::Held(_) => TxGoes::Stays,
+        WriteGoes::Stays | WriteGoes::NotOwner | WriteGoes::Held(_) => TxGoes::Stays,
+        WriteGoes::Worn => TxGoes::Worn,
     }
 }
 

@@ -1,11 +1,11 @@
 -- What a run may ask in its stages: it gives no root a body.
-use Rattle.std.proofs.Common.{Bool, ap, List, None, Option, Some, [], false, refl, sym, true, ℕ, ◌∙◌, ◌∷◌, ◌≡◌}
+use Rattle.std.proofs.Common.{Bool, ap, List, None, Option, Some, [], false, refl, sym, true, ℕ, ◌-◌, ◌∙◌, ◌∷◌, ◌≡◌}
 use Rattle.beldi_value.specs.{Id.has_callees, declared.id.IntentId.IntentId, declared.place.Caller.Caller, declared.place.Owner.Owner, declared.place.Place.Place, declared.place.TxId.TxId, declared.value.Value.Value}
 use Rattle.beldi_lang.specs.declared.effect.Effect.{Effect}
 use Rattle.beldi_order.proofs.Called.{not_root}
-use Rattle.beldi_row.specs.{Key.RowKey, declared.act.Act.Act, declared.key.Kind.Kind}
+use Rattle.beldi_row.specs.{Key.RowKey, Key.at_row, declared.act.Act.Act, declared.key.Kind.Kind}
 use Rattle.beldi_walk.specs.declared.query.Query.{Query}
-use Rattle.beldi_daal.specs.{Cell.cell_key, Cell.op_act, Cell.shadow_key, Cell.write_asks, declared.cell.CellOp.CellOp, declared.cell.WriteAt.WriteAt, declared.cell.WriteAt.TheVariants.Try, declared.cell.WriteAt.TheVariants.Make}
+use Rattle.beldi_daal.specs.{Cell.cell_key, Cell.op_act, Cell.shadow_key, Cell.write_asks, declared.cell.CellOp.CellOp, declared.cell.WriteAt.WriteAt}
 use Rattle.beldi_lock.specs.{Lock.asks_at, declared.lock.LockAt.LockAt}
 use Rattle.beldi_intent.specs.Intent.{root_key}
 use Rattle.beldi_txn.specs.{End.free_asks, End.first_visit, End.free_place, End.shadow_asks, End.visit_asks, End.visited_by, Tx.aside_asks, Tx.asks_of, Tx.item_asks, Tx.item_of, Tx.op_of, Way.Member, declared.end.EndAt.EndAt, declared.end.Visit.Visit, declared.tx.TxAt.TxAt, declared.way.Called.Called}
@@ -38,44 +38,44 @@ op_sets p w (CellOp.Cond r o v) = refl
 op_sets p w CellOp.Lock = refl
 op_sets p w (CellOp.Free v) = refl
 
--- of a row of an item
-item_tame : (home t : ℕ) (k : List ℕ) (p : Place) (w : Owner) (op : CellOp) (at : WriteAt) → Tame (write_asks (cell_key home t k) p w op at)
-item_tame home t k p w op Try = mild (cell_key home t k) (op_act p w op) (op_sets p w op)
-item_tame home t k p w op Make = mild (cell_key home t k) (Act.MakeCell Value.Null None) refl
+-- of a row of an item, or of a shadow
+write_tame : (k : RowKey) (p : Place) (w : Owner) (op : CellOp) (at : WriteAt) → Tame (write_asks k p w op at)
+write_tame k p w op (WriteAt.Try i) = mild (at_row k i) (op_act p w op) (op_sets p w op)
+write_tame k p w op WriteAt.Make = mild k (Act.MakeCell Value.Null None) refl
+write_tame k p w op (WriteAt.Append i told) = mild (at_row k i) (Act.MakeCell told.value told.owner) refl
+write_tame k p w op (WriteAt.Link i) = mild (at_row k (i - 1)) (Act.LinkCell i) refl
 
 -- ---- inside a transaction
-aside_tame : (home : ℕ) (p : Place) (x : TxId) (k : RowKey) (w : WriteAt) (e : Effect) → Tame (aside_asks home p x k w (op_of e))
-aside_tame home p x k Try (Effect.Write t j v) = mild k (op_act p (Owner.Tx x) (CellOp.Write v)) refl
-aside_tame home p x k Try (Effect.CondWrite t j r o v) = mild k (op_act p (Owner.Tx x) (CellOp.Cond r o v)) refl
-aside_tame home p x k Make (Effect.Write t j v) = mild k (Act.MakeCell Value.Null None) refl
-aside_tame home p x k Make (Effect.CondWrite t j r o v) = mild k (Act.MakeCell Value.Null None) refl
-aside_tame home p x k w e = λ s t e. cc
+aside_tame : (home : ℕ) (p : Place) (x : TxId) (k : RowKey) (w : WriteAt) (op : Option CellOp) → Tame (aside_asks home p x k w op)
+aside_tame home p x k w None = λ s t e. cc
+aside_tame home p x k w (Some op) = write_tame k p (Owner.Tx x) op w
 
 lock_tame : (home t : ℕ) (k : List ℕ) (p : Place) (w : Owner) (l : LockAt) → Tame (asks_at home t k p w l)
 lock_tame home t k p w (LockAt.Lockset b) = λ s t e. cc
-lock_tame home t k p w (LockAt.Item at) = item_tame home t k p w CellOp.Lock at
+lock_tame home t k p w (LockAt.Item at) = write_tame (cell_key home t k) p w CellOp.Lock at
 
 at_item_tame : (home : ℕ) (p : Place) (x : TxId) (e : Effect) (t : ℕ) (k : List ℕ) (a : TxAt) → Tame (item_asks home p x e t k a)
 at_item_tame home p x e t k TxAt.Log = λ s t e. cc
 at_item_tame home p x e t k (TxAt.Lock l) = lock_tame home t k p (Owner.Tx x) l
-at_item_tame home p x e t k TxAt.Shadow = λ s t e. cc
-at_item_tame home p x e t k TxAt.Item = λ s t e. cc
+at_item_tame home p x e t k TxAt.Seek = λ s t e. cc
+at_item_tame home p x e t k (TxAt.Shadow i) = λ s t e. cc
+at_item_tame home p x e t k (TxAt.Item i) = λ s t e. cc
 at_item_tame home p x e t k (TxAt.Keep v) = λ s t e. cc
 at_item_tame home p x e t k (TxAt.Head v) = mild (shadow_key home x t k) (Act.MakeCell v None) refl
-at_item_tame home p x e t k (TxAt.Write w) = aside_tame home p x (shadow_key home x t k) w e
+at_item_tame home p x e t k (TxAt.Write w) = aside_tame home p x (shadow_key home x t k) w (op_of e)
 
 tx_tame : (home : ℕ) (p : Place) (x : TxId) (e : Effect) (a : TxAt) (i : Option (ℕ × List ℕ)) → Tame (asks_of home p x e a i)
 tx_tame home p x e a None = λ s t e. cc
 tx_tame home p x e a (Some i) = at_item_tame home p x e i.0 i.1 a
 
 -- ---- at an end
-shadow_tame : (x : TxId) (p : Member) (i : Option (ℕ × List ℕ)) → Tame (shadow_asks x p i)
-shadow_tame x p None = tt
-shadow_tame x p (Some i) = λ s t e. cc
+shadow_tame : (x : TxId) (p : Member) (r : ℕ) (i : Option (ℕ × List ℕ)) → Tame (shadow_asks x p r i)
+shadow_tame x p r None = tt
+shadow_tame x p r (Some i) = λ s t e. cc
 
 give_tame : (x : TxId) (p : Member) (at : Place) (v : Option Value) (w : WriteAt) (i : Option (ℕ × List ℕ)) → Tame (free_asks x p at v w i)
 give_tame x p at v w None = tt
-give_tame x p at v w (Some i) = item_tame p.1 i.0 i.1 at (Owner.Tx x) (CellOp.Free v) w
+give_tame x p at v w (Some i) = write_tame (cell_key p.1 i.0 i.1) at (Owner.Tx x) (CellOp.Free v) w
 
 visit_tame : (x : TxId) (end : ℕ) (commit : Bool) (cs : List Called) (after : Option ℕ) (i : Option (ℕ × List ℕ)) (v : Option Value) (at : EndAt) → Tame (visit_asks x end commit cs after i v at)
 visit_tame x end commit cs after i v EndAt.Decide = λ s t e. cc
@@ -84,19 +84,19 @@ visit_tame x end commit [] None i v EndAt.Callees = tt
 visit_tame x end commit (c ∷ cs) None i v EndAt.Callees = tt
 visit_tame x end commit cs after (Some j) v EndAt.Next = tt
 visit_tame x end commit cs after None v EndAt.Next = tt
-visit_tame x end commit cs after i v EndAt.Shadow = shadow_tame x (visited_by x cs) i
+visit_tame x end commit cs after i v (EndAt.Shadow r) = shadow_tame x (visited_by x cs) r i
 visit_tame x end commit cs after i v (EndAt.Free w) = give_tame x (visited_by x cs) (free_place x end cs) v w i
 visit_tame x end commit cs after i v EndAt.Stamp = λ s t e. cc
 
 -- ---- a stage
 module _ (id : IntentId) (func : ℕ) (c : Option Caller) (o : Option RunTx) (step : ℕ) where
-  walk_tame : (e : Effect) → Tame (walk_asks id func e)
-  walk_tame (Effect.Read t k) = λ s t e. cc
-  walk_tame e = λ s t e. cc
+  walk_tame : (i : ℕ) (e : Effect) → Tame (walk_asks id func i e)
+  walk_tame i (Effect.Read t k) = λ s t e. cc
+  walk_tame i e = λ s t e. cc
 
   put_tame : (at : WriteAt) (x : Option OnCell) → Tame (put_asks id func step at x)
   put_tame at None = λ s t e. cc
-  put_tame at (Some x) = item_tame func x.table x.key (place_of id step) (Owner.Intent id) x.op at
+  put_tame at (Some x) = write_tame (cell_key func x.table x.key) (place_of id step) (Owner.Intent id) x.op at
 
   here_tame : (e : Effect) (at : TxAt) (x : Option RunTx) → Tame (tx_here_asks id func step e at x)
   here_tame e at None = λ s t e. cc
@@ -139,7 +139,7 @@ module _ (id : IntentId) (func : ℕ) (c : Option Caller) (o : Option RunTx) (st
 
   pub stage_tame : (e : Effect) (s : Stage) → Tame (stage_asks id func c o step e s)
   stage_tame e Stage.Ask = λ s t e. cc
-  stage_tame e Stage.Walk = walk_tame e
+  stage_tame e (Stage.Walk i) = walk_tame i e
   stage_tame e (Stage.Keep v seen) = λ s t e. cc
   stage_tame e (Stage.Write at) = put_tame at (cell_op e)
   stage_tame e (Stage.Tx at) = here_tame e at o

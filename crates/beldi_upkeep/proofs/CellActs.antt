@@ -1,30 +1,47 @@
--- Who owns an item after an act on its row.
+-- Who owns an item after a turn of a walk on it.
+use Rattle.beldi_daal.specs.{Logged.DidAs, Logged.Logs, Logged.dies, Logged.done_to, declared.walk.WriteSays.WriteSays}
 use Rattle.beldi_known.specs.Acts.{Told}
-use Rattle.beldi_laws.proofs.Names.{Bool, ByTx, CellOp, Content, None, Note, Option, Owner, Place, Row, Some, TxId, act, age_of, arith, content_in, false, lock_on, lock_or, note_at, noted, noted_or, held, died, with_note, op_act, other_owner, true, MakeCell, if◌then◌else◌, ℕ, ◌≡◌, ◌⊎◌}
-use Rattle.beldi_value.specs.declared.value.Value.{Value}
+use Rattle.beldi_laws.proofs.Names.{Bool, ByTx, CellOp, Content, IntentId, None, Note, Option, Owner, Place, Some, TxId, age_of, arith, false, held, died, inl, inr, lock_on, lock_or, note_at, noted, noted_or, subst, sym, with_note, other_owner, true, if◌then◌else◌, ◌∙◌, ◌≡◌, ◌⊎◌}
 
 -- it owns the item then
-abbrev pub OwnedIn : TxId → Option Row → Type 0
-OwnedIn t r = (content_in r).owner ≡ Some (ByTx t)
-
--- a new row has no owner
-pub make_owner : (t : TxId) (now : ℕ) (r : Option Row) → OwnedIn t (act (MakeCell Value.Null None) now r).0 → OwnedIn t r
-make_owner t now r h = grind arith
+abbrev pub OwnedIn : TxId → Content → Type 0
+OwnedIn t c = c.owner ≡ Some (ByTx t)
 
 -- no operation but a transaction's lock makes a transaction the owner
 abbrev pub is_tx_lock : Owner → CellOp → Bool
 is_tx_lock (ByTx t) CellOp.Lock = true
 is_tx_lock o op = false
 
-pub op_owner : (t : TxId) (p : Place) (who : Owner) (op : CellOp) (now : ℕ) (r : Option Row) → is_tx_lock who op ≡ false → OwnedIn t (act (op_act p who op) now r).0 → OwnedIn t r
-op_owner t p who op now r off h = grind arith
+module _ (t : TxId) (p : Place) (c d : Content) where
+  done_owner : (who : Owner) (op : CellOp) → is_tx_lock who op ≡ false → OwnedIn t (done_to p who op c) → OwnedIn t c
+  done_owner who op off h = grind arith
 
--- a lock that is its own, or one where the place has its note
-pub lock_owner : (t s : TxId) (p : Place) (now : ℕ) (r : Option Row) → OwnedIn t (act (op_act p (ByTx s) CellOp.Lock) now r).0 → OwnedIn t r ⊎ (t ≡ s)
-lock_owner t s p now r h = grind arith
+  -- what was done makes this one the owner at most; a death, nobody
+  module _ (who : Owner) (op : CellOp) (P : Type 0) (kept : OwnedIn t c → P) (done : OwnedIn t (done_to p who op c) → note_at c.notes p ≡ None → P) where
+    by_death : (a : Option IntentId) → DidAs p who op a c d → note_at c.notes p ≡ None → OwnedIn t d → P
+    by_death None did none h = done (subst (OwnedIn t) did.1 h) none
+    by_death (Some a) did none h = kept (subst (OwnedIn t) did h)
 
-pub lock_noted : (t s : TxId) (p : Place) (now : ℕ) (r : Option Row) (w : Note) → note_at (content_in r).notes p ≡ Some w → OwnedIn t (act (op_act p (ByTx s) CellOp.Lock) now r).0 → OwnedIn t r
-lock_noted t s p now r w told h = grind (arith, told, h)
+    by_says : (s : WriteSays) → Logs p who op s c d → OwnedIn t d → P
+    by_says (WriteSays.Done n true) l h = by_death (dies who op c.owner) l.1.1 l.1.0 h
+    by_says (WriteSays.Done n false) l h = kept (subst (OwnedIn t) l.1 h)
+    by_says WriteSays.NotOwner l h = kept (subst (OwnedIn t) l.2 h)
+    by_says (WriteSays.Held o) l h = kept (subst (OwnedIn t) l.2 h)
+    by_says WriteSays.Going l h = kept (subst (OwnedIn t) l h)
+    by_says WriteSays.Worn l h = kept (subst (OwnedIn t) l.1 h)
+
+  pub op_owner : (who : Owner) (op : CellOp) (s : WriteSays) → is_tx_lock who op ≡ false → Logs p who op s c d → OwnedIn t d → OwnedIn t c
+  op_owner who op s off l h = by_says who op (OwnedIn t c) (λ was. was) (λ is none. done_owner who op off is) s l h
+
+  -- a lock that is its own, or one where the place has its note
+  pub lock_owner : (o : TxId) (s : WriteSays) → Logs p (ByTx o) CellOp.Lock s c d → OwnedIn t d → OwnedIn t c ⊎ (t ≡ o)
+  lock_owner o s l h = by_says (ByTx o) CellOp.Lock (OwnedIn t c ⊎ (t ≡ o)) inl (λ is none. inr (owner_of is)) s l h
+    where
+      owner_of : {x y : TxId} → Some (ByTx x) ≡ Some (ByTx y) → y ≡ x
+      owner_of e = cc
+
+  pub lock_noted : (o : TxId) (s : WriteSays) (w : Note) → note_at c.notes p ≡ Some w → Logs p (ByTx o) CellOp.Lock s c d → OwnedIn t d → OwnedIn t c
+  lock_noted o s w told l h = by_says (ByTx o) CellOp.Lock (OwnedIn t c) (λ was. was) (λ is none. let clash = sym told ∙ none in cc) s l h
 
 -- a note that was told was there
 pub told_note : (p : Place) (t : TxId) (c x : Content) (w : Note) → lock_on p t c ≡ (x, noted w) → note_at c.notes p ≡ Some w

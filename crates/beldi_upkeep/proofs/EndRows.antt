@@ -173,9 +173,9 @@ module _ (d : Deployment) (c : Core) (m : Rows) (h : Right d c m) (seats : Seats
     by_visit cs af y u EndAt.Decide past visited = cc
     by_visit cs af y u EndAt.Callees past visited = leaves_same c m seats
     by_visit cs af y u EndAt.Next past visited = leaves_same c m seats
-    by_visit cs af (Some y) u EndAt.Shadow past visited = leaves_looked c m seats c.now _
-    by_visit cs af None u EndAt.Shadow past visited = leaves_same c m seats
-    by_visit cs af (Some y) u (EndAt.Free w) past visited = leaves_op c m seats c.now (record { func = (visited_by s cs).1; table = y.0; key = y.1 }) (h.rows.chains (record { func = (visited_by s cs).1; table = y.0; key = y.1 })) _ (ByTx s) (CellOp.Free u) w refl
+    by_visit cs af (Some y) u (EndAt.Shadow i) past visited = leaves_looked c m seats c.now _
+    by_visit cs af None u (EndAt.Shadow i) past visited = leaves_same c m seats
+    by_visit cs af (Some y) u (EndAt.Free w) past visited = leaves_op c m seats c.now (record { func = (visited_by s cs).1; table = y.0; key = y.1 }) (h.rows.chains (record { func = (visited_by s cs).1; table = y.0; key = y.1 })) _ (ByTx s) (CellOp.Free u) w visited.sees refl
     by_visit cs af None u (EndAt.Free w) past visited = leaves_same c m seats
     by_visit [] af y u EndAt.Stamp past visited = let clash = visited.begins in cc
     by_visit (b ∷ bs) af y u EndAt.Stamp past visited = stamps c.now s (visited_by s (b ∷ bs)) (members_joined d m h.known h.locked h.rows h.sane s (end, commit) (tx_is_ended visited.decided) b bs visited.member)

@@ -1,7 +1,7 @@
 -- That the end of a transaction is over only once all who took part have their finish.
 use Rattle.beldi_txn.specs.End.{call_goes, calls_goes, counts, decide_goes, freed_goes, value_goes}
 use Rattle.beldi_txn.specs.Visited.{IsMember}
-use Rattle.beldi_laws.proofs.Names.{Body, Bool, CalleeBodyMatches, Core, Deployment, EndAt, EndGoes, Instance, IntentId, IntentMatches, IntentRow, Member, None, Option, ReadGoes, Right, Row, Rows, Some, Told, TookPart, TxId, WriteAt, WriteGoes, ap, arith, end_goes, false, first_end, has_callees, has_ended, has_no_hops, if◌then◌else◌, intent_key, is_closed, key_in, refl, row_closed, same_some, subst, sym, true, tx_end, visited_by, ℕ, ◌∙◌, ◌∷◌, ◌≡◌, List, Called}
+use Rattle.beldi_laws.proofs.Names.{Body, Bool, CalleeBodyMatches, Core, Deployment, EndAt, EndGoes, Instance, IntentId, IntentMatches, IntentRow, Member, None, Option, ReadGoes, Right, Row, Rows, Some, Told, TookPart, TxId, WriteGoes, ap, arith, end_goes, false, first_end, has_callees, has_ended, has_no_hops, if◌then◌else◌, intent_key, is_closed, key_in, refl, row_closed, same_some, subst, sym, true, tx_end, visited_by, ℕ, ◌∙◌, ◌∷◌, ◌≡◌, List, Called}
 use Rattle.beldi_laws.proofs.Names.map
 use Rattle.beldi_laws.proofs.{Members.part_below, Members.part_key, Members.reached}
 use Rattle.beldi_upkeep.specs.Callees.{AllFinished, HasBody}
@@ -25,16 +25,16 @@ calls_go_on end p cs (Some c) is = by_test (counts end cs c) is
 value_goes_on : (r : ReadGoes) → value_goes r ≡ EndGoes.Done → ⊥
 value_goes_on r is = grind arith
 
-free_goes_on : (w : WriteAt) (r : WriteGoes) → freed_goes w r ≡ EndGoes.Done → ⊥
-free_goes_on w r is = grind arith
+free_goes_on : (r : WriteGoes) → freed_goes r ≡ EndGoes.Done → ⊥
+free_goes_on r is = grind arith
 
 -- the walk is done only where it looks for the next lock
 pub done_next : (t : TxId) (end : ℕ) (commit : Bool) (cs : List Called) (a : EndAt) (s : Told) → end_goes t end commit cs a s ≡ EndGoes.Done → a ≡ EndAt.Next
 done_next t end commit cs EndAt.Next s is = refl
 done_next t end commit cs EndAt.Decide s is = absurd (decide_goes_on commit s is)
 done_next t end commit cs EndAt.Callees s is = absurd (calls_go_on end (visited_by t cs) cs _ is)
-done_next t end commit cs EndAt.Shadow s is = absurd (value_goes_on _ is)
-done_next t end commit cs (EndAt.Free w) s is = absurd (free_goes_on w _ is)
+done_next t end commit cs (EndAt.Shadow r) s is = absurd (value_goes_on _ is)
+done_next t end commit cs (EndAt.Free w) s is = absurd (free_goes_on _ is)
 done_next t end commit cs EndAt.Stamp s is = cc
 
 module _ (d : Deployment) (c : Core) (m : Rows) (h : Right d c m) where

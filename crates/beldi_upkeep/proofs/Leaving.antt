@@ -1,13 +1,16 @@
 -- What an act leaves of the rows, and of what live runs have done.
+use Rattle.beldi_row.specs.declared.act.Act.TheVariants.{LinkCell}
 use Rattle.beldi_walk.specs.declared.query.Query.TheVariants.{Act}
-use Rattle.beldi_chain.{specs.Chain.above, specs.Chain.chain, specs.Chain.content, specs.Chain.next_of, proofs.Grows.act_last, proofs.Heads.alone_by, proofs.Heads.chain_other, proofs.OneRow.content_is_head, proofs.OneRow.no_next, proofs.OneRow.one_content}
+use Rattle.beldi_chain.{specs.Chain.ChangedAlone, specs.Chain.chain, specs.Chain.content, proofs.Heads.chain_other}
+use Rattle.beldi_links.specs.Links.{SeesAt}
+use Rattle.beldi_daal.{proofs.Logged.by_op, specs.Logged.LoggedTurn, specs.Logged.Logs, specs.Logged.at_of, specs.Walk.walk_asks, specs.Walk.walk_next, specs.Walk.walk_says, specs.declared.walk.Item.TheVariants.Plain, specs.declared.walk.WriteSays.WriteSays, specs.declared.walk.WriteWalk.WriteWalk}
 use Rattle.beldi_known.proofs.{Acts.is_data}
-use Rattle.beldi_known.specs.Contents.{IsSoundChain}
-use Rattle.beldi_laws.proofs.Names.{Begins, Begun, Bool, ByTx, CellOp, Core, Item, IntentId, Look, MakeCell, None, Null, Owner, Place, RowAct, RowKey, Rows, Run, Some, TxId, WriteAt, act, after_act, ap, content_in, content_of, false, has_finish, head_key, inl, inr, is_eq, is_some, key_cmp, key_same, looked, op_act, refl, rows_after, set_here, set_others, subst, sym, true, write_asks, ℕ, ◌∙◌, ◌≡◌, ◌⊎◌}
+use Rattle.beldi_known.specs.Contents.{IsLinkedItem}
+use Rattle.beldi_laws.proofs.Names.{Begins, Begun, Bool, CellOp, Core, Item, IntentId, Look, MakeCell, None, Null, Owner, Place, RowAct, RowKey, Rows, Run, Some, TxId, WriteAt, act, after_act, ap, at_row, content_of, false, has_finish, head_key, inl, is_eq, is_some, key_cmp, key_same, looked, op_act, refl, rows_after, set_others, subst, sym, told_by, true, write_asks, ℕ, ◌-◌, ◌∙◌, ◌≡◌, ◌⊎◌}
 use Rattle.beldi_laws.proofs.Names.map
 use Rattle.beldi_laws.proofs.Frames.{is_intent, is_invoke, query_keeps}
 use Rattle.beldi_upkeep.specs.Callees.{AllFinished, IsPassed, Seats, belongs_to, owner_key, seat_of}
-use Rattle.beldi_upkeep.proofs.{CellActs.OwnedIn, CellActs.is_tx_lock, CellActs.make_owner, CellActs.op_owner, SeatRows.Onward, SeatRows.contents_off, SeatRows.finished_off, SeatRows.quiet_on, SeatRows.quiet_seats}
+use Rattle.beldi_upkeep.proofs.{CellActs.OwnedIn, CellActs.is_tx_lock, CellActs.op_owner, SeatRows.Onward, SeatRows.contents_off, SeatRows.finished_off, SeatRows.quiet_on, SeatRows.quiet_seats}
 
 -- a live run is past a transaction of its own
 pub record IsPassedBy (c : Core) (t : TxId) : Type 0 where
@@ -53,51 +56,55 @@ module _ (c : Core) (m : Rows) (h : Seats m) where
       finished = λ t passed all. finished_off m n k others off t all;
     }
 
-  -- the row of an item that has no other
-  module _ (now : ℕ) (y : Item) (a : RowAct) (sound : IsSoundChain m y) where
-    pub leaves_item : ((t : TxId) → OwnedIn t (act a now (map.get m (head_key y))).0 → OwnedIn t (map.get m (head_key y)) ⊎ (has_finish (map.get m (owner_key t)) ≡ false)) → Leaves c m (after_act a now (head_key y) m)
-    leaves_item owners = record {
-      seats = quiet_seats m n k others stay (λ i of. cc) h refl refl (λ t x owned. by_item t x owned (is_eq (key_cmp (head_key x) k)) refl);
+  -- ---- a row of an item
+  module _ (now : ℕ) (y : Item) where
+    -- who owns the item then owned it, or is not finished
+    abbrev Owners : Rows → Type 0
+    Owners n = (t : TxId) → OwnedIn t (content_of n y) → OwnedIn t (content_of m y) ⊎ (has_finish (map.get m (owner_key t)) ≡ false)
+
+    leaves_item : (i : ℕ) (a : RowAct) → let n = after_act a now (at_row (head_key y) i) m in ChangedAlone (head_key y) m n → Owners n → Leaves c m n
+    leaves_item i a alone owners = record {
+      seats = quiet_seats m n k others stay (λ i of. cc) h refl refl (λ t x owned. by_item t x owned (is_eq (key_cmp (head_key x) (head_key y))) refl);
       on = quiet_on m n k others stay (λ i of. cc) h refl;
       finished = λ t passed all. finished_off m n k others refl t all;
     }
       where
         k : RowKey
-        k = head_key y
+        k = at_row (head_key y) i
 
         n : Rows
-        n = after_act a now (head_key y) m
+        n = after_act a now (at_row (head_key y) i) m
 
-        others : (l : RowKey) → is_eq (key_cmp l (head_key y)) ≡ false → map.get (after_act a now (head_key y) m) l ≡ map.get m l
-        others l off = set_others m (head_key y) (act a now (map.get m (head_key y))).0 l off
+        others : (l : RowKey) → is_eq (key_cmp l (at_row (head_key y) i)) ≡ false → map.get (after_act a now (at_row (head_key y) i) m) l ≡ map.get m l
+        others l off = set_others m (at_row (head_key y) i) (act a now (map.get m (at_row (head_key y) i))).0 l off
 
-        stay : (l : RowKey) → is_some (map.get m l) ≡ true → is_some (map.get (after_act a now (head_key y) m) l) ≡ true
-        stay l there = query_keeps (Act (head_key y) a) now m l there
+        stay : (l : RowKey) → is_some (map.get m l) ≡ true → is_some (map.get (after_act a now (at_row (head_key y) i) m) l) ≡ true
+        stay l there = query_keeps (Act (at_row (head_key y) i) a) now m l there
 
-        -- the row says what the chain holds, before and after
-        was : content_of m y ≡ content_in (map.get m (head_key y))
-        was = one_content (chain m (head_key y)) sound
-
-        here : map.get (after_act a now (head_key y) m) (head_key y) ≡ (act a now (map.get m (head_key y))).0
-        here = set_here m (head_key y) (act a now (map.get m (head_key y))).0
-
-        is : content_of (after_act a now (head_key y) m) y ≡ content_in (act a now (map.get m (head_key y))).0
-        is = content_is_head (chain (after_act a now (head_key y) m) (head_key y)) (ap (above 0) (ap next_of here ∙ act_last a now (map.get m (head_key y)) (no_next (map.get m (head_key y)) sound.head))) ∙ ap content_in here
-
-        own : (t : TxId) → (content_of (after_act a now (head_key y) m) y).owner ≡ Some (ByTx t) → ((content_of m y).owner ≡ Some (ByTx t)) ⊎ (has_finish (map.get m (owner_key t)) ≡ false)
-        own t owned = elim (owners t (ap (λ c. c.owner) (sym is) ∙ owned)) [
-          | inl before ↦ inl (ap (λ c. c.owner) was ∙ before)
-          | inr is_open ↦ inr is_open
-        ]
-
-        by_item : (t : TxId) (x : Item) → (content_of (after_act a now (head_key y) m) x).owner ≡ Some (ByTx t) → (b : Bool) → is_eq (key_cmp (head_key x) (head_key y)) ≡ b → ((content_of m x).owner ≡ Some (ByTx t)) ⊎ (has_finish (map.get m (owner_key t)) ≡ false)
+        by_item : (t : TxId) (x : Item) → OwnedIn t (content_of (after_act a now (at_row (head_key y) i) m) x) → (b : Bool) → is_eq (key_cmp (head_key x) (head_key y)) ≡ b → OwnedIn t (content_of m x) ⊎ (has_finish (map.get m (owner_key t)) ≡ false)
         by_item t x owned true e =
-            subst (λ z. (content (chain (after_act a now (head_key y) m) z)).owner ≡ Some (ByTx t) → ((content (chain m z)).owner ≡ Some (ByTx t)) ⊎ (has_finish (map.get m (owner_key t)) ≡ false))
-            (sym (key_same (head_key x) (head_key y) e)) (own t) owned
-        by_item t x owned false e = inl (ap (λ f. (content f).owner)
-            (sym (chain_other m (after_act a now (head_key y) m) (head_key y) (head_key x) (alone_by m (after_act a now (head_key y) m) (head_key y) refl others) (record { first = refl; numbered = λ i. refl }) e)) ∙ owned)
+            subst (λ z. OwnedIn t (content (chain (after_act a now (at_row (head_key y) i) m) z)) → OwnedIn t (content (chain m z)) ⊎ (has_finish (map.get m (owner_key t)) ≡ false))
+            (sym (key_same (head_key x) (head_key y) e)) (owners t) owned
+        by_item t x owned false e = inl (ap (λ f. (content f).owner) (sym (chain_other m (after_act a now (at_row (head_key y) i) m) (head_key y) (head_key x) alone (record { first = refl; numbered = λ i. refl }) e)) ∙ owned)
 
-  -- an operation on it, but a lock of a transaction
-  pub leaves_op : (now : ℕ) (y : Item) → IsSoundChain m y → (p : Place) (who : Owner) (op : CellOp) (w : WriteAt) → is_tx_lock who op ≡ false → Leaves c m (rows_after (write_asks (head_key y) p who op w) now m)
-  leaves_op now y sound p who op WriteAt.Try off = leaves_item now y (op_act p who op) sound (λ t owned. inl (op_owner t p who op now (map.get m (head_key y)) off owned))
-  leaves_op now y sound p who op WriteAt.Make off = leaves_item now y (MakeCell Null None) sound (λ t owned. inl (make_owner t now (map.get m (head_key y)) owned))
+    -- a turn of a walk on it
+    module _ (linked : IsLinkedItem m y) (p : Place) (who : Owner) (op : CellOp) where
+      abbrev after : WriteAt → Rows
+      after w = rows_after (write_asks (head_key y) p who op w) now m
+
+      by_at : (w : WriteAt) → ChangedAlone (head_key y) m (after w) → Owners (after w) → Leaves c m (after w)
+      by_at (WriteAt.Try i) alone owners = leaves_item i (op_act p who op) alone owners
+      by_at WriteAt.Make alone owners = leaves_item 0 (MakeCell Null None) alone owners
+      by_at (WriteAt.Append i told) alone owners = leaves_item i (MakeCell told.value told.owner) alone owners
+      by_at (WriteAt.Link i) alone owners = leaves_item (i - 1) (LinkCell i) alone owners
+
+      pub leaves_walk : (w : WriteAt) → SeesAt (chain m (head_key y)) p (at_of w) → ((t : TxId) (s : WriteSays) → Logs p who op s (content_of m y) (content_of (after w) y) → OwnedIn t (content_of (after w) y) → OwnedIn t (content_of m y) ⊎ (has_finish (map.get m (owner_key t)) ≡ false)) → Leaves c m (after w)
+      leaves_walk w sees owners =
+          let x : WriteWalk = record { home = y.func; item = Plain y.table y.key; place = p; who = who; op = op; at = w } in
+          let s : WriteSays = walk_says x (told_by (walk_asks x) now m) in
+          let turn : LoggedTurn x (walk_next x (told_by (walk_asks x) now m)) m (after w) s = by_op x m (after w) now linked sees refl in
+          by_at w turn.others (λ t owned. owners t s turn.logs owned)
+
+      -- an operation on it, but a lock of a transaction
+      pub leaves_op : (w : WriteAt) → SeesAt (chain m (head_key y)) p (at_of w) → is_tx_lock who op ≡ false → Leaves c m (after w)
+      leaves_op w sees off = leaves_walk w sees (λ t s logs owned. inl (op_owner t p (content_of m y) (content_of (after w) y) who op s off logs owned))

@@ -33,6 +33,7 @@ mod PastStages
 mod PastTurns
 mod Quiet
 mod Roots
+mod RowNotes
 mod RowSets
 mod SaysOwe
 mod SeatRows

@@ -10,21 +10,17 @@ use Rattle.beldi_plain.specs.{Holds.holds, Item.Item, Item.item_cmp, Item.item_t
 use Rattle.beldi_order.proofs.Maps.{same_some}
 use Rattle.beldi_order.specs.{Sane.IsAnswer, Txs.effect_after, Txs.tx_after, Txs.txs_after}
 use Rattle.beldi_row.specs.{Log.note_at, Table.Rows, declared.notes.Note.Note, declared.row.Row.Row}
-use Rattle.beldi_chain.{specs.Content.Content, specs.Content.content_in, proofs.OneRow.one_content}
 use Rattle.beldi_readlog.specs.ReadLog.{log_key}
 use Rattle.beldi_step.specs.{declared.run.Begun.Begun, declared.run.Run.Run, declared.run.RunTx.RunTx, Host.Core, Run.answer_noted, Run.place_of, Run.tx_at, Run.tx_of}
-use Rattle.beldi_known.specs.{Beside.is_begin, Contents.content_of, Contents.is_owner, Contents.shadow_chain, Contents.shadow_key, Contents.shadow_of, Known.ahead_by, Known.commit_in, Known.is_tx, Known.last_step, Known.note_by, Known.owed_note, Known.owed_shadow, Known.shadow_by, Known.write_op, Owed.note_of, Owed.noted, Sane.SaneInstance}
+use Rattle.beldi_known.specs.{Beside.is_begin, Contents.content_of, Contents.is_owner, Contents.shadow_of, Known.ahead_by, Known.commit_in, Known.is_tx, Known.last_step, Known.note_by, Known.owed_note, Known.owed_shadow, Known.shadow_by, Known.write_op, Owed.note_of, Owed.noted, Sane.SaneInstance}
 use Rattle.beldi_known.proofs.{AtFront.no_decision, AtFront.no_shadow_note, AtFront.note_is_ahead, Behind.behind_decided, Behind.front, Behind.note_there, Behind.shadow_there, Behind.stepped, Behind.there as answer_there, FrameAt.no_mark_at}
 use Rattle.beldi_laws.specs.{OneAnswer.IsBegun, Right.Inside, Right.Knows, Right.KnowsAt, Right.Right, Right.RunAt, Right.open_of}
 use Rattle.beldi_upkeep.specs.Checked.{DecisionsAreOwn, NotesAreOwn, ShadowNotesAreOwn, ShadowsAreFree, UnlocksAreOwned, is_of_lock, is_own_note, is_shadow_note, works_on}
 use Rattle.beldi_upkeep.proofs.{Frees.frees_what_it_holds, Open.agrees, Open.begun_own, Open.tx_open}
 
--- ---- a shadow: nobody owns it, so its first row has no owner
+-- ---- nobody owns a shadow
 pub shadows_are_free : ShadowsAreFree
 shadows_are_free d c m t x h = (h.rows.asides t x).unowned
-
-pub first_row_free : (d : Deployment) (c : Core) (m : Rows) (t : TxId) (x : Item) → Right d c m → (content_in (map.get m (shadow_key t x))).owner ≡ None
-first_row_free d c m t x h = ap (λ (z : Content). z.owner) (sym (one_content (shadow_chain m t x) (h.rows.asides t x).sound)) ∙ (h.rows.asides t x).unowned
 
 -- ---- a live run
 pub knows : (d : Deployment) (c : Core) (m : Rows) (h : Right d c m) (r : Run) (g : Begun) → IsBegun c r.id r g → (k : Knows d h.known r g) × Inside m h.plain c.book k g.stage

@@ -9,8 +9,9 @@ use Rattle.beldi_plain.specs.{Item.Item, Operation.OnItem, Operation.item_in, Op
 use Rattle.beldi_order.proofs.Maps.{same_some}
 use Rattle.beldi_row.{proofs.Logs.note_here, specs.Act.other_owner, specs.Act.owns, specs.Log.note_at, specs.Table.Rows, specs.declared.notes.Note.Note}
 use Rattle.beldi_walk.specs.{Query.rows_after, Query.told_by, declared.query.Query.Query}
-use Rattle.beldi_chain.specs.Content.{Content}
-use Rattle.beldi_daal.specs.{Cell.cell_key, Cell.done_note, Cell.write_asks, Cell.write_goes, Logged.Logs, Logged.barred, Logged.held_by, Logged.note_after, Logged.unless_owned, Logged.waited, Walk.walk_so, declared.cell.CellOp.CellOp, declared.cell.ReadGoes.ReadGoes, declared.cell.WriteAt.WriteAt, declared.cell.WriteGoes.WriteGoes, declared.walk.Item.TheVariants.Plain, declared.walk.WriteSays.WriteSays, declared.walk.WriteWalk.WriteWalk}
+use Rattle.beldi_chain.specs.{Chain.chain, Content.Content}
+use Rattle.beldi_links.specs.Links.{SeesAt}
+use Rattle.beldi_daal.specs.{Cell.cell_key, Cell.done_note, Cell.write_asks, Cell.write_goes, Logged.DidAs, Logged.Logs, Logged.at_of, Logged.barred, Logged.held_by, Logged.note_after, Logged.unless_owned, Logged.waited, Walk.walk_so, declared.cell.CellOp.CellOp, declared.cell.ReadGoes.ReadGoes, declared.cell.WriteAt.WriteAt, declared.cell.WriteGoes.WriteGoes, declared.walk.Item.TheVariants.Plain, declared.walk.WriteSays.WriteSays, declared.walk.WriteWalk.WriteWalk}
 use Rattle.beldi_daal.proofs.Logged.{by_op}
 use Rattle.beldi_txn.specs.{declared.end.EndGoes.EndGoes, declared.end.Visit.Visit, declared.tx.TxAt.TxAt, declared.tx.TxGoes.TxGoes, TxTurn.Fits}
 use Rattle.beldi_invokelog.specs.declared.invoke_log.Back.{Back}
@@ -18,7 +19,7 @@ use Rattle.beldi_known.proofs.Cases.{by_option}
 use Rattle.beldi_call.specs.{Async.async_says, Call.call_says, declared.async_call.AsyncAt.AsyncAt, declared.async_call.AsyncSays.AsyncSays, declared.call.CallSays.CallSays}
 use Rattle.beldi_step.specs.{declared.run.Begun.Begun, declared.run.Mark.Mark, declared.run.Run.Run, declared.run.RunAt.RunAt, declared.run.RunTx.RunTx, declared.run.Says.Says, declared.run.Stage.Stage, Host.Core, Run.answer_noted, Run.cell_op, Run.goes_from, Run.note_of_op, Run.place_of, Run.put_asks, Run.put_says, Run.asks_at, Run.stage_asks, Run.stage_says, Run.takes, Run.told_at, Run.turned_by, Run.write_says, Run.done_says, Run.ask_says, Run.async_answer, Run.at_once, Run.back_says, Run.call_answer, Run.decided_says, Run.put_answer, Run.tx_says, Run.visit_says, Run.walk_says}
 use Rattle.beldi_known.specs.{Contents.content_of, Contents.is_owner, Operations.cell_of}
-use Rattle.beldi_laws.specs.{OneAnswer.IsBegun, Right.AtStage, Right.Inside, Right.Knows, Right.Right}
+use Rattle.beldi_laws.specs.{Inside.SeesPut, OneAnswer.IsBegun, Right.AtStage, Right.Inside, Right.Knows, Right.Right}
 use Rattle.beldi_upkeep.specs.Checked.{Begins, NoTurnIsOver, is_close, is_own_note, works_on}
 use Rattle.beldi_upkeep.proofs.{Notes.knows, Notes.notes_are_own, Notes.unlocks_are_owned, Stranded.no_run_stranded}
 
@@ -51,7 +52,7 @@ note_now e o v h = grind arith
 owner_is : (w : Owner) (o : Option Owner) → owns w o ≡ is_owner o w
 owner_is w o = grind arith
 
-held_else : (o : Option Owner) → held_by o ≡ Some WriteSays.NotOwner → ⊥
+pub held_else : (o : Option Owner) → held_by o ≡ Some WriteSays.NotOwner → ⊥
 held_else None h = cc
 held_else (Some w) h = cc
 
@@ -66,6 +67,15 @@ barred_free (Effect.Write t k v) o w owner h is = absurd (held_else (other_owner
 barred_free (Effect.CondWrite t k r u v) o w owner h is = absurd (held_else (other_owner w owner) (ap (λ (z : OnItem). barred (cell_of z.does) w owner) (same_some h) ∙ is))
 barred_free (Effect.Lock t k) o w owner h is = absurd (held_else (waited w (other_owner w owner)) (ap (λ (z : OnItem). barred (cell_of z.does) w owner) (same_some h) ∙ is))
 barred_free e o w owner h is = cc
+
+-- the note that an operation leaves, or a death
+abbrev pub note_left : CellOp → Value → Option IntentId → Note
+note_left op v None = note_after op v
+note_left op v (Some a) = Note.Died a
+
+pub left_note : (p : Place) (who : Owner) (op : CellOp) (c d : Content) (w : Note) (a : Option IntentId) → note_at d.notes p ≡ Some w → note_at c.notes p ≡ None → DidAs p who op a c d → note_left op c.value a ≡ w
+left_note p who op c d w None there none did = same_some (sym (ap (λ (x : Content). note_at x.notes p) did.1 ∙ note_here c.notes p (note_after op c.value) none) ∙ there)
+left_note p who op c d w (Some a) there none did = same_some (sym (ap (λ (x : Content). note_at x.notes p) did ∙ note_here c.notes p (Note.Died a) none) ∙ there)
 
 done_on : (first : Bool) (e : Effect) (u : Option Answer) → IsTrue (wants_answer e) → is_some u ≡ true → GoesOn e (done_says first u)
 done_on first e u wanted some = grind arith
@@ -97,18 +107,20 @@ module _ (d : Deployment) (c : Core) (m : Rows) (r : Run) (g : Begun) (h : Right
 
   by_says : (z : WriteGoes) → Logs place (Owner.Intent r.id) op (walk_so z) (content_of m item) (content_of n item) → GoesOn e (write_says e z)
   by_says (WriteGoes.On to) l = (refl, tt)
+  by_says WriteGoes.Stays l = (refl, tt)
+  by_says WriteGoes.Worn l = (refl, tt)
   by_says (WriteGoes.Held w) l = (refl, tt)
   by_says (WriteGoes.Done w true) l =
-      let same : note_after op (content_of m item).value ≡ w = same_some (sym (ap (λ (x : Content). note_at x.notes place) l.1.1.1 ∙ note_here (content_of m item).notes place (note_after op (content_of m item).value) l.1.0) ∙ l.0) in
+      let same : note_after op (content_of m item).value ≡ w = left_note place (Owner.Intent r.id) op (content_of m item) (content_of n item) w None l.0 l.1.0 l.1.1 in
       done_on true e (answer_noted e w) (wants_op e o so).0 (ap (λ z. is_some (answer_noted e z)) (sym same) ∙ note_now e o (content_of m item).value so)
   by_says (WriteGoes.Done w false) l = done_on false e (answer_noted e w) (wants_op e o so).0 (was_noted w (ap (λ (x : Content). note_at x.notes place) (sym l.1) ∙ l.0))
   by_says WriteGoes.NotOwner l =
       let k = barred_free e o (Owner.Intent r.id) (content_of m item).owner so l.1 in
       let clash = sym k.1 ∙ owner_is (Owner.Intent r.id) (content_of m item).owner ∙ unlocks_are_owned d c m r g o.table o.key h b k.0 l.0 in cc
 
-  operation_on : GoesOn e (put_says e (note_of_op (cell_op e)) (told_by (put_asks r.id r.func g.machine.steps at (cell_op e)) c.now m))
-  operation_on = subst (λ x. GoesOn e (put_says e (note_of_op x) (told_by (put_asks r.id r.func g.machine.steps at x) c.now m))) (sym (its_cell e o so))
-      (by_says (write_goes (done_note op) (told_by asks c.now m)) (by_op walk m n (h.rows.chains item) at c.now refl).logs)
+  operation_on : SeesAt (chain m (cell_key r.func o.table o.key)) place (at_of at) → GoesOn e (put_says e at (note_of_op (cell_op e)) (told_by (put_asks r.id r.func g.machine.steps at (cell_op e)) c.now m))
+  operation_on sees = subst (λ x. GoesOn e (put_says e at (note_of_op x) (told_by (put_asks r.id r.func g.machine.steps at x) c.now m))) (sym (its_cell e o so))
+      (by_says (write_goes (done_note op) at (told_by asks c.now m)) (by_op walk m n c.now (h.rows.chains item) sees refl).logs)
 
 -- ---- what each stage says
 ask_on : (t : ℕ) (x : List ℕ) (v : Option Value) → GoesOn (Effect.Read t x) (ask_says v)
@@ -142,6 +154,7 @@ tx_on e a TxGoes.Stays wanted = (refl, tt)
 tx_on e a TxGoes.Put wanted = put_on e a wanted
 tx_on e a (TxGoes.Died c) wanted = (refl, wanted)
 tx_on e a (TxGoes.Held o) wanted = (refl, tt)
+tx_on e a TxGoes.Worn wanted = (refl, tt)
 tx_on e a (TxGoes.Value v) wanted = (refl, wanted)
 tx_on e a TxGoes.Done wanted = (refl, wanted)
 
@@ -159,10 +172,10 @@ module _ (d : Deployment) (c : Core) (m : Rows) (r : Run) (g : Begun) (h : Right
 
   by_stage : (s : Stage) (e : Effect) (o : Option RunTx) → g.machine.effect ≡ e → g.tx ≡ o → is_close s ≡ false → AtStage m h.plain c.book k s e o → GoesOn e (Says_at s e o)
   by_stage Stage.Ask (Effect.Read t x) None is out near here = ask_on t x _
-  by_stage Stage.Walk (Effect.Read t x) None is out near here = walk_on t x _ _
+  by_stage (Stage.Walk i) (Effect.Read t x) None is out near here = walk_on t x _ _
   by_stage (Stage.Keep v seen) (Effect.Read t x) None is out near here = (refl, refl)
-  by_stage (Stage.Write at) e None is out near here = by_option (op_of e) (λ none. let clash = sym (ap is_some none) ∙ here in cc)
-      (λ u so. subst (λ z. GoesOn z (put_says z (note_of_op (cell_op z)) (told_by (put_asks r.id r.func g.machine.steps at (cell_op z)) c.now m))) is (operation_on d c m r g h b out u (ap op_of is ∙ so) at))
+  by_stage (Stage.Write at) e None is out near here = by_option (op_of e) (λ none. let clash = sym (ap is_some none) ∙ here.0 in cc)
+      (λ u so. subst (λ z. GoesOn z (put_says z at (note_of_op (cell_op z)) (told_by (put_asks r.id r.func g.machine.steps at (cell_op z)) c.now m))) is (operation_on d c m r g h b out u (ap op_of is ∙ so) at (subst (SeesPut m r.func (place_of r.id g.machine.steps) at) (its_cell e u so) here.1)))
   by_stage (Stage.Async at) (Effect.Async f a) None is out near here = subst (λ z. GoesOn (Effect.Async f a) (if z then async_answer at (async_says f at (told_by (stage_asks r.id r.func g.caller None g.machine.steps (Effect.Async f a) (Stage.Async at)) c.now m)) else Says.Ends None None)) (sym here.0) (async_on f a at _)
   by_stage (Stage.Call at) (Effect.Call f a) o is in_it near here = subst (λ z. GoesOn (Effect.Call f a) (if z then call_answer r.id o g.machine.steps (call_says f at (told_by (stage_asks r.id r.func g.caller o g.machine.steps (Effect.Call f a) (Stage.Call at)) c.now m)) else Says.Ends None None)) (sym here.0) (call_on f a r.id o g.machine.steps _)
   by_stage Stage.Back (Effect.Return u) o is in_it near here = back_on u o _

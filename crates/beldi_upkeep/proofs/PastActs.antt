@@ -2,7 +2,7 @@
 use Rattle.beldi_value.specs.{Id.child_of, declared.id.IntentId.IntentId, declared.place.Place.Place}
 use Rattle.beldi_value.specs.{Id.age_of, Passes.passes, declared.place.Owner.Owner}
 use Rattle.beldi_row.proofs.Logs.{place_same}
-use Rattle.beldi_row.specs.Act.{Tell, act, at_tail, cond_at, died, entered, free_at, held, held_or, if_owned, lock_at, next_or, no_row, not_owner, noted_or, off, on, on_cell, other_owner, owned_or, owns, waits_for, write_at}
+use Rattle.beldi_row.specs.Act.{Tell, act, at_tail, cond_at, died, entered, free_at, held, held_or, if_owned, if_room, is_full, link_to, lock_at, next, next_or, no_row, not_full, not_owner, noted_or, off, on, on_cell, other_owner, owned_or, owns, packed, waits_for, write_at}
 use Rattle.beldi_row.specs.{Log.note_at, Log.place_eq, declared.act.Act.Act, declared.key.Kind.Kind, declared.notes.Note.Note, declared.row.Cell.Cell, declared.row.Row.Row}
 use Rattle.beldi_chain.specs.Content.{content_in}
 use Rattle.std.specs.Prelude.{is_none}
@@ -82,13 +82,20 @@ held_adds : (p : Place) (c : Cell) (o : Option Owner) (r : Cell × Tell) → Add
 held_adds p c None r h = h
 held_adds p c (Some o) r h = inl refl
 
+room_adds : (p : Place) (c : Cell) (r : Cell × Tell) → Adds p c r.0 → Adds p c (if_room c r).0
+room_adds p c r h = by_test (is_full c)
+  where
+    by_test : (b : Bool) → Adds p c (if◌then◌else◌ {A = Cell × Tell} b (c, packed c.value c.owner) r).0
+    by_test true = inl refl
+    by_test false = h
+
 owned_adds : (p : Place) (w : Owner) (c : Cell) (o : Option Owner) (r : Cell × Tell) → Adds p c r.0 → Adds p c (owned_or p w c o r).0
 owned_adds p w c None r h = h
 owned_adds p w c (Some o) r h = by_test (waits_for w o)
   where
-    by_test : (b : Bool) → Adds p c (if◌then◌else◌ {A = Cell × Tell} b (c, held o) (entered p (Note.Died (age_of o)) c.value c.owner c, died (age_of o))).0
+    by_test : (b : Bool) → Adds p c (if◌then◌else◌ {A = Cell × Tell} b (c, held o) (if_room c (entered p (Note.Died (age_of o)) c.value c.owner c, died (age_of o)))).0
     by_test true = inl refl
-    by_test false = inr (Note.Died (age_of o), refl)
+    by_test false = room_adds p c (entered p (Note.Died (age_of o)) c.value c.owner c, died (age_of o)) (inr (Note.Died (age_of o), refl))
 
 free_adds : (p : Place) (w : Owner) (c : Cell) (r : Cell × Tell) → Adds p c r.0 → Adds p c (if_owned w c r).0
 free_adds p w c r h = by_test (owns w c.owner)
@@ -111,11 +118,24 @@ cell_by p a f t (Row.ReadLog v) adds h = inl h
 cell_by p a f t (Row.Invoke v) adds h = inl h
 cell_by p a f t Row.Lockset adds h = inl h
 
+-- a next is no note
+linked_log : (n : ℕ) (c : Cell) → (link_to n c).0.log ≡ c.log
+linked_log n c = by_next c.next
+  where
+    by_test : (b : Bool) → (if◌then◌else◌ {A = Cell × Tell} b (record c { next = Some n }, next n) (c, not_full)).0.log ≡ c.log
+    by_test true = refl
+    by_test false = refl
+
+    by_next : (o : Option ℕ) → (next_or c o (if is_full c then (record c { next = Some n }, next n) else (c, not_full))).0.log ≡ c.log
+    by_next None = by_test (is_full c)
+    by_next (Some k) = refl
+
 note_on : (p : Place) (a : Act) (now : ℕ) (r : Row) → has_note p (Some (on a now r).0) ≡ true → (has_note p (Some r) ≡ true) ⊎ (notes_at a ≡ Some p)
-note_on p (Act.WriteCell q w v) now r h = cell_by q p (write_at q w v) no_row r (λ c. tail_adds q c _ (held_adds q c (other_owner w c.owner) _ (inr (Note.Wrote, refl)))) h
-note_on p (Act.CondCell q w k o v) now r h = cell_by q p (cond_at q w k o v) no_row r (λ c. tail_adds q c _ (held_adds q c (other_owner w c.owner) _ (inr (Note.Cond (passes c.value k o), refl)))) h
-note_on p (Act.LockCell q w s) now r h = cell_by q p (lock_at q w) no_row r (λ c. tail_adds q c _ (owned_adds q w c (other_owner w c.owner) _ (inr (Note.Got, refl)))) h
-note_on p (Act.FreeCell q w v) now r h = cell_by q p (free_at q w v) no_row r (λ c. tail_adds q c _ (free_adds q w c _ (inr (Note.Freed, refl)))) h
+note_on p (Act.WriteCell q w v) now r h = cell_by q p (write_at q w v) no_row r (λ c. tail_adds q c _ (held_adds q c (other_owner w c.owner) _ (room_adds q c _ (inr (Note.Wrote, refl))))) h
+note_on p (Act.CondCell q w k o v) now r h = cell_by q p (cond_at q w k o v) no_row r (λ c. tail_adds q c _ (held_adds q c (other_owner w c.owner) _ (room_adds q c _ (inr (Note.Cond (passes c.value k o), refl))))) h
+note_on p (Act.LockCell q w s) now r h = cell_by q p (lock_at q w) no_row r (λ c. tail_adds q c _ (owned_adds q w c (other_owner w c.owner) _ (room_adds q c _ (inr (Note.Got, refl))))) h
+note_on p (Act.FreeCell q w v) now r h = cell_by q p (free_at q w v) no_row r (λ c. tail_adds q c _ (free_adds q w c _ (room_adds q c _ (inr (Note.Freed, refl))))) h
+note_on p (Act.LinkCell n) now (Row.Cell c) h = inl (ap (λ es. is_some (note_at es p)) (sym (linked_log n c)) ∙ h)
 note_on p a now (Row.Cell c) h = inl h
 note_on p a now (Row.Intent i) h = grind arith
 note_on p a now (Row.ReadLog v) h = grind arith

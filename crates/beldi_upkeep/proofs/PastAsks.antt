@@ -1,12 +1,12 @@
 -- What a run asks in its stages shows its intent past no step that the run is not past, and opens no call but that of its step.
-use Rattle.std.proofs.Common.{Bool, arith, List, None, Option, Some, [], false, inl, inr, refl, subst, sym, true, ℕ, ◌∙◌, ◌<◌, ◌∷◌, ◌≡◌}
+use Rattle.std.proofs.Common.{Bool, arith, List, None, Option, Some, [], false, inl, inr, refl, subst, sym, true, ℕ, ◌-◌, ◌∙◌, ◌<◌, ◌∷◌, ◌≡◌}
 use Rattle.beldi_value.specs.{Id.child_of, Id.has_callees, declared.id.IntentId.IntentId, declared.outcome.Outcome.Outcome, declared.place.Caller.Caller, declared.place.Owner.Owner, declared.place.Place.Place, declared.place.TxId.TxId, declared.value.Value.Value}
 use Rattle.beldi_lang.specs.declared.effect.Effect.{Effect}
 use Rattle.beldi_order.specs.Sane.{call_of}
 use Rattle.beldi_order.proofs.Maps.{same_some}
-use Rattle.beldi_row.specs.{Key.RowKey, Table.Rows, declared.act.Act.Act, declared.key.Kind.Kind}
+use Rattle.beldi_row.specs.{Key.RowKey, Key.at_row, Table.Rows, declared.act.Act.Act, declared.key.Kind.Kind}
 use Rattle.beldi_walk.specs.declared.query.Query.{Query}
-use Rattle.beldi_daal.specs.{Cell.cell_key, Cell.op_act, Cell.shadow_key, Cell.write_asks, declared.cell.CellOp.CellOp, declared.cell.WriteAt.WriteAt, declared.cell.WriteAt.TheVariants.Try, declared.cell.WriteAt.TheVariants.Make}
+use Rattle.beldi_daal.specs.{Cell.cell_key, Cell.op_act, Cell.shadow_key, Cell.write_asks, declared.cell.CellOp.CellOp, declared.cell.WriteAt.WriteAt}
 use Rattle.beldi_invokelog.specs.InvokeLog.{invoke_key}
 use Rattle.beldi_lock.specs.{Lock.asks_at, declared.lock.LockAt.LockAt}
 use Rattle.beldi_txn.specs.{End.free_asks, End.first_visit, End.free_place, End.shadow_asks, End.visit_asks, End.visited_by, Tx.aside_asks, Tx.asks_of, Tx.item_asks, Tx.item_of, Tx.op_of, Way.Member, declared.end.EndAt.EndAt, declared.end.Visit.Visit, declared.tx.TxAt.TxAt, declared.way.Called.Called}
@@ -75,26 +75,31 @@ module _ (m : Rows) (id : IntentId) (func : ℕ) (c : Option Caller) (o : Option
   made : (k : RowKey) (v : Value) (w : Option Owner) → Suits (Query.Act k (Act.MakeCell v w))
   made k v w = quiet k (Act.MakeCell v w) (record { read = refl; opens = refl; back = refl; ends = refl; notes = refl })
 
+  linked : (k : RowKey) (r : ℕ) → Suits (Query.Act k (Act.LinkCell r))
+  linked k r = quiet k (Act.LinkCell r) (record { read = refl; opens = refl; back = refl; ends = refl; notes = refl })
+
   -- a place all before which may be passed
   abbrev pub Fine : Place → Type 0
   Fine p = (i : IntentId) (n : ℕ) → IsLater p i n → MayPass m i n
 
   -- of a row of an item
   item_suits : (home t : ℕ) (k : List ℕ) (p : Place) (w : Owner) (op : CellOp) (at : WriteAt) → Fine p → Suits (write_asks (cell_key home t k) p w op at)
-  item_suits home t k p w op Try fine = (λ i n does. fine i n (subst (λ q. IsLater q i n) (same_some (sym does.1 ∙ op_notes p w op)) does.2), λ e. absurd (no_both (opens_call (op_act p w op)) (op_opens p w op) e))
-  item_suits home t k p w op Make fine = made (cell_key home t k) Value.Null None
+  item_suits home t k p w op (WriteAt.Try r) fine = (λ i n does. fine i n (subst (λ q. IsLater q i n) (same_some (sym does.1 ∙ op_notes p w op)) does.2), λ e. absurd (no_both (opens_call (op_act p w op)) (op_opens p w op) e))
+  item_suits home t k p w op WriteAt.Make fine = made (cell_key home t k) Value.Null None
+  item_suits home t k p w op (WriteAt.Append r told) fine = made (at_row (cell_key home t k) r) told.value told.owner
+  item_suits home t k p w op (WriteAt.Link r) fine = linked (at_row (cell_key home t k) (r - 1)) r
 
   -- of a shadow's
-  shadow_suits : (home : ℕ) (x : TxId) (t : ℕ) (k : List ℕ) (p : Place) (w : Owner) (op : CellOp) → Suits (Query.Act (shadow_key home x t k) (op_act p w op))
-  shadow_suits home x t k p w op = (λ i n does. absurd does, λ e. absurd (no_both (opens_call (op_act p w op)) (op_opens p w op) e))
+  shadow_suits : (x : TxId) (t : ℕ) (k : List ℕ) (p : Place) (w : Owner) (op : CellOp) (at : WriteAt) → Suits (write_asks (shadow_key func x t k) p w op at)
+  shadow_suits x t k p w op (WriteAt.Try r) = (λ i n does. absurd does, λ e. absurd (no_both (opens_call (op_act p w op)) (op_opens p w op) e))
+  shadow_suits x t k p w op WriteAt.Make = made (shadow_key func x t k) Value.Null None
+  shadow_suits x t k p w op (WriteAt.Append r told) = made (at_row (shadow_key func x t k) r) told.value told.owner
+  shadow_suits x t k p w op (WriteAt.Link r) = linked (at_row (shadow_key func x t k) (r - 1)) r
 
   -- ---- inside a transaction
-  aside_suits : (p : Place) (x : TxId) (t : ℕ) (k : List ℕ) (w : WriteAt) (e : Effect) → Suits (aside_asks func p x (shadow_key func x t k) w (op_of e))
-  aside_suits p x t k Try (Effect.Write u j v) = shadow_suits func x t k p (Owner.Tx x) (CellOp.Write v)
-  aside_suits p x t k Try (Effect.CondWrite u j r o v) = shadow_suits func x t k p (Owner.Tx x) (CellOp.Cond r o v)
-  aside_suits p x t k Make (Effect.Write u j v) = made (shadow_key func x t k) Value.Null None
-  aside_suits p x t k Make (Effect.CondWrite u j r o v) = made (shadow_key func x t k) Value.Null None
-  aside_suits p x t k w e = looked _
+  aside_suits : (p : Place) (x : TxId) (t : ℕ) (k : List ℕ) (w : WriteAt) (op : Option CellOp) → Suits (aside_asks func p x (shadow_key func x t k) w op)
+  aside_suits p x t k w None = looked _
+  aside_suits p x t k w (Some op) = shadow_suits x t k p (Owner.Tx x) op w
 
   module _ (p : Place) (fine : Fine p) (x : TxId) where
     lock_suits : (t : ℕ) (k : List ℕ) (l : LockAt) → Suits (asks_at func t k p (Owner.Tx x) l)
@@ -104,20 +109,21 @@ module _ (m : Rows) (id : IntentId) (func : ℕ) (c : Option Caller) (o : Option
     at_item_suits : (e : Effect) (t : ℕ) (k : List ℕ) (a : TxAt) → Suits (item_asks func p x e t k a)
     at_item_suits e t k TxAt.Log = looked _
     at_item_suits e t k (TxAt.Lock l) = lock_suits t k l
-    at_item_suits e t k TxAt.Shadow = looked _
-    at_item_suits e t k TxAt.Item = looked _
+    at_item_suits e t k TxAt.Seek = looked _
+    at_item_suits e t k (TxAt.Shadow r) = looked _
+    at_item_suits e t k (TxAt.Item r) = looked _
     at_item_suits e t k (TxAt.Keep v) = (λ i n does. fine i n does.0, λ e. cc)
     at_item_suits e t k (TxAt.Head v) = made (shadow_key func x t k) v None
-    at_item_suits e t k (TxAt.Write w) = aside_suits p x t k w e
+    at_item_suits e t k (TxAt.Write w) = aside_suits p x t k w (op_of e)
 
     tx_suits : (e : Effect) (a : TxAt) (i : Option (ℕ × List ℕ)) → Suits (asks_of func p x e a i)
     tx_suits e a None = looked _
     tx_suits e a (Some i) = at_item_suits e i.0 i.1 a
 
   -- ---- at an end
-  shadow_ends : (x : TxId) (p : Member) (i : Option (ℕ × List ℕ)) → Suits (shadow_asks x p i)
-  shadow_ends x p None = tt
-  shadow_ends x p (Some i) = looked _
+  shadow_ends : (x : TxId) (p : Member) (r : ℕ) (i : Option (ℕ × List ℕ)) → Suits (shadow_asks x p r i)
+  shadow_ends x p r None = tt
+  shadow_ends x p r (Some i) = looked _
 
   give_suits : (x : TxId) (p : Member) (at : Place) (v : Option Value) (w : WriteAt) (i : Option (ℕ × List ℕ)) → Fine at → Suits (free_asks x p at v w i)
   give_suits x p at v w None fine = tt
@@ -143,14 +149,14 @@ module _ (m : Rows) (id : IntentId) (func : ℕ) (c : Option Caller) (o : Option
     visit_suits x is commit (d ∷ cs) None i v EndAt.Callees = tt
     visit_suits x is commit cs after (Some j) v EndAt.Next = tt
     visit_suits x is commit cs after None v EndAt.Next = tt
-    visit_suits x is commit cs after i v EndAt.Shadow = shadow_ends (own_tx id func x) (visited_by (own_tx id func x) cs) i
+    visit_suits x is commit cs after i v (EndAt.Shadow r) = shadow_ends (own_tx id func x) (visited_by (own_tx id func x) cs) r i
     visit_suits x is commit cs after i v (EndAt.Free w) = give_suits (own_tx id func x) (visited_by (own_tx id func x) cs) (free_place (own_tx id func x) step cs) v w i (freed x cs)
     visit_suits x is commit cs after i v EndAt.Stamp = quiet _ Act.Stamp (record { read = refl; opens = refl; back = refl; ends = refl; notes = refl })
 
     -- ---- a stage
-    walk_suits : (e : Effect) → Suits (walk_asks id func e)
-    walk_suits (Effect.Read t k) = looked _
-    walk_suits e = looked _
+    walk_suits : (r : ℕ) (e : Effect) → Suits (walk_asks id func r e)
+    walk_suits r (Effect.Read t k) = looked _
+    walk_suits r e = looked _
 
     put_suits : (at : WriteAt) (x : Option OnCell) → Suits (put_asks id func step at x)
     put_suits at None = looked _
@@ -209,7 +215,7 @@ module _ (m : Rows) (id : IntentId) (func : ℕ) (c : Option Caller) (o : Option
 
     pub stage_suits : (s : Stage) → Suits (stage_asks id func c o step effect s)
     stage_suits Stage.Ask = looked _
-    stage_suits Stage.Walk = walk_suits effect
+    stage_suits (Stage.Walk r) = walk_suits r effect
     stage_suits (Stage.Keep v seen) = (λ i n does. own i n does.0, λ e. cc)
     stage_suits (Stage.Write at) = put_suits at (cell_op effect)
     stage_suits (Stage.Tx at) = here_suits effect at o

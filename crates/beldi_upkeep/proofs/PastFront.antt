@@ -1,15 +1,15 @@
 -- Where an instance has not ended and stands at a step, nothing shows that it is past that step.
 use Rattle.beldi_order.proofs.Ends.{fits}
-use Rattle.beldi_chain.{specs.Chain.chain, proofs.OneRow.one_content}
+use Rattle.beldi_chain.specs.Chain.{chain}
 use Rattle.beldi_known.proofs.{FrameAt.no_mark_at, Cases.by_option, Instances.row_of}
 use Rattle.beldi_known.specs.{Known.at_step, Known.ahead_by, Known.ahead_note, Known.commit_in, Known.decision_by, Known.note_by, Known.note_or, Known.owed_note, Known.owed_read, Known.owed_value, Known.read_at, Known.row_at as value_at, Known.value_or, Owed.called_by, Owed.result_of, Owed.value_for, Rows.CalleeBodyMatches, Rows.RootMatches}
-use Rattle.beldi_laws.proofs.Names.{Answer, Body, Bool, CallMatches, Core, Deployment, Instance, IntentId, IntentMatches, IntentRow, Item, Kind, List, None, Option, Outcome, Place, Right, Row, RowKey, Rows, Some, [], ap, arith, child_of, effect_after, false, has_ended, has_no_hops, head_key, if◌then◌else◌, inl, inr, invoke_key, is_some, is_waited, key_in, length, note_at, owed_call, refl, same_some, slice_get, subst, suc, sym, take, true, tx_after, tx_now, effect_of, zero, ℕ, ◌==◌, ◌∙◌, ◌∷◌, ◌≡◌, ◌≤◌}
+use Rattle.beldi_laws.proofs.Names.{Answer, Body, Bool, CallMatches, Core, Deployment, Instance, IntentId, IntentMatches, IntentRow, Item, Kind, List, None, Option, Outcome, Place, Right, Row, RowKey, Rows, Some, [], ap, arith, child_of, effect_after, false, has_ended, has_no_hops, head_key, if◌then◌else◌, inl, inr, invoke_key, is_some, is_waited, key_in, length, owed_call, refl, same_some, slice_get, subst, suc, sym, take, true, tx_after, tx_now, effect_of, zero, ℕ, ◌==◌, ◌∙◌, ◌∷◌, ◌≡◌, ◌≤◌}
 use Rattle.beldi_laws.proofs.Names.map
 use Rattle.beldi_known.specs.{Rows.LogMatches}
 use Rattle.std.proofs.Common.{eqb-true}
 use Rattle.std.proofs.lemmas.Bool.{false_from_ne_true}
 use Rattle.beldi_upkeep.specs.Passed.{IsLater, ShowsPast, has_note, has_outcome, has_result, is_call, is_log}
-use Rattle.beldi_upkeep.proofs.{FromRight.call_is, FromRight.called_here, FromRight.row_at}
+use Rattle.beldi_upkeep.proofs.{FromRight.call_is, FromRight.called_here, FromRight.row_at, RowNotes.row_noted}
 
 not_some : {A : Type 0} (v : A) → ◌≡◌ {A = Option A} (Some v) None → ⊥
 not_some v e = cc
@@ -56,8 +56,7 @@ module _ (d : Deployment) (c : Core) (m : Rows) (h : Right d c m) (id : IntentId
 
   -- no note
   no_note : (home t z : ℕ) (k : List ℕ) (p : Place) → IsLater p id at → has_note p (map.get m (record { home = home; kind = Kind.Data t k z })) ≡ true → ⊥
-  no_note home t (suc z) k p later there = let clash = sym (ap (has_note p) ((h.rows.chains (record { func = home; table = t; key = k })).alone z)) ∙ there in cc
-  no_note home t zero k p later there =
+  no_note home t z k p later there =
       let x : Item = record { func = home; table = t; key = k } in
       let over : at ≤ p.step = let l = later.later in omega (arith, l) in
       let gone = past_end q.answers p.step over in
@@ -66,7 +65,7 @@ module _ (d : Deployment) (c : Core) (m : Rows) (h : Right d c m) (id : IntentId
       let owed : owed_note d x p.intent (h.locked p.intent) p.step (map.get h.known p.intent) ≡ None = ap (owed_note d x p.intent (h.locked p.intent) p.step) is
       ∙ ap (λ o. note_or (at_step (λ given a. note_by x q.func (tx_after d p.intent q given) (effect_after d q given) a) (take p.step q.answers) o) (ahead_note d x p.intent (h.locked p.intent) p.step q)) gone
       ∙ ap (λ b. if b then ahead_by x q.func (tx_now d p.intent q) (effect_of d q) (h.locked p.intent) else None) (false_from_ne_true (p.step == at) (λ e. let l = later.later in let s = eqb-true p.step at e in absurd (omega (arith, l, s)))) in
-      let clash = sym (ap is_some ((h.rows.items x).notes p marks ∙ owed)) ∙ ap (λ z. is_some (note_at z.notes p)) (one_content (chain m (head_key x)) (h.rows.chains x)) ∙ there in cc
+      let clash = sym (ap is_some ((h.rows.items x).notes p marks ∙ owed)) ∙ row_noted (chain m (head_key x)) p (h.rows.chains x) z there in cc
 
   -- no call
   no_call : (home : ℕ) (p : Place) → IsLater p id at → (o : Option Row) → map.get m (invoke_key home p) ≡ o → CallMatches o (owed_call h.known home p) → is_call o ≡ true → ⊥

@@ -2,16 +2,16 @@
 use Rattle.beldi_lang.proofs.Spends.{few_answers}
 use Rattle.beldi_order.specs.Sane.{IsAnswer}
 use Rattle.beldi_order.proofs.Ends.{fits_at}
-use Rattle.beldi_chain.{specs.Chain.chain, proofs.OneRow.one_content}
+use Rattle.beldi_chain.specs.Chain.{chain}
 use Rattle.beldi_known.proofs.{Callers.called_in, Cases.by_option, NoTx.outside_parts}
 use Rattle.beldi_known.specs.{Known.last_step, Owed.called_by, Owed.result_of, Rows.BodyMatches, Rows.CalleeBodyMatches, Rows.CalleeMatches, Rows.LogMatches, Rows.OutcomeMatches, Rows.RootMatches, Stands.body_of, Stands.decides, Stands.held_answer, Stands.held_inside, Stands.held_note, Stands.held_outside, Stands.note_of_lock, Stands.told_by}
-use Rattle.beldi_laws.proofs.Names.{Abort, Answer, Async, Begin, Body, Bool, Call, CallMatches, Caller, CondWrite, Core, Deployment, Effect, End, Instance, IntentId, IntentMatches, InvokeRow, IsTrue, Item, None, Note, OnItem, Option, Outcome, Place, Read, Right, Row, RowKey, Rows, Some, TxId, Value, Write, answer_at_once, answer_of, ap, arith, call_in, call_of, child_of, content_of, effect_before, eq-eqb, false, func_called, if◌then◌else◌, given, given_in, has_ended, has_no_hops, head_key, inl, inr, invoke_key, is_some, is_waited, item_in, key_in, length, length-take-le, log_key, note_at, noted_answer, op_of, option_and_then, option_map, or_own, owed_call, place_of, refl, result_in, same_some, subst, sym, take, take-append-drop, drop, true, tx_at, tx_by, txs_after, wants_answer, ℕ, ◌<◌, ◌==◌, ◌||◌, ◌∙◌, ◌≡◌, ◌≤◌, nat_lt, ltb-true, ltb-false}
+use Rattle.beldi_laws.proofs.Names.{Abort, Answer, Async, Begin, Body, Bool, Call, CallMatches, Caller, CondWrite, Core, Deployment, Effect, End, Instance, IntentId, IntentMatches, InvokeRow, IsTrue, Item, None, Note, OnItem, Option, Outcome, Place, Read, Right, Row, RowKey, Rows, Some, TxId, Value, Write, answer_at_once, answer_of, ap, arith, at_row, call_in, call_of, child_of, content_of, effect_before, eq-eqb, false, func_called, if◌then◌else◌, given, given_in, has_ended, has_no_hops, head_key, inl, inr, invoke_key, is_some, is_waited, item_in, key_in, length, length-take-le, log_key, note_at, noted_answer, op_of, option_and_then, option_map, or_own, owed_call, place_of, refl, result_in, same_some, subst, sym, take, take-append-drop, drop, true, tx_at, tx_by, txs_after, wants_answer, ℕ, ◌<◌, ◌==◌, ◌||◌, ◌∙◌, ◌≡◌, ◌≤◌, nat_lt, ltb-true, ltb-false}
 use Rattle.beldi_laws.proofs.Names.map
 use Rattle.beldi_laws.proofs.{Members.call_there, Returns.HasCaller, Returns.has_caller, Standing.held_here, Turns.wants_it}
 use Rattle.beldi_upkeep.specs.{Callees.Seats, Passed.AsyncsAreRegistered, Passed.KnownAsyncsAreRegistered, Passed.IsEnrolled, Passed.IsLater, Passed.MayPass, Passed.PastCalls, Passed.WentOn, Passed.has_outcome, Passed.has_result, Passed.is_call, Passed.is_log, Passed.may_pass}
 use Rattle.beldi_laws.proofs.{Outside.KnownOf, Outside.known_of, Standing.same_run}
 use Rattle.beldi_laws.proofs.Names.{PlainState, length-append, wants}
-use Rattle.beldi_upkeep.proofs.{CallLaws.have_callees, PastGaps.answer_at, PastGaps.front_take, PastGaps.in_own, PastGaps.no_async, PastGaps.result_row}
+use Rattle.beldi_upkeep.proofs.{CallLaws.have_callees, PastGaps.answer_at, PastGaps.front_take, PastGaps.in_own, PastGaps.no_async, PastGaps.result_row, RowNotes.noted_row}
 
 -- ---- what holds an answer
 call_held : (o : Option Row) (a : Answer) → option_map answer_of (result_in (call_in o)) ≡ Some a → is_call o ≡ true
@@ -87,7 +87,7 @@ module _ (d : Deployment) (c : Core) (m : Rows) (h : Right d c m) (past : PastCa
     by_log home there = past.each (log_key home (place_of id s)) id n (later, log_given (map.get m (log_key home (place_of id s))) _ (h.rows.keys (log_key home (place_of id s))) there)
 
     by_note : (x : Item) → is_some (note_at (content_of m x).notes (place_of id s)) ≡ true → MayPass m id n
-    by_note x there = past.each (head_key x) id n (record { place = place_of id s; later = later; noted = ap (λ z. is_some (note_at z.notes (place_of id s))) (sym (one_content (chain m (head_key x)) (h.rows.chains x))) ∙ there })
+    by_note x there = let row = noted_row (chain m (head_key x)) (place_of id s) (h.rows.chains x) there in past.each (at_row (head_key x) row.0) id n (record { place = place_of id s; later = later; noted = row.1 })
 
     by_outside : (a : Answer) (e : Effect) → held_outside m (place_of id s) q.func e ≡ Some a → MayPass m id n
     by_outside a (Read t k) held = by_log q.func (value_held (given m (log_key q.func (place_of id s))) a held)

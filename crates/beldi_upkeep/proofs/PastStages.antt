@@ -51,7 +51,7 @@ module _ (d : Deployment) (c : Core) (m : Rows) (h : Right d c m) (past : PastCa
   returns_none u Stage.Back o t a at e = no_end u o (back_of t) a e
   returns_none u Stage.Tell None t a at e = cc
   returns_none u Stage.Close o t a at e = no_close r.id g.caller u (is_did t) a e
-  returns_none u (Stage.Write w) None t a at e = cc
+  returns_none u (Stage.Write w) None t a at e = let clash = at.0 in cc
   returns_none u (Stage.Tx w) (Some o) t a at e = let x = operates (Return u) w at.0 in let clash = x.1 in cc
   returns_none u s o t a at e = absurd at
 
@@ -70,7 +70,7 @@ module _ (d : Deployment) (c : Core) (m : Rows) (h : Right d c m) (past : PastCa
       (λ a e. acted (OpenInvoke f) (open_row r.id o g.machine.steps f c.now a (map.get m key) e))
   call_answered f v (Stage.Call CallAt.Look) o at = subst (λ t. (a : Answer) → answer_in (if t then call_answer r.id o g.machine.steps (call_says f CallAt.Look (told_by (call_asks r.func (place_of r.id g.machine.steps) f CallAt.Look) c.now m)) else Says.Ends None None) ≡ Some a → may_pass (map.get (rows_after (call_asks r.func (place_of r.id g.machine.steps) f CallAt.Look) c.now m) key) ≡ true) (sym at.0)
       (λ a e. acted Look (look_row r.id o g.machine.steps f c.now a (map.get m key) e))
-  call_answered f v (Stage.Write w) None at = λ a e. cc
+  call_answered f v (Stage.Write w) None at = λ a e. let clash = at.0 in cc
   call_answered f v (Stage.Tx w) (Some o) at = λ a e. let x = operates (Call f v) w at.0 in let clash = x.1 in cc
   call_answered f v s o at = absurd at
 
@@ -87,7 +87,7 @@ module _ (d : Deployment) (c : Core) (m : Rows) (h : Right d c m) (past : PastCa
 
   async_answered : (f : ℕ) (v : Value) (s : Stage) (o : Option RunTx) → AtStage m h.plain c.book k s (Async f v) o → Answered s (Async f v) o
   async_answered f v (Stage.Async w) None at = subst (Sent f v w) (sym at.0) (sent_answered f v w)
-  async_answered f v (Stage.Write w) None at = λ a e. cc
+  async_answered f v (Stage.Write w) None at = λ a e. let clash = at.0 in cc
   async_answered f v (Stage.Tx w) (Some o) at = λ a e. let x = operates (Async f v) w at.0 in let clash = x.1 in cc
   async_answered f v s o at = absurd at
 

@@ -4,7 +4,7 @@ use Rattle.beldi_value.specs.{Id.has_callees, declared.id.IntentId.IntentId, dec
 use Rattle.beldi_lang.specs.{declared.effect.Answer.Answer, declared.effect.Effect.Effect}
 use Rattle.beldi_row.specs.{declared.notes.Note.Note}
 use Rattle.beldi_walk.specs.{Query.Told}
-use Rattle.beldi_daal.specs.declared.cell.{ReadGoes.ReadGoes, WriteGoes.WriteGoes}
+use Rattle.beldi_daal.specs.declared.cell.{ReadGoes.ReadGoes, WriteAt.WriteAt, WriteGoes.WriteGoes}
 use Rattle.beldi_invokelog.specs.declared.invoke_log.Back as back
 use Rattle.beldi_txn.specs.declared.{tx.TxAt.TxAt, tx.TxGoes.TxGoes, end.EndGoes.EndGoes, end.Visit.Visit}
 use Rattle.beldi_call.specs.declared.{async_call.AsyncAt.AsyncAt}
@@ -57,9 +57,9 @@ quiet_write e (WriteGoes.Done n first) = quiet_done first (step.answer_noted e n
 quiet_write e (WriteGoes.On at) = refl
 quiet_write e g = tt
 
-quiet_put : (e : Effect) (n : Option Note) (t : Told) → Quiet (put_says e n t)
-quiet_put e None t = tt
-quiet_put e (Some n) t = quiet_write e _
+quiet_put : (e : Effect) (at : WriteAt) (n : Option Note) (t : Told) → Quiet (put_says e at n t)
+quiet_put e at None t = tt
+quiet_put e at (Some n) t = quiet_write e _
 
 quiet_kept : (a : TxAt) → Quiet (put_answer a)
 quiet_kept a = grind arith
@@ -79,6 +79,7 @@ quiet_decided commit m g = refl
 
 quiet_visit : (commit : Bool) (v : Visit) (g : EndGoes) → Quiet (visit_says commit v g)
 quiet_visit commit v EndGoes.Done = tt
+quiet_visit commit v EndGoes.Worn = tt
 quiet_visit commit v g = refl
 
 quiet_decide : (id : IntentId) (func n : ℕ) (e : Effect) (m : Mark) (o : Option RunTx) (t : Told) → Quiet (decide_here_says id func n e m o t)
@@ -108,9 +109,9 @@ CallsNobody w = Unit {0}
 
 pub quiet : (id : IntentId) (func : ℕ) (c : Option Caller) (o : Option RunTx) (changes n : ℕ) (e : Effect) (w : Stage) (t : Told) → CallsNobody w → Quiet (stage_says id func c o changes n e w t)
 quiet id func c o changes n e Stage.Ask t nobody = quiet_ask _
-quiet id func c o changes n e Stage.Walk t nobody = quiet_walk changes _
+quiet id func c o changes n e (Stage.Walk i) t nobody = quiet_walk changes _
 quiet id func c o changes n e (Stage.Keep v seen) t nobody = tt
-quiet id func c o changes n e (Stage.Write at) t nobody = quiet_put e (step.note_done e) t
+quiet id func c o changes n e (Stage.Write at) t nobody = quiet_put e at (step.note_done e) t
 quiet id func c o changes n e (Stage.Tx at) t nobody = quiet_inside id n e at o t
 quiet id func c o changes n e (Stage.Decide m) t nobody = quiet_decide id func n e m o t
 quiet id func c o changes n e (Stage.End v) t nobody = quiet_end id func n e v o t

@@ -60,6 +60,7 @@ module _ (live : FinMap nat_cmp Run) (next : Option Run) where
   after_from : (c : Core) (o : Option Run) (id : IntentId) (x : TurnSays) (w : Option Wait) → ((s : Run) → o ≡ Some s → has_begun s.at ≡ false) → From c → From (after_turn c o id x w).0
   after_from c o id x None new from = if_plan (λ (q : Core × Option ℕ). From q.0) x.starts _ _ (λ t. opened_from c o new from) (λ t. from)
   after_from c o id x (Some (Wait.Held u)) new from = from
+  after_from c o id x (Some Wait.Worn) new from = from
   after_from c o id x (Some (Wait.Result j)) new from = if_plan (λ (q : Core × Seen). From q.0) (has_run c.runs j) _ _ (λ t. from) (λ t. if_plan (λ (q : Core × Seen). From q.0) (is_crowded c) _ _ (λ t. from) (λ t. started_from c o new from))
 
 -- who is called has not begun

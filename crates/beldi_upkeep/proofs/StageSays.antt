@@ -1,6 +1,6 @@
 -- What each stage of a run says, and what the run owes then.
 use Rattle.beldi_step.specs.Run.{async_answer, back_says, call_answer, decided_says, done_says, put_says, tx_says, visit_says, walk_says, write_says, ask_says, put_answer}
-use Rattle.beldi_laws.proofs.Names.{Answer, AsyncAt, Begun, Bool, Caller, Core, Deployment, Done, Effect, End, EndGoes, IsTrue, Knows, Machine, Mark, None, Note, OpenTx, Option, Own, WriteGoes, Inherited, ReadGoes, Right, Rows, Run, RunTx, Says, Some, Stage, TxAt, Value, Visit, answer_of, ap, arith, at_once_of, child_of, eqb-true, eq-eqb, false, is_begin, is_some, is_waited, length-append, own_tx, refl, same_some, sym, takes, true, wants_answer, open_after, ℕ, ◌++◌, ◌<◌, ◌==◌, ◌∙◌, ◌∷◌, ◌≡◌, [], answer_noted, write_goes}
+use Rattle.beldi_laws.proofs.Names.{Answer, AsyncAt, Begun, Bool, Caller, Core, Deployment, Done, Effect, End, EndGoes, IsTrue, Knows, Machine, Mark, None, Note, OpenTx, Option, Own, WriteGoes, Inherited, ReadGoes, Right, Rows, Run, RunTx, Says, Some, Stage, TxAt, Value, Visit, WriteAt, answer_of, ap, arith, at_once_of, child_of, eqb-true, eq-eqb, false, is_begin, is_some, is_waited, length-append, own_tx, refl, same_some, sym, takes, true, wants_answer, open_after, ℕ, ◌++◌, ◌<◌, ◌==◌, ◌∙◌, ◌∷◌, ◌≡◌, [], answer_noted, write_goes}
 use Rattle.beldi_laws.proofs.{OpenOf.own_begin, Turns.MachineAt, Turns.takes_there, Turns.steps_there, Turns.at_steps}
 use Rattle.beldi_upkeep.specs.Callees.{AllFinished, HasPut, HasTold, RunOwes, open_begin}
 use Rattle.beldi_upkeep.proofs.{PastEnds.begin_same, PastEnds.begun_first, PastEnds.ended_before, PastEnds.is_own, PastEnds.open_on, PastEnds.outside, SaysOwe.PastClosed, SaysOwe.SaysOwe}
@@ -74,7 +74,8 @@ module _ (d : Deployment) (c b : Core) (m n : Rows) (h : Right d c m) (h2 : Righ
     ask_owes (Some v) = answers (Answer.Value v)
 
     pub walk_owes : (changes : ℕ) (w : _) → Owe (walk_says changes w)
-    walk_owes changes ReadGoes.On = (tt, tt)
+    walk_owes changes (ReadGoes.On i) = (tt, tt)
+    walk_owes changes ReadGoes.Stays = tt
     walk_owes changes (ReadGoes.Got v) = (tt, tt)
     walk_owes changes (ReadGoes.Held o) = tt
 
@@ -84,13 +85,15 @@ module _ (d : Deployment) (c b : Core) (m n : Rows) (h : Right d c m) (h2 : Righ
 
     write_owes : (e : Effect) (w : _) → Owe (write_says e w)
     write_owes e (WriteGoes.On at) = (tt, tt)
+    write_owes e WriteGoes.Stays = tt
     write_owes e (WriteGoes.Done x first) = done_owes first (answer_noted e x)
     write_owes e WriteGoes.NotOwner = tt
     write_owes e (WriteGoes.Held w) = tt
+    write_owes e WriteGoes.Worn = tt
 
-    pub put_owes : (e : Effect) (x : Option Note) (t : _) → Owe (put_says e x t)
-    put_owes e None t = tt
-    put_owes e (Some x) t = write_owes e (write_goes x t)
+    pub put_owes : (e : Effect) (at : WriteAt) (x : Option Note) (t : _) → Owe (put_says e at x t)
+    put_owes e at None t = tt
+    put_owes e at (Some x) t = write_owes e (write_goes x at t)
 
     put_answer_owes : (a : TxAt) → Owe (put_answer a)
     put_answer_owes (TxAt.Keep v) = answers (Answer.Value v)
@@ -102,6 +105,7 @@ module _ (d : Deployment) (c b : Core) (m n : Rows) (h : Right d c m) (h2 : Righ
     tx_owes a TxGoes.Put = put_answer_owes a
     tx_owes a (TxGoes.Died z) = answers (Answer.Aborted z)
     tx_owes a (TxGoes.Held o) = tt
+    tx_owes a TxGoes.Worn = tt
     tx_owes a (TxGoes.Value v) = answers (Answer.Value v)
     tx_owes a TxGoes.Done = answers Done
 
@@ -133,6 +137,8 @@ module _ (d : Deployment) (c b : Core) (m n : Rows) (h : Right d c m) (h2 : Righ
   pub decided_owes : (commit : Bool) (x : Mark) (z : EndGoes) → Owe (decided_says commit x z)
   decided_owes commit x (EndGoes.Decided first) = (tt, tt)
   decided_owes commit x (EndGoes.On a) = (tt, tt)
+  decided_owes commit x EndGoes.Stays = (tt, tt)
+  decided_owes commit x EndGoes.Worn = (tt, tt)
   decided_owes commit x (EndGoes.Passed s) = (tt, tt)
   decided_owes commit x (EndGoes.Callee cs) = (tt, tt)
   decided_owes commit x (EndGoes.Item t y) = (tt, tt)
@@ -144,6 +150,8 @@ module _ (d : Deployment) (c b : Core) (m n : Rows) (h : Right d c m) (h2 : Righ
   visit_owes commit v EndGoes.Done over = over refl
   visit_owes commit v (EndGoes.Decided first) over = (tt, tt)
   visit_owes commit v (EndGoes.On a) over = (tt, tt)
+  visit_owes commit v EndGoes.Stays over = (tt, tt)
+  visit_owes commit v EndGoes.Worn over = tt
   visit_owes commit v (EndGoes.Passed s) over = (tt, tt)
   visit_owes commit v (EndGoes.Callee cs) over = (tt, tt)
   visit_owes commit v (EndGoes.Item t y) over = (tt, tt)

@@ -1,28 +1,31 @@
--- No run stays where it stood: rows follow none, the note at its place and the decision are its own, and nobody owns a shadow.
-use Rattle.std.proofs.Common.{Bool, List, None, Option, Some, ap, eq-eqb, false, if◌then◌else◌, is_some, refl, subst, sym, true, ℕ, ◌∙◌, ◌≡◌}
+-- No run stays where it stood: a row that follows one has the next number, the note at its place and the decision are its own, and nobody
+-- owns a shadow.
+use Rattle.std.proofs.Common.{Bool, List, None, Option, Some, ap, arith, eq-eqb, false, if◌then◌else◌, is_some, length, refl, subst, sym, true, ℕ, ◌+◌, ◌-◌, ◌==◌, ◌∙◌, ◌≡◌}
 use Rattle.std.specs.FinMap as map
-use Rattle.beldi_value.specs.{Id.age_of, Id.child_of, Passes.passes, declared.id.IntentId.IntentId, declared.outcome.Outcome.Outcome, declared.place.Caller.Caller, declared.place.Owner.Owner, declared.place.Place.Place, declared.place.TxId.TxId, declared.rel.Rel.Rel, declared.value.Value.Value}
+use Rattle.beldi_value.specs.{Id.age_of, Id.child_of, Passes.passes, declared.id.IntentId.IntentId, declared.outcome.Outcome.Outcome, declared.place.Caller.Caller, declared.place.Owner.Owner, declared.place.Place.Place, declared.place.TxId.TxId, declared.value.Value.Value}
 use Rattle.beldi_tree.specs.declared.deployment.Deployment.{Deployment}
 use Rattle.beldi_lang.specs.declared.effect.{Answer.Answer, Effect.Effect}
 use Rattle.beldi_book.specs.Order.{count_changes}
-use Rattle.beldi_plain.specs.{Item.Item, Operation.OnItem, Operation.item_in, Operation.op_of}
-use Rattle.beldi_row.specs.{Act.Tell, Act.act, Act.added, Act.kept, Act.at_tail, Act.cond_to, Act.did, Act.entered, Act.died, Act.given_or, Act.held, Act.held_or, Act.kept_tell, Act.noted, Act.register_to, Act.if_owned, Act.next_or, Act.not_owner, Act.noted_or, Act.other_owner, Act.owned_or, Act.owns, Act.unless_held, Act.waits_for, Log.note_at, Table.Rows, declared.act.Act.Act, declared.notes.Note.Note, declared.row.Cell.Cell, declared.row.InvokeRow.InvokeRow, declared.row.Row.Row}
-use Rattle.beldi_walk.specs.Query.{Told, said, told_by}
-use Rattle.beldi_chain.{specs.Chain.chain, specs.Content.SoundAt, specs.Content.content_in, proofs.OneRow.one_content}
-use Rattle.beldi_daal.specs.{Cell.cell_goes, Cell.done_note, Cell.got_or_held, Cell.in_the_way, Cell.op_act, Cell.read_goes, Cell.write_goes, declared.cell.CellOp.CellOp, declared.cell.WriteAt.WriteAt, declared.cell.WriteAt.TheVariants.Make, declared.cell.WriteAt.TheVariants.Try, declared.cell.WriteGoes.WriteGoes}
+use Rattle.beldi_plain.specs.{Item.Item, Operation.OnItem, Operation.item_in, Operation.op_of, Operation.touched}
+use Rattle.beldi_row.specs.{Act.Tell, Act.act, Act.added, Act.kept, Act.at_tail, Act.cond_to, Act.did, Act.entered, Act.died, Act.given_or, Act.held, Act.held_or, Act.kept_tell, Act.noted, Act.register_to, Act.if_owned, Act.if_room, Act.is_full, Act.next, Act.next_or, Act.not_full, Act.not_owner, Act.noted_or, Act.other_owner, Act.owned_or, Act.owns, Act.packed, Act.unless_held, Act.waits_for, Key.RowKey, Key.at_row, Log.most_entries, Log.note_at, Table.Rows, declared.act.Act.Act, declared.notes.Note.Note, declared.row.Cell.Cell, declared.row.InvokeRow.InvokeRow, declared.row.Row.Row}
+use Rattle.beldi_walk.specs.Query.{Told, rows_after, said, told_by}
+use Rattle.beldi_chain.specs.{Chain.Chain, Chain.chain, Content.Content}
+use Rattle.beldi_links.specs.Links.{FitsAt, IsLinked, LinkedFrom, SeesAt}
+use Rattle.beldi_daal.proofs.Logged.{by_op}
+use Rattle.beldi_daal.specs.{Cell.cell_goes, Cell.done_note, Cell.got_or_held, Cell.in_the_way, Cell.last_row, Cell.made_goes, Cell.op_act, Cell.read_goes, Cell.write_asks, Cell.write_goes, Logged.Logs, Logged.WasBarred, Logged.at_of, Logged.barred, Logged.dies, Logged.waited, Walk.walk_so, declared.cell.CellOp.CellOp, declared.cell.ReadGoes.ReadGoes, declared.cell.WriteAt.WriteAt, declared.cell.WriteGoes.WriteGoes, declared.walk.Item.TheVariants.Plain, declared.walk.Item.TheVariants.Shadow, declared.walk.WriteSays.WriteSays, declared.walk.WriteWalk.WriteWalk}
 use Rattle.beldi_lock.specs.{Lock.asks_at, Lock.item_goes, Lock.lock_goes, Lock.lockset_key, Lock.put_goes, declared.lock.LockAt.LockAt}
 use Rattle.beldi_invokelog.specs.InvokeLog.{back_of, invoke_key, invoked_of, registered_asks}
 use Rattle.beldi_readlog.specs.ReadLog.{given_of}
 use Rattle.beldi_intent.specs.Intent.{is_did, look_asks}
 use Rattle.beldi_invokelog.specs.declared.invoke_log.Back.{Back}
-use Rattle.beldi_txn.specs.{End.decide_goes, End.decided_by, Tx.given_goes, Tx.head_goes, Tx.head_made, Tx.item_goes as tx_item_goes, Tx.item_leads, Tx.locked_goes, Tx.shadow_read, Tx.keep_goes, Tx.lock_leads, Tx.note_goes, Tx.tx_asks, Tx.tx_goes, Tx.write_leads, TxTurn.Fits, declared.tx.TxAt.TxAt}
+use Rattle.beldi_txn.specs.{End.decide_goes, End.decided_by, Tx.given_goes, Tx.head_made, Tx.item_goes as tx_item_goes, Tx.item_leads, Tx.locked_goes, Tx.seek_goes, Tx.shadow_read, Tx.keep_goes, Tx.lock_leads, Tx.note_goes, Tx.tx_asks, Tx.tx_goes, Tx.write_leads, TxTurn.Fits, declared.tx.TxAt.TxAt}
 use Rattle.beldi_call.specs.{Async.async_asks, Async.async_says, Async.open_says, Call.call_says, declared.async_call.AsyncAt.AsyncAt, declared.call.CallAt.CallAt, declared.call.CallSays.CallSays}
-use Rattle.beldi_step.specs.{declared.run.Begun.Begun, declared.run.Mark.Mark, declared.run.Run.Run, declared.run.RunTx.RunTx, declared.run.Says.Says, declared.run.Stage.Stage, Host.Core, Run.OnCell, Run.ask_says, Run.async_answer, Run.back_says, Run.begin_of, Run.call_answer, Run.callee_body, Run.cell_op, Run.close_says, Run.decided_says, Run.done_says, Run.note_of_op, Run.own_tx, Run.place_of, Run.put_asks, Run.put_says, Run.stage_asks, Run.stage_says, Run.tx_of, Run.tx_says, Run.walk_says, Run.write_says, Tables.decision_key}
-use Rattle.beldi_known.specs.{Contents.head_key, Contents.shadow_key, Operations.cell_of, Owed.called_by, Owed.result_of, Rows.CallMatches}
+use Rattle.beldi_step.specs.{declared.run.Begun.Begun, declared.run.Mark.Mark, declared.run.Run.Run, declared.run.RunTx.RunTx, declared.run.Says.Says, declared.run.Stage.Stage, Host.Core, Run.ask_says, Run.async_answer, Run.back_says, Run.begin_of, Run.call_answer, Run.callee_body, Run.cell_op, Run.close_says, Run.decided_says, Run.done_says, Run.note_of_op, Run.own_tx, Run.place_of, Run.put_asks, Run.put_says, Run.stage_asks, Run.stage_says, Run.tx_of, Run.tx_says, Run.walk_says, Run.write_says, Tables.decision_key}
+use Rattle.beldi_known.specs.{Contents.content_of, Contents.head_key, Contents.shadow_key, Contents.shadow_of, Operations.cell_of, Owed.called_by, Owed.result_of, Rows.CallMatches}
 use Rattle.beldi_known.proofs.Cases.{by_option}
-use Rattle.beldi_laws.specs.{OneAnswer.IsBegun, Right.AtStage, Right.Knows, Right.Right, Right.is_sent}
+use Rattle.beldi_laws.specs.{Inside.InItem, Inside.SeesBoth, Inside.SeesPut, OneAnswer.IsBegun, Right.AtStage, Right.Knows, Right.Right, Right.is_sent}
 use Rattle.beldi_upkeep.specs.Checked.{IsStill, NoTurnStays, is_of_lock, is_own_note, is_shadow_note, is_visit, works_on}
-use Rattle.beldi_upkeep.proofs.{Notes.decisions_are_own, Notes.first_row_free, Notes.knows, Notes.notes_are_own, Notes.shadow_notes_are_own, Overs.its_cell}
+use Rattle.beldi_upkeep.proofs.{Notes.decisions_are_own, Notes.knows, Notes.notes_are_own, Notes.shadow_notes_are_own, Overs.held_else, Overs.its_cell, Overs.left_note, Overs.note_left}
 
 -- ---- an act on a cell, by what is so of each thing that it may tell
 module _ (P : Tell → Type 0) where
@@ -30,75 +33,167 @@ module _ (P : Tell → Type 0) where
   noted_says c None r f h = h
   noted_says c (Some w) r f h = f w refl
 
-  pub tail_says : (p : Place) (c : Cell) (r : Cell × Tell) → c.next ≡ None → ((w : Note) → note_at c.log p ≡ Some w → P (noted w)) → P r.1 → P (at_tail p c r).1
-  tail_says p c r last f h = noted_says c (note_at c.log p) (next_or c c.next r) f (subst (λ o. P (next_or c o r).1) (sym last) h)
+  next_says : (c : Cell) (o : Option ℕ) (r : Cell × Tell) → ((k : ℕ) → o ≡ Some k → P (next k)) → P r.1 → P (next_or c o r).1
+  next_says c None r f h = h
+  next_says c (Some k) r f h = f k refl
 
-  pub held_says : (c : Cell) (o : Option Owner) (r : Cell × Tell) → ((w : Owner) → o ≡ Some w → P (held w)) → P r.1 → P (held_or c o r).1
+  tail_says : (p : Place) (c : Cell) (r : Cell × Tell) → ((w : Note) → P (noted w)) → ((k : ℕ) → c.next ≡ Some k → P (next k)) → P r.1 → P (at_tail p c r).1
+  tail_says p c r f g h = noted_says c (note_at c.log p) (next_or c c.next r) (λ w at. f w) (next_says c c.next r g h)
+
+  held_says : (c : Cell) (o : Option Owner) (r : Cell × Tell) → ((w : Owner) → P (held w)) → P r.1 → P (held_or c o r).1
   held_says c None r f h = h
-  held_says c (Some w) r f h = f w refl
+  held_says c (Some w) r f h = f w
 
-  pub if_says : (b : Bool) (r s : Cell × Tell) → P r.1 → P s.1 → P (if b then r else s).1
+  if_says : (b : Bool) (r s : Cell × Tell) → P r.1 → P s.1 → P (if b then r else s).1
   if_says true r s h k = h
   if_says false r s h k = k
 
-  owned_says : (p : Place) (w : Owner) (c : Cell) (o : Option Owner) (r : Cell × Tell) → ((u : Owner) → P (held u)) → ((a : IntentId) → P (died a)) → P r.1 → P (owned_or p w c o r).1
-  owned_says p w c None r f g h = h
-  owned_says p w c (Some u) r f g h = if_says (waits_for w u) (c, held u) (entered p (Note.Died (age_of u)) c.value c.owner c, died (age_of u)) (f u) (g (age_of u))
+  room_says : (c : Cell) (r : Cell × Tell) → P (packed c.value c.owner) → P r.1 → P (if_room c r).1
+  room_says c r f h = if_says (is_full c) (c, packed c.value c.owner) r f h
 
--- ---- a write goes on from its try
-abbrev Off : WriteGoes → Type 0
-Off (WriteGoes.On Try) = ⊥
-Off z = Unit {0}
+  owned_says : (p : Place) (w : Owner) (c : Cell) (o : Option Owner) (r : Cell × Tell) → ((u : Owner) → P (held u)) → P (packed c.value c.owner) → ((a : IntentId) → P (died a)) → P r.1 → P (owned_or p w c o r).1
+  owned_says p w c None r f full g h = h
+  owned_says p w c (Some u) r f full g h = let dead : Cell × Tell = (entered p (Note.Died (age_of u)) c.value c.owner c, died (age_of u)) in if_says (waits_for w u) (c, held u) (if_room c dead) (f u) (room_says c dead full (g (age_of u)))
+
+-- ---- rows that are linked
+head_fits : (f : Chain) (y : Option Row) → LinkedFrom y f → (i : ℕ) → FitsAt (f i)
+head_fits f None none i = subst FitsAt (sym (none i)) tt
+head_fits f (Some r) l i = l.fits i
+
+head_number : (f : Chain) (y : Option Row) → LinkedFrom y f → (i : ℕ) (c : Cell) (k : ℕ) → f i ≡ Some (Row.Cell c) → c.next ≡ Some k → k ≡ i + 1
+head_number f None none i c k is after = let clash = sym (none i) ∙ is in cc
+head_number f (Some r) l i c k is after = l.numbers i c k is after
+
+next_number : (f : Chain) → IsLinked f → (i : ℕ) (c : Cell) (k : ℕ) → f i ≡ Some (Row.Cell c) → c.next ≡ Some k → k ≡ i + 1
+next_number f l = head_number f (f 0) l
+
+-- ---- a write goes on from where it stands
+abbrev Off : WriteAt → WriteGoes → Type 0
+Off at (WriteGoes.On b) = b ≡ at → ⊥
+Off at WriteGoes.Stays = ⊥
+Off at z = Unit {0}
+
+further : (i k : ℕ) → k ≡ i + 1 → WriteAt.Try k ≡ WriteAt.Try i → ⊥
+further i k after same = let e = number same in omega (arith, e, after)
+  where
+    number : {x y : ℕ} → WriteAt.Try x ≡ WriteAt.Try y → x ≡ y
+    number e = cc
 
 module _ (n : Note) (p : Place) (who : Owner) (now : ℕ) where
-  abbrev OffBy : Tell → Type 0
-  OffBy t = Off (write_goes n (said t))
+  abbrev OffBy : WriteAt → Tell → Type 0
+  OffBy at t = Off at (write_goes n at (said t))
 
-  cell_off : (op : CellOp) (c : Cell) → c.next ≡ None → OffBy (act (op_act p who op) now (Some (Row.Cell c))).1
-  cell_off (CellOp.Write v) c last = tail_says OffBy p c (unless_held who c (entered p Note.Wrote v c.owner c, did)) last (λ w at. tt) (held_says OffBy c (other_owner who c.owner) (entered p Note.Wrote v c.owner c, did) (λ w at. tt) tt)
-  cell_off (CellOp.Cond k o v) c last = tail_says OffBy p c (unless_held who c (cond_to (passes c.value k o) p v c)) last (λ w at. tt) (held_says OffBy c (other_owner who c.owner) (cond_to (passes c.value k o) p v c) (λ w at. tt) tt)
-  cell_off CellOp.Lock c last = tail_says OffBy p c (owned_or p who c (other_owner who c.owner) (entered p Note.Got c.value (Some who) c, did)) last (λ w at. tt) (owned_says OffBy p who c (other_owner who c.owner) (entered p Note.Got c.value (Some who) c, did) (λ u. tt) (λ a. tt) tt)
-  cell_off (CellOp.Free v) c last = tail_says OffBy p c (if_owned who c (entered p Note.Freed (given_or v c.value) None c, did)) last (λ w at. tt) (if_says OffBy (owns who c.owner) (entered p Note.Freed (given_or v c.value) None c, did) (c, not_owner) tt tt)
+  full_off : (i : ℕ) (v : Value) (o : Option Owner) → OffBy (WriteAt.Try i) (packed v o)
+  full_off i v o = by_test (i == last_row)
+    where
+      by_test : (b : Bool) → Off (WriteAt.Try i) (if b then WriteGoes.Worn else WriteGoes.On (WriteAt.Append (i + 1) (record { value = v; owner = o })))
+      by_test true = tt
+      by_test false = λ e. cc
 
-  none_off : (op : CellOp) → OffBy (act (op_act p who op) now None).1
-  none_off (CellOp.Write v) = tt
-  none_off (CellOp.Cond k o v) = tt
-  none_off CellOp.Lock = tt
-  none_off (CellOp.Free v) = tt
+  module _ (i : ℕ) (c : Cell) (after : (k : ℕ) → c.next ≡ Some k → k ≡ i + 1) where
+    abbrev Here : Tell → Type 0
+    Here t = OffBy (WriteAt.Try i) t
 
-  try_off : (op : CellOp) (r : Option Row) → SoundAt r → OffBy (act (op_act p who op) now r).1
-  try_off op None sound = none_off op
-  try_off op (Some (Row.Cell c)) sound = cell_off op c sound.0
-  try_off op (Some r) sound = absurd sound
+    at_end : (r : Cell × Tell) → Here r.1 → Here (at_tail p c r).1
+    at_end r h = tail_says Here p c r (λ w. tt) (λ k is. further i k (after k is)) h
+
+    in_room : (r : Cell × Tell) → Here r.1 → Here (if_room c r).1
+    in_room r h = room_says Here c r (full_off i c.value c.owner) h
+
+    cell_off : (op : CellOp) → Here (act (op_act p who op) now (Some (Row.Cell c))).1
+    cell_off (CellOp.Write v) = let r : Cell × Tell = (entered p Note.Wrote v c.owner c, did) in at_end (unless_held who c (if_room c r)) (held_says Here c (other_owner who c.owner) (if_room c r) (λ w. tt) (in_room r tt))
+    cell_off (CellOp.Cond k o v) = let r : Cell × Tell = cond_to (passes c.value k o) p v c in at_end (unless_held who c (if_room c r)) (held_says Here c (other_owner who c.owner) (if_room c r) (λ w. tt) (in_room r tt))
+    cell_off CellOp.Lock = let r : Cell × Tell = (entered p Note.Got c.value (Some who) c, did) in at_end (owned_or p who c (other_owner who c.owner) (if_room c r)) (owned_says Here p who c (other_owner who c.owner) (if_room c r) (λ u. tt) (full_off i c.value c.owner) (λ a. tt) (in_room r tt))
+    cell_off (CellOp.Free v) = let r : Cell × Tell = (entered p Note.Freed (given_or v c.value) None c, did) in at_end (if_owned who c (if_room c r)) (if_says Here (owns who c.owner) (if_room c r) (c, not_owner) (in_room r tt) tt)
+
+  none_off : (i : ℕ) (op : CellOp) → OffBy (WriteAt.Try i) (act (op_act p who op) now None).1
+  none_off i (CellOp.Write v) = λ e. cc
+  none_off i (CellOp.Cond k o v) = λ e. cc
+  none_off i CellOp.Lock = λ e. cc
+  none_off i (CellOp.Free v) = λ e. cc
+
+  try_off : (op : CellOp) (i : ℕ) (r : Option Row) → FitsAt r → ((c : Cell) (k : ℕ) → r ≡ Some (Row.Cell c) → c.next ≡ Some k → k ≡ i + 1) → OffBy (WriteAt.Try i) (act (op_act p who op) now r).1
+  try_off op i None fits after = none_off i op
+  try_off op i (Some (Row.Cell c)) fits after = cell_off i c (λ k. after c k refl) op
+  try_off op i (Some r) fits after = absurd fits
+
+  -- one that made a row goes on, and one that links a row to a full one
+  made_off : (at : WriteAt) (v : Value) (o : Option Owner) (r : Option Row) → Off at (made_goes at) → OffBy at (act (Act.MakeCell v o) now r).1
+  made_off at v o None h = h
+  made_off at v o (Some r) h = h
+
+  link_off : (i : ℕ) (r : Option Row) (c : Cell) → r ≡ Some (Row.Cell c) → length c.log ≡ most_entries → OffBy (WriteAt.Link i) (act (Act.LinkCell i) now r).1
+  link_off i r c is full = subst (λ z. OffBy (WriteAt.Link i) (act (Act.LinkCell i) now z).1) (sym is) (next_says (OffBy (WriteAt.Link i)) c c.next (if is_full c then (record c { next = Some i }, next i) else (c, not_full)) (λ k at e. cc) (by_test (is_full c) (eq-eqb (length c.log) most_entries full)))
+    where
+      by_test : (b : Bool) → b ≡ true → OffBy (WriteAt.Link i) (if◌then◌else◌ {A = Cell × Tell} b (record c { next = Some i }, next i) (c, not_full)).1
+      by_test true e = λ z. cc
+      by_test false e = cc
+
+  -- so at every row that it sees
+  at_off : (m : Rows) (k : RowKey) (op : CellOp) (at : WriteAt) → IsLinked (chain m k) → SeesAt (chain m k) p (at_of at) → Off at (write_goes n at (told_by (write_asks k p who op at) now m))
+  at_off m k op (WriteAt.Try i) l sees = try_off op i (chain m k i) (head_fits (chain m k) (chain m k 0) l i) (λ c j. next_number (chain m k) l i c j)
+  at_off m k op WriteAt.Make l sees = made_off WriteAt.Make Value.Null None (map.get m k) (λ e. cc)
+  at_off m k op (WriteAt.Append i t) l sees = made_off (WriteAt.Append i t) t.value t.owner (map.get m (at_row k i)) (λ e. cc)
+  at_off m k op (WriteAt.Link i) l (r, after, meets, passed, link) =
+      let one : r ≡ i - 1 = let a = after.next in omega (arith, a) in
+      link_off i (map.get m (at_row k (i - 1))) link.cell (ap (chain m k) (sym one) ∙ link.there) link.full
+
+-- .. and so does a read
+abbrev ReadOff : Option Owner → ℕ → ReadGoes → Type 0
+ReadOff who i (ReadGoes.On k) = k ≡ i → ⊥
+ReadOff who i ReadGoes.Stays = ⊥
+ReadOff who i (ReadGoes.Got v) = Unit {0}
+ReadOff None i (ReadGoes.Held o) = ⊥
+ReadOff (Some w) i (ReadGoes.Held o) = Unit {0}
+
+got_off : (who : Option Owner) (i : ℕ) (c : Cell) → ReadOff who i (got_or_held c (in_the_way who c.owner))
+got_off None i c = tt
+got_off (Some w) i c = by_owner (other_owner w c.owner)
+  where
+    by_owner : (o : Option Owner) → ReadOff (Some w) i (got_or_held c o)
+    by_owner None = tt
+    by_owner (Some u) = tt
+
+look_off : (who : Option Owner) (now i : ℕ) (r : Option Row) → FitsAt r → ((c : Cell) (k : ℕ) → r ≡ Some (Row.Cell c) → c.next ≡ Some k → k ≡ i + 1) → ReadOff who i (read_goes who (said (act Act.Look now r).1))
+look_off who now i None fits after = tt
+look_off who now i (Some (Row.Cell c)) fits after = by_next c.next refl
+  where
+    by_next : (o : Option ℕ) → c.next ≡ o → ReadOff who i (cell_goes who c o)
+    by_next None is = got_off who i c
+    by_next (Some k) is = λ same. let a = after c k refl is in omega (arith, a, same)
+look_off who now i (Some r) fits after = absurd fits
+
+reads_off : (who : Option Owner) (now i : ℕ) (f : Chain) → IsLinked f → ReadOff who i (read_goes who (said (act Act.Look now (f i)).1))
+reads_off who now i f l = look_off who now i (f i) (head_fits f (f 0) l i) (λ c k. next_number f l i c k)
 
 -- ---- outside a transaction
 ask_moves : (v : Option Value) → IsStill Stage.Ask (ask_says v) → ⊥
 ask_moves None h = cc
 ask_moves (Some v) h = h
 
-read_moves : (n : ℕ) (who : Option Owner) (c : Cell) (o : Option Owner) → in_the_way who c.owner ≡ o → IsStill Stage.Walk (walk_says n (got_or_held c o)) → ⊥
-read_moves n who c None way h = cc
-read_moves n who c (Some w) way h = h
-
-walk_moves : (n now : ℕ) (who : Option Owner) (r : Option Row) → SoundAt r → IsStill Stage.Walk (walk_says n (read_goes who (said (act Act.Look now r).1))) → ⊥
-walk_moves n now who None sound h = cc
-walk_moves n now who (Some (Row.Cell c)) sound h = read_moves n who c (in_the_way who c.owner) refl (subst (λ z. IsStill Stage.Walk (walk_says n (cell_goes who c z))) sound.0 h)
-walk_moves n now who (Some r) sound h = sound
+walk_moves : (n i : ℕ) (w : Owner) (g : ReadGoes) → ReadOff (Some w) i g → IsStill (Stage.Walk i) (walk_says n g) → ⊥
+walk_moves n i w (ReadGoes.On k) off h = off (number h)
+  where
+    number : {x y : ℕ} → Stage.Walk x ≡ Stage.Walk y → x ≡ y
+    number e = cc
+walk_moves n i w ReadGoes.Stays off h = off
+walk_moves n i w (ReadGoes.Got v) off h = cc
+walk_moves n i w (ReadGoes.Held o) off h = h
 
 done_moves : (at : WriteAt) (first : Bool) (u : Option Answer) → IsStill (Stage.Write at) (done_says first u) → ⊥
 done_moves at first None h = h
 done_moves at first (Some a) h = h
 
-try_moves : (e : Effect) (z : WriteGoes) → Off z → IsStill (Stage.Write Try) (write_says e z) → ⊥
-try_moves e (WriteGoes.On Try) off h = off
-try_moves e (WriteGoes.On Make) off h = cc
-try_moves e (WriteGoes.Done w first) off h = done_moves Try first _ h
-try_moves e WriteGoes.NotOwner off h = h
-try_moves e (WriteGoes.Held w) off h = h
-
-make_moves : (e : Effect) (n : Note) (now : ℕ) (v : Value) (r : Option Row) → IsStill (Stage.Write Make) (write_says e (write_goes n (said (act (Act.MakeCell v None) now r).1))) → ⊥
-make_moves e n now v None h = cc
-make_moves e n now v (Some r) h = cc
+put_moves : (e : Effect) (at : WriteAt) (z : WriteGoes) → Off at z → IsStill (Stage.Write at) (write_says e z) → ⊥
+put_moves e at (WriteGoes.On b) off h = off (same h)
+  where
+    same : {x y : WriteAt} → Stage.Write x ≡ Stage.Write y → x ≡ y
+    same e = cc
+put_moves e at WriteGoes.Stays off h = off
+put_moves e at (WriteGoes.Done w first) off h = done_moves at first _ h
+put_moves e at WriteGoes.NotOwner off h = h
+put_moves e at (WriteGoes.Held w) off h = h
+put_moves e at WriteGoes.Worn off h = h
 
 -- ---- calls
 async_open_moves : (first registered : Bool) → IsStill (Stage.Async AsyncAt.Open) (async_answer AsyncAt.Open (open_says first registered)) → ⊥
@@ -140,43 +235,47 @@ decide_moves commit w now (Some u) its h = own_moves commit w (subst (λ z. IsSt
 
 -- ---- inside a transaction
 -- the lock of its item
-abbrev LockOff : WriteGoes → Type 0
-LockOff (WriteGoes.On Make) = Unit {0}
-LockOff (WriteGoes.On Try) = ⊥
-LockOff (WriteGoes.Done w first) = is_of_lock w ≡ true
-LockOff WriteGoes.NotOwner = ⊥
-LockOff (WriteGoes.Held w) = Unit {0}
+abbrev OfLock : WriteGoes → Type 0
+OfLock (WriteGoes.Done w first) = is_of_lock w ≡ true
+OfLock WriteGoes.NotOwner = ⊥
+OfLock z = Unit {0}
 
-lock_off : (p : Place) (who : Owner) (now : ℕ) (r : Option Row) → SoundAt r → ((w : Note) → note_at (content_in r).notes p ≡ Some w → is_of_lock w ≡ true) → LockOff (write_goes Note.Got (said (act (op_act p who CellOp.Lock) now r).1))
-lock_off p who now None sound own = tt
-lock_off p who now (Some (Row.Cell c)) sound own =
-    tail_says (λ t. LockOff (write_goes Note.Got (said t))) p c (owned_or p who c (other_owner who c.owner) (entered p Note.Got c.value (Some who) c, did)) sound.0 own
-    (owned_says (λ t. LockOff (write_goes Note.Got (said t))) p who c (other_owner who c.owner) (entered p Note.Got c.value (Some who) c, did) (λ u. tt) (λ a. refl) refl)
-lock_off p who now (Some r) sound own = absurd sound
+of_lock : (p : Place) (t : TxId) (c d : Content) → ((w : Note) → note_at c.notes p ≡ Some w → is_of_lock w ≡ true) → (z : WriteGoes) → Logs p (Owner.Tx t) CellOp.Lock (walk_so z) c d → OfLock z
+of_lock p t c d own (WriteGoes.Done w true) l = ap is_of_lock (sym (left_note p (Owner.Tx t) CellOp.Lock c d w (dies (Owner.Tx t) CellOp.Lock c.owner) l.0 l.1.0 l.1.1)) ∙ by_death (dies (Owner.Tx t) CellOp.Lock c.owner)
+  where
+    by_death : (a : Option IntentId) → is_of_lock (note_left CellOp.Lock c.value a) ≡ true
+    by_death None = refl
+    by_death (Some a) = refl
+of_lock p t c d own (WriteGoes.Done w false) l = own w (ap (λ (x : Content). note_at x.notes p) (sym l.1) ∙ l.0)
+of_lock p t c d own WriteGoes.NotOwner l = held_else (waited (Owner.Tx t) (other_owner (Owner.Tx t) c.owner)) l.1
+of_lock p t c d own (WriteGoes.On b) l = tt
+of_lock p t c d own WriteGoes.Stays l = tt
+of_lock p t c d own (WriteGoes.Held w) l = tt
+of_lock p t c d own WriteGoes.Worn l = tt
 
 -- it goes on once it has the lock
-locked_moves : (e : Effect) (a l : TxAt) → Fits e a → a ≡ TxAt.Lock (LockAt.Item Try) → IsStill (Stage.Tx (TxAt.Lock (LockAt.Item Try))) (tx_says l (locked_goes e)) → ⊥
-locked_moves (Effect.Read t k) a l fits is h = cc
-locked_moves (Effect.Write t k v) a l fits is h = cc
-locked_moves (Effect.CondWrite t k r o v) a l fits is h = cc
-locked_moves e a l fits is h = absurd fits
+locked_moves : (e : Effect) (a l : TxAt) (at : WriteAt) → Fits e a → IsStill (Stage.Tx (TxAt.Lock (LockAt.Item at))) (tx_says l (locked_goes e)) → ⊥
+locked_moves (Effect.Read t k) a l at fits h = cc
+locked_moves (Effect.Write t k v) a l at fits h = cc
+locked_moves (Effect.CondWrite t k r o v) a l at fits h = cc
+locked_moves e a l at fits h = absurd fits
 
-lock_moves : (p : Place) (e : Effect) (z : WriteGoes) → Fits e (TxAt.Lock (LockAt.Item Try)) → LockOff z → IsStill (Stage.Tx (TxAt.Lock (LockAt.Item Try))) (tx_says (TxAt.Lock (LockAt.Item Try)) (lock_leads p e (item_goes Try z))) → ⊥
-lock_moves p e (WriteGoes.On Make) fits off h = cc
-lock_moves p e (WriteGoes.On Try) fits off h = off
-lock_moves p e (WriteGoes.Done Note.Got first) fits off h = locked_moves e (TxAt.Lock (LockAt.Item Try)) (TxAt.Lock (LockAt.Item Try)) fits refl h
-lock_moves p e (WriteGoes.Done (Note.Died a) first) fits off h = h
-lock_moves p e (WriteGoes.Done Note.Wrote first) fits off h = cc
-lock_moves p e (WriteGoes.Done (Note.Cond b) first) fits off h = cc
-lock_moves p e (WriteGoes.Done Note.Freed first) fits off h = cc
-lock_moves p e WriteGoes.NotOwner fits off h = off
-lock_moves p e (WriteGoes.Held w) fits off h = h
+lock_moves : (p : Place) (e : Effect) (at : WriteAt) (z : WriteGoes) → Fits e (TxAt.Lock (LockAt.Item at)) → Off at z → OfLock z → IsStill (Stage.Tx (TxAt.Lock (LockAt.Item at))) (tx_says (TxAt.Lock (LockAt.Item at)) (lock_leads p e (item_goes z))) → ⊥
+lock_moves p e at (WriteGoes.On b) fits off of h = off (same h)
+  where
+    same : {x y : WriteAt} → Stage.Tx (TxAt.Lock (LockAt.Item x)) ≡ Stage.Tx (TxAt.Lock (LockAt.Item y)) → x ≡ y
+    same e = cc
+lock_moves p e at WriteGoes.Stays fits off of h = off
+lock_moves p e at (WriteGoes.Done Note.Got first) fits off of h = locked_moves e (TxAt.Lock (LockAt.Item at)) (TxAt.Lock (LockAt.Item at)) at fits h
+lock_moves p e at (WriteGoes.Done (Note.Died a) first) fits off of h = h
+lock_moves p e at (WriteGoes.Done Note.Wrote first) fits off of h = cc
+lock_moves p e at (WriteGoes.Done (Note.Cond b) first) fits off of h = cc
+lock_moves p e at (WriteGoes.Done Note.Freed first) fits off of h = cc
+lock_moves p e at WriteGoes.NotOwner fits off of h = of
+lock_moves p e at (WriteGoes.Held w) fits off of h = h
+lock_moves p e at WriteGoes.Worn fits off of h = h
 
-made_moves : (p : Place) (e : Effect) (now : ℕ) (r : Option Row) → IsStill (Stage.Tx (TxAt.Lock (LockAt.Item Make))) (tx_says (TxAt.Lock (LockAt.Item Make)) (lock_leads p e (item_goes Make (write_goes Note.Got (said (act (Act.MakeCell Value.Null None) now r).1))))) → ⊥
-made_moves p e now None h = cc
-made_moves p e now (Some r) h = cc
-
-lockset_moves : (p : Place) (e : Effect) (b now : ℕ) (r : Option Row) → IsStill (Stage.Tx (TxAt.Lock (LockAt.Lockset b))) (tx_says (TxAt.Lock (LockAt.Lockset b)) (lock_leads p e (put_goes b (said (act Act.PutLockset now r).1)))) → ⊥
+lockset_moves : (p : Place) (e : Effect) (b now : ℕ) (r : Option Row) → IsStill (Stage.Tx (TxAt.Lock (LockAt.Lockset b))) (tx_says (TxAt.Lock (LockAt.Lockset b)) (lock_leads p e (put_goes (said (act Act.PutLockset now r).1)))) → ⊥
 lockset_moves p e b now None h = cc
 lockset_moves p e b now (Some r) h = cc
 
@@ -185,24 +284,34 @@ log_moves : (b : ℕ) (v : Option Value) → IsStill (Stage.Tx TxAt.Log) (tx_say
 log_moves b None h = cc
 log_moves b (Some v) h = h
 
-shadow_read_moves : (now : ℕ) (r : Option Row) → SoundAt r → IsStill (Stage.Tx TxAt.Shadow) (tx_says TxAt.Shadow (shadow_read (read_goes None (said (act Act.Look now r).1)))) → ⊥
-shadow_read_moves now None sound h = cc
-shadow_read_moves now (Some (Row.Cell c)) sound h = let k = subst (λ z. IsStill (Stage.Tx TxAt.Shadow) (tx_says TxAt.Shadow (shadow_read (cell_goes None c z)))) sound.0 h in cc
-shadow_read_moves now (Some r) sound h = sound
+shadow_read_moves : (i : ℕ) (g : ReadGoes) → ReadOff None i g → IsStill (Stage.Tx (TxAt.Shadow i)) (tx_says (TxAt.Shadow i) (shadow_read g)) → ⊥
+shadow_read_moves i (ReadGoes.On k) off h = off (number h)
+  where
+    number : {x y : ℕ} → Stage.Tx (TxAt.Shadow x) ≡ Stage.Tx (TxAt.Shadow y) → x ≡ y
+    number e = cc
+shadow_read_moves i ReadGoes.Stays off h = off
+shadow_read_moves i (ReadGoes.Got None) off h = cc
+shadow_read_moves i (ReadGoes.Got (Some v)) off h = cc
+shadow_read_moves i (ReadGoes.Held o) off h = off
 
-head_moves : (now : ℕ) (r : Option Row) → IsStill (Stage.Tx TxAt.Shadow) (tx_says TxAt.Shadow (head_goes (said (act Act.Look now r).1))) → ⊥
-head_moves now None h = cc
-head_moves now (Some r) h = cc
+seek_moves : (now : ℕ) (r : Option Row) → IsStill (Stage.Tx TxAt.Seek) (tx_says TxAt.Seek (seek_goes (said (act Act.Look now r).1))) → ⊥
+seek_moves now None h = cc
+seek_moves now (Some r) h = cc
 
-leads_moves : (e : Effect) (v : Value) → Fits e TxAt.Item → IsStill (Stage.Tx TxAt.Item) (tx_says TxAt.Item (item_leads e v)) → ⊥
-leads_moves (Effect.Read t k) v fits h = cc
-leads_moves (Effect.CondWrite t k r o u) v fits h = cc
-leads_moves e v fits h = fits
+leads_moves : (e : Effect) (i : ℕ) (v : Value) → Fits e (TxAt.Item i) → IsStill (Stage.Tx (TxAt.Item i)) (tx_says (TxAt.Item i) (item_leads e v)) → ⊥
+leads_moves (Effect.Read t k) i v fits h = cc
+leads_moves (Effect.CondWrite t k r o u) i v fits h = cc
+leads_moves e i v fits h = fits
 
-item_moves : (e : Effect) (now : ℕ) (r : Option Row) → SoundAt r → Fits e TxAt.Item → IsStill (Stage.Tx TxAt.Item) (tx_says TxAt.Item (tx_item_goes e (read_goes None (said (act Act.Look now r).1)))) → ⊥
-item_moves e now None sound fits h = leads_moves e Value.Null fits h
-item_moves e now (Some (Row.Cell c)) sound fits h = leads_moves e c.value fits (subst (λ z. IsStill (Stage.Tx TxAt.Item) (tx_says TxAt.Item (tx_item_goes e (cell_goes None c z)))) sound.0 h)
-item_moves e now (Some r) sound fits h = sound
+item_moves : (e : Effect) (i : ℕ) (g : ReadGoes) → ReadOff None i g → Fits e (TxAt.Item i) → IsStill (Stage.Tx (TxAt.Item i)) (tx_says (TxAt.Item i) (tx_item_goes e g)) → ⊥
+item_moves e i (ReadGoes.On k) off fits h = off (number h)
+  where
+    number : {x y : ℕ} → Stage.Tx (TxAt.Item x) ≡ Stage.Tx (TxAt.Item y) → x ≡ y
+    number e = cc
+item_moves e i ReadGoes.Stays off fits h = off
+item_moves e i (ReadGoes.Got None) off fits h = leads_moves e i Value.Null fits h
+item_moves e i (ReadGoes.Got (Some v)) off fits h = leads_moves e i v fits h
+item_moves e i (ReadGoes.Held o) off fits h = off
 
 keep_moves : (v : Value) (t : Told) → IsStill (Stage.Tx (TxAt.Keep v)) (tx_says (TxAt.Keep v) (keep_goes t)) → ⊥
 keep_moves v (said added) h = h
@@ -213,55 +322,42 @@ first_moves : (v : Value) (now : ℕ) (r : Option Row) → IsStill (Stage.Tx (Tx
 first_moves v now None h = cc
 first_moves v now (Some r) h = cc
 
--- its shadow
-abbrev AsideOff : Effect → WriteGoes → Type 0
-AsideOff e (WriteGoes.On Make) = Unit {0}
-AsideOff e (WriteGoes.On Try) = ⊥
-AsideOff e (WriteGoes.Done w first) = is_shadow_note e w ≡ true
-AsideOff e WriteGoes.NotOwner = ⊥
-AsideOff e (WriteGoes.Held w) = ⊥
+-- its shadow, which nobody owns
+abbrev OfShadow : Effect → WriteGoes → Type 0
+OfShadow e (WriteGoes.Done w first) = is_shadow_note e w ≡ true
+OfShadow e WriteGoes.NotOwner = ⊥
+OfShadow e (WriteGoes.Held w) = ⊥
+OfShadow e z = Unit {0}
 
-noted_moves : (e : Effect) (w : Note) → is_shadow_note e w ≡ true → IsStill (Stage.Tx (TxAt.Write Try)) (tx_says (TxAt.Write Try) (note_goes e w)) → ⊥
-noted_moves (Effect.Write t k v) Note.Wrote own h = h
-noted_moves (Effect.CondWrite t k r o v) (Note.Cond b) own h = h
-noted_moves e w own h = cc
+module _ (p : Place) (t : TxId) (e : Effect) (op : CellOp) (c d : Content) (writes : (a : Option IntentId) (o : Option Owner) → dies (Owner.Tx t) op o ≡ a → is_shadow_note e (note_left op c.value a) ≡ true) (free : (s : WriteSays) → barred op (Owner.Tx t) None ≡ Some s → ⊥)
+    (unowned : c.owner ≡ None) (own : (w : Note) → note_at c.notes p ≡ Some w → is_shadow_note e w ≡ true) where
+  bars_none : (s : WriteSays) → WasBarred p (Owner.Tx t) op s c d → ⊥
+  bars_none s l = free s (ap (barred op (Owner.Tx t)) (sym unowned) ∙ l.1)
 
-aside_moves : (e : Effect) (z : WriteGoes) → AsideOff e z → IsStill (Stage.Tx (TxAt.Write Try)) (tx_says (TxAt.Write Try) (write_leads e z)) → ⊥
-aside_moves e (WriteGoes.On Make) off h = cc
-aside_moves e (WriteGoes.On Try) off h = off
-aside_moves e (WriteGoes.Done w first) off h = noted_moves e w off h
-aside_moves e WriteGoes.NotOwner off h = off
-aside_moves e (WriteGoes.Held w) off h = off
+  of_shadow : (z : WriteGoes) → Logs p (Owner.Tx t) op (walk_so z) c d → OfShadow e z
+  of_shadow (WriteGoes.Done w true) l = ap (is_shadow_note e) (sym (left_note p (Owner.Tx t) op c d w (dies (Owner.Tx t) op c.owner) l.0 l.1.0 l.1.1)) ∙ writes (dies (Owner.Tx t) op c.owner) c.owner refl
+  of_shadow (WriteGoes.Done w false) l = own w (ap (λ (x : Content). note_at x.notes p) (sym l.1) ∙ l.0)
+  of_shadow WriteGoes.NotOwner l = bars_none WriteSays.NotOwner l
+  of_shadow (WriteGoes.Held w) l = bars_none (WriteSays.Held w) l
+  of_shadow (WriteGoes.On b) l = tt
+  of_shadow WriteGoes.Stays l = tt
+  of_shadow WriteGoes.Worn l = tt
 
-aside_made_moves : (e : Effect) (n : Note) (now : ℕ) (r : Option Row) → IsStill (Stage.Tx (TxAt.Write Make)) (tx_says (TxAt.Write Make) (write_leads e (write_goes n (said (act (Act.MakeCell Value.Null None) now r).1)))) → ⊥
-aside_made_moves e n now None h = cc
-aside_made_moves e n now (Some r) h = cc
+noted_moves : (e : Effect) (at : WriteAt) (w : Note) → is_shadow_note e w ≡ true → IsStill (Stage.Tx (TxAt.Write at)) (tx_says (TxAt.Write at) (note_goes e w)) → ⊥
+noted_moves (Effect.Write t k v) at Note.Wrote own h = h
+noted_moves (Effect.CondWrite t k r o v) at (Note.Cond b) own h = h
+noted_moves e at w own h = cc
 
--- nobody owns it
-none_other : (who : Owner) (o w : Option Owner) (u : Owner) → o ≡ None → other_owner who o ≡ Some u → ⊥
-none_other who o w u none is = let clash = sym (ap (other_owner who) none) ∙ is in cc
-
-module _ (p : Place) (who : Owner) (now : ℕ) (c : Cell) (last : c.next ≡ None) (free : c.owner ≡ None) where
-  write_off : (t : ℕ) (k : List ℕ) (v : Value) → ((w : Note) → note_at c.log p ≡ Some w → is_shadow_note (Effect.Write t k v) w ≡ true) → AsideOff (Effect.Write t k v) (write_goes Note.Wrote (said (act (op_act p who (CellOp.Write v)) now (Some (Row.Cell c))).1))
-  write_off t k v own = tail_says (λ s. AsideOff (Effect.Write t k v) (write_goes Note.Wrote (said s))) p c (unless_held who c (entered p Note.Wrote v c.owner c, did)) last own
-      (held_says (λ s. AsideOff (Effect.Write t k v) (write_goes Note.Wrote (said s))) c (other_owner who c.owner) (entered p Note.Wrote v c.owner c, did) (λ u is. absurd (none_other who c.owner c.owner u free is)) refl)
-
-  test_off : (t : ℕ) (k : List ℕ) (r : Rel) (o v : Value) → ((w : Note) → note_at c.log p ≡ Some w → is_shadow_note (Effect.CondWrite t k r o v) w ≡ true)
-      → AsideOff (Effect.CondWrite t k r o v) (write_goes (Note.Cond true) (said (act (op_act p who (CellOp.Cond r o v)) now (Some (Row.Cell c))).1))
-  test_off t k r o v own = tail_says (λ s. AsideOff (Effect.CondWrite t k r o v) (write_goes (Note.Cond true) (said s))) p c (unless_held who c (cond_to (passes c.value r o) p v c)) last own
-      (held_says (λ s. AsideOff (Effect.CondWrite t k r o v) (write_goes (Note.Cond true) (said s))) c (other_owner who c.owner) (cond_to (passes c.value r o) p v c) (λ u is. absurd (none_other who c.owner c.owner u free is)) refl)
-
-aside_write : (p : Place) (who : Owner) (now t : ℕ) (k : List ℕ) (v : Value) (r : Option Row) → SoundAt r → (content_in r).owner ≡ None → ((w : Note) → note_at (content_in r).notes p ≡ Some w → is_shadow_note (Effect.Write t k v) w ≡ true)
-    → AsideOff (Effect.Write t k v) (write_goes Note.Wrote (said (act (op_act p who (CellOp.Write v)) now r).1))
-aside_write p who now t k v None sound free own = tt
-aside_write p who now t k v (Some (Row.Cell c)) sound free own = write_off p who now c sound.0 free t k v own
-aside_write p who now t k v (Some r) sound free own = absurd sound
-
-aside_test : (p : Place) (who : Owner) (now t : ℕ) (k : List ℕ) (u : Rel) (o v : Value) (r : Option Row) → SoundAt r → (content_in r).owner ≡ None → ((w : Note) → note_at (content_in r).notes p ≡ Some w → is_shadow_note (Effect.CondWrite t k u o v) w ≡ true)
-    → AsideOff (Effect.CondWrite t k u o v) (write_goes (Note.Cond true) (said (act (op_act p who (CellOp.Cond u o v)) now r).1))
-aside_test p who now t k u o v None sound free own = tt
-aside_test p who now t k u o v (Some (Row.Cell c)) sound free own = test_off p who now c sound.0 free t k u o v own
-aside_test p who now t k u o v (Some r) sound free own = absurd sound
+aside_moves : (e : Effect) (at : WriteAt) (z : WriteGoes) → Off at z → OfShadow e z → IsStill (Stage.Tx (TxAt.Write at)) (tx_says (TxAt.Write at) (write_leads e z)) → ⊥
+aside_moves e at (WriteGoes.On b) off of h = off (same h)
+  where
+    same : {x y : WriteAt} → Stage.Tx (TxAt.Write x) ≡ Stage.Tx (TxAt.Write y) → x ≡ y
+    same e = cc
+aside_moves e at WriteGoes.Stays off of h = off
+aside_moves e at (WriteGoes.Done w first) off of h = noted_moves e at w of h
+aside_moves e at WriteGoes.NotOwner off of h = of
+aside_moves e at (WriteGoes.Held w) off of h = of
+aside_moves e at WriteGoes.Worn off of h = h
 
 -- ---- a live run
 module _ (d : Deployment) (c : Core) (m : Rows) (r : Run) (g : Begun) (h : Right d c m) (b : IsBegun c r.id r g) (k : Knows d h.known r g) where
@@ -283,54 +379,67 @@ module _ (d : Deployment) (c : Core) (m : Rows) (r : Run) (g : Begun) (h : Right
       abbrev x : Item
       x = record { func = r.func; table = t; key = key }
 
-      lock_note : works_on e ≡ true → (w : Note) → note_at (content_in (map.get m (head_key x))).notes place ≡ Some w → is_of_lock w ≡ true
-      lock_note works w there = ap (λ z. is_own_note z g.machine.effect w) (sym in_it) ∙ notes_are_own d c m r g x w h b (ap works_on is ∙ works) (ap (λ z. note_at z.notes place) (one_content (chain m (head_key x)) (h.rows.chains x)) ∙ there)
+      lock_note : works_on e ≡ true → (w : Note) → note_at (content_of m x).notes place ≡ Some w → is_of_lock w ≡ true
+      lock_note works w there = ap (λ z. is_own_note z g.machine.effect w) (sym in_it) ∙ notes_are_own d c m r g x w h b (ap works_on is ∙ works) there
 
-      by_lock : works_on e ≡ true → (l : LockAt) → Fits e (TxAt.Lock l) → IsStill (Stage.Tx (TxAt.Lock l)) (tx_says (TxAt.Lock l) (lock_leads place e (lock_goes l (told_by (asks_at r.func t key place (Owner.Tx own) l) c.now m)))) → ⊥
-      by_lock works (LockAt.Lockset n) fits still = lockset_moves place e n c.now (map.get m (lockset_key r.func r.id n t key)) still
-      by_lock works (LockAt.Item Try) fits still = lock_moves place e (write_goes Note.Got (said (act (op_act place (Owner.Tx own) CellOp.Lock) c.now (map.get m (head_key x))).1)) fits
-          (lock_off place (Owner.Tx own) c.now (map.get m (head_key x)) (h.rows.chains x).head (lock_note works)) still
-      by_lock works (LockAt.Item Make) fits still = made_moves place e c.now (map.get m (head_key x)) still
+      by_lock : works_on e ≡ true → (l : LockAt) → Fits e (TxAt.Lock l) → SeesBoth m place own x (TxAt.Lock l) → IsStill (Stage.Tx (TxAt.Lock l)) (tx_says (TxAt.Lock l) (lock_leads place e (lock_goes l (told_by (asks_at r.func t key place (Owner.Tx own) l) c.now m)))) → ⊥
+      by_lock works (LockAt.Lockset n) fits sees still = lockset_moves place e n c.now (map.get m (lockset_key r.func r.id n t key)) still
+      by_lock works (LockAt.Item at) fits sees still =
+          let walk : WriteWalk = record { home = r.func; item = Plain t key; place = place; who = Owner.Tx own; op = CellOp.Lock; at = at } in
+          let z : WriteGoes = write_goes Note.Got at (told_by (write_asks (head_key x) place (Owner.Tx own) CellOp.Lock at) c.now m) in
+          let n : Rows = rows_after (write_asks (head_key x) place (Owner.Tx own) CellOp.Lock at) c.now m in
+          lock_moves place e at z fits (at_off Note.Got place (Owner.Tx own) c.now m (head_key x) CellOp.Lock at (h.rows.chains x) sees)
+          (of_lock place own (content_of m x) (content_of n x) (lock_note works) z (by_op walk m n c.now (h.rows.chains x) sees refl).logs) still
 
-      abbrev aside : Option Row
-      aside = map.get m (shadow_key own x)
+      by_shadow : (i : ℕ) → SeesBoth m place own x (TxAt.Shadow i) → IsStill (Stage.Tx (TxAt.Shadow i)) (tx_says (TxAt.Shadow i) (shadow_read (read_goes None (said (act Act.Look c.now (chain m (shadow_key own x) i)).1)))) → ⊥
+      by_shadow i sees still = shadow_read_moves i _ (reads_off None c.now i (chain m (shadow_key own x)) (h.rows.asides own x).linked) still
 
-      aside_note : (w : Note) → note_at (content_in aside).notes place ≡ Some w → is_shadow_note e w ≡ true
-      aside_note w there = ap (λ z. is_shadow_note z w) (sym is) ∙ shadow_notes_are_own d c m r g own x w h b (ap (λ z. note_at z.notes place) (one_content (chain m (shadow_key own x)) (h.rows.asides own x).sound) ∙ there)
+      by_item : (i : ℕ) → Fits e (TxAt.Item i) → IsStill (Stage.Tx (TxAt.Item i)) (tx_says (TxAt.Item i) (tx_item_goes e (read_goes None (said (act Act.Look c.now (chain m (head_key x) i)).1)))) → ⊥
+      by_item i fits still = item_moves e i _ (reads_off None c.now i (chain m (head_key x)) (h.rows.chains x)) fits still
 
-    by_tx : (e : Effect) (a : TxAt) → g.machine.effect ≡ e → Fits e a → InTx e a
-    by_tx (Effect.Read t key) TxAt.Log is fits still = log_moves (begin_of o) (given_of (told_by (tx_asks r.func place own (Effect.Read t key) TxAt.Log) c.now m)) still
-    by_tx (Effect.Read t key) (TxAt.Lock l) is fits still = by_lock (Effect.Read t key) is t key refl l fits still
-    by_tx (Effect.Read t key) TxAt.Shadow is fits still = shadow_read_moves c.now (aside (Effect.Read t key) is t key) (h.rows.asides own (record { func = r.func; table = t; key = key })).sound.head still
-    by_tx (Effect.Read t key) TxAt.Item is fits still = item_moves (Effect.Read t key) c.now (map.get m (head_key (record { func = r.func; table = t; key = key }))) (h.rows.chains (record { func = r.func; table = t; key = key })).head fits still
-    by_tx (Effect.Read t key) (TxAt.Keep v) is fits still = keep_moves v (told_by (tx_asks r.func place own (Effect.Read t key) (TxAt.Keep v)) c.now m) still
-    by_tx (Effect.Write t key v) (TxAt.Lock l) is fits still = by_lock (Effect.Write t key v) is t key refl l fits still
-    by_tx (Effect.Write t key v) (TxAt.Write Try) is fits still = aside_moves (Effect.Write t key v) (write_goes Note.Wrote (said (act (op_act place (Owner.Tx own) (CellOp.Write v)) c.now (aside (Effect.Write t key v) is t key)).1))
-        (aside_write place (Owner.Tx own) c.now t key v (aside (Effect.Write t key v) is t key) (h.rows.asides own (record { func = r.func; table = t; key = key })).sound.head (first_row_free d c m own (record { func = r.func; table = t; key = key }) h) (aside_note (Effect.Write t key v) is t key)) still
-    by_tx (Effect.Write t key v) (TxAt.Write Make) is fits still = aside_made_moves (Effect.Write t key v) Note.Wrote c.now (aside (Effect.Write t key v) is t key) still
-    by_tx (Effect.CondWrite t key u w v) (TxAt.Lock l) is fits still = by_lock (Effect.CondWrite t key u w v) is t key refl l fits still
-    by_tx (Effect.CondWrite t key u w v) TxAt.Shadow is fits still = head_moves c.now (aside (Effect.CondWrite t key u w v) is t key) still
-    by_tx (Effect.CondWrite t key u w v) TxAt.Item is fits still = item_moves (Effect.CondWrite t key u w v) c.now (map.get m (head_key (record { func = r.func; table = t; key = key }))) (h.rows.chains (record { func = r.func; table = t; key = key })).head fits still
-    by_tx (Effect.CondWrite t key u w v) (TxAt.Head y) is fits still = first_moves y c.now (aside (Effect.CondWrite t key u w v) is t key) still
-    by_tx (Effect.CondWrite t key u w v) (TxAt.Write Try) is fits still = aside_moves (Effect.CondWrite t key u w v) (write_goes (Note.Cond true) (said (act (op_act place (Owner.Tx own) (CellOp.Cond u w v)) c.now (aside (Effect.CondWrite t key u w v) is t key)).1))
-        (aside_test place (Owner.Tx own) c.now t key u w v (aside (Effect.CondWrite t key u w v) is t key) (h.rows.asides own (record { func = r.func; table = t; key = key })).sound.head (first_row_free d c m own (record { func = r.func; table = t; key = key }) h) (aside_note (Effect.CondWrite t key u w v) is t key)) still
-    by_tx (Effect.CondWrite t key u w v) (TxAt.Write Make) is fits still = aside_made_moves (Effect.CondWrite t key u w v) (Note.Cond true) c.now (aside (Effect.CondWrite t key u w v) is t key) still
-    by_tx e a is fits still = fits
+      aside_note : (w : Note) → note_at (shadow_of m own x).notes place ≡ Some w → is_shadow_note e w ≡ true
+      aside_note w there = ap (λ z. is_shadow_note z w) (sym is) ∙ shadow_notes_are_own d c m r g own x w h b there
+
+      by_aside : (op : CellOp) → ((a : Option IntentId) (o : Option Owner) → dies (Owner.Tx own) op o ≡ a → is_shadow_note e (note_left op (shadow_of m own x).value a) ≡ true) → ((s : WriteSays) → barred op (Owner.Tx own) None ≡ Some s → ⊥)
+          → (at : WriteAt) → SeesBoth m place own x (TxAt.Write at) → IsStill (Stage.Tx (TxAt.Write at)) (tx_says (TxAt.Write at) (write_leads e (write_goes (done_note op) at (told_by (write_asks (shadow_key own x) place (Owner.Tx own) op at) c.now m)))) → ⊥
+      by_aside op writes free at sees still =
+          let walk : WriteWalk = record { home = r.func; item = Shadow own t key; place = place; who = Owner.Tx own; op = op; at = at } in
+          let z : WriteGoes = write_goes (done_note op) at (told_by (write_asks (shadow_key own x) place (Owner.Tx own) op at) c.now m) in
+          let n : Rows = rows_after (write_asks (shadow_key own x) place (Owner.Tx own) op at) c.now m in
+          aside_moves e at z (at_off (done_note op) place (Owner.Tx own) c.now m (shadow_key own x) op at (h.rows.asides own x).linked sees)
+          (of_shadow place own e op (shadow_of m own x) (shadow_of n own x) writes free (h.rows.asides own x).unowned aside_note z (by_op walk m n c.now (h.rows.asides own x).linked sees refl).logs) still
+
+    by_tx : (e : Effect) (a : TxAt) → g.machine.effect ≡ e → Fits e a → InItem d m h.plain h.known r.id r.func o step e a (touched e) → InTx e a
+    by_tx (Effect.Read t key) TxAt.Log is fits inside still = log_moves (begin_of o) (given_of (told_by (tx_asks r.func place own (Effect.Read t key) TxAt.Log) c.now m)) still
+    by_tx (Effect.Read t key) (TxAt.Lock l) is fits inside still = by_lock (Effect.Read t key) is t key refl l fits inside.sees still
+    by_tx (Effect.Read t key) (TxAt.Shadow i) is fits inside still = by_shadow (Effect.Read t key) is t key i inside.sees still
+    by_tx (Effect.Read t key) (TxAt.Item i) is fits inside still = by_item (Effect.Read t key) is t key i fits still
+    by_tx (Effect.Read t key) (TxAt.Keep v) is fits inside still = keep_moves v (told_by (tx_asks r.func place own (Effect.Read t key) (TxAt.Keep v)) c.now m) still
+    by_tx (Effect.Write t key v) (TxAt.Lock l) is fits inside still = by_lock (Effect.Write t key v) is t key refl l fits inside.sees still
+    by_tx (Effect.Write t key v) (TxAt.Write at) is fits inside still = by_aside (Effect.Write t key v) is t key (CellOp.Write v) (λ a o e. by_none a e) (λ s e. cc) at inside.sees still
+      where
+        by_none : (a : Option IntentId) → ◌≡◌ {A = Option IntentId} None a → is_shadow_note (Effect.Write t key v) (note_left (CellOp.Write v) (shadow_of m own (record { func = r.func; table = t; key = key })).value a) ≡ true
+        by_none None e = refl
+        by_none (Some a) e = cc
+    by_tx (Effect.CondWrite t key u w v) (TxAt.Lock l) is fits inside still = by_lock (Effect.CondWrite t key u w v) is t key refl l fits inside.sees still
+    by_tx (Effect.CondWrite t key u w v) TxAt.Seek is fits inside still = seek_moves c.now (map.get m (shadow_key own (record { func = r.func; table = t; key = key }))) still
+    by_tx (Effect.CondWrite t key u w v) (TxAt.Item i) is fits inside still = by_item (Effect.CondWrite t key u w v) is t key i fits still
+    by_tx (Effect.CondWrite t key u w v) (TxAt.Head y) is fits inside still = first_moves y c.now (map.get m (shadow_key own (record { func = r.func; table = t; key = key }))) still
+    by_tx (Effect.CondWrite t key u w v) (TxAt.Write at) is fits inside still = by_aside (Effect.CondWrite t key u w v) is t key (CellOp.Cond u w v) (λ a o e. by_none a e) (λ s e. cc) at inside.sees still
+      where
+        by_none : (a : Option IntentId) → ◌≡◌ {A = Option IntentId} None a → is_shadow_note (Effect.CondWrite t key u w v) (note_left (CellOp.Cond u w v) (shadow_of m own (record { func = r.func; table = t; key = key })).value a) ≡ true
+        by_none None e = refl
+        by_none (Some a) e = cc
+    by_tx e a is fits inside still = fits
 
   -- ---- outside one
   module _ (e : Effect) (u : OnItem) (so : op_of e ≡ Some u) where
     abbrev op : CellOp
     op = cell_of u.does
 
-    abbrev row : Option Row
-    row = map.get m (head_key (item_in r.func u))
-
-    by_write : (at : WriteAt) → IsStill (Stage.Write at) (put_says e (note_of_op (cell_op e)) (told_by (put_asks r.id r.func step at (cell_op e)) c.now m)) → ⊥
-    by_write at = subst (λ z. IsStill (Stage.Write at) (put_says e (note_of_op z) (told_by (put_asks r.id r.func step at z) c.now m)) → ⊥) (sym (its_cell e u so)) (by_at at)
-      where
-        by_at : (at : WriteAt) → let z : Option OnCell = Some (record { table = u.table; key = u.key; op = cell_of u.does }) in IsStill (Stage.Write at) (put_says e (note_of_op z) (told_by (put_asks r.id r.func step at z) c.now m)) → ⊥
-        by_at Try still = try_moves e (write_goes (done_note op) (said (act (op_act place (Owner.Intent r.id) op) c.now row).1)) (try_off (done_note op) place (Owner.Intent r.id) c.now op row (h.rows.chains (item_in r.func u)).head) still
-        by_at Make still = make_moves e (done_note op) c.now Value.Null row still
+    by_write : (at : WriteAt) → SeesPut m r.func place at (cell_op e) → IsStill (Stage.Write at) (put_says e at (note_of_op (cell_op e)) (told_by (put_asks r.id r.func step at (cell_op e)) c.now m)) → ⊥
+    by_write at = subst (λ z. SeesPut m r.func place at z → IsStill (Stage.Write at) (put_says e at (note_of_op z) (told_by (put_asks r.id r.func step at z) c.now m)) → ⊥) (sym (its_cell e u so))
+        (λ sees still. let k : RowKey = head_key (item_in r.func u) in put_moves e at (write_goes (done_note op) at (told_by (write_asks k place (Owner.Intent r.id) op at) c.now m)) (at_off (done_note op) place (Owner.Intent r.id) c.now m k op at (h.rows.chains (item_in r.func u)) sees) still)
 
   -- the row of a call whose callee is known
   pub called_there : is_some (map.get h.known (child_of r.id step)) ≡ true → (i : InvokeRow) × (map.get m (invoke_key r.func place) ≡ Some (Row.Invoke i))
@@ -354,9 +463,9 @@ module _ (d : Deployment) (c : Core) (m : Rows) (r : Run) (g : Begun) (h : Right
 
   by_stage : (s : Stage) (e : Effect) (o : Option RunTx) → g.machine.effect ≡ e → g.tx ≡ o → is_visit s ≡ false → AtStage m h.plain c.book k s e o → IsStill s (stage_says r.id r.func g.caller o (count_changes c.book) step e s (told_at s e o)) → ⊥
   by_stage Stage.Ask (Effect.Read t x) None is out near here still = ask_moves (given_of (told_at Stage.Ask (Effect.Read t x) None)) still
-  by_stage Stage.Walk (Effect.Read t x) None is out near here still = let y : Item = record { func = r.func; table = t; key = x } in walk_moves (count_changes c.book) c.now (Some (Owner.Intent r.id)) (map.get m (head_key y)) (h.rows.chains y).head still
+  by_stage (Stage.Walk i) (Effect.Read t x) None is out near here still = let y : Item = record { func = r.func; table = t; key = x } in walk_moves (count_changes c.book) i (Owner.Intent r.id) _ (reads_off (Some (Owner.Intent r.id)) c.now i (chain m (head_key y)) (h.rows.chains y)) still
   by_stage (Stage.Keep v seen) (Effect.Read t x) None is out near here still = still
-  by_stage (Stage.Write at) e None is out near here still = by_option (op_of e) (λ none. let clash = sym (ap is_some none) ∙ here in cc) (λ u so. by_write e u so at still)
+  by_stage (Stage.Write at) e None is out near here still = by_option (op_of e) (λ none. let clash = sym (ap is_some none) ∙ here.0 in cc) (λ u so. by_write e u so at here.1 still)
   by_stage (Stage.Async at) (Effect.Async f a) None is out near here still = by_async f a at here.1
       (subst (λ z. IsStill (Stage.Async at) (if z then async_answer at (async_says f at (told_by (if z then async_asks r.func place (callee_body r.id r.func step f a None false) at else look_asks r.id r.func) c.now m)) else Says.Ends None None)) here.0 still)
   by_stage (Stage.Call at) (Effect.Call f a) o is in_it near here still = call_moves r.id o at step (call_says f at (told_at (Stage.Call at) (Effect.Call f a) o))
@@ -364,7 +473,7 @@ module _ (d : Deployment) (c : Core) (m : Rows) (r : Run) (g : Begun) (h : Right
   by_stage Stage.Back (Effect.Return u) o is in_it near here still = back_moves o (back_of (told_at Stage.Back (Effect.Return u) o)) still
   by_stage Stage.Tell (Effect.Return u) None is out near here still = cc
   by_stage Stage.Close (Effect.Return u) o is in_it near here still = close_moves r.id g.caller u (is_did (told_at Stage.Close (Effect.Return u) o)) still
-  by_stage (Stage.Tx a) e (Some o) is in_it near here still = by_tx o in_it e a is here.0 still
+  by_stage (Stage.Tx a) e (Some o) is in_it near here still = by_tx o in_it e a is here.0 here.1 still
   by_stage (Stage.Decide w) (Effect.End commit) (Some (RunTx.Own o)) is in_it near here still = decide_moves commit w c.now (map.get m (decision_key (own_tx r.id r.func o))) (λ u at. decisions_are_own d c m r g o commit u h b in_it is at) still
   by_stage (Stage.End v) e o is in_it near here still = cc
   by_stage s e o is in_it near here still = here

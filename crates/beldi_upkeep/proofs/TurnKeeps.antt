@@ -11,6 +11,7 @@ use Rattle.beldi_laws.proofs.{InTx.no_begin, InTx.wants_one, Members.call_there,
 use Rattle.beldi_upkeep.specs.Callees.{AllFinished, HasPut, HasTold, RunOwes, RunsOwe, Seats}
 use Rattle.beldi_upkeep.proofs.{EndRows.decide_leaves, EndRows.ends, EndRows.tx_is_ended, EndRows.visit_leaves, EndsLast.all_finished, EndsLast.done_next, FromRight.child_key, Leaving.Leaves, RowSets.set_here, SaysOwe.PastClosed, SaysOwe.SaysOwe, StageSays.ask_owes, StageSays.async_owes, StageSays.back_owes, StageSays.call_owes, StageSays.decided_owes, StageSays.is_end, StageSays.past_closed, StageSays.put_owes, StageSays.tx_owes, StageSays.visit_owes, StageSays.walk_owes, TurnRows.async_leaves, TurnRows.back_leaves, TurnRows.call_leaves, TurnRows.look, TurnRows.own_put, TurnRows.tell_leaves, TurnRows.tx_leaves, TurnRows.write_leaves}
 use Rattle.beldi_step.specs.Run.{tx_at}
+use Rattle.beldi_laws.specs.Inside.{InItem}
 
 -- an operation on an item wants an answer, and is no Begin and no End
 op_begin : (e : Effect) (y : OnItem) → op_of e ≡ Some y → is_begin e ≡ false
@@ -33,27 +34,28 @@ module _ (d : Deployment) (c : Core) (m : Rows) (h : Right d c m) (seats : Seats
   abbrev Left : Stage → Effect → Option RunTx → Type 0
   Left s e o = Leaves c m (rows_after (stage_asks r.id r.func g.caller o g.machine.steps e s) c.now m)
 
-  tx_left : (a : TxAt) (e : Effect) (o : RunTx) → g.machine.effect ≡ e → g.tx ≡ Some o → Fits e a → Left (Stage.Tx a) e (Some o)
-  tx_left a e o is tx fits =
+  tx_left : (a : TxAt) (e : Effect) (o : RunTx) → g.machine.effect ≡ e → g.tx ≡ Some o → Fits e a → InItem d m h.plain h.known r.id r.func o g.machine.steps e a (touched e) → Left (Stage.Tx a) e (Some o)
+  tx_left a e o is tx fits inside =
       let x = operates e a fits in
+      let found = subst (InItem d m h.plain h.known r.id r.func o g.machine.steps e a) x.1 inside in
       subst (λ y. Leaves c m (rows_after (txn.asks_of r.func (place_of r.id g.machine.steps) (tx_of r.id r.func o) e a y) c.now m)) (sym (item_touched e ∙ x.1))
-      (tx_leaves d c m h seats r g k finds o tx (in_it is tx (no_begin e x.0 x.1)) e is x.0 x.1 a fits)
+      (tx_leaves d c m h seats r g k finds o tx (in_it is tx (no_begin e x.0 x.1)) e is x.0 x.1 a found.sees)
     where
       item_touched : (e : Effect) → txn.item_of e ≡ touched e
       item_touched e = grind arith
 
   pub left : (s : Stage) (e : Effect) (o : Option RunTx) → g.stage ≡ s → g.machine.effect ≡ e → g.tx ≡ o → AtStage m h.plain c.book k s e o → Left s e o
   left Stage.Ask (Read t x) None st is tx at = look d c m h seats r g k finds _
-  left Stage.Walk (Read t x) None st is tx at = look d c m h seats r g k finds _
+  left (Stage.Walk i) (Read t x) None st is tx at = look d c m h seats r g k finds _
   left (Stage.Keep v seen) (Read t x) None st is tx at = own_put d c m h seats r g k finds (Kind.ReadLog (place_of r.id g.machine.steps)) (PutRead v) refl refl refl refl refl
-  left (Stage.Write w) e None st is tx at = write_leaves d c m h seats r g k finds w (cell_op e)
+  left (Stage.Write w) e None st is tx at = write_leaves d c m h seats r g k finds w (cell_op e) at.1
   left (Stage.Call w) (Call f v) o st is tx at = call_leaves d c m h seats r g k finds w f
   left (Stage.Async w) (Async f v) None st is tx at = subst (λ b. Leaves c m (rows_after (if b then async_asks r.func (place_of r.id g.machine.steps) (callee_body r.id r.func g.machine.steps f v None false) w else look_asks r.id r.func) c.now m)) (sym at.0)
       (async_leaves d c m h seats r g k finds f v is w (subst (λ s. HasPut s (Async f v) (child_of r.id g.machine.steps) m) st (subst (λ e. HasPut g.stage e (child_of r.id g.machine.steps) m) is owes.put)))
   left Stage.Back (Return u) o st is tx at = back_leaves d c m h seats r g k finds g.caller u
   left Stage.Tell (Return u) None st is tx at = tell_leaves d c m h seats r g k finds g.caller refl
   left Stage.Close (Return u) o st is tx at = ends d c m h seats owe i r g live k finds u is owes st (not (is_inherited o))
-  left (Stage.Tx a) e (Some o) st is tx at = tx_left a e o is tx at.0
+  left (Stage.Tx a) e (Some o) st is tx at = tx_left a e o is tx at.0 at.1
   left (Stage.Decide w) (End commit) (Some (Own o)) st is tx at = decide_leaves d c m h seats owe r g k finds o tx commit is
   left (Stage.End v) (End commit) (Some (Own o)) st is tx at = visit_leaves d c m h seats owe r g k finds o tx commit is v at.0 at.1
   left s e o st is tx at = absurd at
@@ -154,9 +156,9 @@ module _ (d : Deployment) (c : Core) (m : Rows) (h : Right d c m) (seats : Seats
 
     pub said : (s : Stage) (e : Effect) (o : Option RunTx) → g.stage ≡ s → g.machine.effect ≡ e → g.tx ≡ o → AtStage m h.plain c.book k s e o → Said s e o
     said Stage.Ask (Read t x) None st is tx at rows = ask_owes d c b m n h h2 r g k owed (plain (Read t x) is refl refl refl) _
-    said Stage.Walk (Read t x) None st is tx at rows = walk_owes d c b m n h h2 r g k owed (plain (Read t x) is refl refl refl) _ _
+    said (Stage.Walk i) (Read t x) None st is tx at rows = walk_owes d c b m n h h2 r g k owed (plain (Read t x) is refl refl refl) _ _
     said (Stage.Keep v seen) (Read t x) None st is tx at rows = plain (Read t x) is refl refl refl _
-    said (Stage.Write w) e None st is tx at rows = put_owes d c b m n h h2 r g k owed (operates_plain e (op_of e) refl at is) e (note_done e) _
+    said (Stage.Write w) e None st is tx at rows = put_owes d c b m n h h2 r g k owed (operates_plain e (op_of e) refl at.0 is) e w (note_done e) _
       where
         operates_plain : (e : Effect) (y : Option OnItem) → op_of e ≡ y → is_some y ≡ true → g.machine.effect ≡ e → (a : Answer) → PastClosed d h2.known n r (takes d g.machine g.tx a) g.caller
         operates_plain e None op some is = cc

@@ -284,6 +284,7 @@ module _ (d : Deployment) (c : Core) (m : Rows) (h : Right d c m) (seats : Seats
       quiet_starts (Says.Opens mark) q = absurd q
       quiet_starts (Says.Starts a) q = absurd q
       quiet_starts (Says.Waits (Wait.Held o)) q = refl
+      quiet_starts (Says.Waits Wait.Worn) q = refl
       quiet_starts (Says.Waits (Wait.Result j)) q = absurd q
       quiet_starts (Says.Answers a mark) q = starts_none (takes d g.machine g.tx a) g.caller mark
       quiet_starts (Says.Ends mark o) q = refl

@@ -37,7 +37,8 @@
 //! - Code (`src/`): `callees`, `deadlines`, `checked`, `upkeep` one function a law, with no body.
 //! - Lemmas of callees (`proofs/`): `Shapes` what an event does to rows and runs; `CellActs`, `RowSets`, `SeatRows` what an act leaves;
 //!   `StageSays`, `SaysOwe` what a run owes by its stage; `FirstTurns`, `TurnRows`, `EndRows`, `TurnKeeps` turns; `PastEnds`, `PastOwn`,
-//!   `EndsLast` that an owner ends last; `Leaving`, `FromRight`, `CallLaws`, `Upkept`; `Together` all of it.
+//!   `EndsLast` that an owner ends last; `RowNotes` that the notes of an item are those of its rows; `Leaving`, `FromRight`, `CallLaws`,
+//!   `Upkept`; `Together` all of it.
 //! - Of deadlines: `Finishes` which rows have a finish; `Quiet` stages that call nobody, `Workers` what a turn leaves; `Nearness`.
 //! - Of deployments: `Kept` what an event keeps at each key, `Asked` what a run asks of rows, `Roots`, `Started`;
 //!   `Sites` and `Frees` by induction on the body; `Functions` the function of a name, `Edges` and `Chains` that calls lead to no

@@ -2,8 +2,8 @@
 use Rattle.std.specs.FinMap as map
 use Rattle.std.proofs.Common.{◌≡◌, inl, inr, ℕ, ◌==◌, ◌&&◌, Bool, true, false, if◌then◌else◌, Option, None, Some, Ok, Err, refl, ap, sym, ◌∙◌, subst}
 use Rattle.beldi_value.specs.{declared.value.Value.Value, declared.outcome.Outcome.Outcome, declared.place.Place.Place, declared.place.Owner.Owner, Passes.passes, Same.same_value, declared.id.IntentId.IntentId, Id.age_of}
-use Rattle.beldi_row.specs.declared.act.Act.TheVariants.{Look, Issue, Bind, Register, End, Stamp, PutRead, OpenInvoke, CallBack, NoteRegistered, PutLockset, MakeCell, WriteCell, CondCell, LockCell, FreeCell}
-use Rattle.beldi_row.specs.Act.{Tell, gone, no_row, did, not_owner, other, held, died, kept_tell, outcome_tell, off, on, on_intent, on_invoke, on_cell, bind_to, end_with, stamp_with, call_back_to, register_to, other_owner, owns, noted_or, next_or, held_or, waits_for, owned_or, at_tail, unless_held, if_owned, given_or, entered, write_at, cond_to, cond_at, lock_at, free_at}
+use Rattle.beldi_row.specs.declared.act.Act.TheVariants.{Look, Issue, Bind, Register, End, Stamp, PutRead, OpenInvoke, CallBack, NoteRegistered, PutLockset, MakeCell, WriteCell, CondCell, LockCell, FreeCell, LinkCell}
+use Rattle.beldi_row.specs.Act.{Tell, gone, no_row, did, not_owner, other, held, died, next, packed, not_full, kept_tell, outcome_tell, off, on, on_intent, on_invoke, on_cell, bind_to, end_with, stamp_with, call_back_to, register_to, other_owner, owns, noted_or, next_or, held_or, waits_for, owned_or, at_tail, unless_held, if_owned, if_room, is_full, given_or, entered, write_at, cond_to, cond_at, lock_at, free_at, link_to}
 use Rattle.beldi_row.{specs.declared.notes.Note.Note, specs.declared.notes.Note.TheVariants.Wrote, specs.declared.notes.Note.TheVariants.Got, specs.declared.notes.Note.TheVariants.Died, specs.declared.notes.Note.TheVariants.Freed, specs.declared.row.Row.Row, specs.declared.row.Body.Body, specs.declared.row.Cell.Cell, specs.declared.row.IntentRow.IntentRow, specs.declared.row.InvokeRow.InvokeRow, specs.declared.act.Act.Act, specs.Log.note_at, specs.declared.table.TableErr.TableErr, specs.declared.table.TableErr.TheVariants.OutOfMemory, specs.declared.table.TableErr.TheVariants.Failed, specs.declared.table.TableErr.TheVariants.Full, specs.Table.Rows, specs.Table.TableState, specs.Table.Tells, proofs.Tells.tells_map, proofs.Unchanged.left}
 use Rattle.beldi_walk.specs.Query.{Told, lent, lends, is_death, tells_death, may_die, may_tell_death, LentStands, OnlyTransactionsDie, rows_after, told_by, CameOn}
 use Rattle.beldi_walk.specs.{declared.query.Query.Query, Walk.LeftAt, Walk.Left, Walk.Turned}
@@ -51,14 +51,30 @@ module _ (c : Cell) where
   waits None z l h = l h
   waits (Some o) z l h = refl
 
+  -- a full cell is left, and what it tells is lent
+  room : (z : Cell × Tell) → Leaves c z → Leaves c (if_room c z)
+  room z l = by_test (is_full c)
+    where
+      by_test : (b : Bool) → Leaves c (if b then (c, packed c.value c.owner) else z)
+      by_test true h = refl
+      by_test false h = l h
+
   -- who waits leaves the cell, and who dies tells a death
-  by_age : (b : Bool) (o : Owner) (z : Cell × Tell) → quiet z.1 ≡ false → Leaves c (if b then (c, held o) else z)
-  by_age true o z d h = refl
-  by_age false o z d h = let clash = sym h ∙ d in cc
+  by_age : (b : Bool) (o : Owner) (z : Cell × Tell) → Leaves c z → Leaves c (if b then (c, held o) else z)
+  by_age true o z l h = refl
+  by_age false o z l h = l h
 
   dies : (p : Place) (w : Owner) (o : Option Owner) (z : Cell × Tell) → Leaves c z → Leaves c (owned_or p w c o z)
   dies p w None z l h = l h
-  dies p w (Some o) z l h = by_age (waits_for w o) o (entered p (Died (age_of o)) c.value c.owner c, died (age_of o)) refl h
+  dies p w (Some o) z l h = let dead : Cell × Tell = (entered p (Died (age_of o)) c.value c.owner c, died (age_of o)) in by_age (waits_for w o) o (if_room c dead) (room dead (λ h. cc)) h
+
+  linked : (n : ℕ) → Leaves c (link_to n c)
+  linked n = by_next c.next (is_full c)
+    where
+      by_next : (x : Option ℕ) (b : Bool) → Leaves c (next_or c x (if b then (record c { next = Some n }, next n) else (c, not_full)))
+      by_next (Some k) b h = refl
+      by_next None true h = cc
+      by_next None false h = cc
 
   gives : (b : Bool) (z : Cell × Tell) → Leaves c z → Leaves c (if b then z else (c, not_owner))
   gives true z l h = l h
@@ -112,6 +128,7 @@ none_there (WriteCell p w v) now h = refl
 none_there (CondCell p w k o v) now h = refl
 none_there (LockCell p w s) now h = refl
 none_there (FreeCell p w v) now h = refl
+none_there (LinkCell n) now h = refl
 
 there : (a : Act) (now : ℕ) (r : Row) → Leaves r (on a now r)
 there Look now r = λ h. refl
@@ -126,10 +143,11 @@ there (CallBack o) now r = invoke_leaves (λ i. call_back_to o i i.result) gone 
 there NoteRegistered now r = invoke_leaves (λ i. register_to i i.registered) gone (λ i. registered i i.registered) r
 there PutLockset now r = λ h. refl
 there (MakeCell v o) now r = λ h. refl
-there (WriteCell p w v) now r = cell_leaves (write_at p w v) no_row (λ c. unheld c p w (entered p Wrote v c.owner c, did) (λ h. cc)) r
-there (CondCell p w k o v) now r = cell_leaves (cond_at p w k o v) no_row (λ c. unheld c p w (cond_to (passes c.value k o) p v c) (λ h. cc)) r
-there (LockCell p w s) now r = cell_leaves (lock_at p w) no_row (λ c. locked c p w (entered p Got c.value (Some w) c, did) (λ h. cc)) r
-there (FreeCell p w v) now r = cell_leaves (free_at p w v) no_row (λ c. owned c p w (entered p Freed (given_or v c.value) None c, did) (λ h. cc)) r
+there (WriteCell p w v) now r = cell_leaves (write_at p w v) no_row (λ c. let z : Cell × Tell = (entered p Wrote v c.owner c, did) in unheld c p w (if_room c z) (room c z (λ h. cc))) r
+there (CondCell p w k o v) now r = cell_leaves (cond_at p w k o v) no_row (λ c. let z : Cell × Tell = cond_to (passes c.value k o) p v c in unheld c p w (if_room c z) (room c z (λ h. cc))) r
+there (LockCell p w s) now r = cell_leaves (lock_at p w) no_row (λ c. let z : Cell × Tell = (entered p Got c.value (Some w) c, did) in locked c p w (if_room c z) (room c z (λ h. cc))) r
+there (FreeCell p w v) now r = cell_leaves (free_at p w v) no_row (λ c. let z : Cell × Tell = (entered p Freed (given_or v c.value) None c, did) in owned c p w (if_room c z) (room c z (λ h. cc))) r
+there (LinkCell n) now r = cell_leaves (link_to n) no_row (λ c. linked c n) r
 
 pub stands : LentStands
 stands a now None h g = none_there a now (quiet_of (off a now).1 h g)
@@ -177,6 +195,21 @@ module _ (c : Cell) where
   held_lives None z l = l
   held_lives (Some o) z l = refl
 
+  room_lives : (z : Cell × Tell) → Lives z → Lives (if_room c z)
+  room_lives z l = by_test (is_full c)
+    where
+      by_test : (b : Bool) → Lives (if b then (c, packed c.value c.owner) else z)
+      by_test true = refl
+      by_test false = l
+
+  linked_lives : (n : ℕ) → Lives (link_to n c)
+  linked_lives n = by_next c.next (is_full c)
+    where
+      by_next : (x : Option ℕ) (b : Bool) → Lives (next_or c x (if b then (record c { next = Some n }, next n) else (c, not_full)))
+      by_next (Some k) b = refl
+      by_next None true = refl
+      by_next None false = refl
+
   unheld_lives : (p : Place) (w : Owner) (z : Cell × Tell) → Lives z → Lives (at_tail p c (unless_held w c z))
   unheld_lives p w z l = last_lives p (unless_held w c z) (held_lives (other_owner w c.owner) z l)
 
@@ -221,14 +254,15 @@ there_lives (CallBack o) now r h = on_invoke_lives (λ i. call_back_to o i i.res
 there_lives NoteRegistered now r h = on_invoke_lives (λ i. register_to i i.registered) gone (λ i. registered_lives i i.registered) refl r
 there_lives PutLockset now r h = refl
 there_lives (MakeCell v o) now r h = refl
-there_lives (WriteCell p w v) now r h = on_cell_lives (write_at p w v) no_row (λ c. unheld_lives c p w (entered p Wrote v c.owner c, did) refl) refl r
-there_lives (CondCell p w k o v) now r h = on_cell_lives (cond_at p w k o v) no_row (λ c. unheld_lives c p w (cond_to (passes c.value k o) p v c) refl) refl r
+there_lives (WriteCell p w v) now r h = on_cell_lives (write_at p w v) no_row (λ c. let z : Cell × Tell = (entered p Wrote v c.owner c, did) in unheld_lives c p w (if_room c z) (room_lives c z refl)) refl r
+there_lives (CondCell p w k o v) now r h = on_cell_lives (cond_at p w k o v) no_row (λ c. let z : Cell × Tell = cond_to (passes c.value k o) p v c in unheld_lives c p w (if_room c z) (room_lives c z refl)) refl r
 there_lives (LockCell p (Owner.Intent a) s) now r h =
     on_cell_lives (lock_at p (Owner.Intent a)) no_row
-    (λ c. let z : Cell × Tell = (entered p Got c.value (Some (Owner.Intent a)) c, did) in last_lives c p (owned_or p (Owner.Intent a) c (other_owner (Owner.Intent a) c.owner) z) (intent_lives c p a (other_owner (Owner.Intent a) c.owner) z refl))
+    (λ c. let z : Cell × Tell = if_room c (entered p Got c.value (Some (Owner.Intent a)) c, did) in last_lives c p (owned_or p (Owner.Intent a) c (other_owner (Owner.Intent a) c.owner) z) (intent_lives c p a (other_owner (Owner.Intent a) c.owner) z (room_lives c (entered p Got c.value (Some (Owner.Intent a)) c, did) refl)))
     refl r
 there_lives (LockCell p (Owner.Tx t) s) now r h = cc
-there_lives (FreeCell p w v) now r h = on_cell_lives (free_at p w v) no_row (λ c. owned_lives c p w (entered p Freed (given_or v c.value) None c, did) refl) refl r
+there_lives (FreeCell p w v) now r h = on_cell_lives (free_at p w v) no_row (λ c. let z : Cell × Tell = (entered p Freed (given_or v c.value) None c, did) in owned_lives c p w (if_room c z) (room_lives c z refl)) refl r
+there_lives (LinkCell n) now r h = on_cell_lives (link_to n) no_row (λ c. linked_lives c n) refl r
 
 none_lives : (a : Act) (now : ℕ) → Lives (off a now)
 none_lives Look now = refl

@@ -2,7 +2,7 @@
 use Rattle.std.specs.Prelude.{◌≡◌, ℕ, ◌<◌, Bool, true, false, IsTrue, Option, Result, Ok, Err}
 use Rattle.std.specs.FinMap as map
 use Rattle.beldi_value.specs.declared.place.Owner.TheVariants.{Tx}
-use Rattle.beldi_row.specs.Act.{Tell, here, other, ended, kept, noted, held, died, tell_of, act}
+use Rattle.beldi_row.specs.Act.{Tell, here, other, ended, kept, noted, held, died, packed, tell_of, act}
 use Rattle.beldi_row.specs.Table.{Rows, TableState, after_act, tell_act, adds, Refused, Tells, HasCause, AtMostOne, next_row, entry_of}
 use Rattle.beldi_row.specs.{Key.RowKey, declared.row.Row.Row, declared.act.Act.Act, declared.act.Act.TheVariants.LockCell, declared.table.TableErr.TableErr, declared.table.TableErr.TheVariants.OutOfMemory, declared.table.TableErr.TheVariants.Failed, declared.table.TableErr.TheVariants.Full}
 use Rattle.beldi_walk.specs.declared.query.{Query.Query, Heard.Heard}
@@ -57,6 +57,7 @@ lent (kept v) = true
 lent (noted n) = true
 lent (held o) = true
 lent (died a) = true
+lent (packed v o) = true
 lent t = false
 
 abbrev pub lends : Told → Bool

@@ -116,6 +116,80 @@ fn an_item_is_written_and_read(rt: HostRuntime) -> Result<(), Fail> {
     Ok(())
 }
 
+// The walk of a write at a step, of the step's number.
+fn write_of(alloc: Global, step: u32) -> Result<WriteWalk, Fail> {
+    let item = item(alloc)?;
+    let place = Place {
+        intent: IntentId::root(alloc, 1),
+        step,
+    };
+    let who = Owner::Intent(IntentId::root(alloc, 1));
+    let op = CellOp::Write(Value::Int(i64::from(step)));
+    Ok(WriteWalk::new(1, item, place, who, op))
+}
+
+// Whether it is done in the turn after so many.
+fn writes_at(alloc: Global, table: &mut MapTable, step: u32, turns: u32) -> Result<bool, Fail> {
+    let write = write_of(alloc, step)?;
+    Ok(is_so!(
+        turn(alloc, table, write, turns)?,
+        WriteSays::Done {
+            first: true,
+            note: _
+        }
+    ))
+}
+
+// Whether it is found to have been done, in the turn after so many.
+fn wrote_at(alloc: Global, table: &mut MapTable, step: u32, turns: u32) -> Result<bool, Fail> {
+    let write = write_of(alloc, step)?;
+    Ok(is_so!(
+        turn(alloc, table, write, turns)?,
+        WriteSays::Done {
+            first: false,
+            note: Note::Wrote
+        }
+    ))
+}
+
+// Whether the writes at eight steps, of which the first makes the row, are done.
+fn fills(alloc: Global, table: &mut MapTable) -> Result<bool, Fail> {
+    let mut done = writes_at(alloc, table, 0, 2)?;
+    for step in 1..8 {
+        done = writes_at(alloc, table, step, 0)? && done;
+    }
+    Ok(done && table.len() == 1)
+}
+
+// Whether the ninth finds the row full, makes the second one, links it, and is done there.
+fn goes_past(alloc: Global, table: &mut MapTable) -> Result<bool, Fail> {
+    Ok(writes_at(alloc, table, 8, 3)? && table.len() == 2)
+}
+
+// Whether a read goes on from the first row, and gives what the second one has.
+fn reads_on(alloc: Global, table: &mut MapTable) -> Result<bool, Fail> {
+    let read = ReadWalk::new(1, item(alloc)?, None);
+    Ok(is_so!(
+        turn(alloc, table, read, 1)?,
+        ReadSays::Got(Some(Value::Int(8)))
+    ))
+}
+
+// Whether what was done is found in both rows.
+fn finds_all(alloc: Global, table: &mut MapTable) -> Result<bool, Fail> {
+    Ok(reads_on(alloc, table)? && wrote_at(alloc, table, 0, 0)? && wrote_at(alloc, table, 8, 1)?)
+}
+
+#[test]
+fn a_full_row_is_followed(rt: HostRuntime) -> Result<(), Fail> {
+    let alloc = rt.alloc();
+    let mut table = roomy(alloc)?;
+    assert!(rt; fills(alloc, &mut table)?);
+    assert!(rt; goes_past(alloc, &mut table)?);
+    assert!(rt; finds_all(alloc, &mut table)?);
+    Ok(())
+}
+
 fn locks(alloc: Global, table: &mut MapTable) -> Result<bool, Fail> {
     let key = Str::from_text(alloc, "k")?;
     let who = Owner::Intent(IntentId::root(alloc, 1));

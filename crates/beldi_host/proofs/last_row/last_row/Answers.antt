@@ -1,5 +1,6 @@
 use Rattle.beldi_host.proofs.Names.{Option, rules, sym, ◌≡◌}
-use Rattle.beldi_chain.specs.Chain.{at_row, chain}
+use Rattle.beldi_row.specs.Key.{at_row}
+use Rattle.beldi_chain.specs.Chain.{chain}
 use Rattle.beldi_host.proofs.LastRows.{Follows, follows_first, follows_last, follows_next}
 use Rattle.beldi_host.proofs.Steps.{begins, ends, goes}
 use Rattle.beldi_host.specs.LastRow.{IsLast, row_tells}

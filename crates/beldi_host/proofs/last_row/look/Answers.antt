@@ -1,5 +1,5 @@
 use Rattle.beldi_host.proofs.Names.{Err, Ok, Option, OutOfMemory, Row}
-use Rattle.beldi_chain.specs.Chain.{at_row}
+use Rattle.beldi_row.specs.Key.{at_row}
 use Rattle.beldi_host.proofs.Looks.{seen}
 use Rattle.beldi_host.specs.LastRow.{row_tells}
 use Rattle.beldi_host.proofs.last_row.look.Goals as goal

@@ -3,4 +3,4 @@ use Rattle.beldi_row.specs.Log.{index_from}
 use Rattle.beldi_row.proofs.notes.Log.index_of.Given as goal
 
 abbrev pub invariant-loop-index : goal.invariant-loop-index
-invariant-loop-index l = index_from l.index (drop l.index l.self-inside.entries.items) l.place ≡ index_from 0 l.self-inside.entries.items l.place
+invariant-loop-index l = index_from l.index (drop l.index l.entries) l.place ≡ index_from 0 l.self l.place

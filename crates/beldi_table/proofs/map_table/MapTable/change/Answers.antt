@@ -1,16 +1,16 @@
 use Rattle.std.specs.Option.{option_copied_mut}
 use Rattle.std.specs.FinMap as map
 use Rattle.std.proofs.Common.{rules, refl, sym, ◌∙◌, ap}
-use Rattle.beldi_row.{specs.declared.table.TableErr.TheVariants.OutOfMemory, specs.KeyOrder.key_total, specs.KeyOrder.key_exact, proofs.Rows.get_rows}
+use Rattle.beldi_row.{specs.KeyOrder.key_total, specs.KeyOrder.key_exact, proofs.Rows.get_rows}
 use Rattle.beldi_table.{specs.MapTable.rows_of, proofs.Changes.applied, proofs.Changes.unapplied, proofs.Changes.looks, proofs.Indexes.row_there, proofs.Indexes.not_acted}
 use Rattle.beldi_table.proofs.map_table.MapTable.change.Goals as goal
 
 pub invariant_of-self-in-Some : goal.invariant_of-self-in-Some
 invariant_of-self-in-Some c =
     let old = c.args.self.now in
-    let row = c.apply-applied.new.row in record {
-      indexed = row_there c.args.act c.args.now c.args.key.now c.in-Some.row.now row c.apply-applied.result c.binds.result c.switches-switched.result old.rows (c.get_mut.follows.lender row) old.open_keys c.note_if.new.keys c.follow.new.keys
-          c.binds.ensures c.switches-switched.ensures c.apply-applied.ensures (sym c.get_mut.ensures.value ∙ ap option_copied_mut c.in-Some.is)
+    let row = c.apply-change.new.row in record {
+      indexed = row_there c.args.act c.args.now c.args.key.now c.in-Some.row.now row c.apply-change.result c.binds.result c.switches-switched.result old.rows (c.get_mut.follows.lender row) old.open_keys c.note_if.new.keys c.follow.new.keys
+          c.binds.ensures c.switches-switched.ensures c.apply-change.ensures (sym c.get_mut.ensures.value ∙ ap option_copied_mut c.in-Some.is)
           old.indexed ((c.get_mut.follows.holds row).3 (search rules)).0 c.if-not-note_if.ensures c.follow.ensures;
     }
 
@@ -25,22 +25,20 @@ invariant_of-self c =
 pub returns-then-not-note_if : goal.returns-then-not-note_if
 returns-then-not-note_if c =
     let row = c.in-Some.row.now in record {
-      tries = unapplied c.args.act c.args.now c.args.key.now c.args.self.now.rows (c.get_mut.follows.lender row) row row OutOfMemory
-          (sym c.get_mut.ensures.value ∙ ap option_copied_mut c.in-Some.is) ((c.get_mut.follows.holds row).3 (search rules)).0 (refl, refl);
+      tries = (
+        unapplied c.args.key.now c.args.self.now.rows (c.get_mut.follows.lender row) row (sym c.get_mut.ensures.value ∙ ap option_copied_mut c.in-Some.is) ((c.get_mut.follows.holds row).3 (search rules)).0,
+        refl,
+      );
       room = refl;
     }
 
-pub returns-in-Ok-clause-tries : goal.returns-in-Ok-clause-tries
-returns-in-Ok-clause-tries c =
-    let row = c.apply-applied.new.row in
-    applied c.args.act c.args.now c.args.key.now c.args.self.now.room c.args.self.now.rows (c.get_mut.follows.lender row) c.in-Some.row.now row c.in-Ok.change
-    (sym c.get_mut.ensures.value ∙ ap option_copied_mut c.in-Some.is) ((c.get_mut.follows.holds row).3 (search rules)).0 c.in-Ok.ensures
-
-pub returns-in-Err-clause-tries : goal.returns-in-Err-clause-tries
-returns-in-Err-clause-tries c =
-    let row = c.apply-applied.new.row in
-    unapplied c.args.act c.args.now c.args.key.now c.args.self.now.rows (c.get_mut.follows.lender row) c.in-Some.row.now row c.in-Err.why
-    (sym c.get_mut.ensures.value ∙ ap option_copied_mut c.in-Some.is) ((c.get_mut.follows.holds row).3 (search rules)).0 c.in-Err.ensures
+pub returns-else-not-note_if : goal.returns-else-not-note_if
+returns-else-not-note_if c =
+    let row = c.apply-change.new.row in record {
+      tries = applied c.args.act c.args.now c.args.key.now c.args.self.now.room c.args.self.now.rows (c.get_mut.follows.lender row) c.in-Some.row.now row c.apply-change.result
+          (sym c.get_mut.ensures.value ∙ ap option_copied_mut c.in-Some.is) ((c.get_mut.follows.holds row).3 (search rules)).0 c.apply-change.ensures;
+      room = refl;
+    }
 
 pub returns-in-None-clause-tries : goal.returns-in-None-clause-tries
 returns-in-None-clause-tries c = (
