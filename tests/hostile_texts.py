@@ -151,7 +151,6 @@ TOLD = re.compile(rf"bound (\d+) run|acted ({ENTRY})")
 REPLY, ENDED = re.compile(rf"reply \d+ {OUTCOME}", re.S), re.compile(r"acted step (\d+) over")
 SETTLED = re.compile(r"settled \d+|unsettled \d+|stuck (\d+)")
 WAITS = re.compile(rf"run \d+ (?:{STANDS})")
-ITEM = re.compile(rf'\w+ \w+ ".*" {JSON}', re.S)
 BOOKED = re.compile(rf"start \d+ \w+ {JSON}|{ENTRY}", re.S)
 REFUSED = re.compile(
     r"refused line [1-9]\d*: (?:utf8|too-large|syntax|number|too-deep|too-many|line|value|unbuilt"
@@ -247,10 +246,11 @@ def functions_of(deployment):
 
 
 class Reading:
-    """Reads what `run` wrote, line by line, along the script."""
+    """Reads what `run` wrote, line by line, along the script of a deployment with these functions."""
 
-    def __init__(self, text):
+    def __init__(self, text, functions):
         self.lines, self.at, self.why, self.told = text.decode().split("\n"), 0, "", []
+        self.item = re.compile(rf'(?:{"|".join(functions)}) \w+ ".*" {JSON}', re.S)
 
     def peek(self):
         return self.lines[self.at] if self.at < len(self.lines) else ""
@@ -293,7 +293,7 @@ class Reading:
             while found and found[1] is not None and WAITS.fullmatch(self.peek()):
                 self.at += 1
         elif word == "tables":
-            self.listing("== tables", ITEM)
+            self.listing("== tables", self.item)
         elif word == "book":
             self.listing("== book", BOOKED)
         else:
@@ -337,7 +337,8 @@ def wrong_line(source, last):
 def along(source, status, text, said, last):
     """Goes along the script and its answers."""
     deployment, lines = parts_of(source)
-    functions, it, counted = functions_of(deployment), Reading(text), 0
+    functions = functions_of(deployment)
+    it, counted = Reading(text, functions), 0
     for number, line in enumerate(lines, deployment.count(b"\n") + 1):
         word, times = word_of(line, functions)
         if word is None:
@@ -349,7 +350,7 @@ def along(source, status, text, said, last):
             return it.why
     if status == 5:
         return f"no line is wrong, but {last}"
-    it.listing("== tables", ITEM)
+    it.listing("== tables", it.item)
     it.book()
     if (int(said[1]), int(said[2])) != (len(functions), counted):
         return f"check says {serve.short(said[0])}, and there are {len(functions)} functions and {counted} lines"
