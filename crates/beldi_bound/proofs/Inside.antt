@@ -3,7 +3,7 @@ use Rattle.std.specs.FinMap as map
 use Rattle.std.proofs.Common.{arith, List, ◌≡◌, ℕ, suc, ◌+◌, ◌*◌, ◌≤◌, Bool, true, false, is_some, Option, None, Some, refl, ap, subst}
 use Rattle.beldi_value.specs.declared.{id.IntentId.IntentId, place.Owner.Owner, place.Place.Place, rel.Rel.Rel, value.Value.Value}
 use Rattle.beldi_lang.specs.declared.effect.Effect.{Effect}
-use Rattle.beldi_row.specs.{Act.act, Act.added, Act.kept, Act.other_owner, Key.RowKey, Log.note_at, Table.Rows, declared.act.Act.Act, declared.notes.Note.Note, declared.row.Row.Row}
+use Rattle.beldi_row.specs.{Act.act, Act.added, Act.kept, Act.other_owner, Key.RowKey, Log.blank, Log.note_at, Table.Rows, declared.act.Act.Act, declared.notes.Note.Note, declared.row.Row.Row}
 use Rattle.beldi_walk.specs.{Query.Told, Query.rows_after, Query.said, Query.told_by, declared.query.Query.Query}
 use Rattle.beldi_chain.specs.Chain.{chain, content}
 use Rattle.beldi_links.specs.Links.{IsLinked, SeesAt}
@@ -135,9 +135,9 @@ module _ (v : Visit → ℕ) (e m : Rows) (now : ℕ) (id : IntentId) (func : �
       goes WriteGoes.Worn h = tt
 
   -- its first row is made, with this value
-  head_turn : (f : Effect) (u : Value) → let q = Query.Act side (Act.MakeCell u None) in Lower f q (3 * s) (tx_says (TxAt.Head u) (head_made (told_by q now m)))
+  head_turn : (f : Effect) (u : Value) → let q = Query.Act side (Act.MakeCell u None blank) in Lower f q (3 * s) (tx_says (TxAt.Head u) (head_made (told_by q now m)))
   head_turn f u =
-      let q = Query.Act side (Act.MakeCell u None) in
+      let q = Query.Act side (Act.MakeCell u None blank) in
       let less = ap (λ b. put_left s b (Try 0)) (made_there now m side u None) in
       let some = length_some e side in
       made_tells (λ z. Lower f q (3 * s) (tx_says (TxAt.Head u) (head_made (said z)))) now u None (map.get m side) (omega (arith, less, some)) (omega (arith, less, some))

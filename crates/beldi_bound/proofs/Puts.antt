@@ -2,7 +2,7 @@
 use Rattle.std.specs.FinMap as map
 use Rattle.std.proofs.Common.{arith, ◌≡◌, ◌⊎◌, inl, inr, ℕ, suc, ◌+◌, ◌-◌, ◌*◌, ◌<◌, ◌≤◌, ◌==◌, Bool, true, false, cond, if◌then◌else◌, is_some, length, Option, None, Some, eq-eqb, refl, ap, sym, ◌∙◌, subst}
 use Rattle.beldi_value.specs.{Id.age_of, Passes.passes, declared.id.IntentId.IntentId, declared.place.Owner.Owner, declared.place.Place.Place, declared.value.Value.Value, declared.value.Value.TheVariants.Null}
-use Rattle.beldi_row.{proofs.Gets.got, proofs.Gets.key_self, specs.Key.RowKey, specs.Key.at_row, specs.Log.most_entries, specs.Log.note_at, specs.Table.Rows, specs.declared.act.Act.Act, specs.declared.notes.Note.Note, specs.declared.row.Cell.Cell, specs.declared.row.Row.Row}
+use Rattle.beldi_row.{proofs.Gets.got, proofs.Gets.key_self, specs.Key.RowKey, specs.Key.at_row, specs.Log.blank, specs.Log.most_entries, specs.Log.note_at, specs.Table.Rows, specs.declared.act.Act.Act, specs.declared.notes.Note.Note, specs.declared.row.Cell.Cell, specs.declared.row.Row.Row}
 use Rattle.beldi_row.specs.Act.{Tell, act, added, cond_to, did, died, entered, given_or, held, held_or, if_owned, if_room, is_full, next, next_or, no_row, not_full, not_owner, noted, noted_or, other_owner, owned_or, owns, packed, present, tested, unless_held, waits_for}
 use Rattle.beldi_walk.{proofs.Promises.at_each, specs.Query.rows_after, specs.Query.said, specs.Query.told_by, specs.declared.query.Query.Query}
 use Rattle.beldi_chain.specs.{Chain.Chain, Chain.chain, Chain.content, Chain.most_rows, Content.Content}
@@ -87,7 +87,7 @@ none_tells P p who now (CellOp.Free v) h = h
 
 -- ---- a row that is made, and a lock that is asked for
 module _ (P : Tell → Type 0) (now : ℕ) where
-  pub made_tells : (v : Value) (o : Option Owner) (r : Option Row) → P added → P present → P (act (Act.MakeCell v o) now r).1
+  pub made_tells : (v : Value) (o : Option Owner) (r : Option Row) → P added → P present → P (act (Act.MakeCell v o blank) now r).1
   made_tells v o None new old = new
   made_tells v o (Some r) new old = old
 
@@ -107,10 +107,10 @@ there_stays = at_each (λ r s. Comes (is_some r) (is_some s)) (λ r h. h) stays_
     stays_so a now (Some r) h = refl
 
 -- a row that was made is there
-pub made_there : (now : ℕ) (m : Rows) (k : RowKey) (v : Value) (o : Option Owner) → is_some (map.get (rows_after (Query.Act k (Act.MakeCell v o)) now m) k) ≡ true
-made_there now m k v o = let z : Option Row = (act (Act.MakeCell v o) now (map.get m k)).0 in ap is_some (got m k k z ∙ ap (λ b. cond b z (map.get m k)) (key_self k)) ∙ by_row (map.get m k)
+pub made_there : (now : ℕ) (m : Rows) (k : RowKey) (v : Value) (o : Option Owner) → is_some (map.get (rows_after (Query.Act k (Act.MakeCell v o blank)) now m) k) ≡ true
+made_there now m k v o = let z : Option Row = (act (Act.MakeCell v o blank) now (map.get m k)).0 in ap is_some (got m k k z ∙ ap (λ b. cond b z (map.get m k)) (key_self k)) ∙ by_row (map.get m k)
   where
-    by_row : (r : Option Row) → is_some (act (Act.MakeCell v o) now r).0 ≡ true
+    by_row : (r : Option Row) → is_some (act (Act.MakeCell v o blank) now r).0 ≡ true
     by_row None = refl
     by_row (Some r) = refl
 

@@ -8,7 +8,7 @@ ghost use Rattle.beldi_bytes.specs.RowBytes.{eight, value_bytes, code_bytes, cau
 use crate::cursor::{Cursor, ReadErr, given};
 use crate::key_in::{read_id, read_place, read_tx};
 use crate::value_in::read_value;
-use beldi_row::{Entry, Log, MOST_ENTRIES, Note};
+use beldi_row::{Blank, Entry, Log, MOST_ENTRIES, Note};
 use beldi_value::{Apart, Caller, Cause, Code, IntentId, Outcome, Owner, Place, TxId, Value};
 use std::alloc::Global;
 
@@ -201,7 +201,10 @@ pub(crate) fn read_log(alloc: Global, from: &mut Cursor<'_>) -> Result<Log, Read
     if count as usize > MOST_ENTRIES {
         return Err(ReadErr::Foreign);
     }
-    let mut log = Log::new(alloc);
+    let mut log = match Blank::new(alloc) {
+        Ok(blank) => blank.log(),
+        Err(_) => return Err(ReadErr::OutOfMemory),
+    };
     for _turn in 0..count {
         let entry = given!(read_entry(alloc, from); log);
         enter(&mut log, entry);

@@ -1,7 +1,7 @@
 -- What an act leaves of a row, and so of a chain: a cell without a next gets entries at its end or a next at most, and one with a next stays.
 use Rattle.std.specs.FinMap as map
 use Rattle.std.specs.Ordering.{is_eq}
-use Rattle.std.proofs.Common.{◌≡◌, ◌⊎◌, ℕ, zero, suc, Bool, true, false, cond, List, [], ◌∷◌, ◌++◌, Option, None, Some, nat_lt, arith, if◌then◌else◌, inl, inr, refl, ap, sym, ◌∙◌, subst, append-nil}
+use Rattle.std.proofs.Common.{◌≡◌, ◌⊎◌, ℕ, zero, suc, Bool, true, false, cond, List, [], ◌∷◌, ◌++◌, Option, None, Some, nat_lt, if◌then◌else◌, inl, inr, refl, ap, sym, ◌∙◌, subst, append-nil}
 use Rattle.beldi_value.specs.{Id.age_of, Passes.passes, declared.place.Owner.Owner, declared.place.Place.Place, declared.value.Value.Value}
 use Rattle.beldi_row.specs.declared.act.Act.TheVariants.{Look, Issue, Bind, Register, End, Stamp, PutRead, OpenInvoke, CallBack, NoteRegistered, PutLockset, MakeCell, WriteCell, CondCell, LockCell, FreeCell, LinkCell}
 use Rattle.beldi_row.specs.Act.{Tell, act, gone, did, held, died, no_row, tested, not_owner, next, packed, not_full, on, on_intent, on_invoke, on_cell, bind_to, end_with, stamp_with, call_back_to, register_to, noted_or, next_or, held_or, waits_for, owned_or, at_tail, unless_held, if_owned, if_room, is_full, link_to, owns, given_or, other_owner, entered, write_at, cond_at, lock_at, free_at}
@@ -149,7 +149,7 @@ act_on (OpenInvoke f) now r = stays r
 act_on (CallBack o) now r = on_calls (λ i. call_back_to o i i.result) gone r
 act_on NoteRegistered now r = on_calls (λ i. register_to i i.registered) gone r
 act_on PutLockset now r = stays r
-act_on (MakeCell v o) now r = stays r
+act_on (MakeCell v o l) now r = stays r
 act_on (WriteCell p w v) now r = on_cells (write_at p w v) no_row (λ c. unheld c p w Wrote v c.owner did) r
 act_on (CondCell p w k o v) now r = on_cells (cond_at p w k o v) no_row (λ c. let b = passes c.value k o in unheld c p w (Cond b) (if b then v else c.value) c.owner (tested b)) r
 act_on (LockCell p w s) now r = on_cells (lock_at p w) no_row (λ c. locked c p w) r

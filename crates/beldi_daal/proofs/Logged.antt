@@ -3,7 +3,7 @@ use Rattle.std.specs.FinMap as map
 use Rattle.std.proofs.Common.{◌≡◌, ℕ, ◌+◌, ◌-◌, ◌<◌, Bool, true, false, if◌then◌else◌, [], length, Option, None, Some, Ok, Err, refl, ap, sym, ◌∙◌, subst, arith, eq-eqb}
 use Rattle.beldi_value.specs.declared.{place.Owner.Owner, value.Value.Value, value.Value.TheVariants.Null}
 use Rattle.beldi_row.specs.Act.{Tell, act, next, not_full, next_or, is_full}
-use Rattle.beldi_row.{specs.declared.notes.Note.Note, specs.declared.row.Cell.Cell, specs.declared.row.Row.Row, specs.declared.act.Act.TheVariants.LinkCell, specs.declared.act.Act.TheVariants.Look, specs.declared.act.Act.TheVariants.MakeCell, specs.declared.table.TableErr.TableErr, specs.declared.table.TableErr.TheVariants.OutOfMemory, specs.declared.table.TableErr.TheVariants.Failed, specs.declared.table.TableErr.TheVariants.Full, specs.Key.RowKey, specs.Key.at_row, specs.Log.most_entries, specs.Log.note_at, specs.Table.Rows, specs.Table.after_act, specs.Table.set_row, proofs.Tells.tells_map, proofs.Unchanged.left}
+use Rattle.beldi_row.{specs.declared.notes.Note.Note, specs.declared.row.Cell.Cell, specs.declared.row.Row.Row, specs.declared.act.Act.TheVariants.LinkCell, specs.declared.act.Act.TheVariants.Look, specs.declared.act.Act.TheVariants.MakeCell, specs.declared.table.TableErr.TableErr, specs.declared.table.TableErr.TheVariants.OutOfMemory, specs.declared.table.TableErr.TheVariants.Failed, specs.declared.table.TableErr.TheVariants.Full, specs.Key.RowKey, specs.Key.at_row, specs.Log.blank, specs.Log.most_entries, specs.Log.note_at, specs.Table.Rows, specs.Table.after_act, specs.Table.set_row, proofs.Tells.tells_map, proofs.Unchanged.left}
 use Rattle.beldi_chain.{specs.Chain.Chain, specs.Chain.chain, specs.Chain.content, specs.Chain.most_rows, specs.Chain.most_rows_are, specs.Content.Content, proofs.OneRow.no_content}
 use Rattle.beldi_links.specs.Links.{At, Fits, FitsAt, GrowsBy, IsAfter, IsLinked, Linkable, Linked, LinkedFrom, Meets, Passed, ReadsAt, RowsGrow, SeesAt, SetTo, StandsAt}
 use Rattle.beldi_links.proofs.{Grows.making_grows, Grows.one_grows, Grows.others_keep, Keeps.first_linked, Keeps.linked as link_changes_nothing, Keeps.linking_keeps, Keeps.made as making_changes_nothing, Keeps.making_keeps, Meets.linked_is_seen, Meets.next_is_read, Meets.spare_is_made, Meets.spare_is_seen, Meets.walks_begin, Ways.content_is, Ways.one_cell}
@@ -14,11 +14,11 @@ use Rattle.beldi_daal.proofs.OneRow.{AtEnd, on_cell, on_none}
 use Rattle.beldi_daal.proofs.Turns.{Turn, at_last, content_here, first_head, is_set, is_tail, linked_by, moved, none_at_all, still, tried_cell}
 
 -- ---- a cell that is made
-abbrev blank : Value → Option Owner → Cell
-blank v o = record { value = v; owner = o; log = []; next = None; marked = false; dangled = None }
+abbrev made_cell : Value → Option Owner → Cell
+made_cell v o = record { value = v; owner = o; log = []; next = None; marked = false; dangled = None }
 
-blank_fits : (v : Value) (o : Option Owner) → Fits (blank v o)
-blank_fits v o = record { entries = omega arith; marked = refl; dangled = refl }
+made_fits : (v : Value) (o : Option Owner) → Fits (made_cell v o)
+made_fits v o = record { entries = omega arith; marked = refl; dangled = refl }
 
 module _ (w : WriteWalk) (m : Rows) (linked : IsLinked (chain m (walk_key w))) (stood : SeesAt (chain m (walk_key w)) w.place (at_of w.at)) (now : ℕ) where
   abbrev f : Chain
@@ -36,30 +36,30 @@ module _ (w : WriteWalk) (m : Rows) (linked : IsLinked (chain m (walk_key w))) (
   -- ---- the first row is made
   module _ (none : (n : ℕ) → f n ≡ None) where
     abbrev first : Chain
-    first = chain (set_row m (at_row (walk_key w) 0) (Some (Row.Cell (blank Null None)))) (walk_key w)
+    first = chain (set_row m (at_row (walk_key w) 0) (Some (Row.Cell (made_cell Null None)))) (walk_key w)
 
-    first_set : SetTo f 0 (Some (Row.Cell (blank Null None))) first
-    first_set = is_set w m 0 (Some (Row.Cell (blank Null None)))
+    first_set : SetTo f 0 (Some (Row.Cell (made_cell Null None))) first
+    first_set = is_set w m 0 (Some (Row.Cell (made_cell Null None)))
 
     first_rows : Linked first × RowsGrow f first
-    first_rows = first_linked f first (blank Null None) none first_set refl refl (blank_fits Null None)
+    first_rows = first_linked f first (made_cell Null None) none first_set refl refl (made_fits Null None)
 
     first_content : content first ≡ content f
     first_content =
-        content_is first [] 0 (blank Null None) refl first_set.here refl (let most = most_rows_are in omega (arith, most))
+        content_is first [] 0 (made_cell Null None) refl first_set.here refl (let most = most_rows_are in omega (arith, most))
         ∙ sym (no_content f (none 0))
 
-  made_first : (y : Option Row) → f 0 ≡ y → Turn w m Make 0 (act (MakeCell Null None) now y)
+  made_first : (y : Option Row) → f 0 ≡ y → Turn w m Make 0 (act (MakeCell Null None blank) now y)
   made_first None is =
       let none : (n : ℕ) → f n ≡ None = subst (λ z. LinkedFrom z f) is linked in
       let rows = first_rows none in
-      moved w m 0 (Some (Row.Cell (blank Null None))) (walk_at w (WriteGoes.On (Try 0))) Going rows.0 rows.1 (first_content none) (walks_begin (first none) w.place)
+      moved w m 0 (Some (Row.Cell (made_cell Null None))) (walk_at w (WriteGoes.On (Try 0))) Going rows.0 rows.1 (first_content none) (walks_begin (first none) w.place)
   made_first (Some y) is = still w m linked (walk_at w (WriteGoes.On (Try 0))) Going 0 (Some y) (sym is) refl (walks_begin f w.place)
 
   -- ---- a row is made that is to follow a full one
   module _ (n : ℕ) (t : FullRow) (sees : SeesAt f w.place (At.Append n t.value t.owner)) where
     abbrev spare : Cell
-    spare = blank t.value t.owner
+    spare = made_cell t.value t.owner
 
     abbrev more : Chain
     more = chain (set_row m (at_row (walk_key w) n) (Some (Row.Cell spare))) (walk_key w)
@@ -70,15 +70,15 @@ module _ (w : WriteWalk) (m : Rows) (linked : IsLinked (chain m (walk_key w))) (
         let set : SetTo f n (Some (Row.Cell spare)) more = is_set w m n (Some (Row.Cell spare)) in
         let past : SetTo f (l.last + 1) (Some (Row.Cell spare)) more = subst (λ z. SetTo f z (Some (Row.Cell spare)) more) made.0 set in
         let grows : RowsGrow f more = making_grows f more l (Row.Cell spare) (ap f (sym made.0) ∙ is) past in
-        moved w m n (Some (Row.Cell spare)) (walk_at w (WriteGoes.On (Link n))) Going (making_keeps f more l spare made.1 (blank_fits t.value t.owner) past) grows
+        moved w m n (Some (Row.Cell spare)) (walk_at w (WriteGoes.On (Link n))) Going (making_keeps f more l spare made.1 (made_fits t.value t.owner) past) grows
         (making_changes_nothing f more l (Some (Row.Cell spare)) past)
         (spare_is_seen more w.place n t.value t.owner spare (others_keep f more w.place (At.Append n t.value t.owner) grows sees) set.here)
 
-    there_already : (y : Row) → f n ≡ Some y → FitsAt (Some y) → Turn w m (Append n t) n (act (MakeCell t.value t.owner) now (Some y))
+    there_already : (y : Row) → f n ≡ Some y → FitsAt (Some y) → Turn w m (Append n t) n (act (MakeCell t.value t.owner blank) now (Some y))
     there_already (Row.Cell c) is fits = still w m linked (walk_at w (WriteGoes.On (Link n))) Going n (Some (Row.Cell c)) (sym is) refl (spare_is_seen f w.place n t.value t.owner c sees is)
     there_already y is fits = absurd fits
 
-    appended : Linked f → (y : Option Row) → f n ≡ y → Turn w m (Append n t) n (act (MakeCell t.value t.owner) now y)
+    appended : Linked f → (y : Option Row) → f n ≡ y → Turn w m (Append n t) n (act (MakeCell t.value t.owner blank) now y)
     appended l None is = made_more l is
     appended l (Some y) is = there_already y is (subst FitsAt is (l.fits n))
 
@@ -138,8 +138,8 @@ module _ (w : WriteWalk) (m : Rows) (linked : IsLinked (chain m (walk_key w))) (
   by_stage : (at : WriteAt) → SeesAt f w.place (at_of at) → Stage at
   by_stage (Try r) sees = tried r sees (f r) refl
   by_stage Make sees =
-      subst (λ (q : RowKey). LoggedTurn w (walk_at w (write_goes (done_note w.op) Make (said (act (MakeCell Null None) now (map.get m q)).1))) m (set_row m q (act (MakeCell Null None) now (map.get m q)).0)
-      (walk_so (write_goes (done_note w.op) Make (said (act (MakeCell Null None) now (map.get m q)).1))))
+      subst (λ (q : RowKey). LoggedTurn w (walk_at w (write_goes (done_note w.op) Make (said (act (MakeCell Null None blank) now (map.get m q)).1))) m (set_row m q (act (MakeCell Null None blank) now (map.get m q)).0)
+      (walk_so (write_goes (done_note w.op) Make (said (act (MakeCell Null None blank) now (map.get m q)).1))))
       (first_head w.home w.item).first (made_first (f 0) refl)
   by_stage (Append n t) (r, after, meets, passed, told) = appended n t (r, after, meets, passed, told) (linked_by f linked r (Row.Cell told.cell) told.there) (f n) refl
   by_stage (Link n) (r, after, meets, passed, link) = subst (λ z. Turn w m (Link n) z (act (LinkCell n) now (f z))) (before_one n r after meets passed link) (linked_on n r after meets passed link)
@@ -179,16 +179,16 @@ module _ (w : WriteWalk) (m : Rows) (linked : IsLinked (chain m (walk_key w))) (
       by_kind l y is fits = absurd fits
 
   -- the first row is there
-  first_same : (y : Option Row) → its 0 ≡ y → (act (MakeCell Null None) now y).0 ≡ y
+  first_same : (y : Option Row) → its 0 ≡ y → (act (MakeCell Null None blank) now y).0 ≡ y
   first_same None is = let clash : None ≡ Some note = sym (ap (λ (z : Content). note_at z.notes w.place) (no_content its is)) ∙ noted in cc
   first_same (Some y) is = refl
 
   -- .. and one after the row that is full
-  after_same : (n : ℕ) (t : FullRow) → SeesAt its w.place (At.Append n t.value t.owner) → (y : Option Row) → its n ≡ y → (act (MakeCell t.value t.owner) now y).0 ≡ y
+  after_same : (n : ℕ) (t : FullRow) → SeesAt its w.place (At.Append n t.value t.owner) → (y : Option Row) → its n ≡ y → (act (MakeCell t.value t.owner blank) now y).0 ≡ y
   after_same n t (r, after, meets, passed, told) (Some y) is = refl
   after_same n t (r, after, meets, passed, told) None is =
       let l : Linked its = linked_by its linked r (Row.Cell told.cell) told.there in
-      let past = (spare_is_made its l w.place n t.value t.owner (blank t.value t.owner) (r, after, meets, passed, told) is refl refl refl refl).0 in
+      let past = (spare_is_made its l w.place n t.value t.owner (made_cell t.value t.owner) (r, after, meets, passed, told) is refl refl refl refl).0 in
       let here = after.next in
       let at : r ≡ l.last = omega (arith, past, here) in
       let same : l.tail ≡ told.cell = one_cell l.tail told.cell (sym l.there ∙ ap its (sym at) ∙ told.there) in
@@ -203,8 +203,8 @@ module _ (w : WriteWalk) (m : Rows) (linked : IsLinked (chain m (walk_key w))) (
 
   by_place : (at : WriteAt) → SeesAt its w.place (at_of at) → rows_after (write_asks (walk_key w) w.place w.who w.op at) now m ≡ m
   by_place (Try r) sees = left (op_act w.place w.who w.op) now (at_row (walk_key w) r) m (its r) refl (tried_same r sees.0 sees.1 (its r) refl)
-  by_place Make sees = subst (λ (q : RowKey). after_act (MakeCell Null None) now q m ≡ m) (first_head w.home w.item).first (left (MakeCell Null None) now (at_row (walk_key w) 0) m (its 0) refl (first_same (its 0) refl))
-  by_place (Append n t) sees = left (MakeCell t.value t.owner) now (at_row (walk_key w) n) m (its n) refl (after_same n t sees (its n) refl)
+  by_place Make sees = subst (λ (q : RowKey). after_act (MakeCell Null None blank) now q m ≡ m) (first_head w.home w.item).first (left (MakeCell Null None blank) now (at_row (walk_key w) 0) m (its 0) refl (first_same (its 0) refl))
+  by_place (Append n t) sees = left (MakeCell t.value t.owner blank) now (at_row (walk_key w) n) m (its n) refl (after_same n t sees (its n) refl)
   by_place (Link n) (r, after, meets, passed, link) =
       subst (λ z. after_act (LinkCell n) now (at_row (walk_key w) z) m ≡ m) (let a = after.next in omega (arith, a)) (left (LinkCell n) now (at_row (walk_key w) r) m (its r) refl (linked_same n r meets passed link))
 

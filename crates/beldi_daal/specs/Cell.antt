@@ -2,7 +2,7 @@
 use Rattle.std.specs.Prelude.{ℕ, ◌+◌, ◌-◌, ◌^◌, ◌==◌, List, true, false, Option, Some, None, if◌then◌else◌}
 use Rattle.beldi_value.specs.{declared.value.Value.TheVariants.Null, declared.place.Place.Place, declared.place.Owner.Owner, declared.place.TxId.TxId, Spare.spare}
 use Rattle.beldi_row.specs.Act.{absent, here, added, present, no_row, did, died, noted, next, held, not_owner, tested, packed, other_owner}
-use Rattle.beldi_row.specs.{declared.key.Kind.TheVariants.Shadow, declared.act.Act.Act, declared.notes.Note.Note, declared.notes.Note.TheVariants.Wrote, declared.notes.Note.TheVariants.Cond, declared.notes.Note.TheVariants.Got, declared.notes.Note.TheVariants.Died, declared.notes.Note.TheVariants.Freed, declared.row.Cell.Cell, declared.act.Act.TheVariants.MakeCell, declared.act.Act.TheVariants.WriteCell, declared.act.Act.TheVariants.CondCell, declared.act.Act.TheVariants.LockCell, declared.act.Act.TheVariants.FreeCell, declared.act.Act.TheVariants.LinkCell, Key.RowKey, Key.at_row, Key.head_key, declared.row.Row.Row}
+use Rattle.beldi_row.specs.{declared.key.Kind.TheVariants.Shadow, declared.act.Act.Act, declared.notes.Note.Note, declared.notes.Note.TheVariants.Wrote, declared.notes.Note.TheVariants.Cond, declared.notes.Note.TheVariants.Got, declared.notes.Note.TheVariants.Died, declared.notes.Note.TheVariants.Freed, declared.row.Cell.Cell, declared.act.Act.TheVariants.MakeCell, declared.act.Act.TheVariants.WriteCell, declared.act.Act.TheVariants.CondCell, declared.act.Act.TheVariants.LockCell, declared.act.Act.TheVariants.FreeCell, declared.act.Act.TheVariants.LinkCell, Key.RowKey, Key.at_row, Key.head_key, Log.blank, declared.row.Row.Row}
 use Rattle.beldi_walk.specs.{declared.query.Query.Query, Query.Told, Query.said}
 use Rattle.beldi_daal.specs.declared.cell.{CellOp.CellOp, FullRow.FullRow, WriteAt.WriteAt, WriteAt.TheVariants.Try, WriteAt.TheVariants.Make, WriteAt.TheVariants.Append, WriteAt.TheVariants.Link, WriteGoes.WriteGoes, ReadGoes.ReadGoes}
 
@@ -33,8 +33,8 @@ done_note (CellOp.Free v) = Freed
 -- made, which is to follow a full one, with the value and the owner that this told; or that it be linked to that one
 abbrev pub write_asks : RowKey → Place → Owner → CellOp → WriteAt → Query
 write_asks k p who op (Try r) = Query.Act (at_row k r) (op_act p who op)
-write_asks k p who op Make = Query.Act k (MakeCell Null None)
-write_asks k p who op (Append n t) = Query.Act (at_row k n) (MakeCell t.value t.owner)
+write_asks k p who op Make = Query.Act k (MakeCell Null None blank)
+write_asks k p who op (Append n t) = Query.Act (at_row k n) (MakeCell t.value t.owner blank)
 write_asks k p who op (Link n) = Query.Act (at_row k (n - 1)) (LinkCell n)
 
 -- the greatest number of a row

@@ -4,13 +4,14 @@ ghost use Rattle.std.specs.Option.{option_copied};
 ghost use Rattle.beldi_walk.specs.Query.{told_of, lends};
 ghost use Rattle.beldi_value.specs.declared.value.Value.TheVariants.{Null};
 ghost use Rattle.beldi_row.specs.Key.{at_row};
+ghost use Rattle.beldi_row.specs.Log.{blank};
 ghost use Rattle.beldi_row.specs.declared.act.Act.TheVariants as acts;
 ghost use Rattle.beldi_walk.specs.declared.query.Query.TheVariants as queries;
 ghost use Rattle.beldi_daal.specs.declared.cell.WriteAt.TheVariants as stages;
 ghost use Rattle.beldi_daal.specs.declared.cell.WriteGoes.TheVariants as goes;
 ghost use Rattle.beldi_daal.specs.Cell.{cell_key as key_of, shadow_key as shadow_key_of, op_act, done_note as done_note_of, write_asks, full_goes, made_goes, write_goes, read_goes, cell_goes, in_the_way};
 
-use beldi_row::{Act, Cell, Kind, Note, Row, RowKey, Said, copy_owner, copy_tx};
+use beldi_row::{Act, Blank, Cell, Kind, Note, Row, RowKey, Said, copy_owner, copy_tx};
 use beldi_value::{Apart, Owner, Place, Rel, Spare, Str, TxId, Value, or_drop};
 use beldi_walk::{Heard, Query};
 use std::alloc::{AllocError, Global};
@@ -215,19 +216,30 @@ pub fn write_query(
 
 // Asks that an item's first row be made.
 fn make_query(alloc: Global, key: RowKey) -> Result<Apart<Query>, AllocError>
-    ensures { IfOk result (λ q. q ≡ queries.Act key (acts.MakeCell Null None)) }
+    ensures { IfOk result (λ q. q ≡ queries.Act key (acts.MakeCell Null None blank)) }
 {
-    let value = Value::Null;
-    Query::act(alloc, key, Act::MakeCell { value, owner: None })
+    let blank = or_drop!(Blank::new(alloc); key);
+    let act = Act::MakeCell {
+        value: Value::Null,
+        owner: None,
+        blank,
+    };
+    Query::act(alloc, key, act)
 }
 
 // Asks that a row be made with the value and the owner of a full one.
 fn append_query(alloc: Global, key: RowKey, told: &FullRow) -> Result<Apart<Query>, AllocError>
-    ensures { IfOk result (λ q. q ≡ queries.Act key (acts.MakeCell told.now.value told.now.owner)) }
+    ensures { IfOk result (λ q. q ≡ queries.Act key (acts.MakeCell told.now.value told.now.owner blank)) }
 {
     let value = or_drop!(told.value.copy(alloc); key);
     let owner = or_drop!(owner_of(alloc, told.owner.as_ref()); key, value);
-    Query::act(alloc, key, Act::MakeCell { value, owner })
+    let blank = or_drop!(Blank::new(alloc); key, value, owner);
+    let act = Act::MakeCell {
+        value,
+        owner,
+        blank,
+    };
+    Query::act(alloc, key, act)
 }
 
 // Asks that the row of this number be linked to the one before it.

@@ -168,7 +168,7 @@ row_lives (OpenInvoke f) now r h = row_stays (Some r)
 row_lives (CallBack o) now r h = on_calls (λ i. call_back_to o i i.result) gone r
 row_lives NoteRegistered now r h = on_calls (λ i. register_to i i.registered) gone r
 row_lives PutLockset now r h = row_stays (Some r)
-row_lives (MakeCell v o) now r h = row_stays (Some r)
+row_lives (MakeCell v o l) now r h = row_stays (Some r)
 row_lives (WriteCell p w v) now r h = on_cells (write_at p w v) no_row (λ c. let z : Cell × Tell = (entered p Wrote v c.owner c, did) in unheld c p w (if_room c z) (room c z (enters c p Wrote v c.owner did (λ age e. cc)))) r
 row_lives (CondCell p w k o v) now r h =
     on_cells (cond_at p w k o v) no_row

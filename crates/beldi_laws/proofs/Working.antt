@@ -1,6 +1,6 @@
 -- The turns of an operation inside a transaction, past its lock: it looks at its shadow and at the item, keeps what it read, and makes and
 -- writes its shadow. What such a turn leaves of them is the law of its turns (`Turned`): no row is opened here.
-use Rattle.beldi_row.specs.{Act.absent, Act.added, Act.here as row_here, Act.present}
+use Rattle.beldi_row.specs.{Act.absent, Act.added, Act.here as row_here, Act.present, Log.blank}
 use Rattle.beldi_known.{specs.Contents.IsAside, specs.InsideLaws.KeepsValue, proofs.Inside.shadow_kept}
 use Rattle.beldi_chain.proofs.Heads.{same_rows}
 use Rattle.beldi_txn.specs.{TxTurn.AsideMoves, TxTurn.HasLock, TxTurn.ShadowMoves, TxTurn.head_asked, TxTurn.is_going, TxWalk.said_of, declared.tx.TxGoes.TxGoes}
@@ -529,7 +529,7 @@ module _ (d : Deployment) (c : Core) (m : Rows) (i : ℕ) (r : Run) (g : Begun) 
 
     -- it makes its shadow, with the value that it found
     abbrev head_query : Value → Query
-    head_query w = Query.Act test_row (MakeCell w None)
+    head_query w = Query.Act test_row (MakeCell w None blank)
 
     abbrev HeadLed : Value → TxGoes → Type 0
     HeadLed w s = Led test is (t, key) refl l (TxAt.Head w) (head_query w) (rows_after (head_query w) c.now m) s

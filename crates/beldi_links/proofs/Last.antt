@@ -1,5 +1,5 @@
 -- The last row of linked rows: it is a cell, and is there where any row is; or there is no row, and they hold nothing.
-use Rattle.std.proofs.Common.{◌≡◌, ℕ, true, Option, None, Some, is_some, refl, ap, sym, ◌∙◌, subst}
+use Rattle.std.proofs.Common.{◌≡◌, ℕ, true, Option, None, Some, is_some, ap, sym, ◌∙◌, subst}
 use Rattle.beldi_row.specs.declared.row.Row.{Row}
 use Rattle.beldi_chain.{specs.Chain.Chain, specs.Chain.content, specs.Chain.tail, specs.Content.content_in, proofs.OneRow.no_content, proofs.OneRow.no_tail}
 use Rattle.beldi_links.specs.Links.{IsLinked, Linked, LinkedFrom}

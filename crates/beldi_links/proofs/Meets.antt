@@ -2,7 +2,7 @@
 use Rattle.std.proofs.lemmas.{Bool.eqb-false, Option.none-some}
 use Rattle.std.proofs.Common.{◌≡◌, ◌⊎◌, inl, inr, ℕ, ◌+◌, ◌<◌, ◌≤◌, Bool, true, false, List, [], ◌∷◌, ◌++◌, length, is_some, Option, None, Some, nat_lt, if◌then◌else◌, refl, ap, sym, ◌∙◌, subst, arith, append_assoc, ltb-true, ltb-false}
 use Rattle.beldi_value.specs.declared.place.Place.{Place}
-use Rattle.beldi_row.specs.{declared.notes.Note.Note, declared.row.Cell.Cell, declared.row.Row.Row, Log.most_entries, Log.note_at, Log.place_eq}
+use Rattle.beldi_row.specs.{declared.notes.Note.Note, declared.row.Cell.Cell, declared.row.Row.Row, Log.note_at, Log.place_eq}
 use Rattle.beldi_chain.specs.{Chain.Chain, Content.Content, Content.log_of}
 use Rattle.beldi_links.specs.{Laws.FullIsSeen, Laws.LastIsLast, Laws.LinkedIsSeen, Laws.MeetingsGoOn, Laws.NextIsRead, Laws.NextIsSeen, Laws.NoneIsNoted, Laws.NotedIsNoted, Laws.PassedGoesOn, Laws.ReadsBegin, Laws.SpareIsMade, Laws.SpareIsSeen, Laws.WalksBegin, Laws.WalksEnd, Links.FitsAt, Links.IsPassed, Links.IsSpare, Links.LeadsTo, Links.Linked, Links.Meets, Links.Passed, Links.StandsAt, Links.Steps, Links.ToldBy, Links.before}
 use Rattle.beldi_links.proofs.Ways.{before_join, content_is, few, join, none_next, one_cell, same_or, then_way}

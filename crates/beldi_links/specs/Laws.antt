@@ -1,11 +1,11 @@
 -- What is so of linked rows, whatever acts there are.
-use Rattle.std.specs.Prelude.{◌≡◌, false, ℕ, ◌+◌, ◌<◌, ◌≤◌, List, [], ◌∷◌, ◌++◌, length, Option, Some, None}
+use Rattle.std.specs.Prelude.{◌≡◌, false, ℕ, ◌+◌, ◌<◌, List, [], ◌∷◌, ◌++◌, length, Option, Some, None}
 use Rattle.std.specs.Ordering.{is_eq}
 use Rattle.std.specs.FinMap as map
 use Rattle.beldi_value.specs.declared.{place.Owner.Owner, place.Place.Place, value.Value.Value}
 use Rattle.beldi_row.specs.{declared.notes.Note.Note, declared.row.Cell.Cell, declared.row.Row.Row, Key.RowKey, Key.at_row, Key.key_cmp, Log.most_entries, Log.note_at, Table.Rows, Table.set_row}
 use Rattle.beldi_chain.specs.{Chain.Chain, Chain.ChangedAlone, Chain.IsHead, Chain.chain, Chain.content, Chain.is_row_of, Chain.most_rows, Chain.tail}
-use Rattle.beldi_links.specs.Links.{AllGrow, At, Fits, Frozen, IsLinked, IsSpare, LeadsTo, Linked, Meets, Passed, ReadsAt, RowGrows, RowsGrow, SeesAt, SetTo, Steps, before, behind, own}
+use Rattle.beldi_links.specs.Links.{AllGrow, At, Fits, Frozen, IsSpare, LeadsTo, Linked, Meets, Passed, ReadsAt, RowGrows, RowsGrow, SeesAt, SetTo, Steps, before, behind, own}
 
 -- ---- what a chain holds
 -- what its last row does, behind the notes of the rows before it

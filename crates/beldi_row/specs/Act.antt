@@ -215,7 +215,7 @@ on (OpenInvoke f) now r = (r, here r)
 on (CallBack o) now r = on_invoke (λ i. call_back_to o i i.result) gone r
 on NoteRegistered now r = on_invoke (λ i. register_to i i.registered) gone r
 on PutLockset now r = (r, present)
-on (MakeCell v o) now r = (r, present)
+on (MakeCell v o l) now r = (r, present)
 on (WriteCell p w v) now r = on_cell (write_at p w v) no_row r
 on (CondCell p w k o v) now r = on_cell (cond_at p w k o v) no_row r
 on (LockCell p w s) now r = on_cell (lock_at p w) no_row r
@@ -235,7 +235,7 @@ off (OpenInvoke f) now = (Some (Row.Invoke (record { func = f; result = None; re
 off (CallBack o) now = (None, gone)
 off NoteRegistered now = (None, gone)
 off PutLockset now = (Some Row.Lockset, added)
-off (MakeCell v o) now = (Some (Row.Cell (record { value = v; owner = o; log = []; next = None; marked = false; dangled = None })), added)
+off (MakeCell v o l) now = (Some (Row.Cell (record { value = v; owner = o; log = []; next = None; marked = false; dangled = None })), added)
 off (WriteCell p w v) now = (None, no_row)
 off (CondCell p w k o v) now = (None, no_row)
 off (LockCell p w s) now = (None, no_row)

@@ -24,6 +24,13 @@ pub most_entries_are : most_entries ≡ 8
 unfolding most_entries
 most_entries_are = refl
 
+-- room for the entries of a cell, made before an act
+pub record LogRoom : Type 0 where
+  pub room : ℕ
+
+abbrev pub blank : LogRoom
+blank = record { room = 8 }
+
 -- the first note of the place
 abbrev pub note_at : List (Place × Note) → Place → Option Note
 note_at [] p = None

@@ -1,9 +1,10 @@
 -- The rows of a table as a map, and what a call of a table does.
-use Rattle.std.specs.Prelude.{◌≡◌, ℕ, ◌+◌, ◌-◌, ◌^◌, ◌≤◌, ◌<◌, ◌⊎◌, min, Bool, false, not, ◌&&◌, ◌||◌, is_some, IfSome, List, [], ◌∷◌, Option, Some, None, Result, Ok, Err, if◌then◌else◌, IsTrue, IsErrOf}
+use Rattle.std.specs.Prelude.{◌≡◌, ℕ, zero, suc, ◌+◌, ◌-◌, ◌^◌, ◌≤◌, ◌<◌, ◌⊎◌, min, Bool, false, not, ◌&&◌, ◌||◌, is_some, IfSome, List, [], ◌∷◌, Option, Some, None, Result, Ok, Err, if◌then◌else◌, IsTrue, IsErrOf}
 use Rattle.std.specs.{FinMap.FinMap, Option.option_map, Ordering.is_lt, declared.cmp.Ordering.TheVariants.Less}
 use denote.Bor.{Bor}
 use Rattle.std.specs.FinMap as map
-use Rattle.beldi_row.specs.{Key.RowKey, Key.key_cmp, Act.Tell, Act.act, Act.off, Act.tell_of, declared.key.Kind.Kind, declared.row.Row.Row, declared.act.Act.Act, declared.act.Said.Said, declared.table.Opens.Opens, declared.table.TableErr.TableErr, declared.table.TableErr.TheVariants.OutOfMemory, declared.table.TableErr.TheVariants.Failed, declared.table.TableErr.TheVariants.Full}
+use Rattle.beldi_value.specs.declared.place.Place.{Place}
+use Rattle.beldi_row.specs.{Key.RowKey, Key.key_cmp, Key.at_row, Key.row_of, Log.note_at, declared.notes.Note.Note, declared.row.Cell.Cell, Act.Tell, Act.act, Act.off, Act.tell_of, declared.key.Kind.Kind, declared.row.Row.Row, declared.act.Act.Act, declared.act.Said.Said, declared.table.Opens.Opens, declared.table.TableErr.TableErr, declared.table.TableErr.TheVariants.OutOfMemory, declared.table.TableErr.TheVariants.Failed, declared.table.TableErr.TheVariants.Full}
 
 abbrev pub Rows : Type 0
 Rows = FinMap key_cmp Row
@@ -159,6 +160,31 @@ OpensOn k (Opens.First q) m = NoneOpenTo m k q.now
 
 abbrev pub OpensTold : RowKey → Opens → Option Rows → Type 0
 OpensTold k o told = IfSome told (OpensOn k o)
+
+-- no entry of this place, if one is given
+abbrev pub Lacks : Option Place → List (Place × Note) → Type 0
+Lacks None es = Unit {0}
+Lacks (Some p) es = note_at es p ≡ None
+
+-- the row with a key is one of an item, which the row of this number follows, and it has no entry of the place
+pub record LeadsOn (m : Rows) (k : RowKey) (p : Option Place) (next : ℕ) : Type 0 where
+  pub cell : Cell
+  pub here : map.get m k ≡ Some (Row.Cell cell)
+  pub followed : cell.next ≡ Some next
+  pub lacks : Lacks p cell.log
+
+-- so many rows lead, one after another, from the row a of an item to its row b
+abbrev pub Along : Rows → RowKey → Option Place → ℕ → ℕ → ℕ → Type 0
+Along m k p zero a b = b ≡ a
+Along m k p (suc n) a b = (c : ℕ) × LeadsOn m (at_row k a) p c × Along m k p n c b
+
+-- what a table says of how far a walk goes
+abbrev pub PassesOn : RowKey → Option Place → ℕ → Option (ℕ × ℕ) → Rows → Type 0
+PassesOn k p most None m = Unit {0}
+PassesOn k p most (Some (n, b)) m = (n ≤ most) × Along m k p n (row_of k.kind) b
+
+abbrev pub PassesTold : RowKey → Option Place → ℕ → Option (ℕ × ℕ) → Option Rows → Type 0
+PassesTold k p most x told = IfSome told (PassesOn k p most x)
 
 -- the one room that a table is given, 0 where it is given none
 abbrev pub room_of : List ℕ → ℕ

@@ -5,10 +5,9 @@ ghost use Rattle.beldi_row.specs.declared.row.Row as row_data;
 ghost use Rattle.beldi_row.specs.Act.{bind_to, end_with, stamp_with, call_back_to, register_to, kept_tell, on_intent, on_invoke, gone, off, said_by, Changes};
 
 use crate::cell::{free, link, lock, write, write_where};
-use crate::notes::{Log, Note};
+use crate::notes::{Blank, Note};
 use crate::row::{Body, Cell, IntentRow, InvokeRow, Row};
 use beldi_value::{IntentId, Outcome, Owner, Place, Rel, Spare, Value};
-use std::alloc::Global;
 
 /// An act on one row. `Look` is for rows of any kind, `Issue`, `Bind`, `Register`, `End` and `Stamp` are for intents, `PutRead` for what
 /// reads were given, `OpenInvoke`, `CallBack` and `NoteRegistered` for calls, `PutLockset` for what a transaction asked the lock
@@ -52,10 +51,11 @@ pub enum Act {
     NoteRegistered,
     /// Adds the row of an item that a transaction asks the lock of.
     PutLockset,
-    /// Adds a cell with this value and owner.
+    /// Adds a cell with this value and owner, and this room for its entries.
     MakeCell {
         value: Value,
         owner: Option<Owner>,
+        blank: Blank,
     },
     /// Sets the value for the operation at this place, once, where no other than `who` owns the item.
     WriteCell {
@@ -167,7 +167,7 @@ pub enum Change {
 }
 
 /// What an act makes where no row is, if anything. It takes no memory.
-pub fn made(alloc: Global, act: Act, now: u64) -> Option<Row>
+pub fn made(act: Act, now: u64) -> Option<Row>
     ensures { result ≡ (off act now).0 }
 {
     match act {
@@ -190,10 +190,14 @@ pub fn made(alloc: Global, act: Act, now: u64) -> Option<Row>
             registered: false,
         })),
         Act::PutLockset => Some(Row::Lockset),
-        Act::MakeCell { value, owner } => Some(Row::Cell(Cell {
+        Act::MakeCell {
             value,
             owner,
-            log: Log::new(alloc),
+            blank,
+        } => Some(Row::Cell(Cell {
+            value,
+            owner,
+            log: blank.log(),
             next: None,
             marked: false,
             dangled: None,
@@ -231,9 +235,14 @@ pub fn apply(row: &mut Row, act: Act, now: u64) -> Change
             Change::Row
         }
         Act::Issue | Act::PutLockset => Change::Present,
-        Act::MakeCell { value, owner } => {
+        Act::MakeCell {
+            value,
+            owner,
+            blank,
+        } => {
             drop(value);
             drop(owner);
+            drop(blank);
             Change::Present
         }
         Act::PutRead { value } => {

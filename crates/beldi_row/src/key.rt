@@ -228,6 +228,29 @@ impl PartialOrd for Kind {
     }
 }
 
+// A number that depends on all bits of both.
+fn mixed(sum: u64, part: u64) -> u64 {
+    (sum ^ part)
+        .wrapping_mul(0x9e37_79b9_7f4a_7c15)
+        .rotate_left(29)
+}
+
+fn mixed_hops(sum: u64, id: &IntentId) -> u64 {
+    let mut sum = sum;
+    for step in id.hops.as_slice() {
+        sum = mixed(sum, u64::from(*step));
+    }
+    sum
+}
+
+fn mixed_item(sum: u64, table: u16, key: &Str, row: u32) -> u64 {
+    let mut sum = mixed(sum, u64::from(table) * (1 << 32) + u64::from(row));
+    for byte in key.as_str().as_bytes() {
+        sum = mixed(sum, u64::from(*byte));
+    }
+    sum
+}
+
 /// The key of a row: the home that it stands in, and what it is about. Home 0 is the host's own, and the function with
 /// the number n has the home n. Keys are ordered by home, then by kind in the order of `Kind`, then by the fields. What
 /// most keys differ in is one number, so that two are compared at once.
@@ -304,9 +327,33 @@ impl RowKey {
     pub fn at_row(self, row: u32) -> RowKey
         ensures { result ≡ at_row self row }
     {
-        let RowKey { home, mut kind, .. } = self;
-        set_row(&mut kind, row);
-        RowKey::new(home, kind)
+        let mut key = self;
+        set_row(&mut key.kind, row);
+        key
+    }
+
+    /// A number that equal keys have alike and others seldom, so that a table may look there first. Nothing is proved of it.
+    pub fn spread(&self) -> u64 {
+        let front = mixed(0, self.front);
+        match &self.kind {
+            Kind::Intent(id) => mixed_hops(front, id),
+            Kind::ReadLog(place) | Kind::Invoke(place) => {
+                mixed(mixed_hops(front, &place.intent), u64::from(place.step))
+            }
+            Kind::Data { table, key, row } => mixed_item(front, *table, key, *row),
+            Kind::Shadow {
+                tx,
+                table,
+                key,
+                row,
+            } => mixed_item(mixed_hops(front, &tx.intent), *table, key, *row),
+            Kind::Lockset {
+                intent,
+                begin,
+                table,
+                key,
+            } => mixed_item(mixed_hops(front, intent), *table, key, *begin),
+        }
     }
 
     /// The ticket of the intent that the key names; 0 of an item's row, which names none.

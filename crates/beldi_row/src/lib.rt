@@ -17,7 +17,8 @@
 //!   them, its failures, its room, and its calls, where it counts them.
 //! - `len` tells the number of rows, 4,294,967,295 where there are more (`IsCount`), `ready` sets the room
 //!   (`Readied`), `act` carries out an act (`acts`), `next` finds the row after and is never refused as full (`went`); `act`
-//!   and `next` count one call, `ready` none. `opens` may tell where open intents lie (`OpensTold`), and need not.
+//!   and `next` count one call, `ready` none. `opens` may tell where open intents lie (`OpensTold`), and `passes` how far a walk
+//!   goes (`PassesTold`); neither needs to.
 //!
 //! Files:
 //! - Code (`src/`): `key`, `row`, `notes` the log of a cell; `act` acts on one row, `cell` those on a cell, `telling` what is
@@ -39,7 +40,7 @@ pub use act::{Act, Change, Said, apply, made, missing};
 pub use beldi_value::Caller;
 pub use key::{Kind, RowKey, copy_owner, copy_tx};
 pub use laws::next_row_is_least;
-pub use notes::{Entry, Log, MOST_ENTRIES, Note};
+pub use notes::{Blank, Entry, Log, MOST_ENTRIES, Note};
 pub use row::{Body, Cell, IntentRow, InvokeRow, Row};
 pub use table::{Opens, Table, TableErr};
 pub use telling::tell;

@@ -1,12 +1,10 @@
 // The log of a cell.
 ghost use Rattle.std.specs.Prelude.{◌≡◌, ◌∷◌, [], ◌++◌, ◌==◌, ◌≤◌, false, length, IfOk, slice_get};
 ghost use Rattle.std.specs.Option.{option_copied};
-ghost use Rattle.beldi_row.specs.Log.{index_at, most_entries, note_of, NotedAt};
+ghost use Rattle.beldi_row.specs.Log.{blank, index_at, most_entries, note_of, NotedAt};
 
-use arrayvec::ArrayVec;
 use beldi_value::{IntentId, Place};
 use std::alloc::{AllocError, Global};
-use std::default::MadeWith;
 use std::marker::Model;
 
 /// What an act on a cell did, as its log keeps it.
@@ -55,29 +53,57 @@ impl Model for Entry {
     ghost view = { λ a. (a.place, a.note) };
 }
 
-impl MadeWith<Global> for Entry {
-    fn made_with(alloc: Global) -> Entry {
-        Entry {
-            place: Place {
-                intent: IntentId::root(alloc, 0),
-                step: 0,
-            },
-            note: Note::Wrote,
+/// How many entries a cell has at most.
+pub const MOST_ENTRIES: usize = 8;
+
+/// Room for the entries of a cell, made before an act, so that the act takes no memory for it.
+#[derive(Drop)]
+pub struct Blank {
+    entries: Vec<Entry>,
+}
+
+impl Model for Blank {
+    ghost use Rattle.std.specs.Prelude.{◌≡◌, [], vec_capacity};
+    ghost use Rattle.std.specs.Coded.{codes};
+    ghost use Rattle.beldi_row.specs.Log.{LogRoom};
+
+    ghost Value = { LogRoom };
+
+    ghost coded = { Prim.hlevel codes };
+
+    ghost view = { λ a. record { room = vec_capacity a.entries } };
+
+    ghost invariant = { λ a. (a.entries.items ≡ []) × (vec_capacity a.entries ≡ 8) };
+}
+
+impl Blank {
+    /// Room for `MOST_ENTRIES`.
+    pub fn new(alloc: Global) -> Result<Blank, AllocError>
+        ensures { IfOk result (λ b. b ≡ blank) }
+    {
+        Ok(Blank {
+            entries: Vec::with_capacity(alloc, MOST_ENTRIES)?,
+        })
+    }
+
+    /// A log without entries, in this room. It takes no memory.
+    pub fn log(self) -> Log
+        ensures { result ≡ [] }
+    {
+        Log {
+            entries: self.entries,
         }
     }
 }
 
-/// How many entries a cell has at most.
-pub const MOST_ENTRIES: usize = 8;
-
-/// What was done to a cell, each with the place that it was done for, the oldest first.
+/// What was done to a cell, each with the place that it was done for, the oldest first. It has room for all that it may have.
 #[derive(Drop)]
 pub struct Log {
-    entries: ArrayVec<Entry, 8, Global>,
+    entries: Vec<Entry>,
 }
 
 impl Model for Log {
-    ghost use Rattle.std.specs.Prelude.{List, length, ◌≤◌};
+    ghost use Rattle.std.specs.Prelude.{◌≡◌, List, length, ◌≤◌, vec_capacity};
     ghost use Rattle.beldi_value.specs.declared.place.Place.{Place};
     ghost use Rattle.beldi_row.specs.declared.notes.Note.{Note};
 
@@ -85,19 +111,10 @@ impl Model for Log {
 
     ghost view = { λ a. a.entries.items };
 
-    ghost invariant = { λ a. length a.entries.items ≤ 8 };
+    ghost invariant = { λ a. (length a.entries.items ≤ 8) × (vec_capacity a.entries ≡ 8) };
 }
 
 impl Log {
-    /// A log without entries. It takes no memory.
-    pub fn new(alloc: Global) -> Log
-        ensures { result ≡ [] }
-    {
-        Log {
-            entries: ArrayVec::new_in(alloc),
-        }
-    }
-
     /// The index of the first entry of the place.
     pub fn find(&self, place: &Place) -> Option<usize>
         ensures is { result ≡ index_at self.now place.now }
@@ -112,7 +129,8 @@ impl Log {
         let entries = self.entries.as_slice();
         for index in 0..entries.len() {
             let entry = &entries[index];
-            if entry.place == *place {
+            // most entries have another step
+            if entry.place.step == place.step && entry.place == *place {
                 return Some(index);
             }
         }
@@ -149,6 +167,6 @@ impl Log {
         requires { (length self.old == most_entries) ≡ false }
         ensures { self.new ≡ self.old ++ (place, note) ∷ [] }
     {
-        self.entries.push(Entry { place, note });
+        self.entries.push_reserved(Entry { place, note });
     }
 }

@@ -2,12 +2,14 @@
 ghost use Rattle.std.specs.Prelude.{⊤};
 ghost use Rattle.std.specs.Borrow.{sem, follows_so};
 ghost use mathlib.Core.Option.{none};
-ghost use Rattle.beldi_row.specs.Table.{TableState, Acted, Went, Readied, IsCount, OpensTold};
+ghost use Rattle.std.specs.Option.{option_copied};
+ghost use Rattle.beldi_row.specs.Table.{TableState, Acted, Went, Readied, IsCount, OpensTold, PassesTold};
 ghost use Rattle.beldi_row.specs.declared.table.Opens.TheVariants.{Untold};
 
 use crate::act::{Act, Said};
 use crate::key::RowKey;
 use crate::row::Row;
+use beldi_value::Place;
 use std::alloc::AllocError;
 use thiserror::Error;
 
@@ -80,5 +82,14 @@ pub trait Table {
         ensures { OpensTold _after.now result (state self.entry.now).rows }
     {
         Opens::Untold
+    }
+
+    /// How far a walk along an item's rows goes from the row with this key on, where the table looks ahead: over rows that another
+    /// one follows and that have no entry of the place, if one is given; over at most so many. It tells how many these are, and the
+    /// number of the row that the last of them leads to. It counts no call.
+    fn passes(&self, _key: RowKey, _place: Option<&Place>, _most: u64) -> Option<(u64, u32)>
+        ensures { PassesTold _key (option_copied _place.entry) _most result (state self.entry.now).rows }
+    {
+        None
     }
 }

@@ -227,7 +227,7 @@ impl<R: RowStore> RowTable<R> {
         ensures { Carried act now key (table_state self.old) (table_state self.new) self.new.found result }
     {
         let said = missing(&act);
-        match made(self.alloc, act, now) {
+        match made(act, now) {
             None => {
                 drop(key);
                 Ok(said)

@@ -118,7 +118,7 @@ impl MapTable {
         ensures room { self.new.room ≡ self.old.room }
     {
         let said = missing(&act);
-        match made(self.alloc, act, now) {
+        match made(act, now) {
             None => {
                 drop(key);
                 Ok(said)

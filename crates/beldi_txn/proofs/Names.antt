@@ -6,7 +6,7 @@ pub use Rattle.std.proofs.Common.{Bool, IfOk, List, None, Option, Some, [], ap, 
 pub use Rattle.beldi_value.specs.Id.{child_of, has_callees, has_no_hops, home_of, id_cmp, id_exact, id_total}
 pub use Rattle.beldi_value.{proofs.Callees.no_root, specs.declared.id.IntentId.IntentId, specs.declared.place.Owner.Owner, specs.declared.place.Place.Place, specs.declared.place.TxId.TxId, specs.declared.rel.Rel.Rel, specs.declared.value.Value.Value}
 pub use Rattle.beldi_lang.specs.declared.effect.Effect.{Effect, TheVariants.CondWrite, TheVariants.Read, TheVariants.Write}
-pub use Rattle.beldi_row.{proofs.Gets.got, proofs.Gets.key_same, proofs.Gets.key_self, proofs.Least.next_row_least, proofs.Logs.id_same, proofs.Logs.id_self, proofs.Unchanged.left as left_row, proofs.Unchanged.looked, specs.Act.act, specs.Act.other_owner, specs.Act.owns, specs.Act.stamp_with, specs.Key.RowKey, specs.Key.at_row, specs.Key.key_cmp, specs.Key.kind_at, specs.Key.rank_of, specs.Key.row_of, specs.KeyOrder.key_exact, specs.KeyOrder.key_total, specs.Log.id_eq, specs.Log.note_at, specs.Table.IsNext, specs.Table.Rows, specs.Table.entry_of, specs.Table.next_row, specs.Table.set_row, specs.declared.act.Act.Act, specs.declared.act.Act.TheVariants.Look, specs.declared.act.Act.TheVariants.MakeCell, specs.declared.act.Act.TheVariants.PutLockset, specs.declared.act.Act.TheVariants.PutRead, specs.declared.act.Act.TheVariants.Stamp as StampAct, specs.declared.key.Kind.Kind, specs.declared.row.Cell.Cell, specs.declared.row.Row.Row, specs.declared.notes.Note.Note}
+pub use Rattle.beldi_row.{proofs.Gets.got, proofs.Gets.key_same, proofs.Gets.key_self, proofs.Least.next_row_least, proofs.Logs.id_same, proofs.Logs.id_self, proofs.Unchanged.left as left_row, proofs.Unchanged.looked, specs.Act.act, specs.Act.other_owner, specs.Act.owns, specs.Act.stamp_with, specs.Key.RowKey, specs.Key.at_row, specs.Key.key_cmp, specs.Key.kind_at, specs.Key.rank_of, specs.Key.row_of, specs.KeyOrder.key_exact, specs.KeyOrder.key_total, specs.Log.blank, specs.Log.id_eq, specs.Log.note_at, specs.Table.IsNext, specs.Table.Rows, specs.Table.entry_of, specs.Table.next_row, specs.Table.set_row, specs.declared.act.Act.Act, specs.declared.act.Act.TheVariants.Look, specs.declared.act.Act.TheVariants.MakeCell, specs.declared.act.Act.TheVariants.PutLockset, specs.declared.act.Act.TheVariants.PutRead, specs.declared.act.Act.TheVariants.Stamp as StampAct, specs.declared.key.Kind.Kind, specs.declared.row.Cell.Cell, specs.declared.row.Row.Row, specs.declared.notes.Note.Note}
 pub use Rattle.beldi_walk.{proofs.Promises.at_each, proofs.Promises.promised, proofs.Promises.turned, specs.Query.rows_after, specs.Query.said, specs.Query.told_by, specs.Query.told_of, specs.Walk.Promises, specs.declared.query.Query.Query}
 pub use Rattle.beldi_daal.specs.Logged.{DidAs, LoggedTurn, Logs, at_of, dies, owner_after, unless_owned, waited}
 pub use Rattle.beldi_chain.{proofs.Heads.alone_by, proofs.Heads.aside_head, proofs.Heads.item_head, proofs.Heads.kind_rank, proofs.Heads.chain_off, proofs.Heads.chain_other, proofs.OneRow.content_is_head, proofs.OneRow.no_content, proofs.OneRow.no_tail, proofs.OneRow.tail_is_head, proofs.OneRow.tail_value, specs.Chain.Chain, specs.Chain.ChangedAlone, specs.Chain.IsHead, specs.Chain.above, specs.Chain.chain, specs.Chain.content, specs.Chain.is_row_of, specs.Chain.next_of, specs.Chain.tail, specs.Content.Content, specs.Content.content_in}

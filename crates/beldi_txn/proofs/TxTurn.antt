@@ -1,6 +1,6 @@
 -- What a turn of an operation of a transaction leaves.
 use Rattle.beldi_txn.specs.{Tx.item_of, TxWalk.walk_asks, TxWalk.walk_next, TxWalk.walk_says, TxWalk.said_of}
-use Rattle.beldi_txn.proofs.Names.{Act, AllGrow, AsideMoves, AtItem, Cell, CellOp, Chain, ChangedAlone, CondWrite, Content, DidAs, Effect, Finds, Fits, FitsAt, HasLock, IsHead, IsLinked, IsSo, ItemMoves, LinkedFrom, List, LockAt, LockMoves, Lockset, LoggedTurn, Logs, Look, MakeCell, None, Note, OperationsAreSo, OperationsBegin, Option, Owner, Place, Plain, PutLockset, PutRead, Query, Read, ReadGoes, ReadsAt, Rel, Row, RowKey, Rows, Sees, SetTo, Shadow, ShadowMoves, Some, Stands, StandsAt, Try, TxAt, TxGoes, TxId, TxTurn, TxWalk, Value, Write, WriteAt, WriteGoes, WriteSays, WriteWalk, [], above, act, alone_by, ap, arith, aside_head, asks_of, at_row, by_op, cell_goes, cell_key, chain, chain_off, chain_other, cond, content, content_in, content_is_head, dies, false, first_linked, given, given_in, gone, got, head_asked, inl, inr, is_eq, is_row_of, is_some, item_asks, item_goes, item_grows, item_head, item_leads, key_cmp, key_same, key_self, kind_at, kind_rank, last_is_last, left_row, lock_item, lock_leads, locked_goes, lockset_key, log_key, logged_at, logged_so, looked, next_is_read, next_of, no_content, of_no_item, no_tail, note_at, op_of, option_map, other_owner, others_grow, owner_after, rank_of, read_goes, reads_begin, refl, row_of, row_set, rows_after, said, same_grow, set_row, shadow_key, shadow_read, shadow_value, subst, sym, tail, tail_is, tail_is_head, tail_value, taken, told_by, true, turned, tx_goes, waited, walks_begin, write_asks, write_goes, write_leads, ℕ, ◌-◌, ◌∙◌, ◌≡◌}
+use Rattle.beldi_txn.proofs.Names.{Act, AllGrow, AsideMoves, AtItem, Cell, CellOp, Chain, ChangedAlone, CondWrite, Content, DidAs, Effect, Finds, Fits, FitsAt, HasLock, IsHead, IsLinked, IsSo, ItemMoves, LinkedFrom, List, LockAt, LockMoves, Lockset, LoggedTurn, Logs, Look, MakeCell, None, Note, OperationsAreSo, OperationsBegin, Option, Owner, Place, Plain, PutLockset, PutRead, Query, Read, ReadGoes, ReadsAt, Rel, Row, RowKey, Rows, Sees, SetTo, Shadow, ShadowMoves, Some, Stands, StandsAt, Try, TxAt, TxGoes, TxId, TxTurn, TxWalk, Value, Write, WriteAt, WriteGoes, WriteSays, WriteWalk, [], above, act, alone_by, ap, arith, aside_head, asks_of, at_row, blank, by_op, cell_goes, cell_key, chain, chain_off, chain_other, cond, content, content_in, content_is_head, dies, false, first_linked, given, given_in, gone, got, head_asked, inl, inr, is_eq, is_row_of, is_some, item_asks, item_goes, item_grows, item_head, item_leads, key_cmp, key_same, key_self, kind_at, kind_rank, last_is_last, left_row, lock_item, lock_leads, locked_goes, lockset_key, log_key, logged_at, logged_so, looked, next_is_read, next_of, no_content, of_no_item, no_tail, note_at, op_of, option_map, other_owner, others_grow, owner_after, rank_of, read_goes, reads_begin, refl, row_of, row_set, rows_after, said, same_grow, set_row, shadow_key, shadow_read, shadow_value, subst, sym, tail, tail_is, tail_is_head, tail_value, taken, told_by, true, turned, tx_goes, waited, walks_begin, write_asks, write_goes, write_leads, ℕ, ◌-◌, ◌∙◌, ◌≡◌}
 use Rattle.std.specs.Prelude.{◌⊎◌}
 use Rattle.beldi_row.proofs.Logs.{note_here}
 use Rattle.beldi_links.proofs.Last.{tail_there}
@@ -320,7 +320,7 @@ module _ (home : ℕ) (p : Place) (x : TxId) (t : ℕ) (k : List ℕ) where
 
     module _ (first : Value) (now : ℕ) (m : Rows) (h : Stands (start cond_op (TxAt.Head first)) t k m) where
       abbrev put : Act
-      put = MakeCell first None
+      put = MakeCell first None blank
 
       abbrev made_after : Rows
       made_after = rows_after (Query.Act aside_row put) now m

@@ -3,7 +3,7 @@
 use Rattle.std.specs.Prelude.{ℕ, Bool, true, false, List, Option, Some, None}
 use Rattle.beldi_value.specs.declared.{id.IntentId.IntentId, place.Place.Place, place.TxId.TxId, value.Value.Value, place.Owner.Owner}
 use Rattle.beldi_lang.specs.declared.effect.Effect.{Effect, TheVariants.Read, TheVariants.Write, TheVariants.CondWrite}
-use Rattle.beldi_row.specs.{declared.act.Act.TheVariants.Look, declared.act.Act.TheVariants.MakeCell, Key.RowKey, Key.at_row, declared.notes.Note.Note, Act.absent, Act.here, Act.added, Act.present, Act.kept}
+use Rattle.beldi_row.specs.{declared.act.Act.TheVariants.Look, declared.act.Act.TheVariants.MakeCell, Key.RowKey, Key.at_row, declared.notes.Note.Note, Act.absent, Act.here, Act.added, Act.present, Act.kept, Log.blank}
 use Rattle.beldi_walk.specs.{declared.query.Query.Query, declared.query.Query.TheVariants.Act, Query.Told, Query.said}
 use Rattle.beldi_daal.specs.{declared.cell.CellOp.CellOp, declared.cell.ReadGoes.ReadGoes, declared.cell.WriteAt.WriteAt, declared.cell.WriteAt.TheVariants.Try, declared.cell.WriteGoes.WriteGoes, Cell.cell_key, Cell.shadow_key, Cell.read_goes, Cell.write_asks, Cell.write_goes}
 use Rattle.beldi_lock.specs.{declared.lock.LockAt.TheVariants.Lockset, declared.lock.LockGoes.LockGoes, Lock.asks_at, Lock.lock_goes}
@@ -53,7 +53,7 @@ item_asks home p x e t k TxAt.Seek = Act (shadow_key home x t k) Look
 item_asks home p x e t k (TxAt.Shadow r) = Act (at_row (shadow_key home x t k) r) Look
 item_asks home p x e t k (TxAt.Item r) = Act (at_row (cell_key home t k) r) Look
 item_asks home p x e t k (TxAt.Keep v) = keep_asks home p v
-item_asks home p x e t k (TxAt.Head v) = Act (shadow_key home x t k) (MakeCell v None)
+item_asks home p x e t k (TxAt.Head v) = Act (shadow_key home x t k) (MakeCell v None blank)
 item_asks home p x e t k (TxAt.Write w) = aside_asks home p x (shadow_key home x t k) w (op_of e)
 
 abbrev pub asks_of : ℕ → Place → TxId → Effect → TxAt → Option (ℕ × List ℕ) → Query

@@ -5,6 +5,7 @@ ghost use Rattle.beldi_row.specs.declared.act.Act.TheVariants as Act;
 ghost use Rattle.beldi_walk.specs.declared.query.Query.TheVariants as Query;
 ghost use Rattle.beldi_walk.specs.Query.{told_of, lends};
 ghost use Rattle.beldi_row.specs.Key.{at_row};
+ghost use Rattle.beldi_row.specs.Log.{blank};
 ghost use Rattle.beldi_daal.specs.Cell.{write_asks, cell_key as cell_key_of, shadow_key as shadow_key_of};
 ghost use Rattle.beldi_lock.specs.Lock.{lock_goes};
 ghost use Rattle.beldi_lock.specs.Lockset.{item_lent};
@@ -18,7 +19,7 @@ use beldi_daal::{
 use beldi_lang::Effect;
 use beldi_lock::{LockAt, LockGoes, lock_query, lock_told};
 use beldi_readlog::{given_told, log_key};
-use beldi_row::{Act, Note, RowKey, Said, copy_tx};
+use beldi_row::{Act, Blank, Note, RowKey, Said, copy_tx};
 use beldi_value::{Apart, Cause, IntentId, Owner, Place, Str, TxId, Value, or_drop};
 use beldi_walk::{Heard, Query};
 use std::alloc::{AllocError, Global};
@@ -269,11 +270,17 @@ fn head_query(
     key: &Str,
     value: &Value,
 ) -> Result<Apart<Query>, AllocError>
-    ensures { IfOk result (λ q. q ≡ Query.Act (shadow_key_of home tx.now table key.now) (Act.MakeCell value.now None)) }
+    ensures { IfOk result (λ q. q ≡ Query.Act (shadow_key_of home tx.now table key.now) (Act.MakeCell value.now None blank)) }
 {
     let row = shadow_key(alloc, home, tx, table, key, 0)?;
     let value = or_drop!(value.copy(alloc); row);
-    Query::act(alloc, row, Act::MakeCell { value, owner: None })
+    let blank = or_drop!(Blank::new(alloc); row, value);
+    let act = Act::MakeCell {
+        value,
+        owner: None,
+        blank,
+    };
+    Query::act(alloc, row, act)
 }
 
 // What a write asks of the transaction's own copy.

@@ -3,7 +3,7 @@ use Rattle.std.proofs.Common.{Bool, ap, List, None, Option, Some, [], false, ref
 use Rattle.beldi_value.specs.{Id.has_callees, declared.id.IntentId.IntentId, declared.place.Caller.Caller, declared.place.Owner.Owner, declared.place.Place.Place, declared.place.TxId.TxId, declared.value.Value.Value}
 use Rattle.beldi_lang.specs.declared.effect.Effect.{Effect}
 use Rattle.beldi_order.proofs.Called.{not_root}
-use Rattle.beldi_row.specs.{Key.RowKey, Key.at_row, declared.act.Act.Act, declared.key.Kind.Kind}
+use Rattle.beldi_row.specs.{Key.RowKey, Key.at_row, Log.blank, declared.act.Act.Act, declared.key.Kind.Kind}
 use Rattle.beldi_walk.specs.declared.query.Query.{Query}
 use Rattle.beldi_daal.specs.{Cell.cell_key, Cell.op_act, Cell.shadow_key, Cell.write_asks, declared.cell.CellOp.CellOp, declared.cell.WriteAt.WriteAt}
 use Rattle.beldi_lock.specs.{Lock.asks_at, declared.lock.LockAt.LockAt}
@@ -41,8 +41,8 @@ op_sets p w (CellOp.Free v) = refl
 -- of a row of an item, or of a shadow
 write_tame : (k : RowKey) (p : Place) (w : Owner) (op : CellOp) (at : WriteAt) → Tame (write_asks k p w op at)
 write_tame k p w op (WriteAt.Try i) = mild (at_row k i) (op_act p w op) (op_sets p w op)
-write_tame k p w op WriteAt.Make = mild k (Act.MakeCell Value.Null None) refl
-write_tame k p w op (WriteAt.Append i told) = mild (at_row k i) (Act.MakeCell told.value told.owner) refl
+write_tame k p w op WriteAt.Make = mild k (Act.MakeCell Value.Null None blank) refl
+write_tame k p w op (WriteAt.Append i told) = mild (at_row k i) (Act.MakeCell told.value told.owner blank) refl
 write_tame k p w op (WriteAt.Link i) = mild (at_row k (i - 1)) (Act.LinkCell i) refl
 
 -- ---- inside a transaction
@@ -61,7 +61,7 @@ at_item_tame home p x e t k TxAt.Seek = λ s t e. cc
 at_item_tame home p x e t k (TxAt.Shadow i) = λ s t e. cc
 at_item_tame home p x e t k (TxAt.Item i) = λ s t e. cc
 at_item_tame home p x e t k (TxAt.Keep v) = λ s t e. cc
-at_item_tame home p x e t k (TxAt.Head v) = mild (shadow_key home x t k) (Act.MakeCell v None) refl
+at_item_tame home p x e t k (TxAt.Head v) = mild (shadow_key home x t k) (Act.MakeCell v None blank) refl
 at_item_tame home p x e t k (TxAt.Write w) = aside_tame home p x (shadow_key home x t k) w (op_of e)
 
 tx_tame : (home : ℕ) (p : Place) (x : TxId) (e : Effect) (a : TxAt) (i : Option (ℕ × List ℕ)) → Tame (asks_of home p x e a i)

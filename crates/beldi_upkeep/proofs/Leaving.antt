@@ -6,7 +6,7 @@ use Rattle.beldi_links.specs.Links.{SeesAt}
 use Rattle.beldi_daal.{proofs.Logged.by_op, specs.Logged.LoggedTurn, specs.Logged.Logs, specs.Logged.at_of, specs.Walk.walk_asks, specs.Walk.walk_next, specs.Walk.walk_says, specs.declared.walk.Item.TheVariants.Plain, specs.declared.walk.WriteSays.WriteSays, specs.declared.walk.WriteWalk.WriteWalk}
 use Rattle.beldi_known.proofs.{Acts.is_data}
 use Rattle.beldi_known.specs.Contents.{IsLinkedItem}
-use Rattle.beldi_laws.proofs.Names.{Begins, Begun, Bool, CellOp, Core, Item, IntentId, Look, MakeCell, None, Null, Owner, Place, RowAct, RowKey, Rows, Run, Some, TxId, WriteAt, act, after_act, ap, at_row, content_of, false, has_finish, head_key, inl, is_eq, is_some, key_cmp, key_same, looked, op_act, refl, rows_after, set_others, subst, sym, told_by, true, write_asks, ℕ, ◌-◌, ◌∙◌, ◌≡◌, ◌⊎◌}
+use Rattle.beldi_laws.proofs.Names.{Begins, Begun, Bool, CellOp, Core, Item, IntentId, Look, MakeCell, None, Null, Owner, Place, RowAct, RowKey, Rows, Run, Some, TxId, WriteAt, act, after_act, ap, at_row, blank, content_of, false, has_finish, head_key, inl, is_eq, is_some, key_cmp, key_same, looked, op_act, refl, rows_after, set_others, subst, sym, told_by, true, write_asks, ℕ, ◌-◌, ◌∙◌, ◌≡◌, ◌⊎◌}
 use Rattle.beldi_laws.proofs.Names.map
 use Rattle.beldi_laws.proofs.Frames.{is_intent, is_invoke, query_keeps}
 use Rattle.beldi_upkeep.specs.Callees.{AllFinished, IsPassed, Seats, belongs_to, owner_key, seat_of}
@@ -94,8 +94,8 @@ module _ (c : Core) (m : Rows) (h : Seats m) where
 
       by_at : (w : WriteAt) → ChangedAlone (head_key y) m (after w) → Owners (after w) → Leaves c m (after w)
       by_at (WriteAt.Try i) alone owners = leaves_item i (op_act p who op) alone owners
-      by_at WriteAt.Make alone owners = leaves_item 0 (MakeCell Null None) alone owners
-      by_at (WriteAt.Append i told) alone owners = leaves_item i (MakeCell told.value told.owner) alone owners
+      by_at WriteAt.Make alone owners = leaves_item 0 (MakeCell Null None blank) alone owners
+      by_at (WriteAt.Append i told) alone owners = leaves_item i (MakeCell told.value told.owner blank) alone owners
       by_at (WriteAt.Link i) alone owners = leaves_item (i - 1) (LinkCell i) alone owners
 
       pub leaves_walk : (w : WriteAt) → SeesAt (chain m (head_key y)) p (at_of w) → ((t : TxId) (s : WriteSays) → Logs p who op s (content_of m y) (content_of (after w) y) → OwnedIn t (content_of (after w) y) → OwnedIn t (content_of m y) ⊎ (has_finish (map.get m (owner_key t)) ≡ false)) → Leaves c m (after w)

@@ -4,7 +4,7 @@ use Rattle.beldi_value.specs.{Id.child_of, Id.has_callees, declared.id.IntentId.
 use Rattle.beldi_lang.specs.declared.effect.Effect.{Effect}
 use Rattle.beldi_order.specs.Sane.{call_of}
 use Rattle.beldi_order.proofs.Maps.{same_some}
-use Rattle.beldi_row.specs.{Key.RowKey, Key.at_row, Table.Rows, declared.act.Act.Act, declared.key.Kind.Kind}
+use Rattle.beldi_row.specs.{Key.RowKey, Key.at_row, Log.blank, Table.Rows, declared.act.Act.Act, declared.key.Kind.Kind}
 use Rattle.beldi_walk.specs.declared.query.Query.{Query}
 use Rattle.beldi_daal.specs.{Cell.cell_key, Cell.op_act, Cell.shadow_key, Cell.write_asks, declared.cell.CellOp.CellOp, declared.cell.WriteAt.WriteAt}
 use Rattle.beldi_invokelog.specs.InvokeLog.{invoke_key}
@@ -72,8 +72,8 @@ module _ (m : Rows) (id : IntentId) (func : ℕ) (c : Option Caller) (o : Option
   looked : (k : RowKey) → Suits (Query.Act k Act.Look)
   looked k = quiet k Act.Look (record { read = refl; opens = refl; back = refl; ends = refl; notes = refl })
 
-  made : (k : RowKey) (v : Value) (w : Option Owner) → Suits (Query.Act k (Act.MakeCell v w))
-  made k v w = quiet k (Act.MakeCell v w) (record { read = refl; opens = refl; back = refl; ends = refl; notes = refl })
+  made : (k : RowKey) (v : Value) (w : Option Owner) → Suits (Query.Act k (Act.MakeCell v w blank))
+  made k v w = quiet k (Act.MakeCell v w blank) (record { read = refl; opens = refl; back = refl; ends = refl; notes = refl })
 
   linked : (k : RowKey) (r : ℕ) → Suits (Query.Act k (Act.LinkCell r))
   linked k r = quiet k (Act.LinkCell r) (record { read = refl; opens = refl; back = refl; ends = refl; notes = refl })

@@ -7,7 +7,7 @@ use Rattle.beldi_tree.specs.declared.deployment.Deployment.{Deployment}
 use Rattle.beldi_lang.specs.declared.effect.{Answer.Answer, Effect.Effect}
 use Rattle.beldi_book.specs.Order.{count_changes}
 use Rattle.beldi_plain.specs.{Item.Item, Operation.OnItem, Operation.item_in, Operation.op_of, Operation.touched}
-use Rattle.beldi_row.specs.{Act.Tell, Act.act, Act.added, Act.kept, Act.at_tail, Act.cond_to, Act.did, Act.entered, Act.died, Act.given_or, Act.held, Act.held_or, Act.kept_tell, Act.noted, Act.register_to, Act.if_owned, Act.if_room, Act.is_full, Act.next, Act.next_or, Act.not_full, Act.not_owner, Act.noted_or, Act.other_owner, Act.owned_or, Act.owns, Act.packed, Act.unless_held, Act.waits_for, Key.RowKey, Key.at_row, Log.most_entries, Log.note_at, Table.Rows, declared.act.Act.Act, declared.notes.Note.Note, declared.row.Cell.Cell, declared.row.InvokeRow.InvokeRow, declared.row.Row.Row}
+use Rattle.beldi_row.specs.{Act.Tell, Act.act, Act.added, Act.kept, Act.at_tail, Act.cond_to, Act.did, Act.entered, Act.died, Act.given_or, Act.held, Act.held_or, Act.kept_tell, Act.noted, Act.register_to, Act.if_owned, Act.if_room, Act.is_full, Act.next, Act.next_or, Act.not_full, Act.not_owner, Act.noted_or, Act.other_owner, Act.owned_or, Act.owns, Act.packed, Act.unless_held, Act.waits_for, Key.RowKey, Key.at_row, Log.blank, Log.most_entries, Log.note_at, Table.Rows, declared.act.Act.Act, declared.notes.Note.Note, declared.row.Cell.Cell, declared.row.InvokeRow.InvokeRow, declared.row.Row.Row}
 use Rattle.beldi_walk.specs.Query.{Told, rows_after, said, told_by}
 use Rattle.beldi_chain.specs.{Chain.Chain, Chain.chain, Content.Content}
 use Rattle.beldi_links.specs.Links.{FitsAt, IsLinked, LinkedFrom, SeesAt}
@@ -118,7 +118,7 @@ module _ (n : Note) (p : Place) (who : Owner) (now : ℕ) where
   try_off op i (Some r) fits after = absurd fits
 
   -- one that made a row goes on, and one that links a row to a full one
-  made_off : (at : WriteAt) (v : Value) (o : Option Owner) (r : Option Row) → Off at (made_goes at) → OffBy at (act (Act.MakeCell v o) now r).1
+  made_off : (at : WriteAt) (v : Value) (o : Option Owner) (r : Option Row) → Off at (made_goes at) → OffBy at (act (Act.MakeCell v o blank) now r).1
   made_off at v o None h = h
   made_off at v o (Some r) h = h
 
@@ -318,7 +318,7 @@ keep_moves v (said added) h = h
 keep_moves v (said (kept u)) h = h
 keep_moves v t h = h
 
-first_moves : (v : Value) (now : ℕ) (r : Option Row) → IsStill (Stage.Tx (TxAt.Head v)) (tx_says (TxAt.Head v) (head_made (said (act (Act.MakeCell v None) now r).1))) → ⊥
+first_moves : (v : Value) (now : ℕ) (r : Option Row) → IsStill (Stage.Tx (TxAt.Head v)) (tx_says (TxAt.Head v) (head_made (said (act (Act.MakeCell v None blank) now r).1))) → ⊥
 first_moves v now None h = cc
 first_moves v now (Some r) h = cc
 

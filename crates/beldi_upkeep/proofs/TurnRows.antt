@@ -4,7 +4,7 @@ use Rattle.beldi_links.specs.Links.{SeesAt}
 use Rattle.beldi_daal.specs.Logged.{at_of}
 use Rattle.beldi_row.specs.declared.act.Act.TheVariants.{LinkCell}
 use Rattle.beldi_known.proofs.{Acts.is_data, Callers.all_called, Participants.open_owner}
-use Rattle.beldi_laws.proofs.Names.{Async, AsyncAt, Begun, Body, Bool, ByTx, CallAt, Caller, CellOp, Core, Deployment, Effect, Inherited, Inside, Instance, IntentId, IntentMatches, InvokeRow, Item, Kind, Knows, List, Look, MakeCell, None, Null, Option, Outcome, Own, Place, PutLockset, PutRead, Register, Return, Right, RootMatches, Row, RowAct, RowKey, Rows, Run, RunTx, Some, Stage, TxAt, TxId, Value, WriteAt, after_act, ap, at_row, behind_locks, call_of, child_of, content_of, effect_before, length, false, func_called, has_ended, has_finish, has_no_hops, head_key, if◌then◌else◌, inl, inr, intent_key, invoke_key, is_some, key_in, log_key, op_act, note_at, place_of, refl, rows_after, same_some, shadow_key, subst, sym, touched, true, tx_after, tx_of, ℕ, ◌∙◌, ◌≡◌, AtItem, Lockset, async_asks, back_to_asks, call_asks, callee_body, register_asks, tell_asks, write_asks, ◌-◌}
+use Rattle.beldi_laws.proofs.Names.{Async, AsyncAt, Begun, Body, Bool, ByTx, CallAt, Caller, CellOp, Core, Deployment, Effect, Inherited, Inside, Instance, IntentId, IntentMatches, InvokeRow, Item, Kind, Knows, List, Look, MakeCell, None, Null, Option, Outcome, Own, Place, PutLockset, PutRead, Register, Return, Right, RootMatches, Row, RowAct, RowKey, Rows, Run, RunTx, Some, Stage, TxAt, TxId, Value, WriteAt, after_act, ap, at_row, behind_locks, call_of, child_of, content_of, effect_before, length, false, func_called, has_ended, has_finish, has_no_hops, head_key, if◌then◌else◌, inl, inr, intent_key, invoke_key, is_some, key_in, log_key, op_act, note_at, place_of, refl, rows_after, same_some, shadow_key, subst, sym, touched, true, tx_after, tx_of, ℕ, ◌∙◌, ◌≡◌, AtItem, Lockset, async_asks, back_to_asks, blank, call_asks, callee_body, register_asks, tell_asks, write_asks, ◌-◌}
 use Rattle.beldi_laws.proofs.Names.map
 use Rattle.beldi_laws.proofs.Names.txn
 use Rattle.beldi_laws.proofs.InTx as in_tx
@@ -97,8 +97,8 @@ module _ (d : Deployment) (c : Core) (m : Rows) (h : Right d c m) (seats : Seats
     aside_leaves : (w : WriteAt) (y : Option CellOp) → Leave (rows_after (txn.aside_asks r.func place own (shadow_key own item) w y) c.now m)
     aside_leaves w None = look (log_key r.func place)
     aside_leaves (WriteAt.Try i) (Some op) = shadow_put o tx item i (op_act place (ByTx own) op)
-    aside_leaves WriteAt.Make (Some op) = shadow_put o tx item 0 (MakeCell Null None)
-    aside_leaves (WriteAt.Append i told) (Some op) = shadow_put o tx item i (MakeCell told.value told.owner)
+    aside_leaves WriteAt.Make (Some op) = shadow_put o tx item 0 (MakeCell Null None blank)
+    aside_leaves (WriteAt.Append i told) (Some op) = shadow_put o tx item i (MakeCell told.value told.owner blank)
     aside_leaves (WriteAt.Link i) (Some op) = shadow_put o tx item (i - 1) (LinkCell i)
 
     pub tx_leaves : (a : TxAt) → SeesBoth m place own item a → Leave (rows_after (txn.item_asks r.func place own e x.0 x.1 a) c.now m)
@@ -109,7 +109,7 @@ module _ (d : Deployment) (c : Core) (m : Rows) (h : Right d c m) (seats : Seats
     tx_leaves (TxAt.Shadow i) sees = look (at_row (shadow_key own item) i)
     tx_leaves (TxAt.Item i) sees = look (at_row (head_key item) i)
     tx_leaves (TxAt.Keep v) sees = own_put (Kind.ReadLog place) (PutRead v) refl refl refl refl refl
-    tx_leaves (TxAt.Head v) sees = shadow_put o tx item 0 (MakeCell v None)
+    tx_leaves (TxAt.Head v) sees = shadow_put o tx item 0 (MakeCell v None blank)
     tx_leaves (TxAt.Write w) sees = aside_leaves w (txn.op_of e)
 
   -- ---- calls

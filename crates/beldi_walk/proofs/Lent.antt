@@ -123,7 +123,7 @@ none_there (OpenInvoke f) now h = cc
 none_there (CallBack o) now h = refl
 none_there NoteRegistered now h = refl
 none_there PutLockset now h = cc
-none_there (MakeCell v o) now h = cc
+none_there (MakeCell v o l) now h = cc
 none_there (WriteCell p w v) now h = refl
 none_there (CondCell p w k o v) now h = refl
 none_there (LockCell p w s) now h = refl
@@ -142,7 +142,7 @@ there (OpenInvoke f) now r = λ h. refl
 there (CallBack o) now r = invoke_leaves (λ i. call_back_to o i i.result) gone (λ i. called_back o i i.result) r
 there NoteRegistered now r = invoke_leaves (λ i. register_to i i.registered) gone (λ i. registered i i.registered) r
 there PutLockset now r = λ h. refl
-there (MakeCell v o) now r = λ h. refl
+there (MakeCell v o l) now r = λ h. refl
 there (WriteCell p w v) now r = cell_leaves (write_at p w v) no_row (λ c. let z : Cell × Tell = (entered p Wrote v c.owner c, did) in unheld c p w (if_room c z) (room c z (λ h. cc))) r
 there (CondCell p w k o v) now r = cell_leaves (cond_at p w k o v) no_row (λ c. let z : Cell × Tell = cond_to (passes c.value k o) p v c in unheld c p w (if_room c z) (room c z (λ h. cc))) r
 there (LockCell p w s) now r = cell_leaves (lock_at p w) no_row (λ c. let z : Cell × Tell = (entered p Got c.value (Some w) c, did) in locked c p w (if_room c z) (room c z (λ h. cc))) r
@@ -253,7 +253,7 @@ there_lives (OpenInvoke f) now r h = refl
 there_lives (CallBack o) now r h = on_invoke_lives (λ i. call_back_to o i i.result) gone (λ i. called_back_lives o i i.result) refl r
 there_lives NoteRegistered now r h = on_invoke_lives (λ i. register_to i i.registered) gone (λ i. registered_lives i i.registered) refl r
 there_lives PutLockset now r h = refl
-there_lives (MakeCell v o) now r h = refl
+there_lives (MakeCell v o l) now r h = refl
 there_lives (WriteCell p w v) now r h = on_cell_lives (write_at p w v) no_row (λ c. let z : Cell × Tell = (entered p Wrote v c.owner c, did) in unheld_lives c p w (if_room c z) (room_lives c z refl)) refl r
 there_lives (CondCell p w k o v) now r h = on_cell_lives (cond_at p w k o v) no_row (λ c. let z : Cell × Tell = cond_to (passes c.value k o) p v c in unheld_lives c p w (if_room c z) (room_lives c z refl)) refl r
 there_lives (LockCell p (Owner.Intent a) s) now r h =

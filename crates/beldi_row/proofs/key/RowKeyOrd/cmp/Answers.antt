@@ -1,5 +1,5 @@
 use Rattle.std.proofs.Common.{sym, ap₂, ◌∙◌}
-use Rattle.beldi_row.{specs.Key.RowKey, specs.Key.key_cmp, proofs.Fronts.by_kinds, proofs.Fronts.at_once}
+use Rattle.beldi_row.{specs.Key.key_cmp, proofs.Fronts.by_kinds, proofs.Fronts.at_once}
 use Rattle.beldi_row.proofs.key.RowKeyOrd.cmp.Goals as goal
 
 pub returns-in-Equal : goal.returns-in-Equal
