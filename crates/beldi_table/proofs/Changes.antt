@@ -9,7 +9,7 @@ pub not_both : (b : Bool) → IsTrue b → b ≡ false → ⊥
 not_both b h e = cc
 
 -- the row is there, and was changed
-there : (a : Act) (now : ℕ) (k : RowKey) (room : ℕ) (m n : Rows) (r s : Row) (c : Change) → map.get m k ≡ Some r → n ≡ map.insert m k s → (s, said_by c (Some s)) ≡ on a now r → ChangedOn a now k room m n (map.get n k) (Ok c)
+pub there : (a : Act) (now : ℕ) (k : RowKey) (room : ℕ) (m n : Rows) (r s : Row) (c : Change) → map.get m k ≡ Some r → n ≡ map.insert m k s → (s, said_by c (Some s)) ≡ on a now r → ChangedOn a now k room m n (map.get n k) (Ok c)
 there a now k room m n r s c here is done =
     let acted : (Some s, said_by c (Some s)) ≡ act a now (map.get m k) = ap stays done ∙ ap (act a now) (sym here) in (
       is ∙ ap (λ p. set_row m k p.0) acted,

@@ -92,6 +92,17 @@ in_turn k f g s t u h i q =
 followed : (a : Act) (now : ℕ) (k : Kind) (r s : Row) (c : Change) → Changes a now r s c → (not (switches a) || is_open k s) && (binds a || is_open k r) ≡ is_open k s
 followed a now k r s c h = subst (λ x. (not (switches a) || is_open k x) && (binds a || is_open k r) ≡ is_open k x) (sym (ap (λ p. p.0) h)) (opens a now k r)
 
+unbound : (a : Act) → switches a ≡ false → binds a ≡ false
+unbound (Act.Bind f v) n = cc
+unbound a n = refl
+
+-- what is neither bound nor ended is open as before
+pub stays_open : (a : Act) (now : ℕ) (k : Kind) (r s : Row) (c : Change) → Changes a now r s c → switches a ≡ false → is_open k s ≡ is_open k r
+stays_open a now k r s c h n =
+    sym (followed a now k r s c h)
+    ∙ ap (λ b. (not b || is_open k s) && (binds a || is_open k r)) n
+    ∙ ap (λ b. b || is_open k r) (unbound a n)
+
 pub row_there : (a : Act) (now : ℕ) (k : RowKey) (r v : Row) (c : Change) (w z : Bool) (m n : BTreeMap RowKey Row) (s t u : BTreeSet RowKey) → w ≡ binds a → z ≡ switches a → Changes a now r v c → get key_cmp m k ≡ Some r
     → Indexed m s → ((q : RowKey) → get key_cmp n q ≡ cond (is_at (key_cmp k) q) (Some v) (get key_cmp m q)) → Sets k (λ b. w || b) s t → Sets k (λ b. (not z || is_open k.kind v) && b) t u → Indexed n u
 row_there a now k r v c w z m n s t u may switched done here h rows put took =

@@ -1,3 +1,3 @@
-mod Changes
-mod Indexes
+pub mod Changes
+pub mod Indexes
 mod Next

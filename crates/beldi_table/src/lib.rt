@@ -21,5 +21,5 @@ mod map_table;
 mod open_keys;
 
 pub use failing_table::FailingTable;
-pub use map_table::{MapTable, room_in};
-pub use open_keys::{forget_if, is_open, note_if};
+pub use map_table::{MapTable, counted, room_in};
+pub use open_keys::{forget_if, is_open, note_if, switches};

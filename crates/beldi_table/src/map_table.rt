@@ -27,8 +27,8 @@ pub struct MapTable {
     ghost indexed: { Indexed rows open_keys },
 }
 
-// A number of rows as it is answered.
-fn counted(n: usize) -> u32
+/// A number of rows as it is answered.
+pub fn counted(n: usize) -> u32
     ensures { result ≡ min n (2 ^ 32 - 1) }
 {
     if n < 0xffff_ffff { n as u32 } else { u32::MAX }

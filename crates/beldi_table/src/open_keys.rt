@@ -14,8 +14,8 @@ pub(crate) fn binds(act: &Act) -> bool
     matches!(act, Act::Bind { .. })
 }
 
-// Whether the act may open or close an intent whose row is there.
-pub(crate) fn switches(act: &Act) -> bool
+/// Whether the act may open or close an intent whose row is there.
+pub fn switches(act: &Act) -> bool
     ensures { result ≡ switches act.now }
 {
     matches!(act, Act::Bind { .. } | Act::End { .. } | Act::Stamp)

@@ -8,3 +8,5 @@ mod calls;
 mod gateway;
 #[cfg(test)]
 mod pieces;
+#[cfg(test)]
+mod regions;

@@ -2,6 +2,8 @@
 #![tactic(auto)]
 
 #[cfg(test)]
+mod regions;
+#[cfg(test)]
 mod transactions;
 #[cfg(test)]
 mod walks;

@@ -1,0 +1,10 @@
+mod Alike
+mod Along
+mod Counts
+mod Free
+mod Held
+mod Listed
+mod Lists
+mod Moved
+mod Past
+mod Seen
