@@ -11,7 +11,8 @@ use Rattle.beldi_row.specs.{Act.act, Act.register_to, Key.RowKey, Table.Rows, de
 use Rattle.beldi_walk.{proofs.Lent.refused_stand, specs.declared.query.Query.Query, specs.Query.CameOn, specs.Query.Told, specs.Query.rows_after}
 use Rattle.beldi_invokelog.{proofs.Calls.calls_stay, specs.InvokeLog.call_at, specs.InvokeLog.call_in, specs.InvokeLog.invoke_key}
 use Rattle.beldi_known.{proofs.Cases.by_cases, proofs.Rows.keys_set, specs.Owed.called_by, specs.Owed.result_of, specs.Rows.CallMatches, specs.Stands.key_in}
-use Rattle.beldi_step.specs.{Host.Core, Host.EventBy, Host.Plan, Host.asks, Host.at_once, Host.counted, Host.crash_plan, Host.is_crowded, Host.last_moment, Host.most_events, Host.plan, Host.plan_of, Host.run_plan, Run.asks_at, Run.run_asks, Run.place_of, Run.stage_asks, declared.event.Event.Event, declared.event.Seen.Seen, declared.run.Begun.Begun, declared.run.Run.Run, declared.run.RunAt.RunAt, declared.run.RunTx.RunTx, declared.run.Stage.Stage}
+use Rattle.beldi_step.proofs.Runs.{of_plan}
+use Rattle.beldi_step.specs.{Host.Core, Host.EventBy, Host.Plan, Host.asks, Host.at_once, Host.counted, Host.crash_plan, Host.is_crowded, Host.last_moment, Host.plan, Host.plan_of, Host.reads_all, Host.run_plan, Run.asks_at, Run.run_asks, Run.place_of, Run.stage_asks, declared.event.Event.Event, declared.event.Seen.Seen, declared.run.Begun.Begun, declared.run.Run.Run, declared.run.RunAt.RunAt, declared.run.RunTx.RunTx, declared.run.Stage.Stage}
 use Rattle.beldi_laws.{proofs.Moves.if_plan, proofs.Returns.has_caller, specs.Right.Right}
 use Rattle.beldi_bound.proofs.{Calling.call_row, Ending.knows_it, Going.query_goes_on, ResultsCome.EventsBringResults, ResultsCome.ResultsCome, ResultsCome.results_same}
 
@@ -137,6 +138,7 @@ module _ (d : Deployment) (c : Core) (m : Rows) (h : Right d c m) where
   abbrev PlanBacks : Plan → Type 0
   PlanBacks (at_once b y) = Unit {0}
   PlanBacks (asks q) = Backs q m
+  PlanBacks reads_all = Unit {0}
 
   of_run : (i : ℕ) (o : Option Run) → map.get c.runs i ≡ o → PlanBacks (run_plan (counted c) i o)
   of_run i None is = tt
@@ -155,9 +157,11 @@ module _ (d : Deployment) (c : Core) (m : Rows) (h : Right d c m) where
   plan_backs (Event.Restart id f) = if_plan PlanBacks (is_crowded (counted c)) _ _ (λ u. tt) (λ u. tt)
   plan_backs (Event.Tick n) = if_plan PlanBacks (nat_lt last_moment (c.now + n)) _ _ (λ u. tt) (λ u. tt)
   plan_backs Event.Ic = tt
+  plan_backs Event.Halt = tt
 
   plan_brings : (room old new : ℕ) (e : Event) (b : Core) (n : Rows) (r : Result Seen AllocError) (p : Plan) → PlanBacks p → EventBy d room old new e (counted c) p m b n r → ResultsCome m n
   plan_brings room old new e b n r (at_once k y) backs s = subst (ResultsCome m) (sym s.1) (results_same m)
+  plan_brings room old new e b n r reads_all backs s = subst (ResultsCome m) (sym s.2.0) (results_same m)
   plan_brings room old new e b n r (asks q) backs s = by_came s.0 s.2
     where
       by_came : (w : Result Told TableErr) → CameOn q c.now room w m n → ResultsCome m n
@@ -165,4 +169,4 @@ module _ (d : Deployment) (c : Core) (m : Rows) (h : Right d c m) where
       by_came (Err v) s = subst (ResultsCome m) (sym (refused_stand q c.now room v m n s)) (results_same m)
 
 pub events_bring_results : EventsBringResults
-events_bring_results d room old new e c b m n r h s = plan_brings d c m h room old new e b n r (plan d e c) (if_plan (PlanBacks d c m h) (nat_lt c.taken most_events) _ _ (λ t. plan_backs d c m h e) (λ t. tt)) s
+events_bring_results d room old new e c b m n r h s = plan_brings d c m h room old new e b n r (plan d e c) (of_plan d e c (PlanBacks d c m h) (λ t. plan_backs d c m h e) (λ t. tt) tt) s

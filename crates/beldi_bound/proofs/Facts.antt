@@ -10,7 +10,7 @@ use Rattle.beldi_row.specs.{Key.RowKey, Table.Rows, declared.key.Kind.Kind, decl
 use Rattle.beldi_walk.specs.Query.{rows_after}
 use Rattle.beldi_intent.specs.Intent.{IntentGoesOn, is_ended}
 use Rattle.beldi_step.specs.{Host.Core, Host.EventOn, Host.has_run, Host.most_runs, Run.first_stage, Run.run_asks, declared.event.Event.Event, declared.event.Seen.Seen, declared.run.Begun.Begun, declared.run.Run.Run, declared.run.RunAt.RunAt, declared.run.Wait.Wait}
-use Rattle.beldi_schedule.specs.{Settle.first_at, Settle.go_on, Settles.Settles, Settles.State, declared.machine.Settled.Settled, declared.machine.Settled.TheVariants.All, declared.machine.Settled.TheVariants.Stuck, declared.machine.Standing.TheVariants.Over}
+use Rattle.beldi_schedule.specs.{Settle.first_at, Settle.go_on, Settles.Settles, Settles.State, declared.machine.Settled.Settled, declared.machine.Settled.TheVariants.All, declared.machine.Settled.TheVariants.Shut, declared.machine.Settled.TheVariants.Stuck, declared.machine.Standing.TheVariants.Over}
 use Rattle.beldi_laws.specs.{OneAnswer.AnswersStay, Right.open_of}
 use Rattle.beldi_upkeep.specs.Checked.{next_says, next_turn}
 use Rattle.beldi_bound.specs.{Cost.AreAsked, Cost.cost_from, Cost.step_cost, Cost.with_answers, Ends.AllHaveEnded, Ends.HasCause, Ends.HasNoLock, Ends.IsBelowEnd, Ends.IsIn, Ends.IsLate, Ends.NoneIsLate, Ends.Sound, Ends.is_hindered, Left.SaysLower, Left.left_at, Work.has_ended, Work.seat}
@@ -93,6 +93,7 @@ EachHasRun c m = (home : ℕ) (id : IntentId) (i : IntentRow) (b : Body) → map
 abbrev pub AtEnd : Deployment → Core → Rows → Settled → Type 0
 AtEnd d c m (All n) = (c.runs ≡ map.empty) × EachHasRun c m
 AtEnd d c m (Stuck n waiting) = AllWait d c m waiting × (EachHasRun c m ⊎ (most_runs ≤ map.len c.runs)) × (c.runs ≡ map.empty → ⊥)
+AtEnd d c m (Shut n) = c.shut ≡ true
 AtEnd d c m x = Unit {0}
 
 abbrev pub SettlesSo : Type 0

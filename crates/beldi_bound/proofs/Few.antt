@@ -12,10 +12,10 @@ use Rattle.beldi_lang.specs.declared.effect.Answer.{Answer}
 use Rattle.beldi_row.specs.{Key.RowKey, Table.Rows, declared.table.TableErr.TableErr}
 use Rattle.beldi_walk.specs.{Query.Told}
 use Rattle.beldi_collect.specs.{Collect.collect_says, declared.cursor.Found.Found}
-use Rattle.beldi_step.proofs.Runs.{after_event, either}
-use Rattle.beldi_step.specs.{Host.Core, Host.EventBy, Host.EventOn, Host.Followed, Host.after_turn, Host.asks, Host.at_once, Host.collect_next, Host.counted as one_taken, Host.ended_run, Host.has_run, Host.is_crowded, Host.last_moment, Host.may_start, Host.most_events, Host.plan_of, Host.run_next, Host.run_plan, Host.started, Host.turned_core, Run.callee_of, Run.run_asks, Run.run_told, Run.says_of, Next.next_run, Next.reset, declared.event.Event.Event, declared.event.Seen.Seen, declared.run.Begun.Begun, declared.run.Run.Run, declared.run.RunAt.RunAt, declared.run.TurnSays.TurnSays, declared.run.Wait.Wait}
+use Rattle.beldi_step.proofs.Runs.{after_event, either, of_plan}
+use Rattle.beldi_step.specs.{Host.Core, Host.EventBy, Host.EventOn, Host.Followed, Host.after_turn, Host.asks, Host.at_once, Host.collect_next, Host.counted as one_taken, Host.ended_run, Host.has_run, Host.is_crowded, Host.last_moment, Host.may_start, Host.run_next, Host.run_plan, Host.started, Host.turned_core, Run.callee_of, Run.run_asks, Run.run_told, Run.says_of, Next.next_run, Next.reset, declared.event.Event.Event, declared.event.Seen.Seen, declared.run.Begun.Begun, declared.run.Run.Run, declared.run.RunAt.RunAt, declared.run.TurnSays.TurnSays, declared.run.Wait.Wait}
 use Rattle.beldi_book.specs.Order.{count_changes}
-use Rattle.beldi_schedule.specs.{Settle.begun, Settle.by_round as goes_round, Settle.core_for, Settle.counted, Settle.counts, Settle.end_of, Settle.ends_round, Settle.event_of, Settle.first_at, Settle.go_on, Settle.heard_of, Settle.ic_heard, Settle.is_empty, Settle.is_spent, Settle.is_waiting, Settle.next_of, Settle.parked, Settle.restless, Settle.round_over, Settle.turn_heard, Settle.turn_or, Settle.turns_of, Settle.unparked, Settle.unless_spent}
+use Rattle.beldi_schedule.specs.{Settle.begun, Settle.by_round as goes_round, Settle.core_for, Settle.counted, Settle.counts, Settle.end_of, Settle.ends_round, Settle.event_of, Settle.first_at, Settle.go_on, Settle.heard_of, Settle.ic_heard, Settle.is_empty, Settle.is_turned_away, Settle.is_waiting, Settle.next_of, Settle.parked, Settle.restless, Settle.round_over, Settle.turn_heard, Settle.turn_or, Settle.turns_of, Settle.unparked, Settle.unless_away, Settle.away}
 use Rattle.beldi_schedule.specs.declared.machine.{At.At, Next.Next, Settled.Settled, Standing.Standing, Standing.TheVariants.Goes, Standing.TheVariants.Over}
 use Rattle.beldi_schedule.specs.Settles.{Advances, MaySkip, Settles, State, goes, set_to, skips, stands}
 use Rattle.beldi_bound.specs.{Cost.AreAsked, Ends.IsBelowEnd, Ends.Sound, Work.work_of}
@@ -63,22 +63,14 @@ module _ (d : Deployment) where
         by_time false s = turn_came z i s.0 s.1
 
     pub turn_now : (i : ℕ) → EventOn d room old new (Event.Turn i) c m b n (Ok x) → b.now ≡ c.now
-    turn_now i s = by_taken (nat_lt c.taken most_events) s
-      where
-        by_taken : (t : Bool) → EventBy d room old new (Event.Turn i) (one_taken c) (if t then plan_of d (Event.Turn i) (one_taken c) else at_once c Seen.Spent) m b n (Ok x) → b.now ≡ c.now
-        by_taken true s = turn_plan (one_taken c) i (map.get c.runs i) s
-        by_taken false s = ap (λ (w : Core). w.now) s.0.0
+    turn_now i = of_plan d (Event.Turn i) c (λ p. EventBy d room old new (Event.Turn i) (one_taken c) p m b n (Ok x) → b.now ≡ c.now) (λ t. turn_plan (one_taken c) i (map.get c.runs i)) (λ t s. ap (λ (w : Core). w.now) s.0.0) (λ s. ap (λ (w : Core). w.now) s.0.0)
 
     round_came : (z : Core) (w : Result Told TableErr) → Followed d Event.Ic z w b (Ok x) → b.now ≡ z.now
     round_came z (Ok t) is = ap (λ (p : Core × Seen). p.0.now) is ∙ found_now z (collect_says t)
     round_came z (Err v) is = ap (λ (p : Core × Result Seen AllocError). p.0.now) is
 
     pub round_now : EventOn d room old new Event.Ic c m b n (Ok x) → b.now ≡ c.now
-    round_now s = by_taken (nat_lt c.taken most_events) s
-      where
-        by_taken : (t : Bool) → EventBy d room old new Event.Ic (one_taken c) (if t then plan_of d Event.Ic (one_taken c) else at_once c Seen.Spent) m b n (Ok x) → b.now ≡ c.now
-        by_taken true s = round_came (one_taken c) s.0 s.1
-        by_taken false s = ap (λ (w : Core). w.now) s.0.0
+    round_now = of_plan d Event.Ic c (λ p. EventBy d room old new Event.Ic (one_taken c) p m b n (Ok x) → b.now ≡ c.now) (λ t s. round_came (one_taken c) s.0 s.1) (λ t s. ap (λ (w : Core). w.now) s.0.0) (λ s. ap (λ (w : Core). w.now) s.0.0)
 
 -- ---- all events of a settling: rows go on, and failures are never fewer
 module _ {d : Deployment} {room budget : ℕ} where
@@ -155,12 +147,16 @@ module _ (d : Deployment) (room : ℕ) (e : Rows) (asked : IntentId → List Ans
     counted_holds : (a : At) → Ready a u (n + failures) → Holds (n + failures) (go_on budget a) u
     counted_holds a h = either (λ z. Holds (n + failures) z u) (nat_le budget a.turns) _ _ (λ t. let l = h.less in omega (arith, l)) (λ t. h)
 
-    -- unless the host is spent
-    unless_holds : (a : At) (x : Seen) (z : Standing) → a.turns ≤ n → ((x ≡ Seen.Spent → ⊥) → Holds (n + failures) z u) → Holds (n + failures) (unless_spent a x z) u
-    unless_holds a x z less h = either (λ y. Holds (n + failures) y u) (is_spent x) _ _ (λ t. omega (arith, less)) (λ t. h (λ is. let clash = sym (ap is_spent is) ∙ t in cc))
+    -- unless the event was turned away
+    unless_holds : (a : At) (x : Seen) (z : Standing) → a.turns ≤ n → (is_turned_away x ≡ false → Holds (n + failures) z u) → Holds (n + failures) (unless_away a x z) u
+    unless_holds a x z less h = either (λ y. Holds (n + failures) y u) (is_turned_away x) _ _ (λ t. let same = away_turns a.turns x in omega (arith, less, same)) h
+      where
+        away_turns : (k : ℕ) (x : Seen) → turns_of (away k x) ≡ k
+        away_turns k Seen.Shut = refl
+        away_turns k x = refl
 
     turn_holds : (a : At) (i : ℕ) (x : Seen) (h : Ready a s n) → a.round ≡ None
-        → ((x ≡ Seen.Spent → ⊥) → Pays d room e asked first most (past_after d room e asked first most (is_waiting x) i a.past) h.runs h.keys (turn_of d room e asked first most (is_waiting x)) (u.faults - s.faults) u.core u.rows)
+        → (is_turned_away x ≡ false → Pays d room e asked first most (past_after d room e asked first most (is_waiting x) i a.past) h.runs h.keys (turn_of d room e asked first most (is_waiting x)) (u.faults - s.faults) u.core u.rows)
         → Holds (n + failures) (turn_heard budget a i x) u
     turn_holds a i x h round pays = unless_holds a x _ (let l = h.less in omega (arith, l)) (λ apart. by_wait (is_waiting x) (pays apart))
       where
@@ -174,7 +170,7 @@ module _ (d : Deployment) (room : ℕ) (e : Rows) (asked : IntentId → List Ans
 
     round_holds : (a : At) (x : Seen) (live : Option ℕ) (runs : List (ℕ × ℕ)) (keys : List RowKey) → a.turns + total (due d room e asked first most) runs keys ≤ n
         → ((i : ℕ) (r : Run) (g : Begun) → a.past < i → map.get u.core.runs i ≡ Some r → r.at ≡ RunAt.Begins g → ⊥)
-        → ((x ≡ Seen.Spent → ⊥) → Pays d room e asked first most a.past runs keys (if counts x then 1 else 0) (u.faults - s.faults) u.core u.rows)
+        → (is_turned_away x ≡ false → Pays d room e asked first most a.past runs keys (if counts x then 1 else 0) (u.faults - s.faults) u.core u.rows)
         → Holds (n + failures) (ic_heard budget live a x) u
     round_holds a x live runs keys less idle pays = unless_holds a x _ (omega (arith, less)) (λ apart. by_end (pays apart))
       where

@@ -12,7 +12,7 @@ use Rattle.beldi_book.specs.Order.{count_changes}
 use Rattle.beldi_row.{proofs.Unchanged.left, proofs.Unchanged.looked, specs.Act.Tell, specs.Act.act, specs.Act.held, specs.Act.packed, specs.Act.off, specs.Key.RowKey, specs.KeyOrder.key_total, specs.Table.Rows, specs.Table.set_row, specs.declared.act.Act.Act, specs.declared.act.Act.TheVariants.Look, specs.declared.row.Body.Body, specs.declared.row.IntentRow.IntentRow, specs.declared.row.Row.Row, specs.declared.table.TableErr.TableErr}
 use Rattle.beldi_walk.{proofs.Lent.refused_stand, proofs.Lent.stands, proofs.Promises.at_each, specs.declared.query.Query.Query, specs.Query.CameOn, specs.Query.Told, specs.Query.is_death, specs.Query.lent, specs.Query.query_adds, specs.Query.rows_after, specs.Query.said, specs.Query.told_by}
 use Rattle.beldi_intent.{proofs.Intents.intents_stay, specs.Intent.GoesOn as IntentStays, specs.Intent.IntentGoesOn, specs.Intent.body_told, specs.Intent.intent_in, specs.Intent.is_ended}
-use Rattle.beldi_step.specs.{declared.event.Event.Event, declared.event.Seen.Seen, declared.run.Begun.Begun, declared.run.Mark.Mark, declared.run.Run.Run, declared.run.RunAt.RunAt, declared.run.RunTx.RunTx, declared.run.Says.Says, declared.run.Stage.Stage, declared.run.Wait.Wait, Host.Core, Host.EventBy, Host.EventOn, Host.Plan, Host.at_once as answered, Host.asks, Host.counted, Host.plan}
+use Rattle.beldi_step.specs.{declared.event.Event.Event, declared.event.Seen.Seen, declared.run.Begun.Begun, declared.run.Mark.Mark, declared.run.Run.Run, declared.run.RunAt.RunAt, declared.run.RunTx.RunTx, declared.run.Says.Says, declared.run.Stage.Stage, declared.run.Wait.Wait, Host.Core, Host.EventBy, Host.EventOn, Host.Plan, Host.at_once as answered, Host.asks, Host.counted, Host.plan, Host.reads_all}
 use Rattle.beldi_step.specs.Run.{asks_at, at_once, begin_in, body_registered, first_stage, goes_from, goes_to, run_asks, stage_asks, stage_says, takes, told_at, turned_by, within}
 use Rattle.beldi_known.proofs.{Cases.by_cases, Rows.keys_set}
 use Rattle.beldi_laws.{proofs.OneAnswer.act_keeps, specs.OneAnswer.AnswersStay}
@@ -91,6 +91,7 @@ module _ (room : ℕ) (P : Rows → Rows → Type 0) (same : (m : Rows) → P m 
   by_plan : (d : Deployment) (old new : ℕ) (e : Event) (c b : Core) (m n : Rows) (r : Result Seen AllocError) (p : Plan) → EventBy d room old new e c p m b n r → P m n
   by_plan d old new e c b m n r (answered k y) s = subst (P m) (sym s.1) (same m)
   by_plan d old new e c b m n r (asks q) s = came q c.now s.0 m n s.2
+  by_plan d old new e c b m n r reads_all s = subst (P m) (sym s.2.0) (same m)
 
   by_event : (d : Deployment) (old new : ℕ) (e : Event) (c b : Core) (m n : Rows) (r : Result Seen AllocError) → EventOn d room old new e c m b n r → P m n
   by_event d old new e c b m n r s = by_plan d old new e (counted c) b m n r (plan d e c) s

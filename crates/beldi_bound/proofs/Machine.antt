@@ -5,10 +5,10 @@ use Rattle.std.specs.Ordering.{nat_cmp}
 use Rattle.std.proofs.Common.{◌≡◌, ◌⊎◌, inl, inr, ℕ, ◌+◌, ◌<◌, ◌≤◌, nat_le, nat_lt, ltb-true, ltb-false, Bool, true, false, not, ◌&&◌, List, [], ◌∷◌, ◌++◌, Option, Some, None, is_some, IsTrue, Ok, if◌then◌else◌, refl, sym, ap, subst, ◌∙◌, arith}
 use Rattle.beldi_tree.specs.declared.deployment.Deployment.{Deployment}
 use Rattle.beldi_row.specs.{Key.RowKey, Key.least_key, Table.Rows}
-use Rattle.beldi_step.proofs.Runs.{either}
+use Rattle.beldi_step.proofs.{Runs.either, Shut.event_shut}
 use Rattle.beldi_step.specs.{Host.Core, Host.EventOn, Host.counted, Host.most_runs, Host.new_run, Host.with_run, Next.next_run, Next.reset, declared.event.Event.Event, declared.event.Seen.Seen, declared.run.Run.Run}
 use Rattle.beldi_known.proofs.Cases.{by_cases, by_option}
-use Rattle.beldi_schedule.specs.Settle.{begun, by_round, core_for, counted as counts_one, end_of, event_of, first_at, go_on, heard_of, ic_heard, is_empty, is_spent, is_waiting, next_of, parked, restless, round_over, turn_heard, turn_or, unparked, unless_spent}
+use Rattle.beldi_schedule.specs.Settle.{away, begun, by_round, core_for, counted as counts_one, end_of, event_of, first_at, go_on, heard_of, ic_heard, is_empty, is_turned_away, is_waiting, next_of, parked, restless, round_over, turn_heard, turn_or, unparked, unless_away}
 use Rattle.beldi_schedule.specs.Settles.{MaySkip, Settles, State, goes, skips, stands}
 use Rattle.beldi_schedule.specs.declared.machine.{At.At, Next.Next, Standing.Standing}
 use Rattle.beldi_bound.specs.Ends.{IsIn, Sound}
@@ -132,17 +132,18 @@ in_last (x ∷ xs) z = inr (in_last xs z)
 goes_on : (d : Deployment) (c : Core) (m : Rows) (budget : ℕ) (a : At) → Goes d c m a → Holds d c m (go_on budget a)
 goes_on d c m budget a g = either (Holds d c m) (nat_le budget a.turns) _ _ (λ t. tt) (λ t. g)
 
-unless_holds : (d : Deployment) (c : Core) (m : Rows) (a : At) (x : Seen) (z : Standing) → ((x ≡ Seen.Spent → ⊥) → Holds d c m z) → Holds d c m (unless_spent a x z)
-unless_holds d c m a x z h = either (Holds d c m) (is_spent x) _ _ (λ t. tt) (λ t. h (λ e. clash (sym (ap is_spent e) ∙ t)))
+unless_holds : (d : Deployment) (c : Core) (m : Rows) (a : At) (x : Seen) (z : Standing) → (x ≡ Seen.Shut → c.shut ≡ true) → (is_turned_away x ≡ false → Holds d c m z) → Holds d c m (unless_away a x z)
+unless_holds d c m a x z shut h = either (Holds d c m) (is_turned_away x) _ _ (λ t. by_answer x shut) h
   where
-    clash : true ≡ false → ⊥
-    clash h = cc
+    by_answer : (x : Seen) → (x ≡ Seen.Shut → c.shut ≡ true) → AtEnd d c m (away a.turns x)
+    by_answer Seen.Shut shut = shut refl
+    by_answer x shut = tt
 
 module _ (d : Deployment) (room old new budget : ℕ) (c b : Core) (m n : Rows) (x : Seen) (sound : Sound d c m) where
   turn_holds : WaitsLeaveRows → (a : At) (i : ℕ) → Goes d c m a → a.round ≡ None → next_run c a.past ≡ Some i → EventOn d room old new (Event.Turn i) c m b n (Ok x) → Holds d b n (turn_heard budget a i x)
   turn_holds leave a i g none next event =
       let least = subst (IsLeast c.runs a.past) next (next_least c a.past) in
-      first_some (map.get c.runs i) least.1 (λ r live. unless_holds d b n a x _ (λ apart.
+      first_some (map.get c.runs i) least.1 (λ r live. unless_holds d b n a x _ (λ is. event_shut d room old new (Event.Turn i) c b m n (subst (λ y. EventOn d room old new (Event.Turn i) c m b n (Ok y)) is event)) (λ apart.
       let known = (numbered d c m sound i r live).1 in
       by_answer least r live known apart (turn_comes_to d c m i r live known (λ w. leave d c m i r w sound live) room old new b n x event)))
     where
@@ -173,8 +174,8 @@ module _ (d : Deployment) (room old new budget : ℕ) (c b : Core) (m n : Rows) 
           clash : true ≡ false → ⊥
           clash h = cc
 
-      by_answer : IsLeast c.runs a.past (Some i) → (r : Run) → map.get c.runs i ≡ Some r → i ≤ c.last_run → (x ≡ Seen.Spent → ⊥) → (x ≡ Seen.Spent) ⊎ Comes d c b m n i x → Holds d b n (if is_waiting x then Standing.Goes (parked a i x) else counts_one budget a)
-      by_answer least r live known apart (inl e) = absurd (apart e)
+      by_answer : IsLeast c.runs a.past (Some i) → (r : Run) → map.get c.runs i ≡ Some r → i ≤ c.last_run → is_turned_away x ≡ false → (is_turned_away x ≡ true) ⊎ Comes d c b m n i x → Holds d b n (if is_waiting x then Standing.Goes (parked a i x) else counts_one budget a)
+      by_answer least r live known apart (inl e) = let clash = sym e ∙ apart in cc
       by_answer least r live known apart (inr k) = either (Holds d b n) (is_waiting x) _ _
           (λ t. let w = k.waits t in waits least known w.0 w.1 w.2)
           (λ t. goes_on d b n budget (record a { turns = a.turns + 1; moved = true }) (moves least.0 k))
@@ -242,6 +243,7 @@ module _ (d : Deployment) (c : Core) (m : Rows) (sound : Sound d c m) (budget : 
 
   pub collected : (b : Core) (x : Seen) → Went d c b m x → Holds d b m (ic_heard budget (next_run b 0) a x)
   collected b x (Went.spent is) = tt
+  collected b x (Went.shut is shut) = ap (λ (k : Core). k.shut) is ∙ shut
   collected b x (Went.round is none) = subst (λ z. Holds d z m (round_over (next_run z 0) a a.round)) (sym is) (over least_key (c.taken + 1) (λ h. inl (at_end c m c.cursor none h)))
   collected b x (Went.crowded is full) = subst (λ z. Holds d z m (round_over (next_run z 0) a a.round)) (sym is) (over c.cursor (c.taken + 1) (λ h. inr full))
   collected b x (Went.moved k is to) = subst (λ z. Goes d z m a) (sym is) (goes_at k (c.taken + 1) to)

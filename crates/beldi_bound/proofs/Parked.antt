@@ -9,10 +9,10 @@ use Rattle.beldi_book.specs.Order.{count_changes}
 use Rattle.beldi_row.specs.{Table.Rows, declared.row.Body.Body, declared.table.TableErr.TableErr}
 use Rattle.beldi_walk.{proofs.Lent.refused_stand, specs.Query.Told, specs.Query.rows_after, specs.Query.told_by}
 use Rattle.beldi_intent.specs.Intent.{body_told}
-use Rattle.beldi_step.proofs.Runs.{either, same_some}
-use Rattle.beldi_step.specs.{Host.Core, Host.EventBy, Host.EventOn, Host.Plan, Host.after_turn, Host.asks, Host.counted, Host.ended_run, Host.has_run, Host.is_crowded, Host.made, Host.may_start, Host.most_events, Host.put_run, Host.run_next, Host.run_plan, Host.started, Host.turn_next, Host.turned_core, declared.event.Event.Event, declared.event.Seen.Seen, declared.run.Begun.Begun, declared.run.Mark.Mark, declared.run.Run.Run, declared.run.RunAt.RunAt, declared.run.RunTx.RunTx, declared.run.Says.Says, declared.run.Stage.Stage, declared.run.TurnSays.TurnSays, declared.run.Wait.Wait}
+use Rattle.beldi_step.proofs.Runs.{either, of_plan, same_some}
+use Rattle.beldi_step.specs.{Host.Core, Host.EventBy, Host.EventOn, Host.Plan, Host.after_turn, Host.asks, Host.counted, Host.ended_run, Host.has_run, Host.is_crowded, Host.made, Host.may_start, Host.put_run, Host.run_next, Host.run_plan, Host.started, Host.turn_next, Host.turned_core, declared.event.Event.Event, declared.event.Seen.Seen, declared.run.Begun.Begun, declared.run.Mark.Mark, declared.run.Run.Run, declared.run.RunAt.RunAt, declared.run.RunTx.RunTx, declared.run.Says.Says, declared.run.Stage.Stage, declared.run.TurnSays.TurnSays, declared.run.Wait.Wait}
 use Rattle.beldi_step.specs.Run.{Turned, at_once, begin_in, body_registered, callee_of, first_stage, goes_from, goes_to, run_asks, says_of, stage_says, takes, told_at, turned_by, within}
-use Rattle.beldi_schedule.specs.Settle.{is_waiting}
+use Rattle.beldi_schedule.specs.Settle.{is_turned_away, is_waiting}
 use Rattle.beldi_upkeep.specs.Checked.{next_turn}
 use Rattle.beldi_bound.proofs.{Facts.WaitsNow, Numbers.put_apart, Numbers.put_same}
 
@@ -124,7 +124,7 @@ module _ (d : Deployment) (c : Core) (m : Rows) (i : ℕ) (r : Run) (live : map.
   -- ---- the event
   module _ (room old new : ℕ) (b : Core) (n : Rows) (x : Seen) where
     abbrev Answer : Type 0
-    Answer = (x ≡ Seen.Spent) ⊎ Comes d c b m n i x
+    Answer = (is_turned_away x ≡ true) ⊎ Comes d c b m n i x
 
     ok_is : {y z : Seen} → ◌≡◌ {A = Result Seen AllocError} (Ok y) (Ok z) → y ≡ z
     ok_is h = cc
@@ -159,4 +159,4 @@ module _ (d : Deployment) (c : Core) (m : Rows) (i : ℕ) (r : Run) (live : map.
         (λ alive. by_answer))
 
     pub turn_comes_to : EventOn d room old new (Event.Turn i) c m b n (Ok x) → Answer
-    turn_comes_to = either On (nat_lt c.taken most_events) _ _ (λ t. by_plan (map.get c.runs i) live) (λ t ev. inl ev.0.1)
+    turn_comes_to = of_plan d (Event.Turn i) c On (λ t. by_plan (map.get c.runs i) live) (λ t ev. inl (ap is_turned_away ev.0.1)) (λ ev. inl (ap is_turned_away ev.0.1))

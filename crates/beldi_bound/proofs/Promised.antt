@@ -47,6 +47,7 @@ module _ (d : Deployment) (room budget : ℕ) (s t : State) (sound : Sound d s.c
         late : n ≤ work_of d asked s t → budget ≤ n → ⊥
         late m u = omega (arith, m, u, enough)
     completes (Settled.Spent n) h asked areas no_lock none_late same below free enough = absurd free
+    completes (Settled.Shut n) h asked areas no_lock none_late same below free enough = absurd free
     completes (Settled.Stuck n waiting) h asked areas no_lock none_late same below free enough =
         absurd (no_cause n waiting free (lates_followed d room budget s t (Settled.Stuck n waiting) sound none_late h same below) (caused n waiting h no_lock))
 
@@ -55,6 +56,7 @@ settles_as_promised no_first d room budget s t x sound early h = record {
   few = few d room budget s t sound no_first early x h;
   used = λ n is. budget_used d room budget s t n (subst (Ends d room budget s t sound) is h);
   ended = λ n is. settled d room budget s t sound n (subst (Ends d room budget s t sound) is h);
+  shut = λ n is. settles_so waits_leave_rows d room budget s t (Settled.Shut n) sound (subst (Ends d room budget s t sound) is h);
   cause = λ n waiting free is. caused d room budget s t sound n waiting (subst (Ends d room budget s t sound) is h) free;
   completes = completes d room budget s t sound no_first early x h;
 }

@@ -11,7 +11,8 @@ use Rattle.beldi_row.{proofs.Gets.key_same, proofs.Least.next_row_least, specs.K
 use Rattle.beldi_walk.specs.{Query.CameOn, Query.Told, declared.query.Query.Query}
 use Rattle.beldi_intent.specs.Intent.{is_ended}
 use Rattle.beldi_collect.{proofs.Jumps.none_jumped, specs.Collect.collect_says, specs.Collect.found_says, specs.Collect.open_at, specs.Collect.passing, specs.Collect.row_says}
-use Rattle.beldi_step.specs.{Host.Core, Host.EventBy, Host.EventOn, Host.Followed, Host.at_once, Host.collect_next, Host.counted, Host.has_run, Host.is_crowded, Host.launched, Host.most_events, Host.most_runs, Host.new_run, Host.passed, Host.plan_of, Host.with_run, Next.PassesNoOpen, declared.event.Event.Event, declared.event.Seen.Seen, declared.run.Run.Run}
+use Rattle.beldi_step.proofs.Runs.{of_plan}
+use Rattle.beldi_step.specs.{Host.Core, Host.EventBy, Host.EventOn, Host.Followed, Host.collect_next, Host.counted, Host.has_run, Host.is_crowded, Host.launched, Host.most_runs, Host.new_run, Host.passed, Host.with_run, Next.PassesNoOpen, declared.event.Event.Event, declared.event.Seen.Seen, declared.run.Run.Run}
 use Rattle.beldi_known.{proofs.Cases.by_cases, specs.Rows.RootMatches, specs.Stands.key_in}
 use Rattle.beldi_laws.specs.Right.{Right}
 use Rattle.beldi_bound.specs.Ends.{Sound}
@@ -24,6 +25,7 @@ pub record HaveRunsTo (runs : FinMap nat_cmp Run) (m : Rows) (k : RowKey) : Type
 -- what an event of the collector makes of the core, where the rows stay
 pub data Went (d : Deployment) (c b : Core) (m : Rows) : Seen → Type 0 where
   spent : b ≡ c → Went d c b m Seen.Spent
+  shut : b ≡ counted c → c.shut ≡ true → Went d c b m Seen.Shut
   round : b ≡ record (counted c) { cursor = least_key } → next_row m c.cursor ≡ None → Went d c b m Seen.Round
   crowded : b ≡ counted c → most_runs ≤ map.len c.runs → Went d c b m Seen.Crowded
   moved : (k : RowKey) → b ≡ record (counted c) { cursor = k } → (HaveRunsTo c.runs m c.cursor → HaveRunsTo c.runs m k) → Went d c b m Seen.Passed
@@ -214,9 +216,10 @@ module _ (d : Deployment) (c : Core) (m : Rows) (s : Sound d c m) where
         said h = cc
     by_query (Err (TableErr.Full live most)) is came = absurd came
 
-    by_plan : (t : Bool) → EventBy d room old new Event.Ic (counted c) (if t then plan_of d Event.Ic (counted c) else at_once c Seen.Spent) m b n (Ok x) → Said
-    by_plan true s = by_query s.0 s.1 s.2
-    by_plan false s = (s.1, leads (c, Seen.Spent) (λ j. (s.0.0 j, s.0.1 j)) (spent refl))
+    by_event : EventOn d room old new Event.Ic c m b n (Ok x) → Said
+    by_event = of_plan d Event.Ic c (λ p. EventBy d room old new Event.Ic (counted c) p m b n (Ok x) → Said) (λ t s. by_query s.0 s.1 s.2)
+        (λ t s. (s.1, leads (counted c, Seen.Shut) (λ j. (s.0.0 j, s.0.1 j)) (shut refl t)))
+        (λ s. (s.1, leads (c, Seen.Spent) (λ j. (s.0.0 j, s.0.1 j)) (spent refl)))
 
 pub collector_went : (d : Deployment) (room old new : ℕ) (c b : Core) (m n : Rows) (x : Seen) → Sound d c m → EventOn d room old new Event.Ic c m b n (Ok x) → (n ≡ m) × Went d c b m x
-collector_went d room old new c b m n x s event = by_plan d c m s room old new b n x (nat_lt c.taken most_events) event
+collector_went d room old new c b m n x s event = by_event d c m s room old new b n x event

@@ -6,7 +6,7 @@ use Rattle.std.specs.FinMap as map
 use Rattle.std.specs.Prelude.{IsTrue}
 use Rattle.std.specs.declared.alloc.AllocError.{AllocError}
 use Rattle.std.proofs.{Math.Nat.one-le-mul, lemmas.Cmp.tied_itself}
-use Rattle.std.proofs.Common.{Bool, Err, List, None, Ok, Option, Result, Some, [], ap, append-nil, append_assoc, arith, cond, eq-eqb, eqb-true, false, if◌then◌else◌, inl, inr, is_some, length, nat_lt, refl, subst, sym, true, ℕ, ◌*◌, ◌++◌, ◌+◌, ◌-◌, ◌<◌, ◌==◌, ◌^◌, ◌∙◌, ◌∷◌, ◌≡◌, ◌≤◌, ◌⊎◌}
+use Rattle.std.proofs.Common.{Bool, Err, List, None, Ok, Option, Result, Some, [], ap, append-nil, append_assoc, arith, cond, eq-eqb, eqb-true, false, if◌then◌else◌, inl, inr, is_some, length, refl, subst, sym, true, ℕ, ◌*◌, ◌++◌, ◌+◌, ◌-◌, ◌<◌, ◌==◌, ◌^◌, ◌∙◌, ◌∷◌, ◌≡◌, ◌≤◌, ◌⊎◌}
 use Rattle.beldi_value.specs.{Id.child_of, Id.has_no_hops, declared.id.IntentId.IntentId, declared.place.TxId.TxId}
 use Rattle.beldi_tree.specs.declared.deployment.Deployment.{Deployment}
 use Rattle.beldi_lang.specs.declared.effect.{Answer.Answer, Effect.Effect}
@@ -18,11 +18,12 @@ use Rattle.beldi_intent.specs.Intent.{IntentGoesOn, intent_in, intent_key, is_en
 use Rattle.beldi_collect.specs.Collect.{collect_says, found_says, open_at, row_says}
 use Rattle.beldi_call.specs.declared.{async_call.AsyncAt.AsyncAt}
 use Rattle.beldi_step.{proofs.PutRun.put_got, specs.declared.run.RunAt.RunAt}
-use Rattle.beldi_step.specs.{Host.Core, Host.EventBy, Host.Followed, Host.at_once, Host.collect_next, Host.collected, Host.counted, Host.has_run, Host.is_crowded, Host.last_moment, Host.launched, Host.most_events, Host.new_run, Host.passed, Host.plan_of, Next.first_past, Next.next_run, declared.event.Event.Event, declared.event.Seen.Seen, declared.run.Begun.Begun, declared.run.Run.Run, declared.run.Stage.Stage}
+use Rattle.beldi_step.proofs.Runs.{of_plan}
+use Rattle.beldi_step.specs.{Host.Core, Host.EventBy, Host.EventOn, Host.Followed, Host.collect_next, Host.collected, Host.counted, Host.has_run, Host.is_crowded, Host.last_moment, Host.launched, Host.new_run, Host.passed, Next.first_past, Next.next_run, declared.event.Event.Event, declared.event.Seen.Seen, declared.run.Begun.Begun, declared.run.Run.Run, declared.run.Stage.Stage}
 use Rattle.beldi_known.{proofs.Cases.by_cases, proofs.Cases.by_option, specs.Rows.CalleeBodyMatches, specs.Rows.IntentMatches, specs.Rows.RootMatches}
 use Rattle.beldi_known.specs.Matches.{RowMatches, has_ended as tx_has_ended}
 use Rattle.beldi_upkeep.specs.Checked.{body_at}
-use Rattle.beldi_schedule.specs.Settle.{counts}
+use Rattle.beldi_schedule.specs.Settle.{is_turned_away, counts}
 use Rattle.beldi_bound.specs.{Cost.body_cost, Cost.cost_from, Cost.effect_cost, Cost.kind_cost, Cost.step_cost, Cost.with_answers, Ends.IsIn, Ends.Sound, Work.has_ended, Work.one_more, Work.seat}
 use Rattle.beldi_bound.proofs.{Entries.run_there, Facts.GoesOn, Facts.begun_left, Lists.in_without, Lists.without, Lists.without_in, Lists.without_sum}
 use Rattle.beldi_bound.proofs.Ledger.{callee_key, if_free, spare_of, stuck_by, stuck_in, Covers, CoversAt, HasBody, IsCovered, IsMidway, IsStarted, Ledger, Pays, RoundsPay, acts, cost, due, find, spare, stands}
@@ -207,7 +208,7 @@ module _ (d : Deployment) (room : ℕ) (e : Rows) (asked : IntentId → List Ans
   row_in (Some w) j h = cc
 
   module _ (past old new : ℕ) (c b : Core) (m n : Rows) (x : Seen) (runs : List (ℕ × ℕ)) (keys : List RowKey) (sound : Sound d c m) (goes : GoesOn n e) (below : new < 2 ^ 64 - 1) (soon : c.now ≤ last_moment)
-      (idle : (i : ℕ) (r : Run) (g : Begun) → next_run c past ≡ Some i → map.get c.runs i ≡ Some r → r.at ≡ RunAt.Begins g → ⊥) (not_spent : x ≡ Seen.Spent → ⊥) (h : Ledger d room e asked first most past c m runs keys) where
+      (idle : (i : ℕ) (r : Run) (g : Begun) → next_run c past ≡ Some i → map.get c.runs i ≡ Some r → r.at ≡ RunAt.Begins g → ⊥) (not_away : is_turned_away x ≡ false) (h : Ledger d room e asked first most past c m runs keys) where
     abbrev Paid : Type 0
     Paid = Pays d room e asked first most past runs keys (if counts x then 1 else 0) (new - old) b n
 
@@ -305,9 +306,11 @@ module _ (d : Deployment) (room : ℕ) (e : Rows) (asked : IntentId → List Ans
         at_most false = omega arith
     by_query (Err (TableErr.Full live most)) is came cause = absurd came
 
-    by_plan : (t : Bool) → EventBy d room old new Event.Ic (counted c) (if t then plan_of d Event.Ic (counted c) else at_once c Seen.Spent) m b n (Ok x) → Paid
-    by_plan true s = by_query s.0 s.1 s.2 s.3
-    by_plan false s = absurd (not_spent s.0.1)
+    by_event : EventOn d room old new Event.Ic c m b n (Ok x) → Paid
+    by_event = of_plan d Event.Ic c (λ p. EventBy d room old new Event.Ic (counted c) p m b n (Ok x) → Paid) (λ t s. by_query s.0 s.1 s.2 s.3) (λ t s. absurd (away s.0.1 refl)) (λ s. absurd (away s.0.1 refl))
+      where
+        away : {y : Seen} → x ≡ y → is_turned_away y ≡ true → ⊥
+        away is h = let clash = sym h ∙ sym (ap is_turned_away is) ∙ not_away in cc
 
   pub rounds_pay : RoundsPay d room e asked first most
-  rounds_pay past old new c b m n x runs keys z sound later last asks goes below soon idle event not_spent h = by_plan past old new c b m n x runs keys sound goes below soon idle not_spent h (nat_lt c.taken most_events) event
+  rounds_pay past old new c b m n x runs keys z sound later last asks goes below soon idle event not_away h = by_event past old new c b m n x runs keys sound goes below soon idle not_away h event

@@ -12,7 +12,8 @@ use Rattle.beldi_walk.{proofs.Lent.refused_stand, specs.Query.rows_after}
 use Rattle.beldi_collect.specs.{Collect.collect_asks, Collect.collect_says, declared.cursor.Found.Found}
 use Rattle.beldi_order.proofs.Maps.{same_some}
 use Rattle.beldi_step.proofs.PutRun.{put_got}
-use Rattle.beldi_step.specs.{Host.Core, Host.EventBy, Host.EventOn, Host.after_turn, Host.asks, Host.collect_next, Host.counted, Host.ended_run, Host.has_run, Host.is_crowded, Host.made, Host.may_start, Host.most_events, Host.new_run, Host.put_run, Host.run_next, Host.run_plan, Host.started, Host.turn_next, Host.turned_core, Host.with_run, Run.callee_at, Run.callee_by, Run.callee_of, Run.callee_run, Run.run_asks, Run.says_of, declared.event.Event.Event, declared.event.Seen.Seen, declared.run.Begun.Begun, declared.run.Run.Run, declared.run.RunAt.RunAt, declared.run.RunTx.RunTx, declared.run.TurnSays.TurnSays, declared.run.Wait.Wait}
+use Rattle.beldi_step.proofs.Runs.{of_plan}
+use Rattle.beldi_step.specs.{Host.Core, Host.EventBy, Host.EventOn, Host.after_turn, Host.asks, Host.collect_next, Host.counted, Host.ended_run, Host.has_run, Host.is_crowded, Host.made, Host.may_start, Host.new_run, Host.put_run, Host.run_next, Host.run_plan, Host.started, Host.turn_next, Host.turned_core, Host.with_run, Run.callee_at, Run.callee_by, Run.callee_of, Run.callee_run, Run.run_asks, Run.says_of, declared.event.Event.Event, declared.event.Seen.Seen, declared.run.Begun.Begun, declared.run.Run.Run, declared.run.RunAt.RunAt, declared.run.RunTx.RunTx, declared.run.TurnSays.TurnSays, declared.run.Wait.Wait}
 use Rattle.beldi_schedule.specs.{Settle.core_for, Settle.event_of, declared.machine.Next.Next}
 use Rattle.beldi_laws.proofs.Moves.{if_plan}
 use Rattle.beldi_upkeep.specs.Checked.{has_begun, next_turn}
@@ -137,8 +138,9 @@ module _ (d : Deployment) (room old new : ℕ) (few : new < 2 ^ 64 - 1) (same : 
         (subst (Adds c) (sym is) (record { now = refl; keeps = λ j le. refl; lived = λ j s g is at. is }), refused_stand (collect_asks c.cursor) c.now room v m n came)
 
     by_collector : EventOn d room old new Event.Ic c m b n (Ok x) → Adds c b × (n ≡ m)
-    by_collector = if_plan (λ p. EventBy d room old new Event.Ic (counted c) p m b n (Ok x) → Adds c b × (n ≡ m)) (nat_lt c.taken most_events) _ _ (λ t. by_found)
+    by_collector = of_plan d Event.Ic c (λ p. EventBy d room old new Event.Ic (counted c) p m b n (Ok x) → Adds c b × (n ≡ m)) (λ t. by_found)
         (λ t ev. (subst (Adds c) (sym ev.0.0) (record { now = refl; keeps = λ j le. refl; lived = λ j s g is at. is }), ev.1))
+        (λ ev. (subst (Adds c) (sym ev.0.0) (record { now = refl; keeps = λ j le. refl; lived = λ j s g is at. is }), ev.1))
 
   module _ (c : Core) (numbers : (j : ℕ) (s : Run) → map.get c.runs j ≡ Some s → j ≤ c.last_run) where
     abbrev Steps : Type 0
@@ -206,8 +208,8 @@ module _ (d : Deployment) (room old new : ℕ) (few : new < 2 ^ 64 - 1) (same : 
     by_live i (Some r) live ev = by_time i r live ev
 
     by_turn : (i : ℕ) → EventOn d room old new (Event.Turn i) c m b n (Ok x) → Steps
-    by_turn i = if_plan (λ p. EventBy d room old new (Event.Turn i) (counted c) p m b n (Ok x) → Steps) (nat_lt c.taken most_events) _ _ (λ t. by_live i (map.get c.runs i) refl)
-        (λ t ev. stands c ev.0.0 refl (λ j. refl) ev.1)
+    by_turn i = of_plan d (Event.Turn i) c (λ p. EventBy d room old new (Event.Turn i) (counted c) p m b n (Ok x) → Steps) (λ t. by_live i (map.get c.runs i) refl)
+        (λ t ev. stands (counted c) ev.0.0 refl (λ j. refl) ev.1) (λ ev. stands c ev.0.0 refl (λ j. refl) ev.1)
 
     pub next_steps : (z : Next) → EventOn d room old new (event_of z) (core_for z c) m b n (Ok x) → Steps
     next_steps (Next.Turn s i) ev = by_turn i ev

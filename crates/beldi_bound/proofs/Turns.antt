@@ -9,8 +9,9 @@ use Rattle.beldi_tree.specs.declared.deployment.Deployment.{Deployment}
 use Rattle.beldi_lang.specs.declared.effect.{Answer.Answer}
 use Rattle.beldi_row.specs.{Key.RowKey, Table.HasCause, Table.Rows, declared.table.TableErr.TableErr}
 use Rattle.beldi_walk.{proofs.Lent.refused_stand, specs.Query.CameOn, specs.Query.Told, specs.Query.rows_after}
-use Rattle.beldi_step.specs.{Host.Core, Host.EventBy, Host.EventOn, Host.Plan, Host.asks, Host.counted, Host.ended_run, Host.most_events, Host.run_next, Host.run_plan, Host.turn_next, Run.run_asks, declared.event.Event.Event, declared.event.Seen.Seen, declared.run.Run.Run}
-use Rattle.beldi_schedule.specs.Settle.{is_waiting}
+use Rattle.beldi_step.proofs.Runs.{of_plan}
+use Rattle.beldi_step.specs.{Host.Core, Host.EventBy, Host.EventOn, Host.Plan, Host.asks, Host.counted, Host.ended_run, Host.run_next, Host.run_plan, Host.turn_next, Run.run_asks, declared.event.Event.Event, declared.event.Seen.Seen, declared.run.Run.Run}
+use Rattle.beldi_schedule.specs.Settle.{is_turned_away, is_waiting}
 use Rattle.beldi_upkeep.specs.Checked.{next_turn}
 use Rattle.beldi_bound.specs.{Ends.Sound}
 use Rattle.beldi_bound.proofs.Ledger.{Pays, past_after, turn_of}
@@ -39,7 +40,7 @@ module _ (d : Deployment) (room : ℕ) (e : Rows) (asked : IntentId → List Ans
       pub full : (live_now limit : ℕ) → CameOn (run_asks r) c.now room (Err (TableErr.Full live_now limit)) m m → Paying f (counted c, Seen.Full live_now limit) m
       pub told : (r.deadline < c.now → ⊥) → let y = turn_next (counted c) i r (next_turn d c m r) in (b : Core) (n : Rows) → Sound d b n → Went n → y.0 ≡ b → n ≡ rows_after (run_asks r) c.now m → Paying f y n
 
-    module _ (old new : ℕ) (few : new < 2 ^ 64 - 1) (b : Core) (n : Rows) (x : Seen) (not_spent : x ≡ Seen.Spent → ⊥) (sb : Sound d b n) (Went : Rows → Type 0) (went : Went n) (ways : Ways Went) (f_is : f ≡ new - old) where
+    module _ (old new : ℕ) (few : new < 2 ^ 64 - 1) (b : Core) (n : Rows) (x : Seen) (not_away : is_turned_away x ≡ false) (sb : Sound d b n) (Went : Rows → Type 0) (went : Went n) (ways : Ways Went) (f_is : f ≡ new - old) where
       as_it : (z : Core) (y : Seen) (k : Rows) → b ≡ z → x ≡ y → n ≡ k → Paying f (z, y) k → Paying f (b, x) n
       as_it z y k p q s h = subst (λ v. Paying f (v, x) n) (sym p) (subst (λ v. Paying f (z, v) n) (sym q) (subst (λ v. Paying f (z, y) v) (sym s) h))
 
@@ -74,4 +75,4 @@ module _ (d : Deployment) (room : ℕ) (e : Rows) (asked : IntentId → List Ans
           (λ alive. by_answer (λ late. let clash : true ≡ false = sym (lt-ltb r.deadline c.now late) ∙ alive in absurd (true_false clash))))
 
       pub by_event : EventOn d room old new (Event.Turn i) c m b n (Ok x) → Paying f (b, x) n
-      by_event = either Came (nat_lt c.taken most_events) _ _ (λ t. by_plan (map.get c.runs i) live) (λ t ev. absurd (not_spent ev.0.1))
+      by_event = of_plan d (Event.Turn i) c Came (λ t. by_plan (map.get c.runs i) live) (λ t ev. absurd (true_false (sym (ap is_turned_away ev.0.1) ∙ not_away))) (λ ev. absurd (true_false (sym (ap is_turned_away ev.0.1) ∙ not_away)))

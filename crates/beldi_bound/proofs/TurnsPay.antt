@@ -11,6 +11,7 @@ use Rattle.beldi_row.specs.{Key.RowKey, Table.Rows, declared.table.TableErr.Tabl
 use Rattle.beldi_walk.specs.Query.{CameOn, rows_after}
 use Rattle.beldi_call.specs.declared.async_call.AsyncAt.{AsyncAt}
 use Rattle.beldi_known.proofs.Cases.{by_option}
+use Rattle.beldi_schedule.specs.Settle.{is_turned_away}
 use Rattle.beldi_step.specs.{Host.Core, Host.EventOn, Host.counted, Host.ended_run, Host.turn_next, Next.next_run, Run.run_asks, declared.event.Event.Event, declared.event.Seen.Seen, declared.run.Begun.Begun, declared.run.Run.Run, declared.run.RunAt.RunAt, declared.run.Stage.Stage}
 use Rattle.beldi_upkeep.specs.Checked.{has_begun, next_turn}
 use Rattle.beldi_bound.specs.{Cost.AreAsked, Ends.Sound, Work.has_ended, Work.seat}
@@ -32,7 +33,7 @@ module _ (d : Deployment) (room : ℕ) (e : Rows) (asked : IntentId → List Ans
       pub firsts_know : has_begun r.at ≡ false → FirstKnows d room e asked first most past i c m r a runs keys sound ledger next live has mine alive f areas rows full goes
       pub begun_know : (g : Begun) (at : r.at ≡ RunAt.Begins g) → BegunKnows d room e asked first most past i c m r a runs keys sound ledger next live has mine alive f areas rows full goes g at
 
-    module _ (old new : ℕ) (b : Core) (n : Rows) (x : Seen) (sb : Sound d b n) (goes : GoesOn n e) (come : ResultsCome n e) (fewer : new < 2 ^ 64 - 1) (event : EventOn d room old new (Event.Turn i) c m b n (Ok x)) (not_spent : x ≡ Seen.Spent → ⊥) (refused : Refused)
+    module _ (old new : ℕ) (b : Core) (n : Rows) (x : Seen) (sb : Sound d b n) (goes : GoesOn n e) (come : ResultsCome n e) (fewer : new < 2 ^ 64 - 1) (event : EventOn d room old new (Event.Turn i) c m b n (Ok x)) (not_away : is_turned_away x ≡ false) (refused : Refused)
         (turns : (alive : r.deadline < c.now → ⊥) (f : ℕ) (rows : GoesOn m (rows_after (run_asks r) c.now m)) (full : FullStays room m (rows_after (run_asks r) c.now m)) (goes : GoesOn (rows_after (run_asks r) c.now m) e) → ResultsCome (rows_after (run_asks r) c.now m) e → Turns alive f rows full goes) where
       abbrev N : Rows
       N = rows_after (run_asks r) c.now m
@@ -73,7 +74,7 @@ module _ (d : Deployment) (room : ℕ) (e : Rows) (asked : IntentId → List Ans
       went = (events_go_on d room old new (Event.Turn i) c b m n (Ok x) event, events_stay_full d room old new (Event.Turn i) c b m n (Ok x) event, goes, come)
 
       pub pays_so : Paying d room e asked first most past i c m r runs keys (new - old) (b, x) n
-      pays_so = by_event d room e asked first most past i c m r runs keys (new - old) live old new fewer b n x not_spent sb Went went ways refl event
+      pays_so = by_event d room e asked first most past i c m r runs keys (new - old) live old new fewer b n x not_away sb Went went ways refl event
 
   -- ---- the statement, from what is known of each turn
   abbrev pub AllRefused : Type 0
@@ -91,10 +92,10 @@ module _ (d : Deployment) (room : ℕ) (e : Rows) (asked : IntentId → List Ans
     (refused : (z : Core) (sound_e : Sound d z e) (areas : AreAsked d e asked) → AllRefused d room e asked first most z sound_e areas)
     (turns : (z : Core) (sound_e : Sound d z e) (areas : AreAsked d e asked) → AllTurns d room e asked first most z sound_e areas) where
   pub turns_pay : TurnsPay d room e asked first most
-  turns_pay past old new i c b m n x runs keys z sound sb sound_e areas goes come fewer next event not_spent ledger =
+  turns_pay past old new i c b m n x runs keys z sound sb sound_e areas goes come fewer next event not_away ledger =
       let l = subst (IsLeast c.runs past) next (next_least c past) in
       by_option (map.get c.runs i) (λ none. let clash : false ≡ true = sym (ap is_some none) ∙ l.1 in absurd (false_true clash)) (λ r live.
       let k = ledger.runs_covered i r live in
-      pays_so d room e asked first most z sound_e areas past i c m r k.0 runs keys sound ledger next live k.1 k.2 old new b n x sb goes come fewer event not_spent
+      pays_so d room e asked first most z sound_e areas past i c m r k.0 runs keys sound ledger next live k.1 k.2 old new b n x sb goes come fewer event not_away
       (refused z sound_e areas past i c m r k.0 runs keys sound ledger next live k.1 k.2 (goes_then (events_go_on d room old new (Event.Turn i) c b m n (Ok x) event) goes))
       (λ alive f rows full along results. turns z sound_e areas past i c m r k.0 runs keys sound ledger next live k.1 k.2 alive f rows full along results))

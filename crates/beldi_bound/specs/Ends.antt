@@ -10,7 +10,7 @@ use Rattle.beldi_row.specs.{Key.RowKey, Table.Rows, declared.row.Body.Body, decl
 use Rattle.beldi_readlog.specs.ReadLog.{log_key}
 use Rattle.beldi_intent.specs.Intent.{is_ended}
 use Rattle.beldi_step.specs.{Host.Core, Host.last_moment, Host.most_runs, Run.place_of, declared.event.Seen.Seen, declared.run.Begun.Begun, declared.run.Run.Run, declared.run.RunAt.TheVariants.Begins, declared.run.Stage.Stage}
-use Rattle.beldi_schedule.specs.{Settle.first_at, Settle.go_on, Settle.turns_of, Settles.Settles, Settles.State, declared.machine.Settled.Settled, declared.machine.Settled.TheVariants.All, declared.machine.Settled.TheVariants.Spent, declared.machine.Settled.TheVariants.Stuck, declared.machine.Settled.TheVariants.Unsettled, declared.machine.Standing.TheVariants.Over}
+use Rattle.beldi_schedule.specs.{Settle.first_at, Settle.go_on, Settle.turns_of, Settles.Settles, Settles.State, declared.machine.Settled.Settled, declared.machine.Settled.TheVariants.All, declared.machine.Settled.TheVariants.Shut, declared.machine.Settled.TheVariants.Spent, declared.machine.Settled.TheVariants.Stuck, declared.machine.Settled.TheVariants.Unsettled, declared.machine.Standing.TheVariants.Over}
 use Rattle.beldi_upkeep.specs.{Checked.StartsAreOfIt, Upkeep.Upkeep}
 use Rattle.beldi_bound.specs.{Cost.AreAsked, Work.has_ended, Work.seat, Work.work_of}
 
@@ -86,6 +86,7 @@ pub data HasCause (c : Core) (m : Rows) (waiting : List (ℕ × Seen)) : Type 0 
 -- an end that nothing beside the runs hindered
 abbrev pub IsUnhindered : Core → Settled → Type 0
 IsUnhindered c (Spent n) = ⊥
+IsUnhindered c (Shut n) = ⊥
 IsUnhindered c (Stuck n waiting) = ((w : ℕ × Seen) → IsIn w waiting → is_hindered w.1 ≡ false) × (map.len c.runs < most_runs)
 IsUnhindered c x = Unit {0}
 
@@ -96,6 +97,8 @@ pub record Promises (d : Deployment) (budget : ℕ) (s t : State) (x : Settled) 
   pub used : (n : ℕ) → x ≡ Unsettled n → budget ≤ n
   -- it is settled only where all have ended
   pub ended : (n : ℕ) → x ≡ All n → AllHaveEnded d t.core t.rows
+  -- it ends as shut only where the reading of the last halt failed
+  pub shut : (n : ℕ) → x ≡ Shut n → t.core.shut ≡ true
   -- it is stuck only with a cause
   pub cause : (n : ℕ) (waiting : List (ℕ × Seen)) → HasNoLock d → x ≡ Stuck n waiting → HasCause t.core t.rows waiting
   -- with a budget above the work what can end ends

@@ -3,7 +3,7 @@
 //!
 //! Proved of a host that keeps what every event keeps, of a deployment that passed the checks, whose book starts functions of it alone:
 //! - A settling keeps its promises (`settlings_are_as_promised`, `specs/Ends`): its turns are at most the work; a budget is used up only
-//!   by as many turns; it is settled only where nothing lives, no intent with a body is unended, and each instance of the book's run has
+//!   by as many turns; it ends as shut only where the table failed at the last halt; it is settled only where nothing lives, no intent with a body is unended, and each instance of the book's run has
 //!   its outcome; it is stuck, where no function takes a lock by a statement, only where a run waits for room in the table or among
 //!   the runs, 1,024 runs live, or a late run waits for an owner and no live run of its intent was answered more; and where none of
 //!   that is so, none was late at the start, and the table failed at nothing, it is settled with any budget above the work.

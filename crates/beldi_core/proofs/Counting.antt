@@ -19,7 +19,7 @@ few : (g : ℕ) (m : RunMap) (id : IntentId) → counted g m id ≤ g
 few zero m id = omega arith
 few (suc g) m id = at_most_one (is_of id (map.get m (suc g))) (counted g m id) g (few g m id)
 
-none_counted : (g : ℕ) (m : RunMap) (id : IntentId) → ((i : ℕ) → is_of id (map.get m i) ≡ false) → counted g m id ≡ 0
+pub none_counted : (g : ℕ) (m : RunMap) (id : IntentId) → ((i : ℕ) → is_of id (map.get m i) ≡ false) → counted g m id ≡ 0
 none_counted zero m id h = refl
 none_counted (suc g) m id h = (λ j. more_if (h (suc g) j) (none_counted g m id h j))
 

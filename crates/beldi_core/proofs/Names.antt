@@ -11,7 +11,7 @@ pub use Rattle.beldi_tree.specs.declared.deployment.Deployment.{Deployment}
 pub use Rattle.beldi_book.specs.Order.{count_changes}
 pub use Rattle.beldi_row.{proofs.Rows.entries_rows, proofs.Rows.get_rows, proofs.Rows.len_rows, proofs.Rows.none_removed, proofs.Rows.one_set, specs.Table.TableState, specs.declared.table.TableErr.TableErr, specs.declared.table.TableErr.TheVariants.OutOfMemory}
 pub use Rattle.beldi_walk.{proofs.Queries.unasked, specs.Query.Came, specs.Query.Told, specs.Query.told_of, specs.declared.query.Query.Query}
-pub use Rattle.beldi_step.specs.Host.{Core, Followed, Plan, StepBy, Stepped, after_turn, asks, at_once, crash_plan, ended_run, has_run, marked, no_run, plan, plan_of, put_run, run_next, run_plan, unheard_next}
+pub use Rattle.beldi_step.specs.Host.{Core, Followed, Plan, StepBy, Stepped, after_turn, asks, at_once, crash_plan, ended_run, has_run, marked, no_run, plan, plan_of, put_run, reads_all, run_next, run_plan, unheard_next}
 pub use Rattle.beldi_step.specs.Next.{first_past}
 pub use Rattle.beldi_step.specs.Run.{Turned, Turns, followed, going, run_asks, run_told, says_of}
 pub use Rattle.beldi_step.{proofs.PutRun.remove_put, specs.declared.event.Event.Event, specs.declared.event.Event.TheVariants.Lost, specs.declared.event.Event.TheVariants.Turn, specs.declared.event.Seen.Seen, specs.declared.run.Mark.Mark, specs.declared.run.Run.Run, specs.declared.run.TurnSays.TurnSays}

@@ -1,15 +1,20 @@
 -- An event that was planned, and then followed, is one step.
 use Rattle.beldi_step.specs.Host.{counted}
-use Rattle.beldi_core.proofs.Names.{AllocError, Asked, Bool, Came, Copied, Copies, Core, Deployment, Err, Event, Followed, Lost, Mark, NoMemory, None, Numbered, Ok, Option, OutOfMemory, Pending, Plan, Planned, PlannedOf, Query, Result, Run, RunMap, RunTold, Seen, Some, StepBy, Stepped, TableErr, TableState, TellsTurn, Told, Turn, TurnSays, after_turn, ap, asks, at_once, base, count_changes, crash_plan, ended_run, entered, event_of, false, if◌then◌else◌, mark_told, marked, nat_lt, no_run, plan, plan_of, refl, remove_put, run_asks, run_next, run_plan, run_told, subst, sym, true, turn_event, unasked, unheard_next, ℕ, ◌∙◌, ◌≡◌}
+use Rattle.beldi_core.proofs.Names.{AllocError, Asked, Bool, Came, Copied, Copies, Core, Deployment, Err, Event, Followed, Lost, Mark, NoMemory, None, Numbered, Ok, Option, OutOfMemory, Pending, Plan, Planned, PlannedOf, Query, Result, Run, RunMap, RunTold, Seen, Some, StepBy, Stepped, TableErr, TableState, TellsTurn, Told, Turn, TurnSays, after_turn, ap, asks, at_once, base, count_changes, crash_plan, ended_run, entered, event_of, false, if◌then◌else◌, mark_told, marked, nat_lt, no_run, plan, plan_of, reads_all, refl, remove_put, run_asks, run_next, run_plan, run_told, subst, sym, true, turn_event, unasked, unheard_next, ℕ, ◌∙◌, ◌≡◌}
 use Rattle.beldi_core.proofs.Names.map
 
 -- ---- the step
 no_memory_by : (d : Deployment) (e : Event) (c z : Core) (r : Result Seen AllocError) (s : TableState) (p : Plan) → NoMemory e c p z r → StepBy d e c p z s s r
 no_memory_by d e c z r s (at_once b y) h = (h, refl)
 no_memory_by d e c z r s (asks q) h = (Err OutOfMemory, h, unasked q c.now s)
+no_memory_by d e c z r s reads_all h = absurd h
 
 pub no_memory : (d : Deployment) (e : Event) (c z : Core) (r : Result Seen AllocError) (s : TableState) → NoMemory e (counted c) (plan d e c) z r → Stepped d e c z s s r
 no_memory d e c z r s h = no_memory_by d e (counted c) z r s (plan d e c) h
+
+-- .. a halt's, by what is read
+pub reads : (d : Deployment) (e : Event) (c b z : Core) (p : Plan) (old new : TableState) (r : Result Seen AllocError) → (p ≡ reads_all) × (b ≡ c) → StepBy d e b reads_all z old new r → StepBy d e c p z old new r
+reads d e c b z p old new r planned h = subst (λ (q : Plan). StepBy d e c q z old new r) (sym planned.0) (subst (λ (x : Core). StepBy d e x reads_all z old new r) planned.1 h)
 
 -- ---- the answer to a turn
 pub query_asked : (d k : Deployment) (p : Pending) (c z : Core) (q : Query) (old new : TableState) (w : Result Told TableErr) (r : Result Seen AllocError) → k ≡ d → Followed k (event_of p) (base (event_of p) c) w z r → Came q c.now w old new → Asked d p c z q old new r

@@ -1,6 +1,6 @@
 -- The runs as a map, and a turn of one of them.
-use Rattle.beldi_core.proofs.Names.{AllCounted, AllGiven, AllKept, Bool, CountMap, Deployment, Equal-is, Err, IsSome, List, Mark, None, Ok, Option, Result, Run, RunMap, RunTold, Some, Told, TurnSays, Turned, Turns, ap, arith, cond, ends_run, eq_by_cmp, eq_by_cmp_equiv, false, followed, get-empty, get-insert, get-remove, get_rows, going, id_cmp, is_at, is_eq, is_none, kept_as, lookup, ltb-false, ltb-true, more, nat_cmp, nat_cmp-IsAntisymmetric, nat_cmp_total, nat_lt, none_removed, put_run, refl, remove_put, run_told, same_map, says_of, settled, settled_counts, subst, suc, sym, tied_itself, true, uncounted, withdrawn, ℕ, ◌+◌, ◌-◌, ◌<◌, ◌∙◌, ◌≡◌, ◌≤◌}
-use Rattle.beldi_core.proofs.Counting.{inside, put_counted, removed_counted, same_counted, counted_lower, gone_here, put_there}
+use Rattle.beldi_core.proofs.Names.{AllCounted, AllGiven, AllKept, Bool, CountMap, Deployment, Equal-is, Err, IsSome, List, Mark, None, Ok, Option, Result, Run, RunMap, RunTold, Some, Told, TurnSays, Turned, Turns, ap, arith, cond, ends_run, eq_by_cmp, eq_by_cmp_equiv, false, followed, get-empty, get-insert, get-remove, get_rows, going, id_cmp, is_at, is_eq, is_none, is_of, kept_as, lookup, ltb-false, ltb-true, more, nat_cmp, nat_cmp-IsAntisymmetric, nat_cmp_total, nat_lt, none_removed, put_run, refl, remove_put, run_told, same_map, says_of, settled, settled_counts, subst, suc, sym, tied_itself, true, uncounted, withdrawn, ℕ, ◌+◌, ◌-◌, ◌<◌, ◌∙◌, ◌≡◌, ◌≤◌}
+use Rattle.beldi_core.proofs.Counting.{inside, none_counted, put_counted, removed_counted, same_counted, counted_lower, gone_here, put_there}
 use Rattle.beldi_core.proofs.Names.map
 
 -- entries without one key
@@ -79,11 +79,11 @@ kept_started g m n r h = let next : suc g ≡ g + 1 = omega arith in record {
 pub begun : (g : ℕ) (m a : RunMap) (n b : CountMap) (r : Run) → AllKept g m n → a ≡ map.insert m (g + 1) r → b ≡ more n r.id → AllKept (g + 1) a b
 begun g m a n b r h is left = both (g + 1) (sym is) (sym left) (kept_started g m n r h)
 
-pub none_kept : (a : RunMap) (n : CountMap) → a ≡ map.empty → n ≡ map.empty → AllKept 0 a n
-none_kept a n is none = both 0 (sym is) (sym none) (record {
+pub none_kept : (g : ℕ) (a : RunMap) (n : CountMap) → a ≡ map.empty → n ≡ map.empty → AllKept g a n
+none_kept g a n is none = both g (sym is) (sym none) (record {
   none_first = get-empty nat_cmp 0;
   given_all = λ i p. get-empty nat_cmp i;
-  counted_all = λ id. get-empty id_cmp id;
+  counted_all = λ id. get-empty id_cmp id ∙ sym (ap kept_as (none_counted g map.empty id (λ i. ap (is_of id) (get-empty nat_cmp i))));
 })
 
 -- ---- a turn

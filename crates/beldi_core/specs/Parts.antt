@@ -8,13 +8,13 @@ use Rattle.beldi_book.specs.declared.entry.Entry.TheVariants.{Start}
 use Rattle.beldi_row.specs.{declared.table.TableErr.TableErr, declared.table.TableErr.TheVariants.OutOfMemory, Table.TableState}
 use Rattle.beldi_walk.specs.{declared.query.Query.Query, Query.Told, Query.Came, Query.lends}
 use Rattle.beldi_intent.specs.{declared.intent.Binding.Binding, Intent.binding_of}
-use Rattle.beldi_step.specs.Host.{Core, Plan, at_once, asks, plan, plan_of, counted, new_run, unbound, refused, ended_run, marked, after_turn, acted, AtOnce, Followed}
+use Rattle.beldi_step.specs.Host.{Core, Plan, at_once, asks, reads_all, plan, plan_of, counted, new_run, unbound, refused, ended_run, marked, after_turn, acted, AtOnce, Followed}
 use Rattle.beldi_step.specs.declared.{event.Event.Event, event.Event.TheVariants.Ticket, event.Event.TheVariants.Request, event.Event.TheVariants.Turn, event.Event.TheVariants.Lost, event.Event.TheVariants.Ic, event.Seen.Seen, run.Mark.Mark, run.Run.Run, run.TurnSays.TurnSays}
 use Rattle.beldi_core.specs.{declared.host_core.HostCore.HostCore, declared.events.Planned.Planned as Plans, declared.events.Immediate.Immediate, declared.events.Pending.Pending, declared.runs.Copies.Copies, Runs.Numbered, Runs.withdrawn, Runs.started, Runs.copied}
 
 -- the host without its table, as events speak of it
 abbrev pub core_in : HostCore → Core
-core_in h = record { newest = h.newest; runs = h.runs.runs; last_run = h.runs.given; book = h.book.entries; now = h.now; cursor = h.cursor; taken = h.taken }
+core_in h = record { newest = h.newest; runs = h.runs.runs; last_run = h.runs.given; book = h.book.entries; now = h.now; cursor = h.cursor; taken = h.taken; shut = h.shut }
 
 abbrev pub runs_of : Core → Numbered
 runs_of c = record { runs = c.runs; given = c.last_run }
@@ -77,6 +77,7 @@ as_seen Immediate.Crashed = Seen.Crashed
 as_seen (Immediate.Started i) = Seen.Started i
 as_seen (Immediate.Now n) = Seen.Now n
 as_seen Immediate.ClockEnd = Seen.ClockEnd
+as_seen Immediate.Shut = Seen.Shut
 
 -- the event of a run's turn, whose answer it may lose
 abbrev pub turn_event : ℕ → Bool → Event
@@ -91,6 +92,7 @@ turn_pending i n true = Pending.Lost i n
 abbrev pub NoMemory : Event → Core → Plan → Core → Result Seen AllocError → Type 0
 NoMemory e c (at_once b y) z r = AtOnce c b y z r
 NoMemory e c (asks q) z r = (z, r) ≡ refused e c OutOfMemory
+NoMemory e c reads_all z r = ⊥
 
 pub record Asking (d : Deployment) (e : Event) (c z : Core) (spare : ℕ) (q : Query) (p : Pending) (k : Plan) : Type 0 where
   pub is : k ≡ asks q
@@ -101,6 +103,7 @@ pub record Asking (d : Deployment) (e : Event) (c z : Core) (spare : ℕ) (q : Q
 abbrev pub PlannedBy : Deployment → Event → Core → Core → ℕ → Plan → Result Plans AllocError → Type 0
 PlannedBy d e c z spare k (Ok (Plans.Now y)) = k ≡ at_once z (as_seen y)
 PlannedBy d e c z spare k (Ok (Plans.Asks q p)) = Asking d e c z spare q p k
+PlannedBy d e c z spare k (Ok Plans.ReadsAll) = (k ≡ reads_all) × (z ≡ c)
 PlannedBy d e c z spare k (Err w) = NoMemory e c k z (Err w)
 
 -- an event that was counted

@@ -7,7 +7,7 @@ ghost use Rattle.beldi_intent.specs.Intent.{bind_asks};
 ghost use Rattle.beldi_step.specs.declared.event.Event.TheVariants as events;
 ghost use Rattle.beldi_step.specs.declared.run.Wait.TheVariants as waits;
 ghost use Rattle.beldi_tree.specs.declared.deployment.Deployment.{Deployment};
-ghost use Rattle.beldi_step.specs.Host.{collected as collected_of, launched, passed, Core, Followed, acted as acted_by, after_turn as after_turn_of, may_start as may_start_of, started, at_once, asks, crash_plan, tick_plan, new_run as new_run_of, entry_of as entry_by, no_run as no_run_of, refused, refused_by, ticket_next, unbound};
+ghost use Rattle.beldi_step.specs.Host.{collected as collected_of, launched, passed, Core, Followed, acted as acted_by, after_turn as after_turn_of, may_start as may_start_of, started, at_once, asks, crash_plan, tick_plan, new_run as new_run_of, entry_of as entry_by, no_run as no_run_of, refused, refused_by, ticket_next, unbound, is_halt, halt_next};
 ghost use Rattle.beldi_core.specs.declared.events.Planned.TheVariants as planned;
 ghost use Rattle.beldi_core.specs.Parts.{as_seen, core_in, Planned as IsPlanned, PlannedBy, PlannedOf, Ready, HasPlace, event_of, base, BoundBy, Copied, TellsTurn, acted_unless, mark_told, turn_event, turn_pending};
 
@@ -67,6 +67,7 @@ pub enum Immediate {
     Started(u64),
     Now(u64),
     ClockEnd,
+    Shut,
 }
 
 impl Immediate {
@@ -86,6 +87,7 @@ impl Immediate {
             Immediate::Started(run) => Seen::Started(run),
             Immediate::Now(moment) => Seen::Now(moment),
             Immediate::ClockEnd => Seen::ClockEnd,
+            Immediate::Shut => Seen::Shut,
         }
     }
 }
@@ -97,6 +99,14 @@ pub enum Planned {
     Now(Immediate),
     /// It asks this.
     Asks(Apart<Query>, Pending),
+    /// It is a halt, which reads the keys of all rows.
+    ReadsAll,
+}
+
+fn is_halt(event: &Event) -> bool
+    ensures { result ≡ is_halt event.now }
+{
+    matches!(event, Event::Halt)
 }
 
 // An error of the table, as an event is answered.
@@ -239,6 +249,10 @@ impl HostCore {
             return Ok(Planned::Now(Immediate::Spent));
         }
         self.taken += 1;
+        if self.shut && !is_halt(&event) {
+            drop(event);
+            return Ok(Planned::Now(Immediate::Shut));
+        }
         self.plan_counted(code, event)
     }
 
@@ -256,6 +270,7 @@ impl HostCore {
             Event::Restart { id, func } => self.restart(code, id, func),
             Event::Tick(ticks) => Ok(Planned::Now(self.tick(ticks))),
             Event::Ic => self.plan_ic(),
+            Event::Halt => Ok(Planned::ReadsAll),
         }
     }
 
@@ -451,6 +466,26 @@ impl HostCore {
                     TableErr::OutOfMemory => Err(AllocError),
                     _ => Ok(Seen::Dropped),
                 }
+            }
+        }
+    }
+
+    /// What follows of a halt, by the newest ticket that was read, or by what the reading met.
+    pub fn halted(&mut self, read: Result<u32, TableErr>) -> Result<Seen, AllocError>
+        ensures { (core_in self.new, result) ≡ halt_next (core_in self.old) read }
+    {
+        self.runs.clear(self.alloc);
+        self.cursor = RowKey::least(self.alloc);
+        match read {
+            Ok(newest) => {
+                self.newest = newest;
+                self.shut = false;
+                Ok(Seen::Halted)
+            }
+            Err(TableErr::OutOfMemory) => Err(AllocError),
+            Err(_) => {
+                self.shut = true;
+                Ok(Seen::Dropped)
             }
         }
     }

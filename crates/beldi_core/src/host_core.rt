@@ -7,8 +7,8 @@ use beldi_row::RowKey;
 use std::alloc::Global;
 
 /// What a host knows beside its deployment and its table: the newest ticket, the live runs, the book of what was done, the
-/// moment in ticks, where the intent collector stands, and how many events it took; each event gives at most one number to a
-/// run.
+/// moment in ticks, where the intent collector stands, how many events it took, and whether the reading of the last halt failed; each
+/// event gives at most one number to a run.
 #[derive(Drop)]
 pub struct HostCore {
     pub alloc: Global,
@@ -18,6 +18,7 @@ pub struct HostCore {
     pub now: u64,
     pub cursor: RowKey,
     pub taken: u64,
+    pub shut: bool,
     ghost few: { runs.given ≤ taken },
     ghost events: { taken ≤ 2 ^ 62 },
     ghost early: { now ≤ 2 ^ 62 },

@@ -3,8 +3,8 @@
 //! question and its answer), `specs/Runs` (the live runs by number) and `specs/Counts` (how many of them each intent has).
 //!
 //! Proved:
-//! - `HostCore::plan` answers an event at once or asks one thing, and `told` and `refused` follow what was told or refused, as the
-//!   definition of an event says (`PlannedOf`, `Asked`); crashes, lost answers, restarts, faults, want of room and out of memory are
+//! - `HostCore::plan` answers an event at once, asks one thing, or says of a halt that all rows are to be read; `told`, `refused` and
+//!   `halted` follow what was told, refused or read, as the definition of an event says (`PlannedOf`, `Asked`, `halt_next`); crashes, lost answers, restarts, faults, want of room and out of memory are
 //!   cases of it.
 //! - `Runs::next_after` is the least live run past a number (`IsLeastPast`), the first one in their order (`first_past`).
 //!

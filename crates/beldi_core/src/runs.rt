@@ -247,6 +247,14 @@ impl Runs {
         end(&mut self.live, &mut self.counts, number);
     }
 
+    /// Ends all runs.
+    pub fn clear(&mut self, alloc: Global)
+        ensures { self.new ≡ record { runs = map.empty; given = self.old.given } }
+    {
+        self.live = BTreeMap::new(alloc);
+        self.counts = Counts::new(alloc);
+    }
+
     /// The run of this number, which is live, is told, when so many changes had been made. A run that is over is gone
     /// afterwards, and so is one that was out of memory.
     #[inline(always)]

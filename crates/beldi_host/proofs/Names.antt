@@ -1,5 +1,5 @@
 -- Names that the lemmas of this crate import, gathered.
-pub use Rattle.std.specs.Prelude.{IfOk, IfSome, IsErrOf, IsSome, OnOk, T, flat_map, max, nat_le, nat_lt}
+pub use Rattle.std.specs.Prelude.{IfOk, IfSome, IsErrOf, IsSome, OnOk, T, flat_map, max, nat_le, nat_lt, not}
 pub use Rattle.std.{proofs.lemmas.Bool.ltb-true, proofs.lemmas.Bool.Decides.nat_tests, proofs.lemmas.Cmp.tied_itself, proofs.lemmas.List.nil_from_length, proofs.lemmas.Map.Keys.ge_from_not_lt, proofs.lemmas.Map.Keys.le_from_is_le, specs.Cmp.nat_cmp_is, specs.Cmp.nat_cmp_total, specs.FinMap.get-entries, specs.FinMap.len-empty, specs.FinMap.len-entries, specs.FinMap.Entries.below_all, specs.FinMap.Entries.find, specs.FinMap.Entries.is_sorted, specs.Ordering.is_eq, specs.Ordering.is_le, specs.Ordering.is_lt, specs.Ordering.nat_cmp, specs.Ordering.ordering_reverse, specs.Ordering.ordering_then, specs.declared.alloc.AllocError.AllocError, specs.declared.cmp.Ordering.Ordering, specs.declared.cmp.Ordering.TheVariants.Equal, specs.declared.cmp.Ordering.TheVariants.Greater, specs.declared.cmp.Ordering.TheVariants.Less}
 pub use borrow.Author.Tests.{ltb-false}
 pub use Rattle.std.specs.FinMap as map
@@ -9,18 +9,18 @@ pub use Rattle.beldi_tree.specs.declared.deployment.Deployment.{Deployment}
 pub use Rattle.beldi_book.specs.Order.{count_changes}
 pub use Rattle.beldi_plain.specs.{Legal.IsLegal, Legal.run_of, Listing.listing_of, Plain.PlainState, Plain.outcome_of, Plain.reply_of, Replies.HasNoReply}
 pub use Rattle.beldi_row.specs.Key.{RowKey, key_cmp, key_ticket, kind_cmp, least_key, rank_of, ticket_of}
-pub use Rattle.beldi_row.specs.Table.{Acted, ActedOn, Rose, Rows, TableState, Tells, first_above, next_row}
+pub use Rattle.beldi_row.specs.Table.{Acted, ActedOn, IsNotFull, Rose, Rows, TableState, Tells, first_above, next_row}
 pub use Rattle.beldi_row.{proofs.Gets.key_same, proofs.Tells.tells_map, proofs.Unchanged.looked, specs.Act.act, specs.Act.tell_of, specs.KeyOrder.key_exact, specs.KeyOrder.key_total, specs.declared.act.Act.TheVariants.Look, specs.declared.act.Said.Said, specs.declared.key.Kind.Kind, specs.declared.key.Kind.TheVariants.Data, specs.declared.key.Kind.TheVariants.Intent, specs.declared.key.Kind.TheVariants.Invoke, specs.declared.key.Kind.TheVariants.Lockset, specs.declared.key.Kind.TheVariants.ReadLog, specs.declared.key.Kind.TheVariants.Shadow, specs.declared.row.Body.Body, specs.declared.row.Row.Row, specs.declared.row.Row.TheVariants.Cell, specs.declared.table.TableErr.TableErr}
 pub use Rattle.beldi_walk.{proofs.Queries.acted, proofs.Queries.same_rows, proofs.Queries.went, specs.Query.Told, specs.declared.query.Query.TheVariants.Act, specs.declared.query.Query.TheVariants.After}
 pub use Rattle.beldi_intent.specs.{Intent.bind_asks, Intent.binding_of, Intent.is_added, Intent.issue_asks, Intent.root_key, declared.intent.Binding.Binding}
 pub use Rattle.beldi_collect.specs.{Collect.collect_says, declared.cursor.Found.Found}
-pub use Rattle.beldi_step.specs.Host.{Core, EventOn, Followed, Plan, StepBy, Stepped, after_turn, asks, at_once, collect_next, counted, crash_plan, ended_run, first_core, has_run, heard, in_time, is_crowded, last_moment, may_start, most_events, new_run, plan, plan_of, refused, request_next, run_next, run_plan, started, ticket_next, turned_core, unheard_next, with_run}
+pub use Rattle.beldi_step.specs.Host.{Core, EventOn, Followed, HaltCame, HaltOn, Plan, StepBy, Stepped, after_turn, asks, at_once, collect_next, counted, crash_plan, ended_run, first_core, halt_next, has_run, heard, in_time, is_crowded, is_halt, last_moment, may_start, most_events, new_run, newest_of, greatest, open_plan, plan, plan_of, reads_all, refused, request_next, run_next, run_plan, started, ticket_next, turned_core, unheard_next, with_run}
 pub use Rattle.beldi_step.specs.Tables.{is_committed, line_at, owned_value, row_line, shown_under, tables_text, value_in, value_line}
-pub use Rattle.beldi_step.specs.declared.event.Event.TheVariants.{Crash, Ic, Lost, Request, Restart, Tick, Ticket, Turn}
+pub use Rattle.beldi_step.specs.declared.event.Event.TheVariants.{Crash, Halt, Ic, Lost, Request, Restart, Tick, Ticket, Turn}
 pub use Rattle.beldi_step.{proofs.Late.expires, proofs.Steps.over_rows, specs.Run.callee_of, specs.Run.run_asks, specs.Run.run_told, specs.Run.says_of, specs.declared.event.Event.Event, specs.declared.event.Seen.Seen, specs.declared.run.Run.Run, specs.declared.run.TurnSays.TurnSays, specs.declared.run.Wait.Wait}
 pub use Rattle.beldi_known.specs.{Matches.has_ended, Rows.BodyMatches, Rows.IntentMatches, Stands.Stands}
 pub use Rattle.beldi_laws.{proofs.Events.after_event, proofs.Events.right_legal, proofs.Listing.listing_plain, proofs.Moves.seen_by, proofs.Moves.with_runs, proofs.OneAnswer.answers_stay, proofs.OneAnswer.one_answer, proofs.Outside.outcome_known, proofs.Standing.right_stands, proofs.Standing.same_run, specs.Laws.is_gone, specs.OneAnswer.AnswersStay, specs.OneAnswer.OneAnswerPerStep, specs.Right.Right}
 pub use Rattle.beldi_upkeep.{proofs.Together.begins_upkept, proofs.Together.keeps_upkeep, specs.Upkeep.Upkeep}
-pub use Rattle.beldi_core.{proofs.Plans.no_memory, proofs.Plans.query_asked, proofs.Truths.first, proofs.Truths.less, proofs.Truths.second, proofs.Truths.test_true, specs.Parts.core_in}
-pub use Rattle.beldi_host.specs.Survey.{IsHighWater, IsNewest, NewestAt, Past, Reads, cell_seen, greatest, is_unknown, last_rank, latest, latest_of, line_after, newest_of, next_mark_of, opened_core, rest, row_moment, next_line_of, next_seen_of, outcome_seen, reply_seen, row_seen, seen_at, seen_of, told_row}
+pub use Rattle.beldi_core.{proofs.Plans.no_memory, proofs.Plans.query_asked, proofs.Plans.reads, proofs.Truths.first, proofs.Truths.less, proofs.Truths.second, proofs.Truths.test_true, specs.Parts.core_in}
+pub use Rattle.beldi_host.specs.Survey.{IsHighWater, IsNewest, NewestAt, Past, Reads, cell_seen, is_unknown, last_rank, latest, latest_of, line_after, next_mark_of, opened_core, rest, row_moment, next_line_of, next_seen_of, outcome_seen, reply_seen, row_seen, seen_at, seen_of, told_row}
 pub use Rattle.beldi_host.specs.{Host.core_of, Right.EndsLate, Right.HasNoRows, Right.RowsStandFor, Said.SaidOf, declared.survey.OpenErr.OpenErr, declared.survey.OpenErr.TheVariants.Failed, declared.survey.OpenErr.TheVariants.OutOfMemory, declared.survey.Owned.Owned, declared.survey.ReplySeen.ReplySeen, declared.survey.ReplySeen.TheVariants.Unknown}

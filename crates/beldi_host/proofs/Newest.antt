@@ -1,6 +1,7 @@
 -- The greatest ticket of the keys of a map.
 use borrow.Author.Tests.{ltb-true}
-use Rattle.beldi_host.proofs.Names.{Bool, IsHighWater, IsNewest, IsSome, List, NewestAt, None, Option, Row, RowKey, Rows, Some, Tells, [], ap, arith, cond, false, find, get-entries, greatest, inl, inr, is_eq, key_cmp, key_same, key_ticket, key_total, ltb-false, max, nat_lt, newest_of, refl, subst, sym, tied_itself, true, ℕ, ◌<◌, ◌∙◌, ◌∷◌, ◌≡◌, ◌≤◌, ◌⊎◌}
+use Rattle.beldi_host.specs.declared.high_water.HighWater.{HighWater}
+use Rattle.beldi_host.proofs.Names.{Bool, Err, Failed, HaltCame, HaltOn, IsErrOf, IsHighWater, IsNewest, IsNotFull, IsSome, List, NewestAt, None, Ok, OpenErr, Option, Reads, Result, Row, RowKey, Rows, Some, TableErr, TableState, Tells, [], ap, arith, cond, false, find, get-entries, greatest, inl, inr, is_eq, key_cmp, key_same, key_ticket, key_total, ltb-false, max, nat_lt, newest_of, refl, subst, sym, tells_map, tied_itself, true, ℕ, ◌<◌, ◌∙◌, ◌∷◌, ◌≡◌, ◌≤◌, ◌⊎◌}
 use Rattle.beldi_host.proofs.Names.map
 
 not_some : false ≡ true → ⊥
@@ -48,3 +49,23 @@ pub newest_at : (t u : ℕ) (before after : Option Rows) → Tells before after 
 newest_at t u None after h = tt
 newest_at t u (Some m) None h = absurd h
 newest_at t u (Some m) (Some n) h = newest_is m t h.1.newest
+
+-- ---- what a halt reads
+abbrev Read : TableState → TableState → Result HighWater OpenErr → Type 0
+Read old new x = Reads (λ m w. IsHighWater m w.ticket w.moment) old new x
+
+pub newest_came : (old new : TableState) (w : HighWater) → Read old new (Ok w) → HaltCame (Ok w.ticket) old new
+newest_came old new w h = record {
+  rows = tells_map {P = λ m n. (n ≡ m) × IsHighWater m w.ticket w.moment} {Q = λ m n. HaltOn (Ok w.ticket) m n} old.rows new.rows (λ m n p. (p.0, p.1.newest)) h.rows;
+  fits = tt;
+  cause = record { later = h.later; failed = λ e. cc };
+  room = h.room;
+}
+
+pub newest_lost : (old new : TableState) (e : OpenErr) (v : TableErr) → IsNotFull {T = ℕ} (Err v) → (IsErrOf {T = ℕ} (Err v) TableErr.Failed → IsErrOf {T = HighWater} (Err e) Failed) → Read old new (Err e) → HaltCame (Err v) old new
+newest_lost old new e v fits same h = record {
+  rows = tells_map {P = λ m n. (n ≡ m) × Unit {0}} {Q = λ m n. HaltOn (Err v) m n} old.rows new.rows (λ m n p. p) h.rows;
+  fits = fits;
+  cause = record { later = h.later; failed = λ x. h.failed (same x) };
+  room = h.room;
+}

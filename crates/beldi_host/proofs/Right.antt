@@ -57,7 +57,7 @@ module _ (d : Deployment) (e : Event) (c b : Core) (old new : TableState) (x : R
       answered (Err w) h = tt
 
   pub ends_late : EndsLate e c b old new x
-  ends_late i run few of is past = expires d e c b old new x i run s few of is past
+  ends_late i run few unshut of is past = expires d e c b old new x i run s few unshut of is past
 
 -- ---- a host that was opened over no rows
 no_entries : map.entries (map.empty {X = Row} {R = key_cmp}) ≡ []

@@ -1,5 +1,5 @@
 -- Each event that is not answered as spent is taken: it counts, once.
-use Rattle.beldi_host.proofs.Names.{AllocError, Binding, Bool, Core, Crash, Deployment, Err, Event, Followed, Found, Ic, IntentId, Lost, None, Ok, Option, Plan, Request, Restart, Result, Run, Seen, Some, StepBy, Stepped, TableErr, TableState, Tick, Ticket, Told, Turn, TurnSays, Value, Wait, after_turn, ap, asks, at_once, bind_asks, binding_of, callee_of, collect_next, collect_says, count_changes, counted, crash_plan, ended_run, false, has_run, heard, if◌then◌else◌, is_added, is_crowded, issue_asks, last_moment, ltb-true, may_start, most_events, nat_lt, new_run, plan_of, refl, refused, request_next, run_asks, run_next, run_plan, run_told, says_of, started, ticket_next, true, turned_core, unheard_next, with_run, ℕ, ◌+◌, ◌-◌, ◌<◌, ◌==◌, ◌^◌, ◌||◌, ◌∙◌, ◌≡◌}
+use Rattle.beldi_host.proofs.Names.{AllocError, Binding, Bool, Core, Crash, Deployment, Err, Event, Followed, Found, Halt, Ic, IntentId, Lost, None, Ok, Option, Plan, Request, Restart, Result, Run, Seen, Some, StepBy, Stepped, TableErr, TableState, Tick, Ticket, Told, Turn, TurnSays, Value, Wait, after_turn, ap, asks, at_once, bind_asks, binding_of, callee_of, collect_next, collect_says, count_changes, counted, crash_plan, ended_run, false, halt_next, has_run, heard, if◌then◌else◌, is_added, is_crowded, is_halt, issue_asks, last_moment, ltb-true, may_start, most_events, nat_lt, new_run, not, open_plan, plan_of, reads_all, refl, refused, request_next, run_asks, run_next, run_plan, run_told, says_of, started, ticket_next, true, turned_core, unheard_next, with_run, ℕ, ◌&&◌, ◌+◌, ◌-◌, ◌<◌, ◌==◌, ◌^◌, ◌||◌, ◌∙◌, ◌≡◌}
 use Rattle.beldi_host.proofs.Names.map
 
 -- ---- what follows of an event counts none
@@ -54,6 +54,7 @@ heard_counts_none d (Crash i) c t = refl
 heard_counts_none d (Restart id f) c t = refl
 heard_counts_none d (Tick n) c t = refl
 heard_counts_none d Ic c t = collect_counts_none d c (collect_says t)
+heard_counts_none d Halt c t = refl
 
 refused_counts_none : (e : Event) (c : Core) (v : TableErr) → (refused e c v).0.taken ≡ c.taken
 refused_counts_none Ticket c v = refl
@@ -68,6 +69,13 @@ refused_counts_none (Crash i) c v = refl
 refused_counts_none (Restart id f) c v = refl
 refused_counts_none (Tick n) c v = refl
 refused_counts_none Ic c v = refl
+refused_counts_none Halt c v = refl
+
+halt_counts_none : (c : Core) (w : Result ℕ TableErr) → (halt_next c w).0.taken ≡ c.taken
+halt_counts_none c (Ok t) = refl
+halt_counts_none c (Err TableErr.OutOfMemory) = refl
+halt_counts_none c (Err TableErr.Failed) = refl
+halt_counts_none c (Err (TableErr.Full live room)) = refl
 
 followed_counts_none : (d : Deployment) (e : Event) (c z : Core) (w : Result Told TableErr) (x : Seen) → Followed d e c w z (Ok x) → z.taken ≡ c.taken
 followed_counts_none d e c z (Ok t) x h = ap (λ (p : Core × Seen). p.0.taken) h ∙ heard_counts_none d e c t
@@ -77,6 +85,7 @@ followed_counts_none d e c z (Err v) x h = ap (λ (p : Core × Result Seen Alloc
 abbrev CountsNone : Core → Plan → Type 0
 CountsNone c (at_once b y) = b.taken ≡ c.taken
 CountsNone c (asks q) = Unit {0}
+CountsNone c reads_all = Unit {0}
 
 either_plan : (c : Core) (b : Bool) (p q : Plan) → CountsNone c p → CountsNone c q → CountsNone c (if b then p else q)
 either_plan c true p q h k = h
@@ -100,14 +109,19 @@ plan_counts_none d (Crash i) c = crash_plan_counts_none c i (map.get c.runs i)
 plan_counts_none d (Restart id f) c = either_plan c (is_crowded c) (at_once c Seen.Crowded) (at_once (with_run c (new_run d c id f)) (Seen.Started (c.last_run + 1))) refl refl
 plan_counts_none d (Tick n) c = either_plan c (nat_lt last_moment (c.now + n)) (at_once c Seen.ClockEnd) (at_once (record c { now = c.now + n }) (Seen.Now (c.now + n))) refl refl
 plan_counts_none d Ic c = tt
+plan_counts_none d Halt c = tt
+
+open_counts_none : (d : Deployment) (e : Event) (c : Core) → CountsNone c (open_plan d e c)
+open_counts_none d e c = either_plan c (c.shut && not (is_halt e)) (at_once c Seen.Shut) (plan_of d e c) refl (plan_counts_none d e c)
 
 module _ (d : Deployment) (e : Event) (c z : Core) (old new : TableState) (x : Seen) where
   by_plan : (k : Core) (p : Plan) → CountsNone k p → StepBy d e k p z old new (Ok x) → z.taken ≡ k.taken
   by_plan k (at_once b y) n h = ap (λ (q : Core). q.taken) h.0.0 ∙ n
   by_plan k (asks q) n h = followed_counts_none d e k z h.0 x h.1
+  by_plan k reads_all n h = ap (λ (p : Core × Result Seen AllocError). p.0.taken) h.1 ∙ halt_counts_none k h.0
 
   pub was_taken : Stepped d e c z old new (Ok x) → (x ≡ Seen.Spent → ⊥) → (c.taken < most_events) × (z.taken ≡ c.taken + 1)
-  was_taken h live = (elim (nat_lt c.taken most_events) as (λ b. nat_lt c.taken most_events ≡ b → StepBy d e (counted c) (if b then plan_of d e (counted c) else at_once c Seen.Spent) z old new (Ok x) → (c.taken < most_events) × (z.taken ≡ c.taken + 1)) [
-    | true ↦ λ few s. (ltb-true c.taken most_events few, by_plan (counted c) (plan_of d e (counted c)) (plan_counts_none d e (counted c)) s)
+  was_taken h live = (elim (nat_lt c.taken most_events) as (λ b. nat_lt c.taken most_events ≡ b → StepBy d e (counted c) (if b then open_plan d e (counted c) else at_once c Seen.Spent) z old new (Ok x) → (c.taken < most_events) × (z.taken ≡ c.taken + 1)) [
+    | true ↦ λ few s. (ltb-true c.taken most_events few, by_plan (counted c) (open_plan d e (counted c)) (open_counts_none d e (counted c)) s)
     | false ↦ λ few s. absurd (live s.0.1)
   ]) refl h

@@ -1,5 +1,5 @@
 -- What the calls of a host keep. Where the table does not tell its rows, nothing is said.
-use Rattle.std.specs.Prelude.{◌≡◌, ℕ, ◌++◌, List, IsSome, IfSome, Option, Some, ◌<◌, Result, Ok}
+use Rattle.std.specs.Prelude.{◌≡◌, ℕ, false, ◌++◌, List, IsSome, IfSome, Option, Some, ◌<◌, Result, Ok}
 use Rattle.std.specs.declared.alloc.AllocError.{AllocError}
 use Rattle.std.specs.FinMap as map
 use Rattle.beldi_tree.specs.declared.deployment.Deployment.{Deployment}
@@ -14,7 +14,7 @@ use Rattle.beldi_host.specs.{declared.host.Host.Host, declared.survey.ReplySeen.
 
 -- an event of a live run that is past its deadline leaves the table, and ends the run
 abbrev pub EndsLate : Event → Core → Core → TableState → TableState → Result Seen AllocError → Type 0
-EndsLate e c b old new r = (i : ℕ) (run : Run) → c.taken < most_events → run_of_event e ≡ Some i → map.get c.runs i ≡ Some run → run.deadline < c.now
+EndsLate e c b old new r = (i : ℕ) (run : Run) → c.taken < most_events → c.shut ≡ false → run_of_event e ≡ Some i → map.get c.runs i ≡ Some run → run.deadline < c.now
     → (r ≡ Ok Expired) × (b ≡ ended_run (counted c) i) × (new ≡ old)
 
 -- the rows stand for the run of a book, if they are told

@@ -9,7 +9,7 @@ use Rattle.beldi_row.specs.{Key.RowKey, Key.head_key, Key.key_cmp, Key.key_ticke
 use Rattle.beldi_chain.specs.Chain.{above, chain, tail}
 use Rattle.beldi_daal.specs.Cell.{shadow_key}
 use Rattle.beldi_intent.specs.Intent.{root_key}
-use Rattle.beldi_step.specs.{Host.Core, Host.first_core, Host.last_moment, Next.PassesNoOpen, Tables.cell_line, Tables.row_line, Tables.value_line, Tables.decision_key, Tables.owned_value}
+use Rattle.beldi_step.specs.{Host.Core, Host.first_core, Host.last_moment, Host.newest_of, Next.PassesNoOpen, Tables.cell_line, Tables.row_line, Tables.value_line, Tables.decision_key, Tables.owned_value}
 use Rattle.beldi_host.specs.declared.high_water.HighWater.{HighWater}
 use Rattle.beldi_host.specs.declared.survey.{OpenErr.OpenErr, Owned.Owned, Wanted.Wanted, Wanted.TheVariants.LastRow, OpenErr.TheVariants.Failed, ReplySeen.ReplySeen, ReplySeen.TheVariants.Unknown, ReplySeen.TheVariants.Gone, ReplySeen.TheVariants.Waiting, ReplySeen.TheVariants.Reply}
 
@@ -19,14 +19,6 @@ pub record Reads {X : Type 0} (P : Rows → X → Type 0) (old new : TableState)
   pub later : old.faults ≤ new.faults
   pub failed : IsErrOf result Failed → Rose old.faults new.faults
   pub room : new.room ≡ old.room
-
--- the greatest ticket that a key names, 0 where there is none
-abbrev pub greatest : List (RowKey × Row) → ℕ
-greatest [] = 0
-greatest (e ∷ es) = max (key_ticket e.0) (greatest es)
-
-abbrev pub newest_of : Rows → ℕ
-newest_of m = greatest (map.entries m)
 
 -- no key names a greater ticket than this, and some key names it, or it is 0
 pub record IsNewest (m : Rows) (t : ℕ) : Type 0 where

@@ -1,7 +1,7 @@
 // The host: the one place where an event touches the table.
 ghost use Rattle.std.specs.Prelude.{◌≡◌, ◌++◌, ◌≤◌, ◌^◌, ◌↔◌, IsTrue, true, false, IfOk, IfErr, OnOk, OnErr};
 
-use crate::survey::{OpenErr, ReplySeen, ahead, list_tables, prepare, read_reply};
+use crate::survey::{OpenErr, ReplySeen, ahead, find_newest, list_tables, prepare, read_reply};
 use beldi_book::Book;
 use beldi_check::Checked;
 use beldi_core::{HostCore, Pending, Planned, Runs};
@@ -24,7 +24,8 @@ pub struct Host<T: Table> {
 impl<T: Table> Host<T> {
     ghost use Rattle.beldi_row.specs.Table.{IsCount, AtMostOne};
     ghost use Rattle.beldi_check.specs.Keeps.{KeepsRules};
-    ghost use Rattle.beldi_step.specs.Host.{Stepped, last_moment};
+    ghost use Rattle.beldi_step.specs.Host.{StepBy, Stepped, last_moment, reads_all};
+    ghost use Rattle.beldi_step.specs.declared.event.Event.TheVariants as events;
     ghost use Rattle.beldi_step.specs.Tables.{tables_text};
     ghost use Rattle.beldi_host.specs.Survey.{Opened, PassesToldOpen, Refused, NewestAt, Reads, reply_seen, is_unknown};
     ghost use Rattle.beldi_host.specs.declared.survey.ReplySeen.TheVariants.{Unknown};
@@ -62,6 +63,7 @@ impl<T: Table> Host<T> {
                     now: now.max(left.moment),
                     cursor: RowKey::least(alloc),
                     taken: 0,
+                    shut: false,
                 },
                 table,
             }),
@@ -210,7 +212,8 @@ impl<T: Table> Host<T> {
     }
 
     /// Carries out one event, with at most one call of the table's `act` or `next`; an event that is answered at once makes
-    /// none. Out of memory, nothing was done, but that the event counts as taken, and that a run that had it is over; the act
+    /// none. A halt reads all rows instead, a call for each and one more; after it no run is live, also where the table failed, and it is
+    /// then shut: all but a halt is answered so. Out of memory, nothing was done, but that the event counts as taken, and that a run that had it is over; the act
     /// of a turn may then have been made, and the book has its entry. A crash and a tick take no memory, and of the events that
     /// make no act only a restart may be out of it. A run that is past its deadline makes no act. The entry of a transaction comes with the
     /// act that keeps its decision; what is read and written inside makes none. Over rows that are told it is the relation that `a_step_over_rows` of `beldi_step`
@@ -234,8 +237,18 @@ impl<T: Table> Host<T> {
         match self.core.plan(self.code.code(), event) {
             Ok(Planned::Now(answer)) => Ok(answer.seen()),
             Ok(Planned::Asks(query, pending)) => self.ask(query.into_inner(), pending),
+            Ok(Planned::ReadsAll) => self.halt(),
             Err(why) => Err(why),
         }
+    }
+
+    // A halt: the keys of all rows are read.
+    fn halt(&mut self) -> Result<Seen, AllocError>
+        ensures step { StepBy self.old.code events.Halt (core_of self.old) reads_all (core_of self.new) (T.state self.old.table) (T.state self.new.table) result }
+        ensures code { self.new.code ≡ self.old.code }
+    {
+        let read = find_newest(self.core.alloc, &mut self.table);
+        self.core.halted(read)
     }
 
     // The one query of an event, and what follows.

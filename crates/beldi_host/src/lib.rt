@@ -8,8 +8,8 @@
 //! Proved:
 //! - `Host::event` is one step of the definition, for every table that keeps the trait's contract; crashes, lost
 //!   answers, restarts, faults, want of room and out of memory are cases of the step (`step`, `code`). An event that is
-//!   answered at once makes no call of the table and leaves it as it was; any other makes at most one query, and one word
-//!   of the table, or one refusal, says what followed. A run that met an error is over, but for want of room. What that is
+//!   answered at once makes no call of the table and leaves it as it was; any other but a halt makes at most one query, and one word
+//!   of the table, or one refusal, says what followed. A halt reads all rows as `open` does (`find_newest`). A run that met an error is over, but for want of room. What that is
 //!   over rows that are told, and over any table, laws of `beldi_step` and `beldi_laws` say (`a_step_over_rows`,
 //!   `a_step_over_any_table`, `a_dropped_answer_has_a_cause`).
 //! - `reply` makes at most one call of the table's `act` and `next` (`calls`), and none for a ticket that was not issued,

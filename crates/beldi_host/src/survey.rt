@@ -7,6 +7,7 @@ ghost use Rattle.beldi_row.specs.Table.{next_row, AtMostOne};
 ghost use Rattle.beldi_intent.specs.Intent.{root_key as root_key_of};
 ghost use Rattle.beldi_chain.specs.Chain.{chain, tail};
 ghost use Rattle.beldi_daal.specs.Cell.{shadow_key as shadow_key_of};
+ghost use Rattle.beldi_step.specs.Host.{HaltCame};
 ghost use Rattle.beldi_step.specs.Tables.{tables_text, decision_key as decision_key_of, is_committed as is_commit, value_in, owned_value as shown_value};
 ghost use Rattle.beldi_host.specs.Survey.{PassesToldOpen, Reads, Prepared, IsHighWater, timely, timely_in, row_moment, next_mark_of, next_seen_of, next_line_of, held_seen, seen_of, key_line, last_line, line_after, owned_after, last_rank, Past, row_seen, told_row};
 ghost use Rattle.beldi_host.specs.declared.survey.ReplySeen.TheVariants.{Unknown};
@@ -139,6 +140,17 @@ fn find_high_water<T: Table>(alloc: Global, table: &mut T) -> Result<HighWater, 
     }
     drop(at);
     Err(OpenErr::OutOfMemory)
+}
+
+/// The greatest ticket that a key names, 0 where there is none.
+pub fn find_newest<T: Table>(alloc: Global, table: &mut T) -> Result<u32, TableErr>
+    ensures { HaltCame result (T.state table.old) (T.state table.new) }
+{
+    match find_high_water(alloc, table) {
+        Ok(left) => Ok(left.ticket),
+        Err(OpenErr::OutOfMemory) => Err(TableErr::OutOfMemory),
+        Err(OpenErr::Failed) => Err(TableErr::Failed),
+    }
 }
 
 /// A key from which the intent collector may go on where it stands at a cursor; none where the table does not tell, or no row

@@ -1,6 +1,5 @@
 pub mod After
 pub mod Books
-pub mod Newest
 pub mod RaisedEvents
 pub mod RaisedRuns
 pub mod RaisedTurns

@@ -1,5 +1,5 @@
 -- Events of a host behind a longer book.
-use Rattle.std.specs.Prelude.{ℕ, ◌≡◌, ◌+◌, ◌==◌, ◌||◌, ◌^◌, ◌-◌, nat_le, nat_lt, Bool, true, false, List, [], ◌∷◌, ◌++◌, option_to_list, Option, Some, None, Result, Ok, Err, if◌then◌else◌, refl}
+use Rattle.std.specs.Prelude.{ℕ, ◌≡◌, ◌+◌, ◌==◌, ◌||◌, ◌&&◌, not, ◌^◌, ◌-◌, nat_le, nat_lt, Bool, true, false, List, [], ◌∷◌, ◌++◌, option_to_list, Option, Some, None, Result, Ok, Err, if◌then◌else◌, refl}
 use Rattle.std.specs.{Option.option_map, declared.alloc.AllocError.AllocError}
 use Rattle.std.specs.FinMap as finite
 use Rattle.std.proofs.Common.{ap, sym, subst, ◌∙◌}
@@ -11,13 +11,13 @@ use Rattle.beldi_walk.specs.{Query.Told, Query.lends}
 use Rattle.beldi_intent.specs.Intent.{binding_of, bind_asks, is_added, issue_asks}
 use Rattle.beldi_intent.specs.declared.intent.Binding.{Binding}
 use Rattle.beldi_collect.specs.{declared.cursor.Found.Found, Collect.collect_says}
-use Rattle.beldi_step.specs.declared.event.Event.TheVariants.{Ticket, Request, Turn, Lost, Crash, Restart, Tick, Ic}
+use Rattle.beldi_step.specs.declared.event.Event.TheVariants.{Ticket, Request, Turn, Lost, Crash, Restart, Tick, Ic, Halt}
 use Rattle.beldi_step.specs.declared.{event.Event.Event, event.Seen.Seen, run.Mark.Mark, run.Run.Run, run.Wait.Wait, run.TurnSays.TurnSays}
 use Rattle.beldi_step.specs.Run.{Turned, callee_of, run_asks, run_told, says_of}
-use Rattle.beldi_step.specs.Host.{AtOnce, Core, EventBy, EventOn, Followed, Plan, StartsRun, after_turn, asks, at_once, bound_next, collect_next, collected, counted, crash_plan, ended_run, entry_of, has_run, heard, if_lent, in_time, is_crowded, last_moment, launched, made, marked, may_start, most_events, most_runs, new_run, no_memory, no_run, plan, plan_of, refused, refused_by, request_next, request_plan, restart_plan, run_next, run_plan, started, ticket_next, turn_next, turned_core, unheard_next, with_run, without_run}
+use Rattle.beldi_step.specs.Host.{AtOnce, Core, EventBy, EventOn, Followed, Plan, StartsRun, after_turn, asks, at_once, bound_next, collect_next, collected, counted, crash_plan, ended_run, entry_of, halt_next, halted, has_run, heard, if_lent, in_time, is_crowded, is_halt, last_moment, launched, made, marked, may_start, most_events, most_runs, new_run, no_memory, no_run, open_plan, plan, plan_of, reads_all, refused, refused_by, request_next, request_plan, restart_plan, run_next, run_plan, started, ticket_next, turn_next, turned_core, unheard_next, with_run, without_run}
 use Rattle.beldi_joined.specs.Joined.{behind, joined, raised, raised_answer, raised_entry, raised_mark, raised_run, raised_seen}
 use Rattle.beldi_joined.proofs.Books.{count_joined, joined_more}
-use Rattle.beldi_joined.proofs.RaisedRuns.{get_raised, has_raised, insert_raised, len_raised, put_raised, remove_raised}
+use Rattle.beldi_joined.proofs.RaisedRuns.{empty_raised, get_raised, has_raised, insert_raised, len_raised, put_raised, remove_raised}
 use Rattle.beldi_joined.proofs.RaisedTurns.{asked_raised, callee_raised, if_pushed, raised_turn_says, raised_turned, says_raised, told_raised}
 
 module _ (base : List Entry) where
@@ -34,6 +34,7 @@ module _ (base : List Entry) where
   abbrev planned : Plan → Plan
   planned (at_once c y) = at_once (behind base c) (raised_seen more y)
   planned (asks q) = asks q
+  planned reads_all = reads_all
 
   -- ---- the book and the runs
   entry_raised : (id : IntentId) (m : Mark) → entry_of id (raised_mark more m) ≡ raised_entry more (entry_of id m)
@@ -145,9 +146,13 @@ module _ (base : List Entry) where
   planned_of d (Restart id f) c = restart_planned d c id f
   planned_of d (Tick n) c = if_pushed planned (nat_lt last_moment (c.now + n)) (at_once c Seen.ClockEnd) (at_once (record c { now = c.now + n }) (Seen.Now (c.now + n)))
   planned_of d Ic c = refl
+  planned_of d Halt c = refl
 
   plan_behind : (d : Deployment) (e : Event) (c : Core) → plan d e (behind base c) ≡ planned (plan d e c)
-  plan_behind d e c = ap (λ z. if nat_lt c.taken most_events then z else at_once (behind base c) Seen.Spent) (planned_of d e (counted c)) ∙ if_pushed planned (nat_lt c.taken most_events) (plan_of d e (counted c)) (at_once c Seen.Spent)
+  plan_behind d e c =
+      let away = c.shut && not (is_halt e) in
+      let open_is = ap (λ z. if away then at_once (behind base (counted c)) Seen.Shut else z) (planned_of d e (counted c)) ∙ if_pushed planned away (at_once (counted c) Seen.Shut) (plan_of d e (counted c)) in
+      ap (λ z. if nat_lt c.taken most_events then z else at_once (behind base c) Seen.Spent) open_is ∙ if_pushed planned (nat_lt c.taken most_events) (open_plan d e (counted c)) (at_once c Seen.Spent)
 
   -- ---- what follows where the table told
   ticket_behind : (c : Core) (b : Bool) → ticket_next (behind base c) b ≡ answered (ticket_next c b)
@@ -185,6 +190,7 @@ module _ (base : List Entry) where
   heard_behind d (Restart id f) c t = refl
   heard_behind d (Tick n) c t = refl
   heard_behind d Ic c t = collect_behind d c (collect_says t)
+  heard_behind d Halt c t = refl
 
   lent_behind : (b : Bool) (c : Core) → if_lent b (behind base c) ≡ option_map (behind base) (if_lent b c)
   lent_behind true c = refl
@@ -199,6 +205,7 @@ module _ (base : List Entry) where
   no_memory_behind d (Restart id f) c t = refl
   no_memory_behind d (Tick n) c t = refl
   no_memory_behind d Ic c t = lent_behind (lends t) c
+  no_memory_behind d Halt c t = refl
 
   -- ---- where it did not
   abbrev failed : Core × Result Seen AllocError → Core × Result Seen AllocError
@@ -222,6 +229,16 @@ module _ (base : List Entry) where
   refused_behind (Restart id f) c v = ap (λ x. (behind base c, x)) (refused_same v)
   refused_behind (Tick n) c v = ap (λ x. (behind base c, x)) (refused_same v)
   refused_behind Ic c v = ap (λ x. (behind base c, x)) (refused_same v)
+  refused_behind Halt c v = ap (λ x. (behind base c, x)) (refused_same v)
+
+  -- ---- a halt
+  halted_behind : (t : ℕ) (shut : Bool) (c : Core) → halted t shut (behind base c) ≡ behind base (halted t shut c)
+  halted_behind t shut c = ap (λ runs. record (halted t shut (behind base c)) { runs = runs }) (sym (empty_raised more))
+
+  halt_behind : (c : Core) (w : Result ℕ TableErr) → halt_next (behind base c) w ≡ failed (halt_next c w)
+  halt_behind c (Ok t) = ap (λ z. (z, Ok Seen.Halted)) (halted_behind t false c)
+  halt_behind c (Err TableErr.OutOfMemory) = ap (λ z. (z, Err (record {}))) (halted_behind c.newest c.shut c)
+  halt_behind c (Err v) = ap (λ z. (z, Ok Seen.Dropped)) (halted_behind c.newest true c)
 
   -- ---- one event
   starts_same : (y : Seen) → StartsRun y → StartsRun (raised_seen more y)
@@ -241,6 +258,7 @@ module _ (base : List Entry) where
     event_behind : (c : Core) (p : Plan) (m : Rows) (z : Core) (n : Rows) (r : Result Seen AllocError) → EventBy d room old new e c p m z n r → EventBy d room old new e (behind base c) (planned p) m (behind base z) n (raised_answer more r)
     event_behind c (at_once b y) m z n r h = (at_once_behind c b y z r h.0, h.1, h.2)
     event_behind c (asks q) m z n r h = (h.0, followed_behind d e c h.0 z r h.1, h.2, h.3)
+    event_behind c reads_all m z n r h = (h.0, ap failed h.1 ∙ sym (halt_behind c h.0), h.2, h.3)
 
     pub step_behind : (c b : Core) (m n : Rows) (r : Result Seen AllocError) → EventOn d room old new e c m b n r → EventOn d room old new e (behind base c) m (behind base b) n (raised_answer more r)
     step_behind c b m n r h = subst (λ p. EventBy d room old new e (behind base (counted c)) p m (behind base b) n (raised_answer more r)) (sym (plan_behind d e c)) (event_behind (counted c) (plan d e c) m b n r h)

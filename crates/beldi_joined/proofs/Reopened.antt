@@ -1,32 +1,25 @@
 -- A host that was opened again, over the rows that an earlier one left.
-use Rattle.std.specs.Prelude.{ℕ, ◌≡◌, ◌≤◌, List, [], false, is_some, max, IsTrue, Some, refl}
-use Rattle.std.specs.{FinMap.get-empty, FinMap.len-empty, Ordering.nat_cmp}
+use Rattle.std.specs.Prelude.{ℕ, ◌≡◌, List, [], max, Some, refl}
+use Rattle.std.specs.{FinMap.get-empty, Ordering.nat_cmp}
 use Rattle.std.specs.FinMap as map
-use Rattle.std.proofs.Common.{arith, subst, sym, ◌∙◌}
+use Rattle.std.proofs.Common.{subst, sym, ◌∙◌}
 use Rattle.beldi_tree.specs.declared.deployment.Deployment.{Deployment}
 use Rattle.beldi_book.specs.{declared.entry.Entry.Entry, Order.count_changes}
 use Rattle.beldi_row.specs.{Key.RowKey, Table.Rows}
-use Rattle.beldi_step.specs.{Host.Core, Host.first_core, Host.most_runs, Next.at_key, declared.run.Run.Run}
-use Rattle.beldi_laws.specs.Right.{Right, RunAt}
-use Rattle.beldi_laws.proofs.Moves.{with_runs}
+use Rattle.beldi_step.specs.{Host.Core, Host.first_core, Host.newest_of, Next.at_key, declared.run.Run.Run}
+use Rattle.beldi_laws.specs.Right.{Right}
+use Rattle.beldi_laws.proofs.{Lives.runs_none, Moves.with_runs, Newest.newest_named}
 use Rattle.beldi_upkeep.specs.Upkeep.{Upkeep}
-use Rattle.beldi_host.specs.Survey.{latest_of, newest_of, opened_core}
+use Rattle.beldi_host.specs.Survey.{latest_of, opened_core}
 use Rattle.beldi_joined.specs.Joined.{behind, joined, reopened}
-use Rattle.beldi_joined.proofs.{Books.joined_nothing, Books.nothing_joined, Newest.newest_named, RaisedRuns.empty_raised, RaisedRuns.none_raised}
-
-not_there : IsTrue false → ⊥
-not_there e = cc
+use Rattle.beldi_joined.proofs.{Books.joined_nothing, Books.nothing_joined, RaisedRuns.empty_raised, RaisedRuns.none_raised}
 
 no_run : (n : ℕ) (r : Run) → map.get (map.empty {X = Run} {R = nat_cmp}) n ≡ Some r → ⊥
 no_run n r is = let clash = sym (get-empty nat_cmp n) ∙ is in cc
 
 -- no run is live, and nothing else is other than before
 pub reopened_right : (d : Deployment) (c : Core) (m : Rows) (now : ℕ) → Right d c m → Right d (reopened c.newest c.book now) m
-reopened_right d c m now h = with_runs h (reopened c.newest c.book now) refl refl (record {
-  numbers = λ n e. absurd (not_there (subst (λ o. IsTrue (is_some o)) (get-empty nat_cmp n) e));
-  few = subst (λ n. n ≤ most_runs) (sym (len-empty nat_cmp Run)) (omega arith);
-  runs = λ n. subst (λ o. RunAt d m h.plain c.book h.known o) (sym (get-empty nat_cmp n)) tt;
-})
+reopened_right d c m now h = with_runs h (reopened c.newest c.book now) refl refl (runs_none d m h.plain c.book h.known 0)
 
 -- .. nor of what every event keeps beside it
 pub reopened_upkept : (d : Deployment) (c : Core) (m : Rows) (now : ℕ) → Upkeep d c m → Upkeep d (reopened c.newest c.book now) m

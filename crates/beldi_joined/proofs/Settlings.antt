@@ -10,7 +10,7 @@ use Rattle.beldi_row.specs.{Key.RowKey, Table.Rows}
 use Rattle.beldi_readlog.specs.ReadLog.{log_key}
 use Rattle.beldi_step.specs.{Host.Core, Host.EventOn, Host.most_runs, Next.first_past, Next.next_run, Run.place_of, declared.event.Seen.Seen, declared.run.Begun.Begun, declared.run.Run.Run, declared.run.RunAt.RunAt, declared.run.RunAt.TheVariants.Begins, declared.run.RunAt.TheVariants.Looks, declared.run.RunAt.TheVariants.Registers, declared.run.Stage.Stage, declared.run.Stage.TheVariants.Decide, declared.run.Stage.TheVariants.Keep}
 use Rattle.beldi_schedule.specs.{Settle.by_round, Settle.core_for, Settle.event_of, Settle.heard_of, Settle.ic_heard, Settle.begun, Settle.is_empty, Settle.next_of, Settle.restless, Settle.turn_heard, Settle.turn_or, Settle.turns_of, Settle.unparked, Settles.Advances, Settles.MaySkip, Settles.Settles, Settles.State, Settles.goes, Settles.skips, Settles.stands}
-use Rattle.beldi_schedule.specs.declared.machine.{At.At, Next.Next, Next.TheVariants.Collect, Next.TheVariants.Reset, Next.TheVariants.Turn, Settled.Settled, Settled.TheVariants.All, Settled.TheVariants.Spent, Settled.TheVariants.Stuck, Settled.TheVariants.Unsettled, Standing.Standing}
+use Rattle.beldi_schedule.specs.declared.machine.{At.At, Next.Next, Next.TheVariants.Collect, Next.TheVariants.Reset, Next.TheVariants.Turn, Settled.Settled, Settled.TheVariants.All, Settled.TheVariants.Spent, Settled.TheVariants.Shut, Settled.TheVariants.Stuck, Settled.TheVariants.Unsettled, Standing.Standing}
 use Rattle.beldi_bound.specs.{Cost.cost_at, Ends.HasCause, Ends.IsLate, Ends.IsLeft, Ends.IsUnhindered, Ends.NoneIsLate, Ends.Promises, Ends.SettlesAsPromised, Ends.crowded, Ends.hindered, Ends.is_walk, Ends.left, Work.has_ended, Work.most_of, Work.one_more, Work.open_keys, Work.seat, Work.sum_of, Work.work_by}
 use Rattle.beldi_joined.specs.{Joined.behind, Joined.joined, Joined.raised_at, Joined.raised_run, Joined.raised_runs, Joined.raised_seen, Joined.raised_stage, Joined.with_joined, Laws.SettlesAsPromisedAfter}
 use Rattle.beldi_joined.proofs.{RaisedEvents.step_behind, RaisedRuns.entries_raised, RaisedRuns.get_raised, RaisedRuns.len_raised, RaisedRuns.lifted}
@@ -143,6 +143,7 @@ module _ (base : List Entry) where
     unhindered (All k) h = tt
     unhindered (Unsettled k) h = tt
     unhindered (Spent k) h = h
+    unhindered (Shut k) h = h
     unhindered (Stuck k waiting) h = (h.0, subst (λ z. z < most_runs) (sym (len_raised more c.runs)) h.1)
 
     abbrev here : Core
@@ -180,6 +181,7 @@ module _ (base : List Entry) where
     promised_so = record {
       few = λ asked are below. subst (λ w. turns_of x ≤ w) (work_same (cost_at d t.rows asked) s t) (p.few asked are below);
       used = p.used;
+      shut = p.shut;
       ended = λ n is. let e = p.ended n is in record { runs = none_live t.core e.runs; intents = e.intents; instances = e.instances };
       cause = λ n waiting free is. cause_so t.core t.rows waiting (p.cause n waiting free is);
       completes = λ asked are free none same below still enough.

@@ -4,12 +4,12 @@ use Rattle.std.specs.declared.alloc.AllocError.{AllocError}
 use Rattle.beldi_tree.specs.declared.deployment.Deployment.{Deployment}
 use Rattle.beldi_book.specs.{declared.entry.Entry.Entry, Order.count_changes}
 use Rattle.beldi_row.specs.Table.{Rows}
-use Rattle.beldi_step.specs.{declared.event.Event.Event, declared.event.Seen.Seen, Host.Core, Host.EventOn, Host.last_moment}
+use Rattle.beldi_step.specs.{declared.event.Event.Event, declared.event.Seen.Seen, Host.Core, Host.EventOn, Host.last_moment, Host.newest_of}
 use Rattle.beldi_laws.specs.Right.{Right}
 use Rattle.beldi_upkeep.specs.Upkeep.{Upkeep}
 use Rattle.beldi_schedule.specs.{Settle.first_at, Settle.go_on, Settles.Settles, Settles.State, declared.machine.Settled.Settled, declared.machine.Standing.TheVariants.Over}
 use Rattle.beldi_bound.specs.Ends.{Promises, Sound}
-use Rattle.beldi_host.specs.Survey.{newest_of, opened_core}
+use Rattle.beldi_host.specs.Survey.{opened_core}
 use Rattle.beldi_joined.specs.Joined.{behind, raised_answer, reopened, with_joined}
 
 -- where a host and its rows are right, so is a host of the same book that is opened over them, at any moment

@@ -18,7 +18,7 @@
 //! Files:
 //! - Code (`src/`): `laws` one function a law, with no body.
 //! - Lemmas (`proofs/`): `Books` books of sessions one after another; `RaisedRuns` live runs behind a longer book, `RaisedTurns` their
-//!   turns, `RaisedEvents` events; `Newest` the tickets that keys name; `Reopened` a host that was opened again; `After` what a host has
+//!   turns, `RaisedEvents` events; `Reopened` a host that was opened again; `After` what a host has
 //!   that is right behind the book of earlier sessions, and what an event leaves of it; `Settlings` its settlings.
 #![tactic(auto)]
 

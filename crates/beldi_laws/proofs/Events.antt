@@ -1,10 +1,11 @@
 -- Every event keeps the host and its rows right.
 use borrow.Author.Tests.{lt-ltb}
 use Rattle.beldi_collect.specs.declared.cursor.Found.{Found}
+use Rattle.beldi_step.proofs.Runs.{of_plan}
 use Rattle.beldi_step.specs.Host.{at_once}
-use Rattle.beldi_laws.proofs.Names.{AllocError, Async, AtStage, Begins, Begun, Bind, Body, BodyMatches, Bool, Call, Caller, CameOn, CondWrite, Content, Core, Crash, Deployment, Effect, End, Err, Event, EventBy, EventOn, Fits, Followed, Full, Ic, InItem, Inside, Instance, IntentId, IntentMatches, IntentRow, IsBelow, IsRootRow, IsTrue, Issue, KeepsRight, Known, Knows, KnowsAt, Looks, Lost, None, Ok, OnItem, Option, OutOfMemory, Outcome, Own, PlainState, Plan, Query, Read, Registers, RepliesAreOutcomes, Request, Restart, Result, Return, Right, RightIsLegal, Row, RowKey, Rows, Run, RunAt, RunTx, Seen, SeesPut, Some, Stage, Start, TableErr, Tell, Tick, Ticket, Told, Turn, TxAt, TxId, Value, Write, WriteAt, [], act, after_act, ahead_nothing, ahead_set, and-false, ap, arith, asks, asks_at, at_once_same, back_of, back_says, back_to_asks, bind_asks, bind_to, binding_of, bound_next, cell_op, chain, collect_asks, collect_next, collect_says, cond, count_changes, counted, crash_plan, ended_by, ended_run, false, first_core, func_called, get-empty, got, grows_new, grows_self, has_ended, has_finish, has_run, head_key, heard, id_cmp, id_same, id_total, if◌then◌else◌, is_added, is_begin, is_crowded, is_eq, is_gone, is_some, is_waited, item_cmp, key_cmp, last_moment, launched, le-leb, least_key, leb-false, len-empty, lends, length, length-append, listed_under, lt-leb, most_events, most_runs, nat_cmp, nat_le, nat_lt, nat_tests, new_instance, new_run, no_content, no_memory, none_out, none_show, nothing, nothing_matches, op_of, option_map, or_null, or_parts, other, outcome_of, outcome_tell, passed, place_of, plan, plan_of, refl, refused, refused_by, refused_stand, reply_of, request_next, root_apart, root_bound, root_key, root_of, row_put, rows_after, rows_stand, run_asks, run_next, run_plan, run_told, run_tx, same_some, same_value, sane_nothing, set_row, stage_asks, stage_says, start, subst, sym, ticket_next, tied_itself, told_at, told_by, told_outcome, touched, touched_by, true, true_false, turn_next, turned_by, tx_after, tx_of, unchanged, unheard_next, unlocked_absent, with_instance, with_once, with_run, ℕ, ◌&&◌, ◌++◌, ◌+◌, ◌-◌, ◌==◌, ◌^◌, ◌||◌, ◌∙◌, ◌∷◌, ◌≡◌, ◌≤◌}
+use Rattle.beldi_laws.proofs.Names.{AllocError, Async, AtStage, Begins, Begun, Bind, Body, BodyMatches, Bool, Call, Caller, CameOn, CondWrite, Content, Core, Crash, Deployment, Effect, End, Err, Event, EventBy, EventOn, Fits, Followed, Full, Halt, Ic, IfOk, InItem, Inside, Instance, IntentId, IntentMatches, IntentRow, IsBelow, IsRootRow, Issue, KeepsRight, Known, Knows, KnowsAt, Looks, Lost, None, Ok, OnItem, Option, OutOfMemory, Outcome, Own, PlainState, Plan, Query, Read, Registers, RepliesAreOutcomes, Request, Restart, Result, Return, Right, RightIsLegal, Row, RowKey, Rows, Run, RunAt, RunTx, Seen, SeesPut, Some, Stage, Start, TableErr, Tell, Tick, Ticket, Told, Turn, TxAt, TxId, Value, Write, WriteAt, [], act, after_act, ahead_nothing, ahead_set, and-false, ap, arith, asks, asks_at, at_once_same, back_of, back_says, back_to_asks, bind_asks, bind_to, binding_of, bound_next, cell_op, chain, collect_asks, collect_next, collect_says, cond, count_changes, counted, crash_plan, ended_by, ended_run, false, first_core, func_called, get-empty, got, grows_new, grows_self, halt_next, halted, has_ended, has_finish, has_run, head_key, heard, id_cmp, id_same, id_total, if◌then◌else◌, is_added, is_begin, is_crowded, is_eq, is_gone, is_some, is_waited, item_cmp, key_cmp, last_moment, launched, le-leb, least_key, leb-false, lends, length, length-append, listed_under, lt-leb, most_runs, nat_le, nat_lt, nat_tests, new_instance, newest_of, new_run, no_content, no_memory, none_out, none_show, nothing, nothing_matches, op_of, option_map, or_null, or_parts, other, outcome_of, outcome_tell, passed, place_of, plan, plan_of, reads_all, refl, refused, refused_by, refused_stand, reply_of, request_next, root_apart, root_bound, root_key, root_of, row_put, rows_after, rows_stand, run_asks, run_next, run_plan, run_told, run_tx, same_some, same_value, sane_nothing, set_row, stage_asks, stage_says, start, subst, sym, ticket_next, tied_itself, told_at, told_by, told_outcome, touched, touched_by, true, true_false, turn_next, turned_by, tx_after, tx_of, unchanged, unheard_next, unlocked_absent, with_instance, with_once, with_run, ℕ, ◌&&◌, ◌++◌, ◌+◌, ◌-◌, ◌==◌, ◌^◌, ◌||◌, ◌∙◌, ◌∷◌, ◌≡◌}
 use Rattle.beldi_laws.proofs.Moves.{if_plan, seen_by, After, AfterQuery, AfterAct, replaced, change_entered, unheard, with_runs, right_by, Kept, Stays}
-use Rattle.beldi_laws.proofs.{Lives.places_same, Lives.runs_on, Lives.runs_more, Lives.runs_less, OneEvent.lent_only, Beginnings.look_turn, Beginnings.register_turn, Callings.call_turn, Asyncs.async_turn, Endings.close_turn, GivingBack.back_turn, GivingBack.tell_turn, Operations.is_operation, Operations.operation_turn, Readings.ask_turn, Readings.walk_turn, Readings.keep_turn, KeptSane.root_kept, Shown.log_values, Shown.settled, Frames.frame_row, Frames.items_stay, Frames.nobody_made, Settling.settled_grown, Settling.settled_new, Keeping.goes_made, Keeping.set_shadows, Deciding.decide_turn, InTx.no_begin, Locking.lock_turn, Locking.log_turn, Passing.tx_is, Visiting.visit_turn, Working.operates, Working.working_turn, Outside.plain_none, Outside.outcome_known, Others.kept_moving, Registered.log_stays, Registered.no_more, Registered.stays_new, CallsHere.childless}
+use Rattle.beldi_laws.proofs.{Lives.places_same, Lives.runs_on, Lives.runs_more, Lives.runs_less, Lives.runs_none, Newest.newest_named, OneEvent.lent_only, Beginnings.look_turn, Beginnings.register_turn, Callings.call_turn, Asyncs.async_turn, Endings.close_turn, GivingBack.back_turn, GivingBack.tell_turn, Operations.is_operation, Operations.operation_turn, Readings.ask_turn, Readings.walk_turn, Readings.keep_turn, KeptSane.root_kept, Shown.log_values, Shown.settled, Frames.frame_row, Frames.items_stay, Frames.nobody_made, Settling.settled_grown, Settling.settled_new, Keeping.goes_made, Keeping.set_shadows, Deciding.decide_turn, InTx.no_begin, Locking.lock_turn, Locking.log_turn, Passing.tx_is, Visiting.visit_turn, Working.operates, Working.working_turn, Outside.plain_none, Outside.outcome_known, Others.kept_moving, Registered.log_stays, Registered.no_more, Registered.stays_new, CallsHere.childless}
 use Rattle.beldi_laws.proofs.Names.map
 use Rattle.beldi_laws.proofs.Names.standing
 
@@ -207,6 +208,7 @@ taken d c m h = with_runs h (counted c) refl refl h.runs
 -- of memory then
 abbrev RightPlan : (d : Deployment) (m : Rows) (p : PlainState) (e : Event) (c : Core) → Plan → Type 0
 RightPlan d m p e c (at_once b y) = After d p b m y
+RightPlan d m p e c reads_all = Unit {0}
 RightPlan d m p e c (asks q) = AfterQuery d p c.now m (heard d e c) q × ((b : Core) → no_memory d e c (told_by q c.now m) ≡ Some b → After d p b (rows_after q c.now m) Seen.Dropped)
 
 so_left : (d : Deployment) (p : PlainState) (c b : Core) (m n : Rows) (x : Seen) → n ≡ m → b ≡ c → After d p c m x → After d p b n x
@@ -277,9 +279,10 @@ right_of d (Restart id f) c m h = if_plan (RightPlan d m h.plain (Restart id f) 
 right_of d Ic c m h = (collect d c m h (told_by (collect_asks c.cursor) c.now m), λ b w. let z = lent_only (lends (told_by (collect_asks c.cursor) c.now m)) c b w in subst (λ y. After d h.plain y m Seen.Dropped) (sym z.0) (as_before d c m Seen.Dropped (refl, refl) h))
 right_of d (Tick n) c m h = if_plan (RightPlan d m h.plain (Tick n) c) (nat_lt last_moment (c.now + n)) _ _ (λ u. as_before d c m Seen.ClockEnd (refl, refl) h)
     (λ u. as_before d (record c { now = c.now + n }) m (Seen.Now (c.now + n)) (refl, refl) (with_runs h (record c { now = c.now + n }) refl refl h.runs))
+right_of d Halt c m h = tt
 
 right_plan : (d : Deployment) (e : Event) (c : Core) (m : Rows) (h : Right d c m) → RightPlan d m h.plain e (counted c) (plan d e c)
-right_plan d e c m h = if_plan (RightPlan d m h.plain e (counted c)) (nat_lt c.taken most_events) _ _ (λ few. right_of d e (counted c) m (taken d c m h)) (λ spent. as_before d c m Seen.Spent (refl, refl) h)
+right_plan d e c m h = of_plan d e c (RightPlan d m h.plain e (counted c)) (λ few. right_of d e (counted c) m (taken d c m h)) (λ shut. as_before d (counted c) m Seen.Shut (refl, refl) (taken d c m h)) (as_before d c m Seen.Spent (refl, refl) h)
 
 -- the query was not made, so no more than a run is over
 refusal_tells : (v : TableErr) → TellsNothing (seen_by (refused_by v))
@@ -292,6 +295,18 @@ after_refused d (Lost i) c m h OutOfMemory = as_before d (ended_run c i) m Seen.
 after_refused d (Lost i) c m h v = as_before d (ended_run c i) m Seen.Dropped (refl, refl) (without d c m i h)
 after_refused d e c m h v = as_before d c m (seen_by (refused_by v)) (refusal_tells v) h
 
+-- a halt: no run is live, and the newest ticket is the one that the rows name
+after_halt : (d : Deployment) (c : Core) (m : Rows) (h : Right d c m) (w : Result ℕ TableErr) → IfOk w (λ t. t ≡ newest_of m) → After d h.plain (halt_next c w).0 m (seen_by (halt_next c w).1)
+after_halt d c m h w read = by_reading w read
+  where
+    idle : (t : ℕ) (shut : Bool) → c.newest ≡ t → Right d (halted t shut c) m
+    idle t shut same = with_runs h (halted t shut c) refl same (runs_none d m h.plain c.book h.known c.last_run)
+
+    by_reading : (w : Result ℕ TableErr) → IfOk w (λ t. t ≡ newest_of m) → After d h.plain (halt_next c w).0 m (seen_by (halt_next c w).1)
+    by_reading (Ok t) is = as_before d (halted t false c) m Seen.Halted (refl, refl) (idle t false (sym (newest_named d c m h) ∙ sym is))
+    by_reading (Err OutOfMemory) is = as_before d (halted c.newest c.shut c) m Seen.Dropped (refl, refl) (idle c.newest c.shut refl)
+    by_reading (Err v) is = as_before d (halted c.newest true c) m Seen.Dropped (refl, refl) (idle c.newest true refl)
+
 module _ (d : Deployment) (room old new : ℕ) (e : Event) (c b : Core) (m n : Rows) (h : Right d c m) where
   after_came : (q : Query) (w : Result Told TableErr) (r : Result Seen AllocError) → RightPlan d m h.plain e c (asks q) → Followed d e c w b r → CameOn q c.now room w m n → After d h.plain b n (seen_by r)
   after_came q (Ok t) (Ok x) g s p = subst (λ l. After d h.plain b l x) (sym p.0) (subst (λ (z : Core × Seen). After d h.plain z.0 (rows_after q c.now m) z.1) (sym (s ∙ ap (heard d e c) p.1)) g.0)
@@ -303,6 +318,7 @@ module _ (d : Deployment) (room old new : ℕ) (e : Event) (c b : Core) (m n : R
   after_by (at_once k y) (Ok x) g s = so_left d h.plain k b m n x s.1 s.0.0 (subst (λ z. After d h.plain k m z) (sym s.0.1) g)
   after_by (at_once k y) (Err w) g s = so_left d h.plain c b m n Seen.Dropped s.1 s.0.0 (as_before d c m Seen.Dropped (refl, refl) h)
   after_by (asks q) r g s = after_came q s.0 r g s.1 s.2
+  after_by reads_all r g s = subst (λ l. After d h.plain b l (seen_by r)) (sym s.2.0) (subst (λ (z : Core × Result Seen AllocError). After d h.plain z.0 m (seen_by z.1)) (sym s.1) (after_halt d c m h s.0 s.2.1))
 
 pub after_event : (d : Deployment) (room old new : ℕ) (e : Event) (c b : Core) (m n : Rows) (r : Result Seen AllocError) (h : Right d c m) → EventOn d room old new e c m b n r → After d h.plain b n (seen_by r)
 after_event d room old new e c b m n r h s = after_by d room old new e (counted c) b m n (taken d c m h) (plan d e c) r (right_plan d e c m h) s
@@ -337,14 +353,7 @@ begins d now = right_by {q = nothing} {next = map.empty} {locked = λ id. false}
       };
     })
     (λ t. ap is_some (get-empty key_cmp (root_key t)) ∙ sym (no_ticket t))
-    (record {
-      numbers = λ n e. absurd (not_there (subst (λ o. IsTrue (is_some o)) (get-empty nat_cmp n) e));
-      few = subst (λ n. n ≤ most_runs) (sym (len-empty nat_cmp Run)) (omega arith);
-      runs = λ n. subst (λ o. RunAt d map.empty nothing [] map.empty o) (sym (get-empty nat_cmp n)) tt;
-    })
-  where
-    not_there : IsTrue false → ⊥
-    not_there e = cc
+    (runs_none d map.empty nothing [] map.empty 0)
 
 -- ---- what is right
 pub right_legal : RightIsLegal

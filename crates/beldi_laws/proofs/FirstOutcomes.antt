@@ -17,12 +17,13 @@ use Rattle.beldi_lock.specs.{Lock.asks_at as lock_asks_at, declared.lock.LockAt.
 use Rattle.beldi_intent.specs.Intent.{intent_key, root_key}
 use Rattle.beldi_txn.specs.{End.first_visit, End.free_asks, End.free_place, End.shadow_asks, End.visit_asks, End.visited_by, Tx.aside_asks, Tx.asks_of, Tx.item_asks, Tx.item_of, Tx.op_of, Way.Member, declared.end.EndAt.EndAt, declared.end.Visit.Visit, declared.tx.TxAt.TxAt, declared.way.Called.Called}
 use Rattle.beldi_call.specs.{Async.async_asks, declared.async_call.AsyncAt.AsyncAt, declared.call.CallAt.CallAt}
-use Rattle.beldi_step.specs.Host.{Core, EventBy, Followed, Plan, asks, at_once, counted, crash_plan, heard, is_crowded, last_moment, most_events, plan, plan_of, run_next, run_plan, turn_next}
+use Rattle.beldi_step.specs.Host.{Core, EventBy, Followed, Plan, asks, at_once, counted, crash_plan, heard, is_crowded, last_moment, plan, plan_of, reads_all, run_next, run_plan, turn_next}
 use Rattle.beldi_step.specs.Run.{OnCell, asks_at, async_here_asks, back_to_asks, call_here_asks, callee_body, cell_op, close_asks, end_by_asks, end_here_asks, own_tx, place_of, put_asks, reply_if, run_asks, run_told, stage_asks, stage_says, tell_asks, told_at, turned_by, tx_here_asks, tx_of, walk_asks}
 use Rattle.beldi_step.specs.declared.run.{Begun.Begun, Run.Run, RunAt.RunAt, RunAt.TheVariants.Begins, RunTx.RunTx, Stage.Stage}
-use Rattle.beldi_step.specs.declared.event.Event.TheVariants.{Crash, Ic, Lost, Request, Restart, Tick, Ticket, Turn}
+use Rattle.beldi_step.specs.declared.event.Event.TheVariants.{Crash, Halt, Ic, Lost, Request, Restart, Tick, Ticket, Turn}
 use Rattle.beldi_step.specs.{Told.is_dropped, Told.is_lost, Told.told_outcome, declared.event.Event.Event, declared.event.Seen.Seen}
 use Rattle.beldi_known.specs.Rows.{BodyMatches, RootMatches}
+use Rattle.beldi_step.proofs.Runs.{of_plan}
 use Rattle.beldi_laws.specs.{Laws.FirstOutcomesAreTold, Right.Right}
 use Rattle.beldi_laws.proofs.{Events.keeps_right, Moves.if_plan, Outside.outcome_known, Standing.same_run}
 
@@ -309,6 +310,7 @@ module _ (d : Deployment) (c : Core) (t : ℕ) (o : Outcome) (s : Bool) where
   by_event (Restart id f) = if_plan (Asks (Restart id f)) (is_crowded c) _ _ (λ t is. cc) (λ t is. cc)
   by_event (Tick n) = if_plan (Asks (Tick n)) (nat_lt last_moment (c.now + n)) _ _ (λ t is. cc) (λ t is. cc)
   by_event Ic = λ is. cc
+  by_event Halt = λ is. cc
 
 -- .. and its answer tells the outcome, unless it was lost
 heard_so : (d : Deployment) (e : Event) (c b : Core) (x : Seen) (t : ℕ) (o : Outcome) → EndsRun e c t o → (b, x) ≡ heard d e c (said did) → (is_lost e && is_dropped x) ≡ false → told_outcome x ≡ Some (t, o)
@@ -332,13 +334,14 @@ module _ (d : Deployment) (room old new : ℕ) (e : Event) (c b : Core) (m n : R
   unfolding EndsAt
   by_came q (Ok u) is heard_of came =
       let h = ends_query q c.now m t o before (ap (λ l. outcome_in (map.get l (root_key t))) (sym came.0) ∙ now) in
-      let run = if_plan (Asks d (counted c) t o h.0 e) (nat_lt c.taken most_events) _ _ (λ few. by_event d (counted c) t o h.0 e) (λ spent at. cc) (is ∙ ap asks h.1) in
+      let run = of_plan d e c (Asks d (counted c) t o h.0 e) (λ few. by_event d (counted c) t o h.0 e) (λ shut at. cc) (λ at. cc) (is ∙ ap asks h.1) in
       heard_so d e (counted c) b x t o run (heard_of ∙ ap (heard d e (counted c)) (came.1 ∙ h.2)) kept
   by_came q (Err v) is heard_of came = rows_changed (refused_stand q c.now room v m n came)
 
   by_plan : (p : Plan) → plan d e c ≡ p → EventBy d room old new e (counted c) p m b n (Ok x) → told_outcome x ≡ Some (t, o)
   by_plan (at_once k y) is s = rows_changed s.1
   by_plan (asks q) is s = by_came q s.0 is s.1 s.2
+  by_plan reads_all is s = rows_changed s.2.0
 
 pub first_outcomes_are_told : FirstOutcomesAreTold
 first_outcomes_are_told d room old new e c b m n x h s kept t o none has =

@@ -26,6 +26,7 @@ mod Locking
 pub mod Members
 pub mod Moves
 pub mod Names
+pub mod Newest
 pub mod OneAnswer
 pub mod OneEvent
 pub mod OpenOf

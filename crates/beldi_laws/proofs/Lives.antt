@@ -1,7 +1,7 @@
 -- Live runs, and what they know when the book has grown.
 use borrow.Author.Tests.{ltb-true}
 use Rattle.std.proofs.Common.{◌-◌}
-use Rattle.beldi_laws.proofs.Names.{Answer, Begins, Begun, Body, Bool, Caller, Deployment, Entry, Equal-is, FinMap, Grown, GrownAt, Grows, Inside, Instance, IntentId, IsAt, IsBodyOf, IsKeptLate, IsLast, IsTrue, Item, Keeps, Known, Knows, KnowsAt, List, Looks, Machine, None, Option, PlainState, Registers, Rows, Run, RunAt, RunTx, RunsMatch, Some, StandsAt, Value, WasThere, [], answered, ap, append-nil, append_assoc, arith, changed, changes_more, changes_of, cond, count_changes, elsewhere, false, get-insert, get-remove, here, is_eq, is_some, len-insert, len-remove, length, length-append, ltb-false, most_runs, moved, nat_cmp, nat_cmp-IsAntisymmetric, nat_cmp_total, nat_lt, open_of, put_got, put_run, refl, subst, sym, true, with_answer, ℕ, ◌++◌, ◌+◌, ◌<◌, ◌∙◌, ◌∷◌, ◌≡◌, ◌≤◌}
+use Rattle.beldi_laws.proofs.Names.{Answer, Begins, Begun, Body, Bool, Caller, Deployment, Entry, Equal-is, FinMap, Grown, GrownAt, Grows, Inside, Instance, IntentId, IsAt, IsBodyOf, IsKeptLate, IsLast, IsTrue, Item, Keeps, Known, Knows, KnowsAt, List, Looks, Machine, None, Option, PlainState, Registers, Rows, Run, RunAt, RunTx, RunsMatch, Some, StandsAt, Value, WasThere, [], answered, ap, append-nil, append_assoc, arith, changed, changes_more, changes_of, cond, count_changes, elsewhere, false, get-empty, get-insert, get-remove, here, is_eq, is_some, len-empty, len-insert, len-remove, length, length-append, ltb-false, most_runs, moved, nat_cmp, nat_cmp-IsAntisymmetric, nat_cmp_total, nat_lt, open_of, put_got, put_run, refl, subst, sym, true, with_answer, ℕ, ◌++◌, ◌+◌, ◌<◌, ◌∙◌, ◌∷◌, ◌≡◌, ◌≤◌}
 use Rattle.beldi_laws.proofs.{Grown.moved_longer, Outside.grown_there, Cases.by_option, Cases.false_by}
 use Rattle.beldi_laws.proofs.Names.map
 use Rattle.beldi_laws.proofs.Names.standing
@@ -169,6 +169,17 @@ runs_less d m p book known live last i h = record {
 }
 
 -- a run is new
+-- no run is live
+pub runs_none : (d : Deployment) (m : Rows) (p : PlainState) (book : List Entry) (known : Known) (last : ℕ) → RunsMatch d m p book known map.empty last
+runs_none d m p book known last = record {
+  numbers = λ n e. absurd (not_there (subst (λ o. IsTrue (is_some o)) (get-empty nat_cmp n) e));
+  few = subst (λ n. n ≤ most_runs) (sym (len-empty nat_cmp Run)) (omega arith);
+  runs = λ n. subst (λ o. RunAt d m p book known o) (sym (get-empty nat_cmp n)) tt;
+}
+  where
+    not_there : IsTrue false → ⊥
+    not_there e = cc
+
 pub runs_more : (d : Deployment) (m : Rows) (p : PlainState) (book : List Entry) (known : Known) (live : FinMap nat_cmp Run) (last : ℕ) (r : Run) → map.len live < most_runs → KnowsAt d m p book known r r.at → RunsMatch d m p book known live last → RunsMatch d m p book known (map.insert live (last + 1) r) (last + 1)
 runs_more d m p book known live last r room here h = record {
   numbers = changed nat_cmp-IsAntisymmetric live (map.insert live (last + 1) r) (last + 1) (Some r) (get-insert nat_cmp_total live (last + 1) r) (λ n o. IsTrue (is_some o) → (1 ≤ n) × (n ≤ last + 1))

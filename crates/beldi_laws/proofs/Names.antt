@@ -42,9 +42,9 @@ pub use Rattle.beldi_txn.{proofs.Calls.IsNarrow, proofs.Calls.first_narrow, proo
 pub use Rattle.beldi_txn.specs.Tx as txn
 pub use Rattle.beldi_call.specs.{Async.async_asks, Async.async_says, Async.note_says, Async.open_says, Call.call_asks, Call.call_says, Call.look_says, declared.async_call.AsyncAt.AsyncAt, declared.call.CallAt.CallAt}
 pub use Rattle.beldi_collect.specs.Collect.{collect_asks, collect_says}
-pub use Rattle.beldi_step.specs.Host.{Core, EventBy, EventOn, Followed, Plan, StepBy, after_turn, asks, bound_next, collect_next, collected, counted, crash_plan, ended_run, entry_of, first_core, has_run, heard, if_lent, is_crowded, last_moment, launched, made, marked, may_start, most_events, most_runs, new_run, no_memory, no_run, passed, plan, plan_of, put_run, refused, refused_by, request_next, run_next, run_plan, started, ticket_next, turn_next, turned_core, unbound, unheard_next, with_run, without_run}
+pub use Rattle.beldi_step.specs.Host.{Core, EventBy, EventOn, Followed, HaltCame, HaltOn, Plan, StepBy, after_turn, asks, bound_next, collect_next, collected, counted, crash_plan, ended_run, entry_of, first_core, halt_next, halted, has_run, heard, if_lent, is_crowded, last_moment, launched, made, marked, may_start, most_events, most_runs, new_run, no_memory, no_run, passed, newest_of, plan, plan_of, put_run, reads_all, refused, refused_by, request_next, run_next, run_plan, started, ticket_next, turn_next, turned_core, unbound, unheard_next, with_run, without_run}
 pub use Rattle.beldi_step.specs.Run.{Turned, answer_noted, answers_it, ask_says, asks_at, async_answer, async_here_asks, async_here_says, at_once as at_once_of, at_stage, back_says, back_to_asks, begin_in, begin_of, body_registered, call_answer, call_here_says, callee_at, callee_body, callee_by, callee_of as run_called, cell_op, close_says, decide_by_says, decided_says, done_says, end_by_asks, end_by_says, end_mark, first_stage, goes, goes_from, goes_to, if_answers, is_inherited, keep_says, last_stage, mark_if, note_done, note_of_op, open_after, over, own_tx, put_asks, put_says, reply_if, run_asks, run_told, says_of, stage_asks, stage_says, step_mark, takes, takes_if, tell_asks, told_at, turned_by, tx_at as run_tx, tx_here_asks, tx_here_says, tx_of, tx_says, visit_says, walk_says, with_cause, within, write_says}
-pub use Rattle.beldi_step.specs.declared.event.Event.TheVariants.{Crash, Ic, Lost, Request, Restart, Tick, Ticket, Turn}
+pub use Rattle.beldi_step.specs.declared.event.Event.TheVariants.{Crash, Halt, Ic, Lost, Request, Restart, Tick, Ticket, Turn}
 pub use Rattle.beldi_step.{specs.Told.bound_of, specs.Told.entries_told, specs.Told.is_dropped, specs.Told.is_lost, specs.Told.told_outcome, proofs.PutRun.put_got, proofs.PutRun.remove_put, specs.Noted.noted_answer, specs.Tables.line_at, specs.Tables.row_line, specs.Tables.shown_under, specs.Tables.tables_text, specs.Tables.value_line, specs.declared.event.Event.Event, specs.declared.event.Seen.Seen, specs.declared.run.Begun.Begun, specs.declared.run.Mark.Mark, specs.declared.run.OpenTx.OpenTx, specs.declared.run.Run.Run, specs.declared.run.RunAt.TheVariants.Begins, specs.declared.run.RunAt.TheVariants.Looks, specs.declared.run.RunAt.TheVariants.Registers, specs.declared.run.RunTx.RunTx, specs.declared.run.RunTx.TheVariants.Inherited, specs.declared.run.RunTx.TheVariants.Own, specs.declared.run.Says.Says, specs.declared.run.Says.TheVariants.Answers, specs.declared.run.Says.TheVariants.Ends, specs.declared.run.Says.TheVariants.On, specs.declared.run.Says.TheVariants.Opens, specs.declared.run.Says.TheVariants.Waits, specs.declared.run.Stage.Stage, specs.declared.run.TurnSays.TurnSays, specs.declared.run.Wait.Wait}
 pub use Rattle.beldi_step.specs.Run as step
 pub use Rattle.beldi_step.specs.declared.run.RunAt as standing

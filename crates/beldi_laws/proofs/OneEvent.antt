@@ -4,8 +4,9 @@ use Rattle.std.proofs.Common.{nat_lt}
 use Rattle.std.proofs.lemmas.List.{append-nil}
 use Rattle.beldi_walk.specs.declared.query.Query.TheVariants.{Act}
 use Rattle.beldi_collect.specs.declared.cursor.Found.{Found}
+use Rattle.beldi_step.proofs.Runs.{of_plan}
 use Rattle.beldi_step.specs.{declared.run.RunAt.RunAt, Run.callee_of, Host.at_once}
-use Rattle.beldi_laws.proofs.Names.{After, AllocError, Begins, Begun, Binding, Body, BookGrew, Bool, Caller, CameOn, ChangesOneRow, Core, Crash, Deployment, DropsHaveCause, Err, Event, EventBy, Failed, Followed, Full, Func, Ic, IfOk, IntentId, IsTrue, KeepsRoom, Looks, Lost, Machine, Mark, None, Ok, OneRowChanged, Option, OutOfMemory, Plan, Query, Registers, Request, Restart, Result, Rose, Row, RowAct, RowKey, Rows, Run, RunTx, Says, Seen, Some, Stage, Start, StepBy, TableErr, TableState, Tick, Ticket, Told, Turn, Turned, Value, Wait, WritesWhatIsTold, [], act, after_act, after_turn, ap, arith, asks, at_once_of, begin_in, binding_of, body_registered, body_told, bound_by, bound_of, chain_off, collect_next, collect_says, collected, cond, content, content_of, count_changes, counted, crash_plan, ended_run, entries_told, entry_of, false, first_stage, func_at, goes_from, goes_to, has_run, head_key, heard, if_lent, if◌then◌else◌, inl, inr, is_added, is_crowded, is_dropped, is_lost, is_some, item_head, key_total, last_moment, launched, least_key, len-insert, len-remove, lends, made, marked, may_start, most_events, no_memory, no_run, not, off, option_map, option_to_list, passed, plan, plan_of, query_adds, refl, refused, refused_by, refused_stand, request_next, rows_after, run_next, run_plan, run_told, same_some, says_of, set_others, set_row, stage_says, started, starts_of, subst, sym, ticket_next, told_at, true, turn_next, turned_by, turned_core, unbound, unheard_next, ℕ, ◌+◌, ◌-◌, ◌<◌, ◌==◌, ◌^◌, ◌||◌, ◌∙◌, ◌≡◌, ◌≤◌}
+use Rattle.beldi_laws.proofs.Names.{After, AllocError, Begins, Begun, Binding, Body, BookGrew, Bool, Caller, CameOn, ChangesOneRow, Core, Crash, Deployment, DropsHaveCause, Err, Event, EventBy, Failed, Followed, Full, Func, Halt, HaltCame, Ic, IfOk, IntentId, IsTrue, KeepsRoom, Looks, Lost, Machine, Mark, None, Ok, OneRowChanged, Option, OutOfMemory, Plan, Query, Registers, Request, Restart, Result, Rose, Row, RowAct, RowKey, Rows, Run, RunTx, Says, Seen, Some, Stage, Start, StepBy, TableErr, TableState, Tick, Ticket, Told, Turn, Turned, Value, Wait, WritesWhatIsTold, [], act, after_act, after_turn, ap, arith, asks, at_once_of, begin_in, binding_of, body_registered, body_told, bound_by, bound_of, chain_off, collect_next, collect_says, collected, cond, content, content_of, count_changes, counted, crash_plan, ended_run, entries_told, entry_of, false, first_stage, func_at, goes_from, goes_to, halt_next, halted, has_run, head_key, heard, if_lent, if◌then◌else◌, inl, inr, is_added, is_crowded, is_dropped, is_lost, is_some, item_head, key_total, last_moment, launched, least_key, len-insert, len-remove, lends, made, marked, may_start, no_memory, no_run, not, off, option_map, option_to_list, passed, plan, plan_of, query_adds, reads_all, refl, refused, refused_by, refused_stand, request_next, rows_after, run_next, run_plan, run_told, same_some, says_of, set_others, set_row, stage_says, started, starts_of, subst, sym, ticket_next, told_at, true, turn_next, turned_by, turned_core, unbound, unheard_next, ℕ, ◌+◌, ◌-◌, ◌<◌, ◌==◌, ◌^◌, ◌||◌, ◌∙◌, ◌≡◌, ◌≤◌}
 use Rattle.beldi_laws.proofs.Moves.{if_plan}
 use Rattle.beldi_laws.proofs.Names.map
 
@@ -27,6 +28,7 @@ came_on_one c room q (Err v) m n p = same_rows c m n (refused_stand q c.now room
 by_plan : (d : Deployment) (room old new : ℕ) (e : Event) (c b : Core) (m n : Rows) (r : Result Seen AllocError) (p : Plan) → EventBy d room old new e c p m b n r → OneRowChanged c m n
 by_plan d room old new e c b m n r (at_once k y) s = same_rows c m n s.1
 by_plan d room old new e c b m n r (asks q) s = came_on_one c room q s.0 m n s.2
+by_plan d room old new e c b m n r reads_all s = same_rows c m n s.2.0
 
 pub one_row : ChangesOneRow
 one_row d room old new e c b m n r s = let o = by_plan d room old new e (counted c) b m n r (plan d e c) s in record { key = o.key; rows = o.rows; others = o.others }
@@ -56,6 +58,7 @@ came_fits q now room (Err v) m n p h = subst (λ l. map.len l ≤ room) (sym (re
 plan_fits : (d : Deployment) (room old new : ℕ) (e : Event) (c b : Core) (m n : Rows) (r : Result Seen AllocError) (p : Plan) → EventBy d room old new e c p m b n r → map.len m ≤ room → map.len n ≤ room
 plan_fits d room old new e c b m n r (at_once k y) s h = subst (λ l. map.len l ≤ room) (sym s.1) h
 plan_fits d room old new e c b m n r (asks q) s h = came_fits q c.now room s.0 m n s.2 h
+plan_fits d room old new e c b m n r reads_all s h = subst (λ l. map.len l ≤ room) (sym s.2.0) h
 
 pub keeps_room : KeepsRoom
 keeps_room d room old new e c b m n r s h = plan_fits d room old new e (counted c) b m n r (plan d e c) s h
@@ -89,6 +92,7 @@ none_told e c b w same = record { entry = None; book = same ∙ sym (append-nil 
 abbrev PlanTells : Core → Plan → Type 0
 PlanTells c (at_once b y) = (b.book ≡ c.book) × (is_silent y ≡ true) × (is_dropped y ≡ false)
 PlanTells c (asks q) = Unit {0}
+PlanTells c reads_all = Unit {0}
 
 no_run_tells : (c : Core) (b : Bool) → PlanTells c (at_once c (if b then Seen.NoRun else Seen.RunOver))
 no_run_tells c b = grind arith
@@ -108,10 +112,11 @@ plan_of_tells d (Lost i) c = run_tells c i (map.get c.runs i)
 plan_of_tells d (Crash i) c = crash_tells c i (map.get c.runs i)
 plan_of_tells d (Restart id f) c = if_plan (PlanTells c) (is_crowded c) _ _ (λ u. (refl, refl, refl)) (λ u. (refl, refl, refl))
 plan_of_tells d Ic c = tt
+plan_of_tells d Halt c = tt
 plan_of_tells d (Tick n) c = if_plan (PlanTells c) (nat_lt last_moment (c.now + n)) _ _ (λ u. (refl, refl, refl)) (λ u. (refl, refl, refl))
 
 plan_tells : (d : Deployment) (e : Event) (c : Core) → PlanTells (counted c) (plan d e c)
-plan_tells d e c = if_plan (PlanTells (counted c)) (nat_lt c.taken most_events) _ _ (λ few. plan_of_tells d e (counted c)) (λ spent. (refl, refl, refl))
+plan_tells d e c = of_plan d e c (PlanTells (counted c)) (λ few. plan_of_tells d e (counted c)) (λ shut. (refl, refl, refl)) (refl, refl, refl)
 
 -- a run that waits has made no entry
 abbrev Unmarked : Turned → Type 0
@@ -227,6 +232,7 @@ module _ (d : Deployment) (c : Core) where
   heard_grew (Restart id f) t = none (Restart id f) c c Seen.Crowded refl refl
   heard_grew Ic t = collect_grew (collect_says t)
   heard_grew (Tick n) t = none (Tick n) c c Seen.ClockEnd refl refl
+  heard_grew Halt t = none Halt c c Seen.Spent refl refl
 
   no_memory_grew : (e : Event) (t : Told) (w : AllocError) (b : Core) → no_memory d e c t ≡ Some b → BookGrew e c b (Err w)
   no_memory_grew (Turn i) t w b is = subst (λ z. BookGrew (Turn i) c z (Err w)) (same_some is) (unheard_grew i t w (map.get c.runs i))
@@ -251,10 +257,16 @@ module _ (d : Deployment) (c : Core) where
   came_grew e b (Ok t) (Err w) s = no_memory_grew e t w b s
   came_grew e b (Err v) r s = subst (λ (z : Core × Result Seen AllocError). BookGrew e c z.0 z.1) (sym s) (refused_grew e v)
 
+  halt_grew : (e : Event) (w : Result ℕ TableErr) → BookGrew e c (halt_next c w).0 (halt_next c w).1
+  halt_grew e (Ok t) = none e c (halted t false c) Seen.Halted refl refl
+  halt_grew e (Err OutOfMemory) = none_told e c (halted c.newest c.shut c) (record {}) refl
+  halt_grew e (Err v) = none e c (halted c.newest true c) Seen.Dropped refl refl
+
   plan_grew : (room old new : ℕ) (e : Event) (b : Core) (m n : Rows) (r : Result Seen AllocError) (p : Plan) → PlanTells c p → EventBy d room old new e c p m b n r → BookGrew e c b r
   plan_grew room old new e b m n (Ok x) (at_once k y) g s = none e c b x (ap (λ (z : Core). z.book) s.0.0 ∙ g.0) (ap is_silent s.0.1 ∙ g.1)
   plan_grew room old new e b m n (Err w) (at_once k y) g s = none_told e c b w (ap (λ (z : Core). z.book) s.0.0)
   plan_grew room old new e b m n r (asks q) g s = came_grew e b s.0 r s.1
+  plan_grew room old new e b m n r reads_all g s = subst (λ (z : Core × Result Seen AllocError). BookGrew e c z.0 z.1) (sym s.1) (halt_grew e s.0)
 
 pub book_grew : WritesWhatIsTold
 book_grew d room old new e c b m n r s = let g = plan_grew d (counted c) room old new e b m n r (plan d e c) (plan_tells d e c) s in record { entry = g.entry; book = g.book; starts = g.starts; told = g.told }
@@ -292,7 +304,14 @@ module _ (d : Deployment) (c : Core) where
   came_heard : (e : Event) (b : Core) (w : Result Told TableErr) → is_lost e ≡ false → Followed d e c w b (Ok Seen.Dropped) → w ≡ Err Failed
   came_heard e b w lost s = grind arith
 
+  halt_heard : (b : Core) (old new : TableState) (w : Result ℕ TableErr) → (b, Ok Seen.Dropped) ≡ halt_next c w → HaltCame w old new → Rose old.faults new.faults
+  halt_heard b old new (Ok t) is came = let clash = ap (λ (y : Core × Result Seen AllocError). y.1) is in cc
+  halt_heard b old new (Err OutOfMemory) is came = let clash = ap (λ (y : Core × Result Seen AllocError). y.1) is in cc
+  halt_heard b old new (Err Failed) is came = came.cause.failed refl
+  halt_heard b old new (Err (Full live most)) is came = absurd came.fits
+
   plan_heard : (e : Event) (b : Core) (old new : TableState) (p : Plan) → is_lost e ≡ false → PlanTells c p → StepBy d e c p b old new (Ok Seen.Dropped) → Rose old.faults new.faults
+  plan_heard e b old new reads_all lost g s = halt_heard b old new s.0 s.1 s.2
   plan_heard e b old new p lost g s = grind arith
 
 pub drops_have_cause : DropsHaveCause

@@ -41,7 +41,7 @@
 //!   decision, by what has `Fallen`; `Visiting` the visits after it, of the `Members` that its calls lead to, by the `Widths`
 //!   of ids, which are `Short`, `Visits` that they begin and stay so, `Closing` that who has its finish has given back all,
 //!   `Askers` that one of them asked the lock of what is owned still; `Events` what an event keeps; `Owning` who owns an item;
-//!   `Standing`, `Starts`, `Listing` what follows; `OneAnswer` one answer, and that no act takes it away; `OneEvent` what one event changes, and
+//!   `Newest` the tickets that keys name; `Standing`, `Starts`, `Listing` what follows; `OneAnswer` one answer, and that no act takes it away; `OneEvent` what one event changes, and
 //!   what of it is told; `FirstOutcomes` that a first outcome is; `Deaths` who a death is of.
 #![tactic(auto)]
 

@@ -68,19 +68,30 @@ fn is_end(
     Ok(status == wanted.0 && is_written)
 }
 
-// Whether the smallest path ends so where these reads, writes and calls of the table fail.
+// Whether this source ends so where these reads, writes and calls of the table fail.
+fn source_ends(
+    alloc: Global,
+    source: &[u8],
+    fail: (&[u32], &[u32], &[u32]),
+    wanted: u8,
+    text: &[u8],
+) -> Result<bool, Fail> {
+    let bytes = Vec::from_slice(alloc, source)?;
+    let reads = or_drop!(Vec::from_slice(alloc, fail.0); bytes);
+    let source = MemSource::new(bytes, reads);
+    let writes = or_drop!(Vec::from_slice(alloc, fail.1); source);
+    let sink = MemSink::new(alloc, writes);
+    is_end(alloc, source, sink, fail.2, (wanted, text))
+}
+
+// Whether the smallest path does.
 fn path_ends(
     alloc: Global,
     fail: (&[u32], &[u32], &[u32]),
     wanted: u8,
     text: &[u8],
 ) -> Result<bool, Fail> {
-    let bytes = Vec::from_slice(alloc, SOURCE)?;
-    let reads = or_drop!(Vec::from_slice(alloc, fail.0); bytes);
-    let source = MemSource::new(bytes, reads);
-    let writes = or_drop!(Vec::from_slice(alloc, fail.1); source);
-    let sink = MemSink::new(alloc, writes);
-    is_end(alloc, source, sink, fail.2, (wanted, text))
+    source_ends(alloc, SOURCE, fail, wanted, text)
 }
 
 #[test]
@@ -123,6 +134,40 @@ fn a_call_of_the_table_that_fails_is_answered(rt: HostRuntime) -> Result<(), Fai
         assert!(rt; path_ends(alloc, (&[], &[], &[*call]), 0, text)?);
     }
     assert!(rt; path_ends(alloc, (&[], &[], &[11]), 0, WHOLE)?);
+    Ok(())
+}
+
+// The call of the table that fails, a source, and what is written: where a row is to be added for a run's write, and at a halt, after which
+// only a halt goes on.
+const FAILED: [(u32, &[u8], &[u8]); 4] = [
+    (
+        5,
+        b"life 100;\nfunction f(x) { table t; write t[\"k\"] = x; return x; }\nscript\nticket\nrequest 1 f 7\nturn 1 3\nrestart 1 f\nturn 2 5\n",
+        b"ticket 1\nbound 1 run 1\nacted\nacted\ndropped\nrun 2\nacted\nacted\nacted\nacted step 1\nacted step 1 over\nreply 1 value 7\n== tables\nf t \"k\" 7\n== book\nstart 1 f 7\nstep 1\nstep 1\n",
+    ),
+    (
+        3,
+        b"life 100;\nfunction f(x) { table t; write t[\"k\"] = x; return x; }\nscript\nticket\nhalt\nticket\nhalt\nticket\n",
+        b"ticket 1\ndropped\nshut\nhalted\nticket 2\n== tables\n== book\n",
+    ),
+    (
+        3,
+        b"life 100;\nfunction f(x) { table t; write t[\"k\"] = x; return x; }\nscript\nticket\nhalt\nsettle 10\n",
+        b"ticket 1\ndropped\nshut 0\n== tables\n== book\n",
+    ),
+    (
+        4,
+        b"life 100;\nfunction f(x) { table t; write t[\"k\"] = x; return x; }\nscript\nticket\nrequest 1 f 7\nhalt\nturn 1\nic\ntick 1\nreply 1\nhalt\nturn 1\nsettle 100\ntick 1\n",
+        b"ticket 1\nbound 1 run 1\ndropped\nshut\nshut\nshut\nreply 1 waiting\nhalted\nrun-over\nreply 1 value 7\nsettled 6\nnow 1\n== tables\nf t \"k\" 7\n== book\nstart 1 f 7\nstep 1\nstep 1\n",
+    ),
+];
+
+#[test]
+fn a_halt_goes_on_where_a_call_of_the_table_failed(rt: HostRuntime) -> Result<(), Fail> {
+    let alloc = rt.alloc();
+    for (call, source, text) in &FAILED {
+        assert!(rt; source_ends(alloc, source, (&[], &[], &[*call]), 0, text)?);
+    }
     Ok(())
 }
 

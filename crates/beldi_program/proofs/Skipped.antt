@@ -172,6 +172,8 @@ module _ (h : List ℕ) (d : Deployment) (names : AreFlat d) where
   answer_told Seen.Round = word_told (codes "round") (λ l ls. refl, refl, refl)
   answer_told (Seen.Now n) = number_told (codes "now ") n (λ l ls. refl, refl, refl)
   answer_told Seen.ClockEnd = word_told (codes "clock-end") (λ l ls. refl, refl, refl)
+  answer_told Seen.Halted = word_told (codes "halted") (λ l ls. refl, refl, refl)
+  answer_told Seen.Shut = word_told (codes "shut") (λ l ls. refl, refl, refl)
   answer_told Seen.Spent = word_told (codes "spent") (λ l ls. refl, refl, refl)
 
   reply_told_passed : (x : Seen) → IsPassed (reply_told x)
@@ -192,6 +194,7 @@ module _ (h : List ℕ) (d : Deployment) (names : AreFlat d) where
   settled_passed (Settled.All n) = (number_told (codes "settled ") n (λ l ls. refl, refl, refl)).skipped
   settled_passed (Settled.Unsettled n) = (number_told (codes "unsettled ") n (λ l ls. refl, refl, refl)).skipped
   settled_passed (Settled.Spent n) = (number_told (codes "spent ") n (λ l ls. refl, refl, refl)).skipped
+  settled_passed (Settled.Shut n) = (number_told (codes "shut ") n (λ l ls. refl, refl, refl)).skipped
   settled_passed (Settled.Stuck n ws) = skipped_then (past (61 ∷ h)) (numbered (codes "stuck ") n) (flat_map (wait_text d) ws) (number_told (codes "stuck ") n (λ l ls. refl, refl, refl)).skipped (all_passed ws)
 
   -- inside a settling

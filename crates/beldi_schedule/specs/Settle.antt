@@ -2,7 +2,7 @@
 -- no run is given one. The runs that wait are the live ones up to a number, so no set of them is kept.
 use Rattle.std.specs.Prelude.{◌≡◌, ℕ, ◌+◌, ◌-◌, ◌<◌, nat_le, Bool, true, false, not, ◌&&◌, List, [], ◌∷◌, ◌++◌, Option, Some, None, if◌then◌else◌}
 use Rattle.beldi_step.specs.{declared.event.Event.Event, declared.event.Seen.Seen, Host.Core, Host.most_events, Next.next_run, Next.reset}
-use Rattle.beldi_schedule.specs.declared.machine.{At.At, Next.Next, Next.TheVariants.Turn, Next.TheVariants.Collect, Next.TheVariants.Reset, Settled.Settled, Settled.TheVariants.All, Settled.TheVariants.Unsettled, Settled.TheVariants.Spent, Settled.TheVariants.Stuck, Standing.Standing, Standing.TheVariants.Goes, Standing.TheVariants.Over}
+use Rattle.beldi_schedule.specs.declared.machine.{At.At, Next.Next, Next.TheVariants.Turn, Next.TheVariants.Collect, Next.TheVariants.Reset, Settled.Settled, Settled.TheVariants.All, Settled.TheVariants.Unsettled, Settled.TheVariants.Spent, Settled.TheVariants.Shut, Settled.TheVariants.Stuck, Standing.Standing, Standing.TheVariants.Goes, Standing.TheVariants.Over}
 
 abbrev pub first_at : At
 first_at = record { turns = 0; past = 0; waiting = []; moved = false; round = None }
@@ -58,17 +58,22 @@ parked s i x = record s { past = i; waiting = s.waiting ++ (i, x) ∷ [] }
 abbrev pub counted : ℕ → At → Standing
 counted budget s = go_on budget (record s { turns = s.turns + 1; moved = true })
 
-abbrev pub is_spent : Seen → Bool
-is_spent Seen.Spent = true
-is_spent x = false
+-- a host that is spent takes no event more, and one that is shut none but a halt
+abbrev pub is_turned_away : Seen → Bool
+is_turned_away Seen.Spent = true
+is_turned_away Seen.Shut = true
+is_turned_away x = false
 
--- a host that is spent takes no event more
-abbrev pub unless_spent : At → Seen → Standing → Standing
-unless_spent s x next = if is_spent x then Over (Spent s.turns) else next
+abbrev pub away : ℕ → Seen → Settled
+away n Seen.Shut = Shut n
+away n x = Spent n
+
+abbrev pub unless_away : At → Seen → Standing → Standing
+unless_away s x next = if is_turned_away x then Over (away s.turns x) else next
 
 -- a run was given a turn
 abbrev pub turn_heard : ℕ → At → ℕ → Seen → Standing
-turn_heard budget s i x = unless_spent s x (if is_waiting x then Goes (parked s i x) else counted budget s)
+turn_heard budget s i x = unless_away s x (if is_waiting x then Goes (parked s i x) else counted budget s)
 
 -- the intent collector has gone round, or can start no run
 abbrev pub ends_round : Seen → Bool
@@ -94,7 +99,7 @@ round_over live s b = Over (end_of s live)
 
 -- the intent collector was given a turn; then this is the least live run
 abbrev pub ic_heard : ℕ → Option ℕ → At → Seen → Standing
-ic_heard budget live s x = unless_spent s x (if ends_round x then round_over live s s.round else if counts x then counted budget (record s { round = Some true }) else Goes s)
+ic_heard budget live s x = unless_away s x (if ends_round x then round_over live s s.round else if counts x then counted budget (record s { round = Some true }) else Goes s)
 
 -- ---- an event
 -- the event that comes next, and the core that it comes to
@@ -119,6 +124,7 @@ abbrev pub turns_of : Settled → ℕ
 turns_of (All n) = n
 turns_of (Unsettled n) = n
 turns_of (Spent n) = n
+turns_of (Shut n) = n
 turns_of (Stuck n ws) = n
 
 -- ---- what is kept: a settling that goes on has turns left, and each event that it went on after was taken

@@ -1,6 +1,6 @@
 // Where a settling stands, and where it goes.
 ghost use Rattle.std.specs.Prelude.{◌≡◌, ◌<◌, ◌++◌, ◌∷◌, [], IfOk, OnOk};
-ghost use Rattle.beldi_schedule.specs.Settle.{HasTurns, begun, counted, counts, end_of, ends_round, first_at, go_on, ic_heard, is_empty, is_spent, is_waiting, parked, round_over, turn_heard, unparked};
+ghost use Rattle.beldi_schedule.specs.Settle.{HasTurns, away, begun, counted, counts, end_of, ends_round, first_at, go_on, ic_heard, is_empty, is_turned_away, is_waiting, parked, round_over, turn_heard, unparked};
 ghost use Rattle.beldi_schedule.specs.declared.machine.Standing.TheVariants.{Goes};
 
 use beldi_step::Seen;
@@ -50,6 +50,8 @@ pub enum Settled {
     Unsettled(u64),
     /// An event was answered so.
     Spent(u64),
+    /// An event was answered so.
+    Shut(u64),
     /// All live runs wait.
     Stuck { turns: u64, waiting: Waits },
 }
@@ -196,12 +198,22 @@ fn parked(mut at: At, run: u64, seen: Seen) -> Result<Standing, AllocError>
     }
 }
 
-fn is_spent(seen: &Seen) -> bool
-    ensures { result ≡ is_spent seen.now }
+// The host takes no event, or none but a halt.
+fn is_turned_away(seen: &Seen) -> bool
+    ensures { result ≡ is_turned_away seen.now }
 {
     match seen {
-        Seen::Spent => true,
+        Seen::Spent | Seen::Shut => true,
         _ => false,
+    }
+}
+
+fn away(turns: u64, seen: &Seen) -> Settled
+    ensures { result ≡ away turns seen.now }
+{
+    match seen {
+        Seen::Shut => Settled::Shut(turns),
+        _ => Settled::Spent(turns),
     }
 }
 
@@ -211,8 +223,8 @@ pub fn turn_heard(budget: u64, at: At, run: u64, seen: Seen) -> Result<Standing,
     ensures heard { IfOk result (λ s. s ≡ turn_heard budget at run seen) }
     ensures turns { IfOk result (λ s. HasTurns budget s) }
 {
-    if is_spent(&seen) {
-        Ok(Standing::Over(Settled::Spent(at.turns)))
+    if is_turned_away(&seen) {
+        Ok(Standing::Over(away(at.turns, &seen)))
     } else if is_waiting(&seen) {
         parked(at, run, seen)
     } else {
@@ -267,8 +279,8 @@ pub fn ic_heard(budget: u64, at: At, seen: &Seen, live: Option<u64>) -> Standing
     ensures heard { result ≡ ic_heard budget live at seen.now }
     ensures turns { HasTurns budget result }
 {
-    if is_spent(seen) {
-        Standing::Over(Settled::Spent(at.turns))
+    if is_turned_away(seen) {
+        Standing::Over(away(at.turns, seen))
     } else if ends_round(seen) {
         round_over(at, live)
     } else if counts(seen) {

@@ -22,6 +22,7 @@ ticket_said (Seen.Issued t) = TicketSaid.Issued t
 ticket_said Seen.NoTicket = TicketSaid.NoTicket
 ticket_said (Seen.Full live room) = TicketSaid.Full
 ticket_said Seen.Spent = TicketSaid.Spent
+ticket_said Seen.Shut = TicketSaid.Spent
 ticket_said x = TicketSaid.Fault
 
 abbrev pub is_replied : Seen → Bool
@@ -35,6 +36,7 @@ request_said (Seen.Gone t) = CallSaid.Gone
 request_said (Seen.Unknown t) = CallSaid.Unknown
 request_said Seen.Crowded = CallSaid.Crowded
 request_said Seen.Spent = CallSaid.Spent
+request_said Seen.Shut = CallSaid.Spent
 request_said x = CallSaid.Fault
 
 abbrev pub reply_said : Option ReplySeen → CallSaid

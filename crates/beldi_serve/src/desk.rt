@@ -35,7 +35,7 @@ fn ticket_said(seen: &Seen) -> TicketSaid
         Seen::Issued(ticket) => TicketSaid::Issued(*ticket),
         Seen::NoTicket => TicketSaid::NoTicket,
         Seen::Full { .. } => TicketSaid::Full,
-        Seen::Spent => TicketSaid::Spent,
+        Seen::Spent | Seen::Shut => TicketSaid::Spent,
         _ => TicketSaid::Fault,
     }
 }
@@ -63,7 +63,7 @@ fn refusal_said(seen: &Seen) -> CallSaid
         Seen::Gone(_) => CallSaid::Gone,
         Seen::Unknown(_) => CallSaid::Unknown,
         Seen::Crowded => CallSaid::Crowded,
-        Seen::Spent => CallSaid::Spent,
+        Seen::Spent | Seen::Shut => CallSaid::Spent,
         _ => CallSaid::Fault,
     }
 }

@@ -12,7 +12,7 @@ pub use Rattle.beldi_outside.{proofs.Told.told_map, proofs.Told.told_same, proof
 pub use Rattle.beldi_session.specs.Response.{Answered, BookIs, BrokeOff, LineRefused, ReplyAlone, ReplyIs, Report, Reported, Response, RowsAre, SettledIs, Share, TablesAre, WentBack, WentOn, Whole, report_text, response_text, responses_text, tables_head, unread_line}
 pub use Rattle.beldi_session.specs.Script.{Action, Call, Carry, CountRows, ListBook, ListTables, Refuse, Settle, TellReply, actions_in, actions_of, and_then, is_ok, is_whole, times, turn_of}
 pub use Rattle.beldi_session.specs.Session.{Does, DoesTo, Flushes, Follows, IsReport, IsStep, Leaves, LeftBy, SettlingLeaves, Sight, Steps, Unchanged, Went, WentBy, by_done, by_text, left_by, sight, state_at}
-pub use Rattle.beldi_schedule.specs.Settle.{HasTurns, WasTaken, begun, counts, ends_round, events_left, first_at, go_on, ic_heard, is_spent, is_waiting, next_of, parked, round_over, turn_heard, unless_spent}
+pub use Rattle.beldi_schedule.specs.Settle.{HasTurns, WasTaken, away, begun, counts, ends_round, events_left, first_at, go_on, ic_heard, is_turned_away, is_waiting, next_of, parked, round_over, turn_heard, unless_away}
 pub use Rattle.beldi_session.specs.Settled.{wait_text}
-pub use Rattle.beldi_schedule.specs.{declared.machine.At.At, declared.machine.Next.Next, declared.machine.Next.TheVariants.Collect, declared.machine.Next.TheVariants.Reset, declared.machine.Next.TheVariants.Turn, declared.machine.Settled.TheVariants.Spent, declared.machine.Standing.Standing, declared.machine.Standing.TheVariants.Goes, declared.machine.Standing.TheVariants.Over, Settles.State}
+pub use Rattle.beldi_schedule.specs.{declared.machine.At.At, declared.machine.Next.Next, declared.machine.Next.TheVariants.Collect, declared.machine.Next.TheVariants.Reset, declared.machine.Next.TheVariants.Turn, declared.machine.Standing.Standing, declared.machine.Standing.TheVariants.Goes, declared.machine.Standing.TheVariants.Over, Settles.State}
 pub use Rattle.beldi_session.specs.{Answer.answer_text, Check.counted, Refusal.cause_text, Refusal.place_text, Source.Numbered, Source.next, Source.numbered, Source.said_at, declared.refusal.Refusal.Refusal, declared.session.Stop.Stop, declared.session.Stop.TheVariants.OutOfMemory, declared.session.Stop.TheVariants.SinkFault}

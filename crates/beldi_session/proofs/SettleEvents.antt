@@ -5,24 +5,24 @@ use Rattle.beldi_step.{proofs.Runs.either, specs.Next.PassesNoOpen, specs.Next.a
 use Rattle.beldi_host.specs.Survey.{PassesToldOpen}
 use Rattle.beldi_schedule.specs.Settle.{by_round, counted, is_empty, restless, turn_or, unparked}
 use Rattle.beldi_session.{proofs.Calls.Calm, proofs.Calls.made, proofs.Responses.event_answered, proofs.Responses.event_broke, proofs.Went.broken, proofs.Went.by_one, proofs.Went.fine}
-use Rattle.beldi_session.proofs.Names.{Action, AllocError, Answered, At, Bool, BrokeOff, Collect, Core, DoesTo, Err, Event, Goes, IfOk, IsErrOf, IsStep, List, Next, None, Ok, OnOk, Option, OutOfMemory, Over, ReplyAlone, Reset, Response, Result, Rows, Seen, Settle, SettlingLeaves, Sight, SinkFault, Some, Spent, Standing, Stepped, Stop, TableState, Told, WasTaken, WentBack, WentBy, WentOn, [], ap, append-nil, arith, begun, counts, ends_round, false, ic_heard, if◌then◌else◌, is_spent, is_waiting, left_by, most_events, next_of, next_run, parked, refl, reset, response_text, round_over, state_at, subst, sym, told_same, true, turn_heard, unless_spent, ℕ, ◌&&◌, ◌++◌, ◌+◌, ◌<◌, ◌∙◌, ◌∷◌, ◌≡◌, ◌≤◌}
+use Rattle.beldi_session.proofs.Names.{Action, AllocError, Answered, At, Bool, BrokeOff, Collect, Core, DoesTo, Err, Event, Goes, IfOk, IsErrOf, IsStep, List, Next, None, Ok, OnOk, Option, OutOfMemory, Over, ReplyAlone, Reset, Response, Result, Rows, Seen, Settle, SettlingLeaves, Sight, SinkFault, Some, Standing, Stepped, Stop, TableState, Told, WasTaken, WentBack, WentBy, WentOn, [], ap, append-nil, arith, away, begun, counts, ends_round, false, ic_heard, if◌then◌else◌, is_turned_away, is_waiting, left_by, most_events, next_of, next_run, parked, refl, reset, response_text, round_over, state_at, subst, sym, told_same, true, turn_heard, unless_away, ℕ, ◌&&◌, ◌++◌, ◌+◌, ◌<◌, ◌∙◌, ◌∷◌, ◌≡◌, ◌≤◌}
 
 -- ---- an event that a settling goes on after was taken
 taken_by : (c z : Core) (next : Standing) → (c.taken < most_events) × (z.taken ≡ c.taken + 1) → WasTaken c z next
 taken_by c z (Goes s) h = h
 taken_by c z (Over r) h = tt
 
-taken_unless_spent : (c z : Core) (s : At) (x : Seen) (next : Standing) → ((x ≡ Seen.Spent → ⊥) → (c.taken < most_events) × (z.taken ≡ c.taken + 1)) → WasTaken c z (unless_spent s x next)
-taken_unless_spent c z s x next h = (elim (is_spent x) as (λ b. is_spent x ≡ b → WasTaken c z (if b then Over (Spent s.turns) else next)) [
+taken_unless_away : (c z : Core) (s : At) (x : Seen) (next : Standing) → ((x ≡ Seen.Spent → ⊥) → (c.taken < most_events) × (z.taken ≡ c.taken + 1)) → WasTaken c z (unless_away s x next)
+taken_unless_away c z s x next h = (elim (is_turned_away x) as (λ b. is_turned_away x ≡ b → WasTaken c z (if b then Over (away s.turns x) else next)) [
   | true ↦ λ e. tt
-  | false ↦ λ e. taken_by c z next (h (λ same. let clash : false ≡ true = sym e ∙ ap is_spent same in cc))
+  | false ↦ λ e. taken_by c z next (h (λ same. let clash : false ≡ true = sym e ∙ ap is_turned_away same in cc))
 ]) refl
 
 pub turn_taken : (c z : Core) (budget : ℕ) (s : At) (i : ℕ) (x : Seen) (next : Standing) → next ≡ turn_heard budget s i x → ((x ≡ Seen.Spent → ⊥) → (c.taken < most_events) × (z.taken ≡ c.taken + 1)) → WasTaken c z next
-turn_taken c z budget s i x next is h = subst (WasTaken c z) (sym is) (taken_unless_spent c z s x (if is_waiting x then Goes (parked s i x) else counted budget s) h)
+turn_taken c z budget s i x next is h = subst (WasTaken c z) (sym is) (taken_unless_away c z s x (if is_waiting x then Goes (parked s i x) else counted budget s) h)
 
 pub ic_taken : (c z : Core) (budget : ℕ) (s : At) (x : Seen) (next : Standing) → next ≡ ic_heard budget (next_run z 0) s x → ((x ≡ Seen.Spent → ⊥) → (c.taken < most_events) × (z.taken ≡ c.taken + 1)) → WasTaken c z next
-ic_taken c z budget s x next is h = subst (WasTaken c z) (sym is) (taken_unless_spent c z s x (if ends_round x then round_over (next_run z 0) s s.round else if counts x then counted budget (record s { round = Some true }) else Goes s) h)
+ic_taken c z budget s x next is h = subst (WasTaken c z) (sym is) (taken_unless_away c z s x (if ends_round x then round_over (next_run z 0) s s.round else if counts x then counted budget (record s { round = Some true }) else Goes s) h)
 
 -- ---- an event of a settling, and where it goes
 module _ (budget : ℕ) (a b : Sight) (held : b.held ≡ a.held) (faults : b.faults ≡ a.faults) (code : b.code ≡ a.code) (e : Event) (s : At) (n : Next) (is : next_of a.core s ≡ n) where

@@ -78,6 +78,8 @@ answer_text d (Seen.Launched r id) = launched_line r id
 answer_text d Seen.Round = codes "round\n"
 answer_text d (Seen.Now n) = numbered (codes "now ") n
 answer_text d Seen.ClockEnd = codes "clock-end\n"
+answer_text d Seen.Halted = codes "halted\n"
+answer_text d Seen.Shut = codes "shut\n"
 answer_text d Seen.Spent = codes "spent\n"
 
 -- of the answer to a turn inside a settling the reply alone is told

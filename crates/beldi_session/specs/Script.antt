@@ -39,6 +39,7 @@ actions_of (Line.Restart id f) = Carry (Event.Restart id f) ∷ []
 actions_of (Line.Ic n) = times n (Carry Event.Ic)
 actions_of (Line.Settle n) = Settle n (go_on n first_at) ∷ []
 actions_of (Line.Tick n) = Carry (Event.Tick n) ∷ []
+actions_of Line.Halt = Carry Event.Halt ∷ []
 actions_of (Line.Reply t) = TellReply t ∷ []
 actions_of Line.Rows = CountRows ∷ []
 actions_of Line.Tables = ListTables ∷ []

@@ -3,7 +3,7 @@ use Rattle.std.specs.Prelude.{ℕ, List, ◌++◌, flat_map, codes}
 use Rattle.std.specs.Fmt.{decimal}
 use Rattle.beldi_tree.specs.declared.deployment.Deployment.{Deployment}
 use Rattle.beldi_step.specs.declared.event.Seen.{Seen}
-use Rattle.beldi_schedule.specs.declared.machine.{Settled.Settled, Settled.TheVariants.All, Settled.TheVariants.Unsettled, Settled.TheVariants.Spent, Settled.TheVariants.Stuck}
+use Rattle.beldi_schedule.specs.declared.machine.{Settled.Settled, Settled.TheVariants.All, Settled.TheVariants.Unsettled, Settled.TheVariants.Spent, Settled.TheVariants.Shut, Settled.TheVariants.Stuck}
 use Rattle.beldi_session.specs.Answer.{answer_text, numbered}
 
 -- a run that waits, and for what
@@ -14,4 +14,5 @@ abbrev pub settled_text : Deployment → Settled → List ℕ
 settled_text d (All n) = numbered (codes "settled ") n
 settled_text d (Unsettled n) = numbered (codes "unsettled ") n
 settled_text d (Spent n) = numbered (codes "spent ") n
+settled_text d (Shut n) = numbered (codes "shut ") n
 settled_text d (Stuck n ws) = numbered (codes "stuck ") n ++ flat_map (wait_text d) ws

@@ -58,7 +58,6 @@ script_of bytes p = numbered p.line (lines_of (drop p.rest bytes))
 abbrev pub is_built : Line → Bool
 is_built (Line.Gc k n) = false
 is_built (Line.Sweep k n) = false
-is_built Line.Halt = false
 is_built l = true
 
 -- a line is never read as out of memory

@@ -62,6 +62,8 @@ pub fn write_answer(
         Seen::Round => out.push_text("round\n"),
         Seen::Now(moment) => write_numbered(alloc, "now ", *moment, out),
         Seen::ClockEnd => out.push_text("clock-end\n"),
+        Seen::Halted => out.push_text("halted\n"),
+        Seen::Shut => out.push_text("shut\n"),
         Seen::Spent => out.push_text("spent\n"),
     }
 }

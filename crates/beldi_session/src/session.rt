@@ -205,7 +205,7 @@ fn say<T: Table>(alloc: Global, host: &mut Host<T>, out: &mut Str, line: Line) -
         Line::Gc { .. } => Ok(()),
         Line::Sweep { .. } => Ok(()),
         Line::Settle { budget } => settle_all(alloc, host, out, budget),
-        Line::Halt => Ok(()),
+        Line::Halt => answer(alloc, host, out, Event::Halt),
     }
 }
 

@@ -143,6 +143,7 @@ fn write_settled(
         Settled::All(turns) => write_numbered(alloc, "settled ", *turns, out),
         Settled::Unsettled(turns) => write_numbered(alloc, "unsettled ", *turns, out),
         Settled::Spent(turns) => write_numbered(alloc, "spent ", *turns, out),
+        Settled::Shut(turns) => write_numbered(alloc, "shut ", *turns, out),
         Settled::Stuck { turns, waiting } => {
             write_numbered(alloc, "stuck ", *turns, out)?;
             write_waits(alloc, code, waiting, out)

@@ -68,7 +68,7 @@ fn is_built(line: &Line) -> bool
     ensures { result ≡ is_built line.now }
 {
     match line {
-        Line::Gc { .. } | Line::Sweep { .. } | Line::Halt => false,
+        Line::Gc { .. } | Line::Sweep { .. } => false,
         _ => true,
     }
 }

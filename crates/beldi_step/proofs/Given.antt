@@ -92,6 +92,7 @@ module _ (d : Deployment) (c : Core) where
   given_adds (Event.Restart j g) = λ id f none. refl
   given_adds (Event.Tick n) = λ id f none. refl
   given_adds Event.Ic = λ id f none. refl
+  given_adds Event.Halt = λ id f none. refl
 
   -- a run that was live
   abbrev IsKept : ℕ → Run → Type 0

@@ -1,17 +1,17 @@
 -- No run acts past its deadline.
 use Rattle.std.{specs.declared.alloc.AllocError.AllocError, proofs.lemmas.Bool.lt-ltb}
 use Rattle.std.specs.FinMap as map
-use Rattle.std.proofs.Common.{◌≡◌, ℕ, ◌<◌, Some, Result, Ok, Err, if◌then◌else◌, ap, ◌∙◌, subst}
+use Rattle.std.proofs.Common.{◌≡◌, ℕ, ◌<◌, ◌&&◌, not, Some, Result, Ok, Err, if◌then◌else◌, ap, ◌∙◌, subst}
 use Rattle.beldi_tree.specs.declared.deployment.Deployment.{Deployment}
 use Rattle.beldi_row.specs.Table.{TableState}
-use Rattle.beldi_step.specs.declared.event.Event.TheVariants.{Ticket, Request, Turn, Lost, Crash, Restart, Tick, Ic}
-use Rattle.beldi_step.specs.Host.{Core, Plan, at_once, asks, plan, plan_of, run_plan, crash_plan, in_time, ended_run, counted, most_events, StepBy}
-use Rattle.beldi_step.specs.{declared.event.Event.Event, declared.event.Seen.Seen, declared.event.Seen.TheVariants.Expired, declared.event.Seen.TheVariants.Spent, declared.event.Seen.TheVariants.Crashed, declared.run.Run.Run, Run.run_asks, Laws.ExpiresPastDeadline, Laws.run_of_event}
+use Rattle.beldi_step.specs.declared.event.Event.TheVariants.{Ticket, Request, Turn, Lost, Crash, Restart, Tick, Ic, Halt}
+use Rattle.beldi_step.specs.Host.{Core, Plan, at_once, asks, plan, open_plan, plan_of, is_halt, run_plan, crash_plan, in_time, ended_run, counted, most_events, StartsRun, StepBy}
+use Rattle.beldi_step.specs.{declared.event.Event.Event, declared.event.Seen.Seen, declared.event.Seen.TheVariants.Expired, declared.event.Seen.TheVariants.Shut, declared.event.Seen.TheVariants.Spent, declared.event.Seen.TheVariants.Crashed, declared.run.Run.Run, Run.run_asks, Laws.ExpiresPastDeadline, Laws.run_of_event}
 
--- an event that is answered so at once leaves the table, and ends the run
-over_by : (d : Deployment) (e : Event) (c z b : Core) (old new : TableState) (r : Result Seen AllocError) → StepBy d e c (at_once z Expired) b old new r → (r ≡ Ok Expired) × (b ≡ z) × (new ≡ old)
-over_by d e c z b old new (Ok x) h = (ap Ok h.0.1, h.0.0, h.1)
-over_by d e c z b old new (Err w) h = absurd h.0.1
+-- an event that is answered at once, and starts no run, leaves the table
+pub over_by : (d : Deployment) (e : Event) (c z b : Core) (y : Seen) → (StartsRun y → ⊥) → (old new : TableState) (r : Result Seen AllocError) → StepBy d e c (at_once z y) b old new r → (r ≡ Ok y) × (b ≡ z) × (new ≡ old)
+over_by d e c z b y apart old new (Ok x) h = (ap Ok h.0.1, h.0.0, h.1)
+over_by d e c z b y apart old new (Err w) h = absurd (apart h.0.1)
 
 late : (c : Core) (i : ℕ) (r : Run) (p : Plan) → r.deadline < c.now → in_time c i r p ≡ at_once (ended_run c i) Expired
 late c i r p h = ap (λ b. if b then at_once (ended_run c i) Expired else p) (lt-ltb r.deadline c.now h)
@@ -32,8 +32,9 @@ module _ (d : Deployment) (c : Core) (i : ℕ) (r : Run) (is : map.get c.runs i 
   expires_in (Restart id f) of = cc
   expires_in (Tick n) of = cc
   expires_in Ic of = cc
+  expires_in Halt of = cc
 
 pub expires : ExpiresPastDeadline
-expires d e c b old new r i run h few of is past =
-    let planned : plan d e c ≡ at_once (ended_run (counted c) i) Expired = ap (λ t. if t then plan_of d e (counted c) else at_once c Spent) (lt-ltb c.taken most_events few) ∙ expires_in d (counted c) i run is past e of in
-    over_by d e (counted c) (ended_run (counted c) i) b old new r (subst (λ p. StepBy d e (counted c) p b old new r) planned h)
+expires d e c b old new r i run h few unshut of is past =
+    let planned : plan d e c ≡ at_once (ended_run (counted c) i) Expired = ap (λ t. if t then open_plan d e (counted c) else at_once c Spent) (lt-ltb c.taken most_events few) ∙ ap (λ t. if t && not (is_halt e) then at_once (counted c) Shut else plan_of d e (counted c)) unshut ∙ expires_in d (counted c) i run is past e of in
+    over_by d e (counted c) (ended_run (counted c) i) b Expired (λ starts. starts) old new r (subst (λ p. StepBy d e (counted c) p b old new r) planned h)

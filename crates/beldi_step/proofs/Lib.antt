@@ -1,6 +1,8 @@
 pub mod Given
 mod Inside
 pub mod Late
+pub mod Plans
 pub mod PutRun
 pub mod Runs
+pub mod Shut
 pub mod Steps

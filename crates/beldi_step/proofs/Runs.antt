@@ -1,7 +1,8 @@
 -- The live runs after an event: what holds of those before, of each that starts anew, and of what a turn leaves, holds of them.
-use Rattle.std.specs.{FinMap.FinMap, FinMap.nat_cmp-IsAntisymmetric, Cmp.Equal-is, Ordering.nat_cmp, Ordering.is_eq, declared.alloc.AllocError.AllocError}
+use Rattle.std.specs.{FinMap.FinMap, FinMap.get-empty, FinMap.nat_cmp-IsAntisymmetric, Cmp.Equal-is, Ordering.nat_cmp, Ordering.is_eq, declared.alloc.AllocError.AllocError}
 use Rattle.std.specs.FinMap as map
-use Rattle.std.proofs.Common.{◌≡◌, ℕ, ◌+◌, ◌-◌, ◌^◌, ◌≤◌, ◌==◌, ◌||◌, nat_lt, Bool, true, false, cond, Option, Some, None, Result, Ok, Err, if◌then◌else◌, refl, ap, sym, ◌∙◌, subst, arith}
+use Rattle.std.proofs.lemmas.Bool.{and_parts}
+use Rattle.std.proofs.Common.{◌≡◌, ℕ, ◌+◌, ◌-◌, ◌^◌, ◌≤◌, ◌==◌, ◌||◌, ◌&&◌, not, nat_lt, Bool, true, false, cond, Option, Some, None, Result, Ok, Err, if◌then◌else◌, refl, ap, sym, ◌∙◌, subst, arith}
 use Rattle.beldi_value.specs.{Id.root_of, declared.id.IntentId.IntentId, declared.value.Value.Value}
 use Rattle.beldi_tree.specs.declared.deployment.Deployment.{Deployment}
 use Rattle.beldi_book.specs.Order.{count_changes}
@@ -10,13 +11,17 @@ use Rattle.beldi_walk.specs.{declared.query.Query.Query, Query.CameOn, Query.Tol
 use Rattle.beldi_intent.specs.{declared.intent.Binding.Binding, Intent.binding_of, Intent.is_added}
 use Rattle.beldi_collect.specs.{declared.cursor.Found.Found, Collect.collect_says}
 use Rattle.beldi_step.proofs.PutRun.{put_got}
-use Rattle.beldi_step.specs.Host.{AtOnce, Core, EventBy, EventOn, Followed, Plan, StepBy, Stepped, after_turn, asks, at_once, collect_next, counted, crash_plan, ended_run, has_run, heard, if_lent, is_crowded, last_moment, made, may_start, most_events, new_run, no_memory, plan, plan_of, put_run, refused, request_next, run_next, run_plan, started, ticket_next, turned_core, unheard_next}
+use Rattle.beldi_step.specs.Host.{AtOnce, Core, EventBy, EventOn, Followed, Plan, StepBy, Stepped, after_turn, asks, at_once, collect_next, counted, crash_plan, ended_run, halt_next, has_run, heard, if_lent, is_crowded, is_halt, last_moment, made, may_start, most_events, new_run, no_memory, plan, plan_of, put_run, reads_all, refused, request_next, run_next, run_plan, started, ticket_next, turned_core, unheard_next}
 use Rattle.beldi_step.specs.{declared.event.Event.Event, declared.event.Seen.Seen, declared.run.Run.Run, declared.run.TurnSays.TurnSays, declared.run.Wait.Wait, Run.Turned, Run.callee_of, Run.run_asks, Run.run_told, Run.says_of}
 
 -- both ways of a test
 pub either : {A : Type 0} (S : A → Type 0) (b : Bool) (p q : A) → (b ≡ true → S p) → (b ≡ false → S q) → S (if b then p else q)
 either S true p q f g = f refl
 either S false p q f g = g refl
+
+-- what is so of an event's plan where it is taken, and where the host is shut or spent, is so of what it does
+pub of_plan : (d : Deployment) (e : Event) (c : Core) (S : Plan → Type 0) → (nat_lt c.taken most_events ≡ true → S (plan_of d e (counted c))) → (c.shut ≡ true → S (at_once (counted c) Seen.Shut)) → S (at_once c Seen.Spent) → S (plan d e c)
+of_plan d e c S takes shut spent = either S (nat_lt c.taken most_events) _ _ (λ few. either S (c.shut && not (is_halt e)) _ _ (λ t. shut (and_parts c.shut (not (is_halt e)) t).0) (λ t. takes few)) (λ t. spent)
 
 pub same_some : {A : Type 0} {x y : A} → Some x ≡ Some y → x ≡ y
 same_some h = cc
@@ -138,6 +143,7 @@ module _ (P : ℕ → Run → Type 0) (T : Query → Told → Type 0) where
     -- one that is answered at once leaves this, and one that asks leaves this where it is told so
     abbrev PlanGoes : Event → Plan → Type 0
     PlanGoes e (at_once b y) = Goes c b
+    PlanGoes e reads_all = Unit {0}
     PlanGoes e (asks q) = (t : Told) → T q t → Goes c (heard d e c t).0 × ((b : Core) → no_memory d e c t ≡ Some b → Goes c b)
 
     over : (i : ℕ) → Goes c (ended_run c i)
@@ -168,6 +174,7 @@ module _ (P : ℕ → Run → Type 0) (T : Query → Told → Type 0) where
     plan_goes (Event.Restart id f) new = either (PlanGoes (Event.Restart id f)) (is_crowded c) _ _ (λ u. stays c h) (λ u. record { later = omega arith; runs = more c h (new_run d c id f) (new id f) })
     plan_goes (Event.Tick n) new = either (PlanGoes (Event.Tick n)) (nat_lt last_moment (c.now + n)) _ _ (λ u. stays c h) (λ u. record { later = omega arith; runs = h })
     plan_goes Event.Ic new = λ t told. (collects (collect_says t) new, lent (lends t))
+    plan_goes Event.Halt new = tt
 
     -- the query was not made
     refused_goes : (e : Event) (v : TableErr) → Goes c (refused e c v).0
@@ -177,7 +184,19 @@ module _ (P : ℕ → Run → Type 0) (T : Query → Told → Type 0) where
     refused_goes (Event.Lost i) v = over i
     refused_goes e v = stays c h
 
+    -- after a halt no run is live
+    no_runs : All map.empty
+    no_runs n r is = let clash = sym (get-empty nat_cmp n) ∙ is in cc
+
+    halts : (w : Result ℕ TableErr) → Goes c (halt_next c w).0
+    halts (Ok t) = record { later = omega arith; runs = no_runs }
+    halts (Err TableErr.OutOfMemory) = record { later = omega arith; runs = no_runs }
+    halts (Err v) = record { later = omega arith; runs = no_runs }
+
     module _ (e : Event) (z : Core) where
+      pub read : (w : Result ℕ TableErr) (x : Result Seen AllocError) → (z, x) ≡ halt_next c w → Goes c z
+      read w x is = subst (λ (y : Core × Result Seen AllocError). Goes c y.0) (sym is) (halts w)
+
       pub asked : (q : Query) (w : Result Told TableErr) (x : Result Seen AllocError) → PlanGoes e (asks q) → ((t : Told) → w ≡ Ok t → T q t) → Followed d e c w z x → Goes c z
       asked q (Ok t) (Ok x) goes told is = subst (λ (y : Core × Seen). Goes c y.0) (sym is) (goes t (told t refl)).0
       asked q (Ok t) (Err w) goes told is = (goes t (told t refl)).1 z is
@@ -187,9 +206,9 @@ module _ (P : ℕ → Run → Type 0) (T : Query → Told → Type 0) where
       answered b y (Ok x) goes is = subst (Goes c) (sym is.0) goes
       answered b y (Err w) goes is = subst (Goes c) (sym is.0) (stays c h)
 
-  -- a host that is spent does nothing
+  -- a host that is spent does nothing, and one that is shut halts or does nothing
   planned : (d : Deployment) (e : Event) (c : Core) (h : All c.runs) → Adds d e (counted c) → PlanGoes d (counted c) h e (plan d e c)
-  planned d e c h adds = either (PlanGoes d (counted c) h e) (nat_lt c.taken most_events) _ _ (λ few. plan_goes d (counted c) h e adds) (λ spent. record { later = omega arith; runs = h })
+  planned d e c h adds = of_plan d e c (PlanGoes d (counted c) h e) (λ few. plan_goes d (counted c) h e adds) (λ shut. stays (counted c) h) (record { later = omega arith; runs = h })
 
   module _ (d : Deployment) (e : Event) (c z : Core) (h : All c.runs) (adds : Adds d e (counted c)) (x : Result Seen AllocError) where
     -- over any table
@@ -199,6 +218,7 @@ module _ (P : ℕ → Run → Type 0) (T : Query → Told → Type 0) where
         by_plan : (p : Plan) → PlanGoes d (counted c) h e p → StepBy d e (counted c) p z old new x → Goes (counted c) z
         by_plan (at_once b y) goes s = answered d (counted c) h e z b y x goes s.0
         by_plan (asks q) goes s = asked d (counted c) h e z q s.0 x goes (λ t is. all q t) s.1
+        by_plan reads_all goes s = read d (counted c) h e z s.0 x s.1
 
     -- over rows that are told
     pub after_event : (room old new : ℕ) (m n : Rows) → ((q : Query) → T q (told_by q c.now m)) → EventOn d room old new e c m z n x → Goes c z
@@ -211,3 +231,4 @@ module _ (P : ℕ → Run → Type 0) (T : Query → Told → Type 0) where
         by_plan : (p : Plan) → PlanGoes d (counted c) h e p → EventBy d room old new e (counted c) p m z n x → Goes (counted c) z
         by_plan (at_once b y) goes s = answered d (counted c) h e z b y x goes s.0
         by_plan (asks q) goes s = asked d (counted c) h e z q s.0 x goes (told q s.0 s.2) s.1
+        by_plan reads_all goes s = read d (counted c) h e z s.0 x s.1

@@ -1,19 +1,19 @@
 -- The host without its table, and what one event does.
-use Rattle.std.specs.Prelude.{◌≡◌, ℕ, ◌+◌, ◌-◌, ◌^◌, ◌==◌, ◌||◌, nat_lt, nat_le, min, Bool, true, false, List, [], ◌∷◌, ◌++◌, option_to_list, Option, Some, None, Result, Ok, Err, if◌then◌else◌}
+use Rattle.std.specs.Prelude.{◌≡◌, ℕ, ◌+◌, ◌-◌, ◌^◌, ◌==◌, ◌||◌, nat_lt, nat_le, min, max, Bool, true, false, not, ◌&&◌, List, [], ◌∷◌, ◌++◌, option_to_list, Option, Some, None, Result, Ok, Err, IfOk, if◌then◌else◌}
 use Rattle.std.specs.{List.list_any, Option.option_map, FinMap.FinMap, Ordering.nat_cmp, Ordering.is_eq, declared.alloc.AllocError.AllocError}
 use Rattle.std.specs.FinMap as map
 use Rattle.beldi_value.specs.{Id.id_cmp, Id.root_of, declared.id.IntentId.IntentId, declared.value.Value.Value, declared.outcome.Outcome.Outcome}
 use Rattle.beldi_tree.specs.declared.deployment.Deployment.{Deployment}
 use Rattle.beldi_book.specs.{declared.entry.Entry.Entry, Order.count_changes}
-use Rattle.beldi_row.specs.{declared.table.TableErr.TableErr, Table.Rows, Table.TableState, Table.HasCause, Key.RowKey, Key.least_key}
+use Rattle.beldi_row.specs.{declared.table.TableErr.TableErr, Table.Rows, Table.TableState, Table.Tells, Table.IsNotFull, Table.HasCause, declared.row.Row.Row, Key.RowKey, Key.key_ticket, Key.least_key}
 use Rattle.beldi_walk.specs.{declared.query.Query.Query, Query.Told, Query.lends, Query.Came, Query.CameOn}
 use Rattle.beldi_intent.specs.{declared.intent.Binding.Binding, Intent.issue_asks, Intent.bind_asks, Intent.is_added, Intent.binding_of}
 use Rattle.beldi_collect.specs.{declared.cursor.Found.Found, Collect.collect_asks, Collect.collect_says}
-use Rattle.beldi_step.specs.declared.event.Event.TheVariants.{Ticket, Request, Turn, Lost, Crash, Restart, Tick, Ic}
+use Rattle.beldi_step.specs.declared.event.Event.TheVariants.{Ticket, Request, Turn, Lost, Crash, Restart, Tick, Ic, Halt}
 use Rattle.beldi_step.specs.{declared.event.Event.Event, declared.event.Seen.Seen, declared.run.Mark.Mark, declared.run.Run.Run, declared.run.RunAt.TheVariants.Looks, declared.run.Wait.Wait, declared.run.TurnSays.TurnSays, Run.Turned, Run.says_of, Run.run_asks, Run.run_told, Run.callee_of}
 
 -- the newest ticket, the live runs by number, how many runs were ever started, the book, the moment, where the intent collector
--- stands, and how many events were taken
+-- stands, how many events were taken, and whether the reading of the last halt failed
 pub record Core : Type 0 where
   pub newest : ℕ
   pub runs : FinMap nat_cmp Run
@@ -22,10 +22,19 @@ pub record Core : Type 0 where
   pub now : ℕ
   pub cursor : RowKey
   pub taken : ℕ
+  pub shut : Bool
+
+-- the greatest ticket that a key names, 0 where there is none
+abbrev pub greatest : List (RowKey × Row) → ℕ
+greatest [] = 0
+greatest (e ∷ es) = max (key_ticket e.0) (greatest es)
+
+abbrev pub newest_of : Rows → ℕ
+newest_of m = greatest (map.entries m)
 
 -- a host that nothing has happened to, over rows whose newest ticket is this one
 abbrev pub first_core : ℕ → ℕ → Core
-first_core newest now = record { newest = newest; runs = map.empty; last_run = 0; book = []; now = now; cursor = least_key; taken = 0 }
+first_core newest now = record { newest = newest; runs = map.empty; last_run = 0; book = []; now = now; cursor = least_key; taken = 0; shut = false }
 
 abbrev pub most_runs : ℕ
 most_runs = 1024
@@ -33,10 +42,11 @@ most_runs = 1024
 abbrev pub most_events : ℕ
 most_events = 2 ^ 62
 
--- an event is answered at once, or asks one thing of the table
+-- an event is answered at once, or asks one thing of the table; a halt reads the keys of all rows
 pub data Plan : Type 0 where
   at_once : Core → Seen → Plan
   asks : Query → Plan
+  reads_all : Plan
 
 -- ---- what an event asks
 -- a number that no live run has
@@ -98,13 +108,22 @@ plan_of d (Crash i) c = crash_plan c i (map.get c.runs i)
 plan_of d (Restart id f) c = restart_plan d c id f
 plan_of d (Tick n) c = tick_plan c n
 plan_of d Ic c = asks (collect_asks c.cursor)
+plan_of d Halt c = reads_all
+
+abbrev pub is_halt : Event → Bool
+is_halt Halt = true
+is_halt e = false
+
+-- a host that is shut answers so to all but a halt
+abbrev pub open_plan : Deployment → Event → Core → Plan
+open_plan d e c = if c.shut && not (is_halt e) then at_once c Seen.Shut else plan_of d e c
 
 abbrev pub counted : Core → Core
 counted c = record c { taken = c.taken + 1 }
 
 -- a host that is spent counts no event
 abbrev pub plan : Deployment → Event → Core → Plan
-plan d e c = if nat_lt c.taken most_events then plan_of d e (counted c) else at_once c Seen.Spent
+plan d e c = if nat_lt c.taken most_events then open_plan d e (counted c) else at_once c Seen.Spent
 
 -- ---- what follows where the table told
 -- a ticket, by whether its row was added
@@ -215,7 +234,7 @@ abbrev pub unheard_next : Deployment → Core → ℕ → Told → Option Run �
 unheard_next d c i t None = c
 unheard_next d c i t (Some r) = without_run c i r.id (run_told d (count_changes c.book) r t).mark
 
--- a crash, a restart and a tick ask nothing, so they hear nothing
+-- a crash, a restart, a tick and a halt ask nothing, so they hear nothing
 abbrev pub heard : Deployment → Event → Core → Told → Core × Seen
 heard d Ticket c t = ticket_next c (is_added t)
 heard d (Request t f a) c u = request_next d c t f a (binding_of u)
@@ -225,6 +244,7 @@ heard d (Crash i) c t = (c, Seen.Crashed)
 heard d (Restart id f) c t = (c, Seen.Crowded)
 heard d (Tick n) c t = (c, Seen.ClockEnd)
 heard d Ic c t = collect_next d c (collect_says t)
+heard d Halt c t = (c, Seen.Spent)
 
 -- .. and then out of memory: what is left, none where that cannot be
 abbrev pub if_lent : Bool → Core → Option Core
@@ -240,6 +260,7 @@ no_memory d (Crash i) c t = None
 no_memory d (Restart id f) c t = None
 no_memory d (Tick n) c t = None
 no_memory d Ic c t = if_lent (lends t) c
+no_memory d Halt c t = None
 
 -- ---- what follows where it did not
 abbrev pub refused_by : TableErr → Result Seen AllocError
@@ -259,6 +280,28 @@ refused (Crash i) c e = (c, refused_by e)
 refused (Restart id f) c e = (c, refused_by e)
 refused (Tick n) c e = (c, refused_by e)
 refused Ic c e = (c, refused_by e)
+refused Halt c e = (c, refused_by e)
+
+-- ---- a halt: what is volatile is gone; the book, the moment and the counts stay
+abbrev pub halted : ℕ → Bool → Core → Core
+halted newest shut c = record c { newest = newest; runs = map.empty; cursor = least_key; shut = shut }
+
+-- .. by the newest ticket that was read, or what the reading met
+abbrev pub halt_next : Core → Result ℕ TableErr → Core × Result Seen AllocError
+halt_next c (Ok t) = (halted t false c, Ok Seen.Halted)
+halt_next c (Err TableErr.OutOfMemory) = (halted c.newest c.shut c, Err (record {}))
+halt_next c (Err e) = (halted c.newest true c, Ok Seen.Dropped)
+
+-- what the reading of a halt came to, over rows that are told
+abbrev pub HaltOn : Result ℕ TableErr → Rows → Rows → Type 0
+HaltOn w m n = (n ≡ m) × IfOk w (λ t. t ≡ newest_of m)
+
+-- .. over any table: it makes as many calls as it takes
+pub record HaltCame (w : Result ℕ TableErr) (old new : TableState) : Type 0 where
+  pub rows : Tells old.rows new.rows (λ m n. HaltOn w m n)
+  pub fits : IsNotFull w
+  pub cause : HasCause old.faults new.faults w
+  pub room : new.room ≡ old.room
 
 -- ---- one event
 -- what followed, by what the query came to
@@ -277,10 +320,11 @@ abbrev pub AtOnce : Core → Core → Seen → Core → Result Seen AllocError �
 AtOnce c b y z (Ok x) = (z ≡ b) × (x ≡ y)
 AtOnce c b y z (Err w) = (z ≡ c) × StartsRun y
 
--- any other makes one query, and one witness says what it came to
+-- any other but a halt makes one query, and one witness says what it came to
 abbrev pub StepBy : Deployment → Event → Core → Plan → Core → TableState → TableState → Result Seen AllocError → Type 0
 StepBy d e c (at_once b y) z old new r = AtOnce c b y z r × (new ≡ old)
 StepBy d e c (asks q) z old new r = (w : Result Told TableErr) × Followed d e c w z r × Came q c.now w old new
+StepBy d e c reads_all z old new r = (w : Result ℕ TableErr) × ((z, r) ≡ halt_next c w) × HaltCame w old new
 
 -- what a call that carries out an event does
 abbrev pub Stepped : Deployment → Event → Core → Core → TableState → TableState → Result Seen AllocError → Type 0
@@ -291,6 +335,7 @@ Stepped d e c z old new r = StepBy d e (counted c) (plan d e c) z old new r
 abbrev pub EventBy : Deployment → ℕ → ℕ → ℕ → Event → Core → Plan → Rows → Core → Rows → Result Seen AllocError → Type 0
 EventBy d room old new e c (at_once b y) m z n r = AtOnce c b y z r × (n ≡ m) × (new ≡ old)
 EventBy d room old new e c (asks q) m z n r = (w : Result Told TableErr) × Followed d e c w z r × CameOn q c.now room w m n × HasCause old new w
+EventBy d room old new e c reads_all m z n r = (w : Result ℕ TableErr) × ((z, r) ≡ halt_next c w) × HaltOn w m n × HasCause old new w
 
 abbrev pub EventOn : Deployment → ℕ → ℕ → ℕ → Event → Core → Rows → Core → Rows → Result Seen AllocError → Type 0
 EventOn d room old new e c m z n r = EventBy d room old new e (counted c) (plan d e c) m z n r

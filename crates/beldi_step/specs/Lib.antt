@@ -5,5 +5,6 @@ pub mod Laws
 pub mod Next
 pub mod Noted
 pub mod Run
+pub mod Shut
 pub mod Tables
 pub mod Told

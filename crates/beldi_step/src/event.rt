@@ -21,6 +21,8 @@ pub enum Event {
     Tick(u64),
     /// The intent collector goes to the next row.
     Ic,
+    /// The process is stopped and started over the rows that it left.
+    Halt,
 }
 
 /// The answers to events.
@@ -101,6 +103,10 @@ pub enum Seen {
     Now(u64),
     /// The moment would pass 2^62 ticks, and stays.
     ClockEnd,
+    /// No run is live, the intent collector begins anew, and the newest ticket is the greatest that a key of a row names.
+    Halted,
+    /// The table failed when the rows were read for the last halt that was not out of memory, and this event is no halt: it did nothing.
+    Shut,
     /// 2^62 events were taken before.
     Spent,
 }

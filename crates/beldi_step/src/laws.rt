@@ -1,8 +1,9 @@
-// What one step of the host says over rows that are told, over any table, and of deadlines; and what runs say that were called in a
-// transaction.
+// What one step of the host says over rows that are told, over any table, of deadlines, and of halts; and what runs say that were called
+// in a transaction.
 ghost use Rattle.beldi_step.specs.Deadlines.{CalledRunsHaveTheirCallersDeadline, KeepsSoon, NoRunIsPastALife, RunsKeepTheirDeadline};
 ghost use Rattle.beldi_step.specs.Inside.{StaysInherited, BeginsInside, MakesNoEntry};
 ghost use Rattle.beldi_step.specs.Laws.{StepsOverRows, StepsOverAnyTable, ExpiresPastDeadline};
+ghost use Rattle.beldi_step.specs.Shut.{HaltsAsOpened, HaltsEndRuns, OnlyShutAnswersShut, ShutAnswersShut, ShutHasNoRuns, ShutsAtAFailedHalt, StaysShut};
 
 /// Over rows that are told, a step is a relation between the host and the rows before and after.
 pub fn a_step_over_rows()
@@ -10,12 +11,13 @@ pub fn a_step_over_rows()
 {}
 
 /// Over any table, also one that tells no rows, a step makes at most one call, and none for an event that is answered at once:
-/// that leaves the table as it was.
+/// that leaves the table as it was. A halt makes as many calls as it reads rows.
 pub fn a_step_over_any_table()
     ensures { StepsOverAnyTable }
 {}
 
-/// No run acts past its deadline: an event of a run that is past it makes no call of the table, and the run is over.
+/// No run acts past its deadline: an event of a run that is past it makes no call of the table, and the run is over. A host that is
+/// shut has no run.
 pub fn a_run_expires_past_its_deadline()
     ensures { ExpiresPastDeadline }
 {}
@@ -55,4 +57,40 @@ pub fn a_run_begins_inside()
 /// What was called in a transaction makes no entry of the book, and goes on as an operation of it, a call or a return.
 pub fn a_run_inside_makes_no_entry()
     ensures { MakesNoEntry }
+{}
+
+/// A host that is shut answers so to all but a halt: it makes no call of the table, and counts the event.
+pub fn a_shut_host_answers_shut()
+    ensures { ShutAnswersShut }
+{}
+
+/// Only a host that is shut answers so, and then nothing has changed but the count of events.
+pub fn only_a_shut_host_answers_shut()
+    ensures { OnlyShutAnswersShut }
+{}
+
+/// A host comes to be shut only by a halt that is answered as dropped, where the table's count of failures rose.
+pub fn a_failed_halt_shuts()
+    ensures { ShutsAtAFailedHalt }
+{}
+
+/// A host that is shut is so until a halt is answered as halted.
+pub fn a_shut_host_stays_shut()
+    ensures { StaysShut }
+{}
+
+/// After a halt no run is live, also where it failed or was out of memory.
+pub fn a_halt_ends_the_runs()
+    ensures { HaltsEndRuns }
+{}
+
+/// No run is live while a host is shut that began without runs.
+pub fn a_shut_host_has_no_runs()
+    ensures { ShutHasNoRuns }
+{}
+
+/// A halt that is answered as halted leaves the rows as they were, and the host as it is first over them, but for the moment, the book, the
+/// number of runs that were started and the count of events, which stay or count on.
+pub fn a_halted_host_is_as_opened()
+    ensures { HaltsAsOpened }
 {}

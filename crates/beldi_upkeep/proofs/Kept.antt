@@ -6,7 +6,7 @@ use Rattle.std.specs.FinMap as map
 use Rattle.beldi_tree.specs.declared.deployment.Deployment.{Deployment}
 use Rattle.beldi_row.specs.{Act.act, Key.RowKey, Table.Rows, declared.row.Row.Row, declared.table.TableErr.TableErr}
 use Rattle.beldi_walk.{proofs.Lent.refused_stand, specs.declared.query.Query.Query, specs.Query.CameOn, specs.Query.Told, specs.Query.rows_after}
-use Rattle.beldi_step.specs.{declared.event.Event.Event, declared.event.Seen.Seen, Host.Core, Host.EventBy, Host.EventOn, Host.Plan, Host.at_once, Host.asks, Host.counted, Host.plan}
+use Rattle.beldi_step.specs.{declared.event.Event.Event, declared.event.Seen.Seen, Host.Core, Host.EventBy, Host.EventOn, Host.Plan, Host.at_once, Host.asks, Host.counted, Host.plan, Host.reads_all}
 use Rattle.beldi_known.proofs.Rows.{keys_set}
 
 module _ (P : RowKey → Option Row → Type 0) where
@@ -17,6 +17,7 @@ module _ (P : RowKey → Option Row → Type 0) where
   abbrev pub PlanKeeps : Core → Plan → Type 0
   PlanKeeps c (at_once b y) = Unit {0}
   PlanKeeps c (asks q) = KeepsAt c.now q
+  PlanKeeps c reads_all = Unit {0}
 
   abbrev pub All : Rows → Type 0
   All m = (k : RowKey) → P k (map.get m k)
@@ -32,6 +33,7 @@ module _ (P : RowKey → Option Row → Type 0) where
   plan_keeps : (d : Deployment) (room old new : ℕ) (e : Event) (c b : Core) (m n : Rows) (r : Result Seen AllocError) (p : Plan) → PlanKeeps c p → All m → EventBy d room old new e c p m b n r → All n
   plan_keeps d room old new e c b m n r (at_once k y) h all s = subst All (sym s.1) all
   plan_keeps d room old new e c b m n r (asks q) h all s = came_keeps q c.now room s.0 m n h all s.2
+  plan_keeps d room old new e c b m n r reads_all h all s = subst All (sym s.2.0) all
 
   pub event_keeps : (d : Deployment) (room old new : ℕ) (e : Event) (c b : Core) (m n : Rows) (r : Result Seen AllocError) → PlanKeeps (counted c) (plan d e c) → All m → EventOn d room old new e c m b n r → All n
   event_keeps d room old new e c b m n r h all s = plan_keeps d room old new e (counted c) b m n r (plan d e c) h all s

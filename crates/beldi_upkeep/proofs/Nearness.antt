@@ -5,7 +5,7 @@ use Rattle.std.proofs.Common.{ℕ, ◌+◌, ◌≤◌, Result, refl, sym, subst,
 use Rattle.beldi_value.specs.declared.id.IntentId.{IntentId}
 use Rattle.beldi_tree.specs.declared.deployment.Deployment.{Deployment}
 use Rattle.beldi_row.specs.Table.{Rows}
-use Rattle.beldi_step.specs.Host.{Core, EventBy, Plan, asks, at_once, counted, plan}
+use Rattle.beldi_step.specs.Host.{Core, EventBy, Plan, asks, at_once, counted, plan, reads_all}
 use Rattle.beldi_step.specs.declared.{event.Event.Event, event.Seen.Seen}
 use Rattle.beldi_known.specs.Stands.{key_in}
 use Rattle.beldi_upkeep.specs.Deadlines.{BeginsNear, IsNear, KeepsNear, finish_in}
@@ -20,6 +20,7 @@ rows_near : (d : Deployment) (room old new : ℕ) (e : Event) (c b : Core) (m n 
     → (deadline : ℕ) → deadline ≤ c.now + d.life → (home : ℕ) (i : IntentId) → IsNear d.life deadline (finish_in (map.get m (key_in home i))) → IsNear d.life deadline (finish_in (map.get n (key_in home i)))
 rows_near d room old new e c b m n x (at_once k y) s deadline soon home i near = subst (λ l. IsNear d.life deadline (finish_in (map.get l (key_in home i)))) (sym s.1) near
 rows_near d room old new e c b m n x (asks q) s deadline soon home i near = came c.now d.life deadline soon q room s.0 m n s.2 home i near
+rows_near d room old new e c b m n x reads_all s deadline soon home i near = subst (λ l. IsNear d.life deadline (finish_in (map.get l (key_in home i)))) (sym s.2.0) near
 
 pub keeps_near : KeepsNear
 keeps_near d room old new e c b m n x h seats near s =

@@ -9,7 +9,8 @@ use Rattle.beldi_order.proofs.Maps.{same_some}
 use Rattle.beldi_row.specs.{Act.act, Act.bind_to, Act.bound, Key.RowKey, Key.key_cmp, Table.Rows, declared.act.Act.Act, declared.row.Body.Body, declared.row.IntentRow.IntentRow, declared.row.Row.Row}
 use Rattle.beldi_walk.specs.declared.query.Query.{Query}
 use Rattle.beldi_intent.specs.Intent.{root_key}
-use Rattle.beldi_step.specs.{declared.event.Event.Event, declared.run.Run.Run, declared.run.RunAt.RunAt, Host.Core, Host.counted, Host.crash_plan, Host.is_crowded, Host.last_moment, Host.most_events, Host.plan, Host.plan_of, Host.run_plan, Run.asks_at, Run.stage_asks}
+use Rattle.beldi_step.proofs.Runs.{of_plan}
+use Rattle.beldi_step.specs.{declared.event.Event.Event, declared.run.Run.Run, declared.run.RunAt.RunAt, Host.Core, Host.counted, Host.crash_plan, Host.is_crowded, Host.last_moment, Host.plan, Host.plan_of, Host.run_plan, Run.asks_at, Run.stage_asks}
 use Rattle.beldi_laws.specs.Right.{KnowsAt, Right, RunAt as Knows}
 use Rattle.beldi_laws.proofs.Moves.{if_plan}
 use Rattle.beldi_upkeep.specs.Checked.{IsOfIt, NoRootAtFirst, RootsStayOfIt, body_at, has_func}
@@ -84,9 +85,10 @@ module _ (d : Deployment) (O : ℕ → ℕ → Type 0) where
     plan_of_keeps (Event.Restart id f) of = if_plan (PlanKeeps P (counted c)) (is_crowded (counted c)) _ _ (λ u. tt) (λ u. tt)
     plan_of_keeps (Event.Tick n) of = if_plan (PlanKeeps P (counted c)) (nat_lt last_moment (c.now + n)) _ _ (λ u. tt) (λ u. tt)
     plan_of_keeps Event.Ic of = tt
+    plan_of_keeps Event.Halt of = tt
 
     pub plan_keeps : (e : Event) → IsSo e → PlanKeeps P (counted c) (plan d e c)
-    plan_keeps e of = if_plan (PlanKeeps P (counted c)) (nat_lt c.taken most_events) _ _ (λ few. plan_of_keeps e of) (λ spent. tt)
+    plan_keeps e of = of_plan d e c (PlanKeeps P (counted c)) (λ few. plan_of_keeps e of) (λ shut. tt) tt
 
 so_of : (d : Deployment) (c : Core) (m : Rows) (h : Right d c m) (e : Event) → IsOfIt d e → IsSo d (λ u f. has_func d f ≡ true) c m h e
 so_of d c m h (Event.Request t f a) of = of

@@ -1,7 +1,8 @@
 -- What one event does to the rows, and where the runs that live after it come from.
 use Rattle.beldi_collect.specs.declared.cursor.Found.{Found}
+use Rattle.beldi_step.proofs.Runs.{of_plan}
 use Rattle.beldi_step.specs.{declared.run.RunAt.RunAt, Run.callee_of, Host.at_once}
-use Rattle.beldi_laws.proofs.Names.{AllocError, Begins, Binding, Bool, CameOn, Core, Crash, Deployment, Err, Event, EventBy, EventOn, FinMap, Followed, Full, Ic, IntentId, Lost, None, Ok, Option, OutOfMemory, Plan, Query, Request, Restart, Result, Rows, Run, Seen, Some, TableErr, Tick, Ticket, Told, Turn, TurnSays, Turned, Value, Wait, after_turn, ap, arith, asks, bind_asks, binding_of, collect_next, collect_says, collect_asks, cond, count_changes, counted, crash_plan, false, get-insert, get-remove, has_run, heard, if◌then◌else◌, inl, inr, is_added, is_crowded, is_eq, last_moment, lends, may_start, most_events, nat_cmp, nat_cmp_total, nat_lt, new_run, no_memory, plan, plan_of, put_got, put_run, refl, refused, refused_stand, request_next, root_of, rows_after, run_asks, run_next, run_plan, run_told, same_some, says_of, started, subst, sym, ticket_next, told_by, true, turn_next, turned_core, unheard_next, with_run, ℕ, ◌+◌, ◌-◌, ◌==◌, ◌^◌, ◌||◌, ◌∙◌, ◌≡◌, ◌⊎◌}
+use Rattle.beldi_laws.proofs.Names.{AllocError, Begins, Binding, Bool, CameOn, Core, Crash, Deployment, Err, Event, EventBy, EventOn, FinMap, Followed, Full, Halt, Ic, IntentId, Lost, None, Ok, Option, OutOfMemory, Plan, Query, Request, Restart, Result, Rows, Run, Seen, Some, TableErr, Tick, Ticket, Told, Turn, TurnSays, Turned, Value, Wait, after_turn, ap, arith, asks, bind_asks, binding_of, collect_next, collect_says, collect_asks, cond, count_changes, counted, crash_plan, false, get-empty, get-insert, get-remove, halt_next, has_run, heard, if◌then◌else◌, inl, inr, is_added, is_crowded, is_eq, last_moment, lends, may_start, nat_cmp, nat_cmp_total, nat_lt, new_run, no_memory, plan, plan_of, put_got, put_run, reads_all, refl, refused, refused_stand, request_next, root_of, rows_after, run_asks, run_next, run_plan, run_told, same_some, says_of, started, subst, sym, ticket_next, told_by, true, turn_next, turned_core, unheard_next, with_run, ℕ, ◌+◌, ◌-◌, ◌==◌, ◌^◌, ◌||◌, ◌∙◌, ◌≡◌, ◌⊎◌}
 use Rattle.beldi_laws.proofs.{Moves.if_plan, OneEvent.lent_only}
 use Rattle.beldi_intent.specs.Intent.{issue_asks}
 use Rattle.beldi_laws.proofs.Names.map
@@ -22,6 +23,9 @@ RunsFrom live next now = (k : ℕ) (r : Run) → map.get now k ≡ Some r → Ru
 module _ (live : FinMap nat_cmp Run) (next : Option Run) where
   same_runs : RunsFrom live next live
   same_runs k r is = inl is
+
+  no_runs : RunsFrom live next map.empty
+  no_runs k r is = let clash = sym (get-empty nat_cmp k) ∙ is in cc
 
   less_runs : (i : ℕ) → RunsFrom live next (map.remove live i)
   less_runs i k r is = by_test (is_eq (nat_cmp k i)) (sym (get-remove nat_cmp_total live i k) ∙ is)
@@ -107,6 +111,7 @@ module _ (d : Deployment) (c : Core) where
   abbrev PlanFrom : Plan → Type 0
   PlanFrom (at_once b y) = FromNone b
   PlanFrom (asks q) = Unit {0}
+  PlanFrom reads_all = Unit {0}
 
   run_from : (i : ℕ) (o : Option Run) → PlanFrom (run_plan c i o)
   run_from i None = same_none
@@ -124,6 +129,7 @@ module _ (d : Deployment) (c : Core) where
   plan_of_from (Crash i) = crash_from i (map.get c.runs i)
   plan_of_from (Restart id f) = if_plan PlanFrom (is_crowded c) _ _ (λ u. same_none) (λ u. new_none id f)
   plan_of_from Ic = tt
+  plan_of_from Halt = tt
   plan_of_from (Tick n) = if_plan PlanFrom (nat_lt last_moment (c.now + n)) _ _ (λ u. same_none) (λ u. same_none)
 
   -- by what was told
@@ -177,6 +183,13 @@ module _ (d : Deployment) (e : Event) (c : Core) (m : Rows) where
   abbrev ShapePlan : Plan → Type 0
   ShapePlan (at_once b y) = FromNone d c b
   ShapePlan (asks q) = Heard q × Unheard q
+  ShapePlan reads_all = Unit {0}
+
+  -- after a halt none lives
+  halt_from : (w : Result ℕ TableErr) → FromNone d c (halt_next c w).0
+  halt_from (Ok t) = no_runs c.runs None
+  halt_from (Err OutOfMemory) = no_runs c.runs None
+  halt_from (Err v) = no_runs c.runs None
 
   -- where an event is refused
   refused_from : (v : TableErr) → FromNone d c (refused e c v).0
@@ -226,9 +239,10 @@ shape_of d Ic c m = (
   λ b w. stands d c m _ b refl (subst (λ z. FromNone d c z) (sym (lent_only (lends (told_by (collect_asks c.cursor) c.now m)) c b w).0) (same_none d c)),
 )
 shape_of d (Tick n) c m = if_plan (ShapePlan d (Tick n) c m) (nat_lt last_moment (c.now + n)) _ _ (λ u. same_none d c) (λ u. same_none d c)
+shape_of d Halt c m = tt
 
 shape_plan : (d : Deployment) (e : Event) (c : Core) (m : Rows) → ShapePlan d e (counted c) m (plan d e c)
-shape_plan d e c m = if_plan (ShapePlan d e (counted c) m) (nat_lt c.taken most_events) _ _ (λ few. shape_of d e (counted c) m) (λ spent. same_none d (counted c))
+shape_plan d e c m = of_plan d e c (ShapePlan d e (counted c) m) (λ few. shape_of d e (counted c) m) (λ shut. same_none d (counted c)) (same_none d (counted c))
 
 module _ (d : Deployment) (room old new : ℕ) (e : Event) (c b : Core) (m n : Rows) where
   came : (q : Query) (w : Result Told TableErr) (r : Result Seen AllocError) → ShapePlan d e c m (asks q) → Followed d e c w b r → CameOn q c.now room w m n → ShapeOf d c m n b
@@ -240,6 +254,7 @@ module _ (d : Deployment) (room old new : ℕ) (e : Event) (c b : Core) (m n : R
   by_plan (at_once k y) (Ok x) g s = stands d c m n b s.1 (subst (λ z. FromNone d c z) (sym s.0.0) g)
   by_plan (at_once k y) (Err w) g s = stands d c m n b s.1 (subst (λ z. FromNone d c z) (sym s.0.0) (same_none d c))
   by_plan (asks q) r g s = came q s.0 r g s.1 s.2
+  by_plan reads_all r g s = stands d c m n b s.2.0 (subst (λ (z : Core × Result Seen AllocError). FromNone d c z.0) (sym s.1) (halt_from d e c m s.0))
 
 pub shape : (d : Deployment) (room old new : ℕ) (e : Event) (c b : Core) (m n : Rows) (r : Result Seen AllocError) → EventOn d room old new e c m b n r → ShapeOf d c m n b
 shape d room old new e c b m n r s = by_plan d room old new e (counted c) b m n (plan d e c) r (shape_plan d e c m) s

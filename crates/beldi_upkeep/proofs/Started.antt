@@ -10,7 +10,8 @@ use Rattle.beldi_plain.specs.Replies.{starts_of}
 use Rattle.beldi_row.specs.{Act.act, Act.bound, Key.RowKey, Table.Rows, declared.act.Act.Act, declared.row.Row.Row, declared.table.TableErr.TableErr}
 use Rattle.beldi_walk.{proofs.Lent.refused_stand, specs.Query.CameOn, specs.Query.Told, specs.Query.said}
 use Rattle.beldi_intent.specs.Intent.{bind_asks, root_key}
-use Rattle.beldi_step.specs.{declared.event.Event.Event, declared.event.Seen.Seen, Host.Core, Host.EventBy, Host.EventOn, Host.Followed, Host.Plan, Host.asks, Host.at_once, Host.counted, Host.is_crowded, Host.most_events, Host.plan, Told.bound_of}
+use Rattle.beldi_step.proofs.Runs.{of_plan}
+use Rattle.beldi_step.specs.{declared.event.Event.Event, declared.event.Seen.Seen, Host.Core, Host.EventBy, Host.EventOn, Host.Followed, Host.Plan, Host.asks, Host.at_once, Host.counted, Host.is_crowded, Host.plan, Host.reads_all, Told.bound_of}
 use Rattle.beldi_known.proofs.Rows.{keys_set}
 use Rattle.beldi_laws.specs.{Laws.bound_by, Right.Right}
 use Rattle.beldi_laws.proofs.{Moves.if_plan, Starts.starts_bound}
@@ -40,9 +41,10 @@ module _ (d : Deployment) (t f : ℕ) (a : Value) (c : Core) where
   abbrev AsksBind : Plan → Type 0
   AsksBind (at_once b y) = Unit {0}
   AsksBind (asks q) = q ≡ bind_asks t f a
+  AsksBind reads_all = Unit {0}
 
   asks_bind : AsksBind (plan d (Event.Request t f a) c)
-  asks_bind = if_plan AsksBind (nat_lt c.taken most_events) _ _ (λ few. if_plan AsksBind ((t == 0) || nat_lt c.newest t) _ _ (λ u. tt) (λ u. if_plan AsksBind (is_crowded (counted c)) _ _ (λ u. tt) (λ u. refl))) (λ spent. tt)
+  asks_bind = of_plan d (Event.Request t f a) c AsksBind (λ few. if_plan AsksBind ((t == 0) || nat_lt c.newest t) _ _ (λ u. tt) (λ u. if_plan AsksBind (is_crowded (counted c)) _ _ (λ u. tt) (λ u. refl))) (λ shut. tt) tt
 
   -- where it was told that the root was bound, the book starts it
   is_bound : (b : Core) (r : Result Seen AllocError) → Followed d (Event.Request t f a) (counted c) (Ok (said bound)) b r → bound_by (Event.Request t f a) r ≡ (t, (f, a)) ∷ []
@@ -64,6 +66,7 @@ module _ (d : Deployment) (c b : Core) (m n : Rows) (r : Result Seen AllocError)
     by_plan : (room old new : ℕ) (p : Plan) → AsksBind d t f a c p → EventBy d room old new (Event.Request t f a) (counted c) p m b n r → All S n
     by_plan room old new (at_once k y) is s = subst (All S) (sym s.1) all
     by_plan room old new (asks q) is s = by_came room s.0 s.1 (subst (λ z. CameOn z c.now room s.0 m n) is s.2)
+    by_plan room old new reads_all is s = subst (All S) (sym s.2.0) all
 
   by_event : (room old new : ℕ) (e : Event) → Right d c m → starts_of b.book ≡ starts_of c.book ++ bound_by e r → All S m → EventOn d room old new e c m b n r → All S n
   by_event room old new (Event.Request t f a) h grew all s = by_plan t f a grew all room old new (plan d (Event.Request t f a) c) (asks_bind d t f a c) s

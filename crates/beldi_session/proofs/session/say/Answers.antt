@@ -9,6 +9,3 @@ returns-in-Gc g c = λ held faults. does_no_action (actions_of c.args.line) (ap 
 
 pub returns-in-Sweep : goal.returns-in-Sweep
 returns-in-Sweep g c = λ held faults. does_no_action (actions_of c.args.line) (ap actions_of c.in-Sweep.is) (sight c.args.host.now c.args.out.now held faults)
-
-pub returns-in-Halt : goal.returns-in-Halt
-returns-in-Halt g c = λ held faults. does_no_action (actions_of c.args.line) (ap actions_of c.in-Halt.is) (sight c.args.host.now c.args.out.now held faults)

@@ -15,12 +15,11 @@ use Rattle.beldi_order.proofs.Line.{longer}
 use Rattle.beldi_row.specs.{Key.RowKey, Key.key_cmp, Key.key_ticket, Key.ticket_of, KeyOrder.key_total, declared.key.Kind.Kind, declared.row.Body.Body, declared.row.Row.Row, Table.Rows}
 use Rattle.beldi_row.proofs.Gets.{key_same}
 use Rattle.beldi_intent.specs.Intent.{root_key}
-use Rattle.beldi_step.specs.Host.{Core}
+use Rattle.beldi_step.specs.Host.{Core, greatest, newest_of}
 use Rattle.beldi_known.specs.{Contents.shadow_chain, Known.Got, Known.got_by, Known.owed_call, Known.owed_lockset, Known.owed_read, Known.owed_value, Owed.called_by, Matches.LocksetMatches, Matches.RowMatches, Matches.has_ended, Matches.lockset_ahead, Rows.CallMatches, Rows.CalleeBodyMatches, Rows.CalleeMatches, Rows.IntentMatches, Rows.LogMatches, Rows.RootMatches}
 use Rattle.beldi_links.proofs.Last.{last_there}
 use Rattle.beldi_known.proofs.{Callers.called_below, Callers.root_or_called, Cases.by_option, ReadLists.got_since, ReadLists.member_tx}
 use Rattle.beldi_laws.specs.Right.{Right}
-use Rattle.beldi_host.specs.Survey.{greatest, newest_of}
 
 -- ---- the greatest ticket of the keys of a map
 there_still : (b : Bool) {A : Type 0} (x : A) (o : Option A) → is_some o ≡ true → is_some (cond b (Some x) o) ≡ true
