@@ -145,6 +145,7 @@ ANSWERS = {
     "tick": r"now \d+|clock-end",
     "reply": rf"reply \d+ (?:{OUTCOME}|waiting|gone|unknown)",
     "rows": r"rows \d+",
+    "halt": r"halted",
 }
 ANSWERS = {word: re.compile(form, re.S) for word, form in ANSWERS.items()}
 TOLD = re.compile(rf"bound (\d+) run|acted ({ENTRY})")
@@ -163,7 +164,7 @@ FORMS = [
     ("crash", f"crash {NUMBER}", (2 ** 32 - 1,)), ("ic", f"ic{TIMES}", (1000,)), ("settle", f"settle {BUDGET}", (4 * 10 ** 9,)),
     ("tick", f"tick {NUMBER}", (2 ** 32 + 1,)), ("reply", f"reply {NUMBER}", (2 ** 32 - 1,)), ("rows", "rows", ()), ("tables", "tables", ()),
     ("book", "book", ()), ("unbuilt", f"gc {NUMBER}{TIMES}", (7, 1000)), ("unbuilt", f"sweep {NUMBER} {BUDGET}", (7, 4 * 10 ** 9)),
-    ("unbuilt", "halt", ()),
+    ("halt", "halt", ()),
 ]
 FORMS = [(word, re.compile(form.encode(), re.A), most) for word, form, most in FORMS]
 REQUEST, RESTART = re.compile(rb"request ([^ ]*) ([^ ]*) (.*)", re.S), re.compile(rb"restart ([^ ]*) ([^ ]*)", re.S)

@@ -214,7 +214,7 @@ class Event:
     @property
     def is_silent(self):
         """Whether it may have made an entry that it does not tell."""
-        return self.answer == "dropped" or self.word == "settle"
+        return self.word == "settle" or (self.answer == "dropped" and self.word != "halt")
 
 
 class Session:
