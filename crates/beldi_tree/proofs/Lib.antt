@@ -1,4 +1,5 @@
 pub mod Aparts
 pub mod Copies
 pub mod Evaluated
+pub mod Lookups
 mod Names

@@ -1,5 +1,6 @@
 // The value of an expression.
-ghost use Rattle.std.specs.Prelude.{◌≡◌, [], Ok};
+ghost use Rattle.std.specs.Prelude.{◌≡◌, [], Ok, IfSome};
+ghost use Rattle.beldi_value.specs.declared.value.Value.TheVariants as kind;
 ghost use Rattle.beldi_tree.specs.Evaluate.{term_value, value_at, key_at as key_of_expr, items_value, fields_value, on_two, compared as compared_of, operate as operate_of, pushed as pushed_of, with_field as with_field_of, either as either_of, both as both_of, settled as settled_of, limited as limited_of, element_of, on_three, and_then, Evaluates};
 ghost use Rattle.beldi_tree.specs.Seen.{seen_value, Finds};
 ghost use Rattle.beldi_tree.specs.Steps.{plain_step, stepped};
@@ -8,8 +9,8 @@ ghost use Rattle.beldi_tree.specs.Term.{items_of, members_of};
 use crate::deployment::{Expr, Op, Step};
 use crate::fault::EvalErr;
 use crate::operators::{
-    canonical, compared, element, field, key, length, negated, operate, opposite, or_fault, pushed,
-    settled, truth, with_field,
+    canonical, compared, element, field, key, length, limited, negated, number, number_within,
+    operate, opposite, or_fault, pushed, settled, truth, with_field,
 };
 use crate::parts::{Chain, Exprs, Members};
 use crate::seen::{Seen, lent, lent_element, lent_field, made};
@@ -22,7 +23,43 @@ use std::alloc::Global;
 pub fn evaluate(alloc: Global, variables: &Variables, expr: &Expr) -> Result<Value, EvalErr>
     ensures { Evaluates (value_at variables.now expr.now) result }
 {
+    if let Expr::Chain(chain) = expr {
+        if let Some((op, left, right)) = numbers(variables, chain) {
+            return Ok(limited(number(op, left, right)?)?);
+        }
+    }
     Ok(seen(alloc, variables, expr)?.into_value(alloc)?)
+}
+
+// A number that is at hand: no value is made of it.
+fn number_at(variables: &Variables, expr: &Expr) -> Option<i64>
+    ensures { IfSome result (λ z. value_at variables.now expr.now ≡ Ok (kind.Int z)) }
+{
+    match expr {
+        Expr::Int(number) => number_within(&Value::Int(*number)),
+        Expr::Name(name) => match variables.get(name) {
+            Some(value) => number_within(value),
+            None => None,
+        },
+        _ => None,
+    }
+}
+
+// Both sides of the only operator, where they are numbers at hand. So is most of what is set in a loop.
+fn numbers(variables: &Variables, chain: &Chain) -> Option<(Op, i64, i64)>
+    ensures { IfSome result (λ r. term_value variables.now chain.now ≡ and_then (operate_of r.0 (kind.Int r.1) (kind.Int r.2)) limited_of) }
+{
+    if !chain.more.is_empty() {
+        return None;
+    }
+    match &*chain.next {
+        Step::Binary(op, right) => {
+            let left = number_at(variables, &chain.first)?;
+            let right = number_at(variables, right)?;
+            Some((*op, left, right))
+        }
+        _ => None,
+    }
 }
 
 /// The key of a cell: a text of at most 256 bytes.

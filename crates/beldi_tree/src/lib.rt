@@ -16,11 +16,11 @@
 //! - Code (`src/`): `deployment` functions, statements and expressions, and what names mean; `name` a name in a statement,
 //!   with the place where it was found; `find` finds them, once; `block` statements one after another; `parts` the parts of
 //!   expressions, and chains of operators; `evaluation` the value of an expression; `operators` what each makes of values;
-//!   `seen` a value that is lent or made; `fault`; `variables`.
+//!   `seen` a value that is lent or made; `fault`; `variables`, and `many` those beyond the first ones.
 //! - Further definitions (`specs/`): `Apart` things of which no two have one name; `Bindings` names and their values; `Falls`
 //!   each part of an expression is smaller than the expression, and each part of a statement than the statement; `Seen` the
 //!   value of an expression, lent or made.
-//! - Lemmas (`proofs/`): `Evaluated` an evaluation part by part; `Copies`; `Aparts`.
+//! - Lemmas (`proofs/`): `Evaluated` an evaluation part by part; `Lookups` entries in front of a map; `Copies`; `Aparts`.
 #![tactic(auto)]
 
 mod block;
@@ -28,6 +28,7 @@ mod deployment;
 mod evaluation;
 mod fault;
 mod find;
+mod many;
 mod name;
 mod operators;
 mod parts;

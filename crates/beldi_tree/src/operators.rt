@@ -1,5 +1,5 @@
 // What the operators do with values.
-ghost use Rattle.std.specs.Prelude.{◌≡◌, pos, ◌+ℤ◌, ◌-ℤ◌, ◌*ℤ◌, neg_ℤ, Ok, Err, IfOk, MatchResult, option_copied};
+ghost use Rattle.std.specs.Prelude.{◌≡◌, pos, ◌+ℤ◌, ◌-ℤ◌, ◌*ℤ◌, neg_ℤ, Ok, Err, IfOk, IfSome, MatchResult, option_copied};
 ghost use Rattle.beldi_value.specs.Value.{datum_of};
 ghost use Rattle.beldi_value.specs.Json.{text_of as text_of_datum};
 ghost use Rattle.beldi_value.specs.declared.value.Value.TheVariants as kind;
@@ -79,6 +79,16 @@ fn int(value: &Value) -> Result<i64, Code>
     match value {
         Value::Int(number) => Ok(*number),
         _ => Err(Code::WrongType),
+    }
+}
+
+// The number that a value is, within the limits of what is stored.
+pub(crate) fn number_within(value: &Value) -> Option<i64>
+    ensures { IfSome result (λ z. limited_of value.now ≡ Ok (kind.Int z)) }
+{
+    match value {
+        Value::Int(number) if value.is_within() => Some(*number),
+        _ => None,
     }
 }
 
@@ -194,7 +204,7 @@ pub(crate) fn compared(rel: Rel, left: &Value, right: &Value) -> Result<Value, C
 }
 
 // What an operator makes of two numbers.
-fn number(op: Op, m: i64, n: i64) -> Result<Value, Code>
+pub(crate) fn number(op: Op, m: i64, n: i64) -> Result<Value, Code>
     ensures { result ≡ operate_of op (kind.Int m) (kind.Int n) }
 {
     match op {

@@ -1,5 +1,5 @@
 use Rattle.beldi_tree.proofs.{Names.nat_cmp, Names.slice_cmp, Copies.IsCopied}
-use Rattle.beldi_tree.proofs.variables.Variables.copy.Given as goal
+use Rattle.beldi_tree.proofs.many.Many.copy.Given as goal
 
 -- the names that are left, with those that are copied, are all names
 abbrev pub invariant-loop-name : goal.invariant-loop-name

@@ -1,6 +1,6 @@
 use Rattle.beldi_tree.proofs.Names.{ap, nat_cmp-IsAntisymmetric, nat_list_cmp_total, set_made, slice_cmp-IsAntisymmetric, ◌∙◌}
 use Rattle.beldi_tree.proofs.Names.map
-use Rattle.beldi_tree.proofs.variables.Variables.add.Goals as goal
+use Rattle.beldi_tree.proofs.many.Many.add.Goals as goal
 
 pub returns-clause-ok : goal.returns-clause-ok
 returns-clause-ok c =

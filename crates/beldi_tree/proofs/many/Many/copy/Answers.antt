@@ -1,7 +1,7 @@
 use Rattle.beldi_tree.proofs.Names.{Bindings, IsStrictlySortedBy, List, None, Option, Some, Value, ap, ap₂, get_made, is_at, keys_of, lookup, nat_cmp, nat_cmp-IsAntisymmetric, nat_list_cmp_total, option_or, refl, rules, slice_cmp, slice_cmp-IsAntisymmetric, subst, sym, ℕ, ◌∙◌, ◌∷◌, ◌≡◌}
 use Rattle.beldi_tree.proofs.Copies.{IsCopied, all_copied, one_copied}
 use Rattle.beldi_tree.proofs.Names.map
-use Rattle.beldi_tree.proofs.variables.Variables.copy.Goals as goal
+use Rattle.beldi_tree.proofs.many.Many.copy.Goals as goal
 
 -- what is left of a map where it has nothing, or a map with nothing
 nothing_more : (o : Option Value) → option_or o None ≡ o
