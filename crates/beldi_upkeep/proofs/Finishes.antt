@@ -13,7 +13,7 @@ use Rattle.beldi_known.specs.{Known.Known, Known.tx_end, Matches.Matches, Matche
 use Rattle.beldi_known.proofs.{Callers.all_called, Participants.decided_over, Rows.keys_set}
 use Rattle.beldi_step.specs.Run.{is_waited}
 use Rattle.beldi_laws.specs.Inside.{has_finish}
-use Rattle.beldi_upkeep.specs.{Callees.HasBody, Callees.Seats, Deadlines.IsNear, Deadlines.finish_in}
+use Rattle.beldi_upkeep.specs.{Callees.HasBody, Callees.Seats, Deadlines.IsNear, Work.IsUnfinished, Work.finish_in}
 use Rattle.beldi_known.proofs.Cases.{by_option}
 use Rattle.beldi_step.proofs.Runs.{same_some}
 
@@ -56,9 +56,6 @@ module _ (now life deadline : ℕ) (soon : deadline ≤ now + life) where
   came q room (Err v) m n is home i near = subst (λ l. IsNear life deadline (finish_in (map.get l (key_in home i)))) (sym (refused_stand q now room v m n is)) near
 
 -- ---- no row of an intent has a finish
-abbrev pub HasNone : Rows → IntentId → Type 0
-HasNone m i = (home : ℕ) → finish_in (map.get m (key_in home i)) ≡ None
-
 -- a finish is there, or none is
 has_it : (r : Option Row) → has_finish r ≡ false → finish_in r ≡ None
 has_it r h = grind arith
@@ -92,7 +89,7 @@ module _ (d : Deployment) (m : Rows) (known : Known) (locked : IntentId → Bool
       λ k. record { home = e k; kind = Kind.Intent i }
 
   -- so where that row has no finish, none has
-  pub none_at : (i : IntentId) (q : Instance) → map.get known i ≡ Some q → finish_in (map.get m (intent_key i q.func)) ≡ None → HasNone m i
+  pub none_at : (i : IntentId) (q : Instance) → map.get known i ≡ Some q → finish_in (map.get m (intent_key i q.func)) ≡ None → IsUnfinished m i
   none_at i q made none home = by_option (map.get m (key_in home i)) (λ e. ap finish_in e) (λ r e. ap (λ k. finish_in (map.get m k)) (one_home i q made home (ap is_some e)) ∙ none)
 
   -- ---- who has no outcome has no finish
@@ -131,7 +128,7 @@ module _ (d : Deployment) (m : Rows) (known : Known) (locked : IntentId → Bool
           by_tx q fits.0.made open_still b.tx (sym (ap (λ (z : Body). z.tx) fits.0.body)) (no_outcome (is_waited b.from) r.outcome q.outcome open_still fits.2) finishes
   callee_none home i (Some r) none fits = absurd fits
 
-  pub open_none : (i : IntentId) → outcome_of (map.get known i) ≡ None → HasNone m i
+  pub open_none : (i : IntentId) → outcome_of (map.get known i) ≡ None → IsUnfinished m i
   open_none i none home = by_root (has_no_hops i.hops) (h.keys (key_in home i))
     where
       by_root : (b : Bool) → IntentMatches (has_ended d known) b home (map.get m (key_in home i)) (map.get known i) → finish_in (map.get m (key_in home i)) ≡ None
@@ -154,7 +151,7 @@ module _ (d : Deployment) (m : Rows) (known : Known) (locked : IntentId → Bool
           by_tx b.tx (ap (λ (z : Body). z.tx) same ∙ out) (none r b refl has same) finishes
   outside_none home (Some r) q out none fits = absurd fits
 
-  pub sent_none : (i : IntentId) (q : Instance) → has_no_hops i.hops ≡ false → map.get known i ≡ Some q → q.within ≡ None → ((home : ℕ) (r : IntentRow) (b : Body) → HasBody m home i r b → b ≡ body_of q → r.outcome ≡ None) → HasNone m i
+  pub sent_none : (i : IntentId) (q : Instance) → has_no_hops i.hops ≡ false → map.get known i ≡ Some q → q.within ≡ None → ((home : ℕ) (r : IntentRow) (b : Body) → HasBody m home i r b → b ≡ body_of q → r.outcome ≡ None) → IsUnfinished m i
   sent_none i q hops made out none home =
       let k = key_in home i in
       outside_none home (map.get m k) q out (λ r b is body same. none home r b (record { there = is; body = body }) same)
@@ -165,7 +162,7 @@ module _ (d : Deployment) (m : Rows) (known : Known) (locked : IntentId → Bool
   owner_of t = all_called d known sane t (λ i q. (o : Instance) × (map.get known t.intent ≡ Some o) × (o.func ≡ t.func))
       (λ i q inner c outside own. (c.waiter, ap (map.get known) own.intent ∙ c.made, sym own.func_is)) (λ i q inner c up rest. rest)
 
-  pub owner_none : Seats m → (t : TxId) (home : ℕ) (i : IntentId) (r : IntentRow) (b : Body) → HasBody m home i r b → r.finish ≡ None → (q : Instance) → map.get known i ≡ Some q → b ≡ body_of q → b.tx ≡ Some t → HasNone m t.intent
+  pub owner_none : Seats m → (t : TxId) (home : ℕ) (i : IntentId) (r : IntentRow) (b : Body) → HasBody m home i r b → r.finish ≡ None → (q : Instance) → map.get known i ≡ Some q → b ≡ body_of q → b.tx ≡ Some t → IsUnfinished m t.intent
   owner_none seats t home i r b has none q made same inner =
       let o = owner_of t i q made (sym (ap (λ (z : Body). z.tx) same) ∙ inner) in
       none_at t.intent o.0 o.1 (ap (λ f. finish_in (map.get m (intent_key t.intent f))) o.2 ∙ has_it (map.get m (intent_key t.intent t.func)) (false_by (has_finish (map.get m (intent_key t.intent t.func))) (λ e. let clash = sym (ap is_some none) ∙ seats.ends_last t home i r b e has inner in cc)))

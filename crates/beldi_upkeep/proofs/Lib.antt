@@ -15,6 +15,7 @@ mod Functions
 mod Kept
 mod Leaving
 pub mod Nearness
+mod NewWork
 pub mod Notes
 mod Open
 pub mod Overs

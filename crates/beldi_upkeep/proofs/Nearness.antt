@@ -1,16 +1,16 @@
 -- Deadlines are near from the first moment on, and an event keeps them so.
 use Rattle.std.specs.FinMap as map
 use Rattle.std.specs.declared.alloc.AllocError.{AllocError}
-use Rattle.std.proofs.Common.{ℕ, ◌+◌, ◌≤◌, Result, refl, sym, subst, arith}
+use Rattle.std.proofs.Common.{inl, inr, ℕ, ◌+◌, ◌≤◌, Result, refl, sym, subst, arith}
 use Rattle.beldi_value.specs.declared.id.IntentId.{IntentId}
 use Rattle.beldi_tree.specs.declared.deployment.Deployment.{Deployment}
 use Rattle.beldi_row.specs.Table.{Rows}
 use Rattle.beldi_step.specs.Host.{Core, EventBy, Plan, asks, at_once, counted, plan, reads_all}
 use Rattle.beldi_step.specs.declared.{event.Event.Event, event.Seen.Seen}
 use Rattle.beldi_known.specs.Stands.{key_in}
-use Rattle.beldi_upkeep.specs.Deadlines.{BeginsNear, IsNear, KeepsNear, finish_in}
+use Rattle.beldi_upkeep.specs.{Deadlines.BeginsNear, Deadlines.IsNear, Deadlines.KeepsNear, Work.finish_in}
 use Rattle.beldi_step.proofs.{Given.IsSoon, Given.begins_soon, Given.last_ahead, Given.last_later, Given.no_run, Given.soon_turn, Runs.adds_by, Runs.after_event}
-use Rattle.beldi_upkeep.proofs.{Finishes.came, Workers.ToldSo, Workers.WorksNear, Workers.turn_near}
+use Rattle.beldi_upkeep.proofs.{Finishes.came, NewWork.new_work, Workers.ToldSo}
 
 pub begins_near : BeginsNear
 begins_near d newest now = record { soon = begins_soon d newest now; near = λ n r i home live. absurd (no_run n r live) }
@@ -25,9 +25,13 @@ rows_near d room old new e c b m n x reads_all s deadline soon home i near = sub
 pub keeps_near : KeepsNear
 keeps_near d room old new e c b m n x h seats near s =
     let soon = after_event (IsSoon d c) (ToldSo c m) d e c b near.soon (adds_by (IsSoon d c) (ToldSo c m) d e (counted c) (λ id f. omega arith) (λ i r live t told. soon_turn d c (ToldSo c m) near.soon i r live t)) x room old new m n (λ q. refl) s in
-    let worked = after_event (WorksNear d m) (ToldSo c m) d e c b (λ k r live i works home. near.near k r i home live works)
-    (adds_by (WorksNear d m) (ToldSo c m) d e (counted c) (λ id f i works. absurd works) (λ i r live t told. turn_near d c m h seats near i r live t told)) x room old new m n (λ q. refl) s in
     record {
       soon = λ k r live. let le = soon.runs k r live in let later = last_later c.now b.now d.life soon.later in omega (arith, le, later);
-      near = λ k r i home live works. rows_near d room old new e (counted c) b m n x (plan d e c) s r.deadline (let le = soon.runs k r live in let ahead = last_ahead c.now d.life in omega (arith, le, ahead)) home i (worked.runs k r live i works home);
+      near = λ k r i home live works.
+          let le = soon.runs k r live in
+          let ahead = last_ahead c.now d.life in
+          rows_near d room old new e (counted c) b m n x (plan d e c) s r.deadline (omega (arith, le, ahead)) home i (elim (new_work d room old new e c b m n x h seats s k r i live works) [
+            | inl w ↦ subst (λ t. IsNear d.life t (finish_in (map.get m (key_in home i)))) w.due (near.near w.number w.run i home w.live w.works)
+            | inr none ↦ subst (IsNear d.life r.deadline) (sym (none home)) tt
+          ]);
     }

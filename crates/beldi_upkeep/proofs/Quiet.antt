@@ -11,7 +11,7 @@ use Rattle.beldi_call.specs.declared.{async_call.AsyncAt.AsyncAt}
 use Rattle.beldi_step.specs.Run.{Turned, asks_at, ask_says, async_answer, async_here_asks, async_here_says, at_once, at_stage, back_says, begin_in, body_registered, call_answer, call_here_asks, call_here_says, callee_at, callee_body, callee_by, callee_of, close_says, decide_by_says, decide_here_says, decided_says, done_says, end_by_says, end_here_says, first_outside, first_stage, goes_from, goes_to, is_waited, once, open_after, place_of, put_answer, put_says, mark_if, run_asks, run_told, stage_asks, stage_says, step_mark, takes, takes_if, told_at, turned_by, tx_at, tx_here_says, tx_says, visit_says, walk_says, with_cause, within, write_says}
 use Rattle.beldi_step.specs.declared.run.{Mark.Mark, Run.Run, RunTx.RunTx, RunTx.TheVariants.Own, RunTx.TheVariants.Inherited, Says.Says, Stage.Stage, Wait.Wait}
 use Rattle.beldi_step.specs.Run as step
-use Rattle.beldi_upkeep.specs.{Deadlines.IsRegistered}
+use Rattle.beldi_upkeep.specs.Work.{IsRegistered}
 
 -- ---- where a run is to register a callee
 abbrev pub is_async : Stage → Bool

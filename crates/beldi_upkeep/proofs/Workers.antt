@@ -1,4 +1,4 @@
--- What a turn leaves works for nobody whose finish is more than a life before its deadline.
+-- What a turn leaves works for whom its run works for, or for who is unfinished.
 use Rattle.std.specs.FinMap as map
 use Rattle.std.proofs.Math.Seq.{take-append_seam}
 use Rattle.std.proofs.Common.{length, take, ◌≡◌, ◌⊎◌, inl, inr, ℕ, ◌+◌, ◌==◌, ◌||◌, Bool, true, false, Option, Some, None, is_some, if◌then◌else◌, eq-eqb, eqb-true, refl, ap, sym, ◌∙◌, subst, arith}
@@ -23,11 +23,11 @@ use Rattle.beldi_step.specs.Run.{Turned, asks_at, ask_says, async_answer, async_
 use Rattle.beldi_step.specs.declared.run.{Begun.Begun, Mark.Mark, Run.Run, RunAt.TheVariants.Looks, RunAt.TheVariants.Registers, RunAt.TheVariants.Begins, RunTx.RunTx, RunTx.TheVariants.Own, RunTx.TheVariants.Inherited, Says.Says, Stage.Stage, Wait.Wait}
 use Rattle.beldi_step.specs.declared.run.RunAt as standing
 use Rattle.beldi_step.specs.Run as step
-use Rattle.beldi_known.specs.{Known.Known, Owed.called_by, Owed.result_of, Rows.CallMatches, Rows.IntentMatches, Matches.has_ended, Stands.key_in}
+use Rattle.beldi_known.specs.{Known.Known, Owed.called_by, Owed.result_of, Rows.CallMatches, Rows.IntentMatches, Matches.has_ended}
 use Rattle.beldi_known.proofs.{Callers.called_in as was_called, Cases.by_option, Instances.row_of}
 use Rattle.beldi_laws.specs.Right.{Knows, KnowsAt, KnowsBody, Right, RunAt}
-use Rattle.beldi_upkeep.specs.{Callees.Seats, Deadlines.IsNear, Deadlines.IsOwner, Deadlines.IsRegistered, Deadlines.Near, Deadlines.WorksFor, Deadlines.called_in, Deadlines.finish_in}
-use Rattle.beldi_upkeep.proofs.Finishes.{HasNone, none_at, open_none, owner_none, sent_none}
+use Rattle.beldi_upkeep.specs.{Callees.Seats, Work.IsOwner, Work.IsRegistered, Work.IsUnfinished, Work.IsWorkedFor, Work.WorksFor, Work.called_in, Work.finish_in}
+use Rattle.beldi_upkeep.proofs.Finishes.{none_at, open_none, owner_none, sent_none}
 use Rattle.beldi_upkeep.proofs.Quiet.{CallsNobody, Quiet, is_async, not_async, not_first, quiet}
 use Rattle.beldi_step.proofs.Runs.{Leaves, either, same_some, starts_by}
 
@@ -108,40 +108,40 @@ opened_result now f w = grind arith
 looked_result : (now : ℕ) (w : Option Row) → result_in (call_in w) ≡ result_told (said (act Act.Look now w).1)
 looked_result now w = grind arith
 
--- ---- a deadline is near all finishes of an intent; and a run works for such alone
-abbrev pub NearTo : Deployment → Rows → ℕ → IntentId → Type 0
-NearTo d m deadline j = (home : ℕ) → IsNear d.life deadline (finish_in (map.get m (key_in home j)))
+-- ---- an intent was worked for by a run of this deadline, or is unfinished; and a run works for such alone
+abbrev pub MayWork : Core → Rows → ℕ → IntentId → Type 0
+MayWork c m deadline j = IsWorkedFor c deadline j ⊎ IsUnfinished m j
 
-abbrev pub WorksNear : Deployment → Rows → ℕ → Run → Type 0
-WorksNear d m n k = (j : IntentId) → WorksFor k k.at j → NearTo d m k.deadline j
+abbrev pub WorksSo : Core → Rows → ℕ → Run → Type 0
+WorksSo c m n k = (j : IntentId) → WorksFor k k.at j → MayWork c m k.deadline j
 
 -- what the table tells by these rows
 abbrev pub ToldSo : Core → Rows → Query → Told → Type 0
 ToldSo c m q t = t ≡ told_by q c.now m
 
 -- ---- a turn
-module _ (d : Deployment) (c : Core) (m : Rows) (h : Right d c m) (seats : Seats m) (near : Near d c m) where
-  free : (deadline : ℕ) (j : IntentId) → HasNone m j → NearTo d m deadline j
-  free deadline j none home = subst (IsNear d.life deadline) (sym (none home)) tt
+module _ (d : Deployment) (c : Core) (m : Rows) (h : Right d c m) (seats : Seats m) where
+  free : (deadline : ℕ) (j : IntentId) → IsUnfinished m j → MayWork c m deadline j
+  free deadline j none = inr none
 
   module _ (i : ℕ) (r : Run) (live : map.get c.runs i ≡ Some r) where
     abbrev Mine : IntentId → Type 0
-    Mine j = NearTo d m r.deadline j
+    Mine j = MayWork c m r.deadline j
 
-    abbrev GoesNear : Option Run → Type 0
-    GoesNear o = (k : Run) → o ≡ Some k → WorksNear d m i k
+    abbrev GoesSo : Option Run → Type 0
+    GoesSo o = (k : Run) → o ≡ Some k → WorksSo c m i k
 
     works : (at : standing.RunAt) → r.at ≡ at → (j : IntentId) → WorksFor r at j → Mine j
-    works at is j w home = near.near i r j home live (subst (λ x. WorksFor r x j) (sym is) w)
+    works at is j w = inl (record { number = i; run = r; live = live; works = subst (λ x. WorksFor r x j) (sym is) w; due = refl })
 
-    stands : (k : Run) → WorksNear d m i k → GoesNear (Some k)
-    stands k w x is = subst (WorksNear d m i) (same_some is) w
+    stands : (k : Run) → WorksSo c m i k → GoesSo (Some k)
+    stands k w x is = subst (WorksSo c m i) (same_some is) w
 
-    nobody : GoesNear None
+    nobody : GoesSo None
     nobody k over = cc
 
     -- ---- it goes on to its next effect
-    comes : (s : Machine × Option RunTx) (b : Option Caller) (mark : Option Mark) (w : Option Stage) → first_stage r.id b s.1 s.0.steps s.0.effect ≡ w → Mine r.id → ((t : TxId) → called_in s.1 ≡ Some t → Mine t.intent) → GoesNear (goes_from r s b mark w).next
+    comes : (s : Machine × Option RunTx) (b : Option Caller) (mark : Option Mark) (w : Option Stage) → first_stage r.id b s.1 s.0.steps s.0.effect ≡ w → Mine r.id → ((t : TxId) → called_in s.1 ≡ Some t → Mine t.intent) → GoesSo (goes_from r s b mark w).next
     comes s b mark None is own owner = nobody
     comes s b mark (Some w) is own owner = stands _ (λ j for. by_for j for)
       where
@@ -154,11 +154,11 @@ module _ (d : Deployment) (c : Core) (m : Rows) (h : Right d c m) (seats : Seats
         by_for j (inr (inl of)) = by_tx j (called_in s.1) refl of
         by_for j (inr (inr to)) = absurd (not_first r r.id b s.1 s.0.steps s.0.effect w j is to)
 
-    goes : (s : Machine × Option RunTx) (b : Option Caller) (mark : Option Mark) → Mine r.id → ((t : TxId) → called_in s.1 ≡ Some t → Mine t.intent) → GoesNear (goes_to d r s b mark).next
+    goes : (s : Machine × Option RunTx) (b : Option Caller) (mark : Option Mark) → Mine r.id → ((t : TxId) → called_in s.1 ≡ Some t → Mine t.intent) → GoesSo (goes_to d r s b mark).next
     goes s b mark own owner = let z = at_once d r.id s in comes z b mark (first_stage r.id b z.1 z.0.steps z.0.effect) refl own (λ t is. owner t (past_at_once d r.id s t is))
 
     -- ---- its first turn
-    begins : (f : Option Func) (b : Option Body) → ((x : Body) → b ≡ Some x → Mine r.id × ((t : TxId) → x.tx ≡ Some t → Mine t.intent)) → GoesNear (begin_in d r f b).next
+    begins : (f : Option Func) (b : Option Body) → ((x : Body) → b ≡ Some x → Mine r.id × ((t : TxId) → x.tx ≡ Some t → Mine t.intent)) → GoesSo (begin_in d r f b).next
     begins f None for = nobody
     begins None (Some b) for = nobody
     begins (Some f) (Some b) for = goes (machine_begun d r.func b.args (is_some b.tx), within b.tx) b.from None (for b refl).0 (λ t is. (for b refl).1 t (sym (begun_in b.tx) ∙ is))
@@ -183,10 +183,10 @@ module _ (d : Deployment) (c : Core) (m : Rows) (h : Right d c m) (seats : Seats
           λ t inner. free r.deadline t.intent (owner_none d m h.known h.locked h.rows h.sane seats t key.home r.id f.row b (record { there = f.is; body = f.body }) f.none q made.made made.body inner),
         )
 
-    looks : GoesNear (begin_in d r (func_at d r.func) (body_told r.func (told_by (asks_at r Looks) c.now m))).next
+    looks : GoesSo (begin_in d r (func_at d r.func) (body_told r.func (told_by (asks_at r Looks) c.now m))).next
     looks = begins (func_at d r.func) _ (λ b is. found b (found_row c.now r.func (map.get m (intent_key r.id r.func)) b is))
 
-    registers : (b : Body) → r.at ≡ Registers b → KnowsBody h.known r b → GoesNear (begin_in d r (func_at d r.func) (body_registered r.func b (told_by (asks_at r (Registers b)) c.now m))).next
+    registers : (b : Body) → r.at ≡ Registers b → KnowsBody h.known r b → GoesSo (begin_in d r (func_at d r.func) (body_registered r.func b (told_by (asks_at r (Registers b)) c.now m))).next
     registers b at k = begins (func_at d r.func) _ (λ x is. by_row (map.get m (intent_key r.id b.func)) refl x is)
       where
         its : Mine r.id → (x : Body) → b ≡ x → Mine r.id × ((t : TxId) → x.tx ≡ Some t → Mine t.intent)
@@ -213,11 +213,11 @@ module _ (d : Deployment) (c : Core) (m : Rows) (h : Right d c m) (seats : Seats
       owner : (t : TxId) → called_in g.tx ≡ Some t → Mine t.intent
       owner t is = works (Begins g) at t.intent (inr (inl (subst (λ o. IsOwner o t.intent) (sym is) refl)))
 
-      -- whom it is to register next is near
+      -- whom it is to register next may be worked for
       abbrev Registering : Stage → Type 0
       Registering w = (j : IntentId) → IsRegistered r g.machine.steps g.machine.effect w j → Mine j
 
-      at_next : (w : Stage) → Registering w → GoesNear (Some (record r { at = Begins (at_stage g w) }))
+      at_next : (w : Stage) → Registering w → GoesSo (Some (record r { at = Begins (at_stage g w) }))
       at_next w to = stands _ (λ j for. by_for j for)
         where
           by_for : (j : IntentId) → (j ≡ r.id) ⊎ (IsOwner (called_in g.tx) j ⊎ IsRegistered r g.machine.steps g.machine.effect w j) → Mine j
@@ -228,14 +228,14 @@ module _ (d : Deployment) (c : Core) (m : Rows) (h : Right d c m) (seats : Seats
       elsewhere : (w : Stage) → is_async w ≡ false → Registering w
       elsewhere w off j to = absurd (not_async r g.machine.steps g.machine.effect w j off to)
 
-      answers : (a : Answer) (mark : Option Mark) → GoesNear (goes_to d r (takes d g.machine g.tx a) g.caller mark).next
+      answers : (a : Answer) (mark : Option Mark) → GoesSo (goes_to d r (takes d g.machine g.tx a) g.caller mark).next
       answers a mark = goes (takes d g.machine g.tx a) g.caller mark own (λ t is. owner t (opened g.machine.steps g.machine.effect a g.tx t is))
 
-      abbrev SaysNear : Says → Type 0
-      SaysNear (Says.On w mark) = Registering w
-      SaysNear x = Unit {0}
+      abbrev SaysSo : Says → Type 0
+      SaysSo (Says.On w mark) = Registering w
+      SaysSo x = Unit {0}
 
-      says : (x : Says) → SaysNear x → GoesNear (turned_by d r g x).next
+      says : (x : Says) → SaysSo x → GoesSo (turned_by d r g x).next
       says (Says.On w mark) to = at_next w to
       says Says.Stays to = stands _ (λ j for. works (Begins g) at j for)
       says (Says.Opens mark) to = at_next (Stage.Call CallAt.Look) (elsewhere (Stage.Call CallAt.Look) refl)
@@ -245,8 +245,8 @@ module _ (d : Deployment) (c : Core) (m : Rows) (h : Right d c m) (seats : Seats
       says (Says.Ends mark o) to = nobody
 
       -- a run of what it calls: a caller that waits is in the callee's transaction, or owns it
-      callee_near : (e : Effect) → g.machine.effect ≡ e → ((f : ℕ) (v : Value) → e ≡ Effect.Call f v → HasNone m (child_of r.id g.machine.steps)) → (k : Run) → callee_by r g.tx g.machine.steps e ≡ Some k → WorksNear d m (c.last_run + 1) k
-      callee_near (Effect.Call f v) is none k starts = by_hops (has_callees r.id) starts
+      callee_so : (e : Effect) → g.machine.effect ≡ e → ((f : ℕ) (v : Value) → e ≡ Effect.Call f v → IsUnfinished m (child_of r.id g.machine.steps)) → (k : Run) → callee_by r g.tx g.machine.steps e ≡ Some k → WorksSo c m (c.last_run + 1) k
+      callee_so (Effect.Call f v) is none k starts = by_hops (has_callees r.id) starts
         where
           callee : Run
           callee = record { id = child_of r.id g.machine.steps; func = f; deadline = r.deadline; at = Registers (callee_body r.id r.func g.machine.steps f v (tx_at r.id r.func g.tx) true) }
@@ -260,15 +260,15 @@ module _ (d : Deployment) (c : Core) (m : Rows) (h : Right d c m) (seats : Seats
           for j (inl same) = subst Mine (sym same) (free r.deadline (child_of r.id g.machine.steps) (none f v refl))
           for j (inr of) = in_tx g.tx refl j of
 
-          by_hops : (b : Bool) → (if b then Some callee else None) ≡ Some k → WorksNear d m (c.last_run + 1) k
-          by_hops true same = subst (WorksNear d m (c.last_run + 1)) (same_some same) for
+          by_hops : (b : Bool) → (if b then Some callee else None) ≡ Some k → WorksSo c m (c.last_run + 1) k
+          by_hops true same = subst (WorksSo c m (c.last_run + 1)) (same_some same) for
           by_hops false same = cc
-      callee_near (Effect.Async f v) is none k starts = by_hops (has_callees r.id) starts
+      callee_so (Effect.Async f v) is none k starts = by_hops (has_callees r.id) starts
         where
-          by_hops : (b : Bool) → (if b then Some (record { id = child_of r.id g.machine.steps; func = f; deadline = r.deadline; at = Looks }) else None) ≡ Some k → WorksNear d m (c.last_run + 1) k
-          by_hops true same = subst (WorksNear d m (c.last_run + 1)) (same_some same) (λ j of. absurd of)
+          by_hops : (b : Bool) → (if b then Some (record { id = child_of r.id g.machine.steps; func = f; deadline = r.deadline; at = Looks }) else None) ≡ Some k → WorksSo c m (c.last_run + 1) k
+          by_hops true same = subst (WorksSo c m (c.last_run + 1)) (same_some same) (λ j of. absurd of)
           by_hops false same = cc
-      callee_near e is none k starts = cc
+      callee_so e is none k starts = cc
 
       -- which of what a stage says may start it
       starts_none : (s : Machine × Option RunTx) (b : Option Caller) (mark : Option Mark) → starts_by (goes_to d r s b mark).wait (goes_to d r s b mark).starts ≡ false
@@ -289,25 +289,25 @@ module _ (d : Deployment) (c : Core) (m : Rows) (h : Right d c m) (seats : Seats
       quiet_starts (Says.Answers a mark) q = starts_none (takes d g.machine g.tx a) g.caller mark
       quiet_starts (Says.Ends mark o) q = refl
 
-      quiet_near : (x : Says) → Quiet x → SaysNear x
-      quiet_near (Says.On w mark) q = elsewhere w q
-      quiet_near Says.Stays q = tt
-      quiet_near (Says.Opens mark) q = tt
-      quiet_near (Says.Starts a) q = tt
-      quiet_near (Says.Waits w) q = tt
-      quiet_near (Says.Answers a mark) q = tt
-      quiet_near (Says.Ends mark o) q = tt
+      quiet_so : (x : Says) → Quiet x → SaysSo x
+      quiet_so (Says.On w mark) q = elsewhere w q
+      quiet_so Says.Stays q = tt
+      quiet_so (Says.Opens mark) q = tt
+      quiet_so (Says.Starts a) q = tt
+      quiet_so (Says.Waits w) q = tt
+      quiet_so (Says.Answers a mark) q = tt
+      quiet_so (Says.Ends mark o) q = tt
 
-      abbrev LeavesNear : Says → Type 0
-      LeavesNear x = Leaves (WorksNear d m) (ToldSo c m) i (c.last_run + 1) r (turned_by d r g x)
+      abbrev LeavesSo : Says → Type 0
+      LeavesSo x = Leaves (WorksSo c m) (ToldSo c m) i (c.last_run + 1) r (turned_by d r g x)
 
       -- where no run starts
-      quietly : (x : Says) → Quiet x → LeavesNear x
-      quietly x q = record { goes = says x (quiet_near x q); calls = λ starts. let clash = sym (quiet_starts x q) ∙ starts in cc }
+      quietly : (x : Says) → Quiet x → LeavesSo x
+      quietly x q = record { goes = says x (quiet_so x q); calls = λ starts. let clash = sym (quiet_starts x q) ∙ starts in cc }
 
       -- .. and where one may
-      with_callee : (x : Says) → SaysNear x → (starts_by (turned_by d r g x).wait (turned_by d r g x).starts ≡ true → (f : ℕ) (v : Value) → g.machine.effect ≡ Effect.Call f v → HasNone m (child_of r.id g.machine.steps)) → LeavesNear x
-      with_callee x near none = record { goes = says x near; calls = λ starts k is. callee_near g.machine.effect refl (none starts) k (sym (ap (callee_at r) at) ∙ is) }
+      with_callee : (x : Says) → SaysSo x → (starts_by (turned_by d r g x).wait (turned_by d r g x).starts ≡ true → (f : ℕ) (v : Value) → g.machine.effect ≡ Effect.Call f v → IsUnfinished m (child_of r.id g.machine.steps)) → LeavesSo x
+      with_callee x to none = record { goes = says x to; calls = λ starts k is. callee_so g.machine.effect refl (none starts) k (sym (ap (callee_at r) at) ∙ is) }
 
       -- ---- the row of a call, and what it owes
       module _ (k : Knows d h.known r g) where
@@ -337,18 +337,18 @@ module _ (d : Deployment) (c : Core) (m : Rows) (h : Right d c m) (seats : Seats
         not_made : (j : Instance) → map.get h.known child ≡ Some j → call_row ≡ None → ⊥
         not_made j there none = let clash = subst (λ w. CallMatches w (Some (j.func, result_of j))) none (owed_known j there) in cc
 
-        absent_free : call_row ≡ None → HasNone m child
+        absent_free : call_row ≡ None → IsUnfinished m child
         absent_free none = open_none d m h.known h.locked h.rows h.sane child (by_option (map.get h.known child) (λ e. ap outcome_of e) (λ j e. absurd (not_made j e none)))
 
         -- one that is waited for has its outcome once its call has a result
-        result_free : (f : ℕ) (v : Value) → g.machine.effect ≡ Effect.Call f v → result_in (call_in call_row) ≡ None → HasNone m child
+        result_free : (f : ℕ) (v : Value) → g.machine.effect ≡ Effect.Call f v → result_in (call_in call_row) ≡ None → IsUnfinished m child
         result_free f v is none = open_none d m h.known h.locked h.rows h.sane child (by_option (map.get h.known child) (λ e. ap outcome_of e) (λ j e. ap outcome_of e ∙ by_row j e call_row (owed_known j e) none))
           where
             by_row : (j : Instance) → map.get h.known child ≡ Some j → (w : Option Row) → CallMatches w (Some (j.func, result_of j)) → result_in (call_in w) ≡ None → j.outcome ≡ None
             by_row j there w owed none = waited_for j (its_caller true f v is j there).0 (no_result w (j.func, result_of j) owed none)
 
         -- any other its outcome only once its call is registered
-        sent_free : (f : ℕ) (v : Value) → g.machine.effect ≡ Effect.Async f v → (x : InvokeRow) → call_row ≡ Some (Row.Invoke x) → x.registered ≡ false → HasNone m child
+        sent_free : (f : ℕ) (v : Value) → g.machine.effect ≡ Effect.Async f v → (x : InvokeRow) → call_row ≡ Some (Row.Invoke x) → x.registered ≡ false → IsUnfinished m child
         sent_free f v is x there new home = by_option (map.get h.known child) (λ e. open_none d m h.known h.locked h.rows h.sane child (ap outcome_of e) home)
             (λ j e.
             let its = its_caller false f v is j e in
@@ -356,66 +356,66 @@ module _ (d : Deployment) (c : Core) (m : Rows) (h : Right d c m) (seats : Seats
             (λ home s b has same. seats.registered r.func r.id g.machine.steps x home s b there new has (ap (λ (z : Body). is_waited z.from) same ∙ its.0)) home)
 
         -- ---- a call that is waited for
-        call_by : (f : ℕ) (v : Value) → g.machine.effect ≡ Effect.Call f v → (o : Option Outcome) → result_in (call_in call_row) ≡ o → (b : Bool) → LeavesNear (call_answer r.id g.tx g.machine.steps (open_says b o)) × LeavesNear (call_answer r.id g.tx g.machine.steps (look_says o))
+        call_by : (f : ℕ) (v : Value) → g.machine.effect ≡ Effect.Call f v → (o : Option Outcome) → result_in (call_in call_row) ≡ o → (b : Bool) → LeavesSo (call_answer r.id g.tx g.machine.steps (open_says b o)) × LeavesSo (call_answer r.id g.tx g.machine.steps (look_says o))
         call_by f v is None none b = (with_callee (Says.Opens (step_mark g.tx b)) tt (λ starts f v is. result_free f v is none), with_callee (Says.Waits (Wait.Result child)) tt (λ starts f v is. result_free f v is none))
         call_by f v is (Some u) some b = (quietly (Says.Answers (answer_of u) None) tt, quietly (Says.Answers (answer_of u) None) tt)
 
-        call_leaves : (e : Effect) → g.machine.effect ≡ e → (at : CallAt) → LeavesNear (call_here_says r.id g.tx g.machine.steps e at (told_by (call_here_asks r.id r.func g.machine.steps e at) c.now m))
-        call_leaves (Effect.Call f v) is at = either LeavesNear (has_callees r.id) _ _ (λ t. by_at at) (λ t. quietly (Says.Ends None None) tt)
+        call_leaves : (e : Effect) → g.machine.effect ≡ e → (at : CallAt) → LeavesSo (call_here_says r.id g.tx g.machine.steps e at (told_by (call_here_asks r.id r.func g.machine.steps e at) c.now m))
+        call_leaves (Effect.Call f v) is at = either LeavesSo (has_callees r.id) _ _ (λ t. by_at at) (λ t. quietly (Says.Ends None None) tt)
           where
-            by_at : (at : CallAt) → LeavesNear (call_answer r.id g.tx g.machine.steps (call_says f at (told_by (call_asks r.func (place_of r.id g.machine.steps) f at) c.now m)))
+            by_at : (at : CallAt) → LeavesSo (call_answer r.id g.tx g.machine.steps (call_says f at (told_by (call_asks r.func (place_of r.id g.machine.steps) f at) c.now m)))
             by_at CallAt.Open = let t = said (act (Act.OpenInvoke f) c.now call_row).1 in (call_by f v is (invoked_of f t).result (opened_result c.now f call_row) (invoked_of f t).added).0
             by_at CallAt.Look = (call_by f v is (result_told (said (act Act.Look c.now call_row).1)) (looked_result c.now call_row) true).1
         call_leaves e is at = quietly (Says.Ends None None) tt
 
         -- ---- a call that nobody waits for
         module _ (f : ℕ) (v : Value) (is : g.machine.effect ≡ Effect.Async f v) where
-          registering : HasNone m child → Registering (Stage.Async AsyncAt.Register)
+          registering : IsUnfinished m child → Registering (Stage.Async AsyncAt.Register)
           registering none j to = subst Mine (sym (subst (λ e. IsRegistered r g.machine.steps e (Stage.Async AsyncAt.Register) j) is to)) (free r.deadline child none)
 
           noting : Registering (Stage.Async AsyncAt.Note)
           noting j to = absurd (subst (λ e. IsRegistered r g.machine.steps e (Stage.Async AsyncAt.Note) j) is to)
 
-          opens : (x : InvokeRow) (b : Bool) → call_row ≡ Some (Row.Invoke x) → x.registered ≡ b → (added : Bool) → LeavesNear (async_answer AsyncAt.Open (sent_says added b))
+          opens : (x : InvokeRow) (b : Bool) → call_row ≡ Some (Row.Invoke x) → x.registered ≡ b → (added : Bool) → LeavesSo (async_answer AsyncAt.Open (sent_says added b))
           opens x true there e added = quietly (Says.Answers Answer.Done None) tt
           opens x false there e added = with_callee (Says.On (Stage.Async AsyncAt.Register) (mark_if added Mark.Step)) (registering (sent_free f v is x there e)) (λ starts f v call home. cc)
 
-          open_at : (w : Option Row) → call_row ≡ w → CallMatches w (called_by r.func (Some k.instance) (map.get h.known child)) → LeavesNear (async_answer AsyncAt.Open (async_says f AsyncAt.Open (said (act (Act.OpenInvoke f) c.now w).1)))
+          open_at : (w : Option Row) → call_row ≡ w → CallMatches w (called_by r.func (Some k.instance) (map.get h.known child)) → LeavesSo (async_answer AsyncAt.Open (async_says f AsyncAt.Open (said (act (Act.OpenInvoke f) c.now w).1)))
           open_at None there owed = with_callee (Says.On (Stage.Async AsyncAt.Register) (Some Mark.Step)) (registering (absent_free there)) (λ starts f v call home. cc)
           open_at (Some (Row.Invoke x)) there owed = opens x x.registered there refl false
           open_at (Some w) there owed = absurd owed
 
-          notes : (b : back.Back) → LeavesNear (async_answer AsyncAt.Note (note_says b))
+          notes : (b : back.Back) → LeavesSo (async_answer AsyncAt.Note (note_says b))
           notes back.TheVariants.Set = with_callee (Says.Starts Answer.Done) tt (λ starts f v call home. let clash = sym is ∙ call in cc)
           notes back.TheVariants.AlreadySet = with_callee (Says.Starts Answer.Done) tt (λ starts f v call home. let clash = sym is ∙ call in cc)
           notes back.TheVariants.Absent = with_callee (Says.On (Stage.Async AsyncAt.Note) None) noting (λ starts f v call home. cc)
 
-          async_at : (at : AsyncAt) → LeavesNear (async_answer at (async_says f at (told_by (async_asks r.func (place_of r.id g.machine.steps) (callee_body r.id r.func g.machine.steps f v None false) at) c.now m)))
+          async_at : (at : AsyncAt) → LeavesSo (async_answer at (async_says f at (told_by (async_asks r.func (place_of r.id g.machine.steps) (callee_body r.id r.func g.machine.steps f v None false) at) c.now m)))
           async_at AsyncAt.Open = open_at call_row refl owed
           async_at AsyncAt.Register = with_callee (Says.On (Stage.Async AsyncAt.Note) None) noting (λ starts f v call home. cc)
           async_at AsyncAt.Note = notes _
 
-          async_hops : (at : AsyncAt) (b : Bool) → LeavesNear (if b then async_answer at (async_says f at (told_by (if b then async_asks r.func (place_of r.id g.machine.steps) (callee_body r.id r.func g.machine.steps f v None false) at else look_asks r.id r.func) c.now m)) else Says.Ends None None)
+          async_hops : (at : AsyncAt) (b : Bool) → LeavesSo (if b then async_answer at (async_says f at (told_by (if b then async_asks r.func (place_of r.id g.machine.steps) (callee_body r.id r.func g.machine.steps f v None false) at else look_asks r.id r.func) c.now m)) else Says.Ends None None)
           async_hops at true = async_at at
           async_hops at false = quietly (Says.Ends None None) tt
 
-        async_leaves : (e : Effect) → g.machine.effect ≡ e → (at : AsyncAt) → LeavesNear (async_here_says r.id e at (told_by (async_here_asks r.id r.func g.machine.steps e at) c.now m))
+        async_leaves : (e : Effect) → g.machine.effect ≡ e → (at : AsyncAt) → LeavesSo (async_here_says r.id e at (told_by (async_here_asks r.id r.func g.machine.steps e at) c.now m))
         async_leaves (Effect.Async f v) is at = async_hops f v is at (has_callees r.id)
         async_leaves e is at = quietly (Says.Ends None None) tt
 
-        calls_nobody : (changes : ℕ) (w : Stage) (t : Told) → CallsNobody w → LeavesNear (stage_says r.id r.func g.caller g.tx changes g.machine.steps g.machine.effect w t)
+        calls_nobody : (changes : ℕ) (w : Stage) (t : Told) → CallsNobody w → LeavesSo (stage_says r.id r.func g.caller g.tx changes g.machine.steps g.machine.effect w t)
         calls_nobody changes w t nobody = quietly (stage_says r.id r.func g.caller g.tx changes g.machine.steps g.machine.effect w t) (quiet r.id r.func g.caller g.tx changes g.machine.steps g.machine.effect w t nobody)
 
-        by_stage : (changes : ℕ) (w : Stage) → LeavesNear (stage_says r.id r.func g.caller g.tx changes g.machine.steps g.machine.effect w (told_by (stage_asks r.id r.func g.caller g.tx g.machine.steps g.machine.effect w) c.now m))
+        by_stage : (changes : ℕ) (w : Stage) → LeavesSo (stage_says r.id r.func g.caller g.tx changes g.machine.steps g.machine.effect w (told_by (stage_asks r.id r.func g.caller g.tx g.machine.steps g.machine.effect w) c.now m))
         by_stage changes (Stage.Call at) = call_leaves g.machine.effect refl at
         by_stage changes (Stage.Async at) = async_leaves g.machine.effect refl at
         by_stage changes w = calls_nobody changes w (told_by (stage_asks r.id r.func g.caller g.tx g.machine.steps g.machine.effect w) c.now m) tt
 
     -- ---- whatever it stands at
-    at_turn : (changes : ℕ) (at : standing.RunAt) → r.at ≡ at → KnowsAt d m h.plain c.book h.known r at → Leaves (WorksNear d m) (ToldSo c m) i (c.last_run + 1) r (told_at d changes r at (told_by (asks_at r at) c.now m))
+    at_turn : (changes : ℕ) (at : standing.RunAt) → r.at ≡ at → KnowsAt d m h.plain c.book h.known r at → Leaves (WorksSo c m) (ToldSo c m) i (c.last_run + 1) r (told_at d changes r at (told_by (asks_at r at) c.now m))
     at_turn changes Looks at k = record { goes = looks; calls = λ starts k is. absurd (calls_none Looks at (λ g e. cc) k is) }
     at_turn changes (Registers b) at k = record { goes = registers b at k; calls = λ starts k is. absurd (calls_none (Registers b) at (λ g e. cc) k is) }
     at_turn changes (Begins g) at k = by_stage g at k.0 changes g.stage
 
-    pub turn_near : (t : Told) → ToldSo c m (run_asks r) t → Leaves (WorksNear d m) (ToldSo c m) i (c.last_run + 1) r (run_told d (count_changes c.book) r t)
-    turn_near t told = subst (λ u. Leaves (WorksNear d m) (ToldSo c m) i (c.last_run + 1) r (run_told d (count_changes c.book) r u)) (sym told) (at_turn (count_changes c.book) r.at refl (subst (RunAt d m h.plain c.book h.known) live (h.runs.runs i)))
+    pub turn_works : (t : Told) → ToldSo c m (run_asks r) t → Leaves (WorksSo c m) (ToldSo c m) i (c.last_run + 1) r (run_told d (count_changes c.book) r t)
+    turn_works t told = subst (λ u. Leaves (WorksSo c m) (ToldSo c m) i (c.last_run + 1) r (run_told d (count_changes c.book) r u)) (sym told) (at_turn (count_changes c.book) r.at refl (subst (RunAt d m h.plain c.book h.known) live (h.runs.runs i)))

@@ -1,45 +1,19 @@
 -- How far ahead the deadlines of live runs are.
-use Rattle.std.specs.Prelude.{◌≡◌, ◌⊎◌, ℕ, ◌+◌, ◌≤◌, Option, Some, None, Result}
+use Rattle.std.specs.Prelude.{◌≡◌, ℕ, ◌+◌, ◌≤◌, Option, Some, None, Result}
 use Rattle.std.specs.declared.alloc.AllocError.{AllocError}
 use Rattle.std.specs.FinMap as map
-use Rattle.beldi_value.specs.{Id.child_of, declared.id.IntentId.IntentId, declared.place.TxId.TxId}
+use Rattle.beldi_value.specs.declared.id.IntentId.{IntentId}
 use Rattle.beldi_tree.specs.declared.deployment.Deployment.{Deployment}
-use Rattle.beldi_lang.specs.declared.effect.Effect.{Effect}
-use Rattle.beldi_row.specs.{Table.Rows, declared.row.Row.Row}
-use Rattle.beldi_call.specs.declared.async_call.AsyncAt.{AsyncAt}
-use Rattle.beldi_step.specs.{declared.event.Event.Event, declared.event.Seen.Seen, declared.run.Run.Run, declared.run.RunAt.TheVariants.Looks, declared.run.RunAt.TheVariants.Registers, declared.run.RunAt.TheVariants.Begins, declared.run.RunTx.RunTx, declared.run.RunTx.TheVariants.Inherited, declared.run.Stage.Stage, Deadlines.AreSoon, Host.Core, Host.EventOn, Host.first_core}
-use Rattle.beldi_step.specs.declared.run.RunAt as standing
+use Rattle.beldi_row.specs.Table.{Rows}
+use Rattle.beldi_step.specs.{declared.event.Event.Event, declared.event.Seen.Seen, declared.run.Run.Run, Deadlines.AreSoon, Host.Core, Host.EventOn, Host.first_core}
 use Rattle.beldi_known.specs.Stands.{key_in}
 use Rattle.beldi_laws.specs.Right.{Right}
-use Rattle.beldi_upkeep.specs.Callees.{Seats}
-
--- ---- finishes
-abbrev pub finish_in : Option Row → Option ℕ
-finish_in (Some (Row.Intent i)) = i.finish
-finish_in r = None
+use Rattle.beldi_upkeep.specs.{Callees.Seats, Work.WorksFor, Work.finish_in}
 
 -- a deadline that is at most a life past a finish, where there is one
 abbrev pub IsNear : ℕ → ℕ → Option ℕ → Type 0
 IsNear life deadline None = Unit {0}
 IsNear life deadline (Some f) = deadline ≤ f + life
-
--- ---- whom a run works for: its own intent, the owner of the transaction that it was called in, and the callee that it is to register
-abbrev pub IsOwner : Option TxId → IntentId → Type 0
-IsOwner None i = ⊥
-IsOwner (Some t) i = i ≡ t.intent
-
-abbrev pub called_in : Option RunTx → Option TxId
-called_in (Some (Inherited t)) = Some t
-called_in o = None
-
-abbrev pub IsRegistered : Run → ℕ → Effect → Stage → IntentId → Type 0
-IsRegistered r step (Effect.Async g a) (Stage.Async AsyncAt.Register) i = i ≡ child_of r.id step
-IsRegistered r step e s i = ⊥
-
-abbrev pub WorksFor : Run → standing.RunAt → IntentId → Type 0
-WorksFor r Looks i = ⊥
-WorksFor r (Registers b) i = (i ≡ r.id) ⊎ IsOwner b.tx i
-WorksFor r (Begins g) i = (i ≡ r.id) ⊎ (IsOwner (called_in g.tx) i ⊎ IsRegistered r g.machine.steps g.machine.effect g.stage i)
 
 pub record Near (d : Deployment) (c : Core) (m : Rows) : Type 0 where
   -- a deadline is at most a life ahead ..

@@ -18,6 +18,9 @@
 //! whom the run works for: its own intent, the owner of the transaction that it was called in, and the callee that it is to register
 //! (`begins_near`, `an_event_keeps_deadlines`).
 //!
+//! These stand on what is proved of whom runs work for (`specs/Work`): after an event each live run works for whom a run of its deadline
+//! worked for before, or for who had no finish (`no_run_begins_to_work_for_the_finished`).
+//!
 //! All that every event keeps is one record, `Upkeep` (`specs/Upkeep`: `begins_upkept`, `an_event_keeps_upkeep`).
 //!
 //! Proved of a deployment that passed the checks, whose requests are of its functions (`specs/Checked`):
@@ -34,12 +37,13 @@
 //!   a short id (`callers_are_short`): so each effect is carried out (`effects_are_carried_out`).
 //!
 //! Files:
-//! - Code (`src/`): `callees`, `deadlines`, `checked`, `upkeep` one function a law, with no body.
+//! - Code (`src/`): `callees`, `deadlines`, `work`, `checked`, `upkeep` one function a law, with no body.
 //! - Lemmas of callees (`proofs/`): `Shapes` what an event does to rows and runs; `CellActs`, `RowSets`, `SeatRows` what an act leaves;
 //!   `StageSays`, `SaysOwe` what a run owes by its stage; `FirstTurns`, `TurnRows`, `EndRows`, `TurnKeeps` turns; `PastEnds`, `PastOwn`,
 //!   `EndsLast` that an owner ends last; `RowNotes` that the notes of an item are those of its rows; `Leaving`, `FromRight`, `CallLaws`,
 //!   `Upkept`; `Together` all of it.
-//! - Of deadlines: `Finishes` which rows have a finish; `Quiet` stages that call nobody, `Workers` what a turn leaves; `Nearness`.
+//! - Of work and deadlines: `Finishes` which rows have a finish; `Quiet` stages that call nobody, `Workers` what a turn leaves; `NewWork`;
+//!   `Nearness`.
 //! - Of deployments: `Kept` what an event keeps at each key, `Asked` what a run asks of rows, `Roots`, `Started`;
 //!   `Sites` and `Frees` by induction on the body; `Functions` the function of a name, `Edges` and `Chains` that calls lead to no
 //!   function twice; `Open` and `Notes` what a run is in and finds; `Carried`, `Stranded` the next effect; `Firsts`, `Overs`, `Still` a turn.
@@ -49,6 +53,7 @@ mod callees;
 mod checked;
 mod deadlines;
 mod upkeep;
+mod work;
 
 pub use callees::{
     an_event_keeps_past_calls, an_event_keeps_seats, asynchronous_calls_are_registered,
@@ -65,3 +70,4 @@ pub use checked::{
 };
 pub use deadlines::{an_event_keeps_deadlines, begins_near};
 pub use upkeep::{an_event_keeps_upkeep, begins_upkept};
+pub use work::no_run_begins_to_work_for_the_finished;
