@@ -158,7 +158,7 @@ module _ (d : Deployment) (m : Rows) (known : Known) (locked : IntentId → Bool
       (subst (CalleeMatches (has_ended d known) home (map.get m k)) made (subst (λ b. IntentMatches (has_ended d known) b home (map.get m k) (map.get known i)) hops (h.keys k)))
 
   -- ---- nor the owner of a transaction, where one who took part has none
-  owner_of : (t : TxId) (i : IntentId) (q : Instance) → map.get known i ≡ Some q → q.within ≡ Some t → (o : Instance) × (map.get known t.intent ≡ Some o) × (o.func ≡ t.func)
+  pub owner_of : (t : TxId) (i : IntentId) (q : Instance) → map.get known i ≡ Some q → q.within ≡ Some t → (o : Instance) × (map.get known t.intent ≡ Some o) × (o.func ≡ t.func)
   owner_of t = all_called d known sane t (λ i q. (o : Instance) × (map.get known t.intent ≡ Some o) × (o.func ≡ t.func))
       (λ i q inner c outside own. (c.waiter, ap (map.get known) own.intent ∙ c.made, sym own.func_is)) (λ i q inner c up rest. rest)
 

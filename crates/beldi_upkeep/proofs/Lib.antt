@@ -1,4 +1,5 @@
 mod Asked
+mod Asking
 mod CallLaws
 mod Carried
 mod CellActs
@@ -12,6 +13,7 @@ mod Firsts
 mod Frees
 pub mod FromRight
 mod Functions
+mod GivenBack
 mod Kept
 mod Leaving
 pub mod Nearness

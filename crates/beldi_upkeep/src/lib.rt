@@ -18,8 +18,13 @@
 //! whom the run works for: its own intent, the owner of the transaction that it was called in, and the callee that it is to register
 //! (`begins_near`, `an_event_keeps_deadlines`).
 //!
-//! These stand on what is proved of whom runs work for (`specs/Work`): after an event each live run works for whom a run of its deadline
-//! worked for before, or for who had no finish (`no_run_begins_to_work_for_the_finished`).
+//! Proved of whom runs work for (`specs/Work`), what the deadlines stand on:
+//! - After an event each live run works for whom a run of its deadline worked for before, or for who had no finish
+//!   (`no_run_begins_to_work_for_the_finished`).
+//! - Whom a run works for, and who called it, was bound (`whom_a_run_works_for_is_bound`).
+//! - A row that a run asks for is an item's, or of whom it works for; or it is its own one before it has begun, its caller's call, or that
+//!   of who is visited at an end (`runs_ask_for_rows_of_their_work`). A run that is to give its outcome to a caller that is finished
+//!   finds it given (`finished_callers_were_given_back`).
 //!
 //! All that every event keeps is one record, `Upkeep` (`specs/Upkeep`: `begins_upkept`, `an_event_keeps_upkeep`).
 //!
@@ -42,8 +47,8 @@
 //!   `StageSays`, `SaysOwe` what a run owes by its stage; `FirstTurns`, `TurnRows`, `EndRows`, `TurnKeeps` turns; `PastEnds`, `PastOwn`,
 //!   `EndsLast` that an owner ends last; `RowNotes` that the notes of an item are those of its rows; `Leaving`, `FromRight`, `CallLaws`,
 //!   `Upkept`; `Together` all of it.
-//! - Of work and deadlines: `Finishes` which rows have a finish; `Quiet` stages that call nobody, `Workers` what a turn leaves; `NewWork`;
-//!   `Nearness`.
+//! - Of work and deadlines: `Finishes` which rows have a finish; `Quiet` stages that call nobody, `Workers` what a turn leaves; `NewWork`,
+//!   `GivenBack`, `Asking`; `Nearness`.
 //! - Of deployments: `Kept` what an event keeps at each key, `Asked` what a run asks of rows, `Roots`, `Started`;
 //!   `Sites` and `Frees` by induction on the body; `Functions` the function of a name, `Edges` and `Chains` that calls lead to no
 //!   function twice; `Open` and `Notes` what a run is in and finds; `Carried`, `Stranded` the next effect; `Firsts`, `Overs`, `Still` a turn.
@@ -70,4 +75,7 @@ pub use checked::{
 };
 pub use deadlines::{an_event_keeps_deadlines, begins_near};
 pub use upkeep::{an_event_keeps_upkeep, begins_upkept};
-pub use work::no_run_begins_to_work_for_the_finished;
+pub use work::{
+    finished_callers_were_given_back, no_run_begins_to_work_for_the_finished,
+    runs_ask_for_rows_of_their_work, whom_a_run_works_for_is_bound,
+};
