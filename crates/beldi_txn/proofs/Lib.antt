@@ -1,5 +1,6 @@
 pub mod Beside
 pub mod Calls
+mod Closed
 pub mod Levels
 pub mod Locks
 mod Names

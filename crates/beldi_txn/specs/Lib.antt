@@ -1,3 +1,4 @@
+pub mod Closed
 pub mod End
 pub mod Invokes
 pub mod Tx

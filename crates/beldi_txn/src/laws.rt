@@ -1,4 +1,5 @@
 // The laws of the walks, and of their queries.
+ghost use Rattle.beldi_txn.specs.Closed.{ClosedArePassed};
 ghost use Rattle.beldi_txn.specs.Invokes.{CallsFollow};
 ghost use Rattle.beldi_txn.specs.TxTurn.{OperationsAreSo, OperationsBegin};
 ghost use Rattle.beldi_txn.specs.Visited.{EndsAreVisits, OtherWalksLeave, VisitsBegin, VisitsStand};
@@ -43,4 +44,10 @@ pub fn a_visit_begins()
 /// A turn of another walk of the same end is among what an end bears (`a_visit_stands`): so two walks may end one transaction side by side.
 pub fn another_walk_leaves_the_end()
     ensures { OtherWalksLeave }
+{}
+
+/// A visit may pass over a participant that is closed: its calls, its locks and its stamp, as if none of these rows were there, and it
+/// may go to any of them that is.
+pub fn the_closed_are_passed()
+    ensures { ClosedArePassed }
 {}

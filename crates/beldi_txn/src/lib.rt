@@ -4,7 +4,7 @@
 //! Its definitions: `specs/Tx` (what an operation asks, and what follows from what it is told) and `specs/TxWalk`; `specs/TxTurn`
 //! (what its turn leaves, and that what it answers is so of the rows); `specs/Invokes` (the calls of an intent, one after another) and
 //! `specs/Way` (the calls that lead to a participant); `specs/End` (the end, and its walk) and `specs/Visited` (that it visits all who
-//! took part). The transaction's own copy of an item is called its shadow there.
+//! took part), `specs/Closed` (that it may pass over who is closed). The transaction's own copy of an item is called its shadow there.
 //!
 //! The end keeps the decision, and then visits the owner. To visit an intent is to visit each of its callees, in the order of its
 //! steps, by the rows of its calls (the owner's between the transaction's begin and its end); then to give back each item that it
@@ -34,13 +34,13 @@
 //!   (`an_end_is_a_visit`). The participants are those that the rows of calls lead to. That stands whatever else changes in the rows,
 //!   where that adds no call and no lock of those who take part, takes no finish away, and makes the transaction the owner of nothing
 //!   (`a_visit_stands`): a turn of another walk of the same end is such a change (`another_walk_leaves_the_end`). And it is so from
-//!   the start (`a_visit_begins`).
+//!   the start (`a_visit_begins`), and stays so where the end passes over rows of a participant that is closed (`the_closed_are_passed`).
 //!
 //! Files:
 //! - Code (`src/`): `tx` what an operation of a transaction asks, and what follows, for walks and runs; `tx_walk` its walk,
 //!   for calls; `end` the end of a transaction, which visits the owner and all that took part, `end_walk` its walk, `way` the
 //!   calls on the way to who is visited, `invokes` the calls of an intent; `laws`.
-//! - Lemmas (`proofs/`): `TxTurn`; `Visited`, `Levels`, `Calls`, `Locks`; `Beside` another walk of the same end.
+//! - Lemmas (`proofs/`): `TxTurn`; `Visited`, `Levels`, `Calls`, `Locks`; `Beside` another walk of the same end; `Closed` who is passed over.
 #![tactic(auto)]
 
 mod end;
@@ -56,7 +56,7 @@ pub use end_walk::EndWalk;
 pub use invokes::{invokes_query, invokes_told};
 pub use laws::{
     a_visit_begins, a_visit_stands, an_end_is_a_visit, an_operation_begins, an_operation_is_so,
-    another_walk_leaves_the_end, the_next_call_is_found,
+    another_walk_leaves_the_end, the_closed_are_passed, the_next_call_is_found,
 };
 pub use tx::{TxAt, TxGoes, TxSays, tx_query, tx_told};
 pub use tx_walk::TxWalk;
