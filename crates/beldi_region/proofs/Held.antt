@@ -4,15 +4,15 @@ use Rattle.std.specs.FinMap as fin
 use Rattle.std.proofs.lemmas.Bool.{cases_eq}
 use Rattle.std.proofs.lemmas.Cmp.{tied_itself}
 use Rattle.std.proofs.lemmas.List.{get_or-map}
-use Rattle.std.proofs.lemmas.Option.{slice_get-map}
+use Rattle.std.proofs.lemmas.Option.{slice_get-map, slice_get_within, get_or_from_slice_get}
 use lib.ListN.{length-map}
 use Rattle.std.proofs.lemmas.List.Elements.{All-from_recursion, recursion_from_All}
-use Rattle.std.proofs.Common.{◌≡◌, ◌≢◌, ◌⊎◌, inl, inr, ℕ, ◌+◌, ◌-◌, ◌<◌, Bool, true, false, cond, List, [], ◌∷◌, length, map, Option, Some, None, Ok, is_some, IsTrue, IfSome, refl, subst, ap, sym, ◌∙◌, slice_index_or, slice_get, insert, option_map, arith}
+use Rattle.std.proofs.Common.{◌≡◌, ◌≢◌, ◌⊎◌, inl, inr, ℕ, ◌+◌, ◌-◌, ◌<◌, Bool, true, false, cond, List, [], ◌∷◌, length, map, Option, Some, None, Ok, is_some, IsTrue, IfSome, refl, subst, ap, sym, ◌∙◌, slice_index_or, slice_get, insert, option_map, arith, true≢false}
 use Rattle.beldi_row.{specs.Key.RowKey, specs.Key.key_cmp, specs.KeyOrder.key_total, specs.KeyOrder.key_exact, specs.Table.first_above, specs.Table.next_row, specs.Table.LeadsOn, specs.Act.Changes, specs.declared.row.Row.Row, specs.declared.act.Act.Act, specs.declared.act.Change.Change, proofs.Rows.get_rows, proofs.Rows.one_set, proofs.Rows.entries_rows, proofs.Rows.len_rows}
 use Rattle.beldi_value.specs.declared.place.Place.{Place}
 use Rattle.beldi_table.{specs.MapTable.ChangedOn, proofs.Changes.there}
 use Rattle.beldi_region.specs.{Region.SeenRegion, Region.find, Region.spaces, Region.PutAt, Region.Changed, Order.pair_of, Order.pair_at, Order.pairs, Order.rows_in, Order.seat, Order.slot_of, Order.side, Order.IsPast, Order.IsGap, Order.IsOrdered, Order.IsHeld, Follows.Follows, declared.region.SlotId.SlotId, declared.order.Entry.Entry}
-use Rattle.beldi_region.proofs.{Seen.same_id, Lists.all_map, Lists.any_default, Lists.map_same, Lists.map_inserted, Lists.all_inserted, Lists.length_inserted, Lists.IsBetween, Lists.rising_inserted, Lists.absent, Lists.lookup_inserted, Past.IsFirstPast, Past.first_at}
+use Rattle.beldi_region.proofs.{Seen.same_id, Lists.all_map, Lists.any_default, Lists.map_same, Lists.map_inserted, Lists.all_inserted, Lists.length_inserted, Lists.IsBetween, Lists.rising_inserted, Lists.absent, Lists.lookup_inserted, Past.IsFirstPast, Past.first_at, Past.less_of}
 
 pub nowhere : SlotId
 nowhere = record { slot = 0; generation = 0 }
@@ -39,7 +39,7 @@ tied k q h = key_exact k q ((Equal-is (key_cmp k q)).0 h)
 pub tied_self : (k : RowKey) → is_at (key_cmp k) k ≡ true
 tied_self k = ap is_eq (tied_itself key_total k)
 
-by_side : (k : RowKey) (e : Option Entry) → side k e ≡ Equal → (x : Entry) × (e ≡ Some x) × (k ≡ x.key)
+pub by_side : (k : RowKey) (e : Option Entry) → side k e ≡ Equal → (x : Entry) × (e ≡ Some x) × (k ≡ x.key)
 by_side k None h = cc
 by_side k (Some x) h = (x, refl, key_exact k x.key h)
 
@@ -57,15 +57,17 @@ some_of (Some x) h = (x, refl)
 pub taken_all : (r : SeenRegion Entry) (ids : List SlotId) → IsOrdered r ids → AllByRecursion (λ j. IsTrue (is_some (find r j))) ids
 taken_all r ids h = recursion_from_All (λ j. IsTrue (is_some (find r j))) ids h.taken
 
+-- a slot that stands at a place has a row
+pub taken_at : (r : SeenRegion Entry) (ids : List SlotId) (i : ℕ) (id : SlotId) → IsOrdered r ids → slice_get ids i ≡ Some id → find r id ≡ None → ⊥
+taken_at r ids i id h at gone =
+    let there : IsTrue (is_some (find r (slice_index_or ids i id))) = h.taken i id (slice_get_within ids i id at) in
+    let none : is_some (find r (slice_index_or ids i id)) ≡ false = ap (λ j. is_some (find r j)) (get_or_from_slice_get ids i id id at) ∙ ap is_some gone in
+    true≢false (sym there ∙ none)
+
 greater : (o : Ordering) → is_lt o ≡ false → is_eq o ≡ false → o ≡ Greater
 greater Less h n = cc
 greater Equal h n = cc
 greater Greater h n = refl
-
-less : (o : Ordering) → is_lt o ≡ true → o ≡ Less
-less Less h = refl
-less Equal h = cc
-less Greater h = cc
 
 -- a place past a key, where the slot before it has not this key
 pub gap_past : (r : SeenRegion Entry) (ids : List SlotId) (k : RowKey) (p : ℕ) → IsPast r ids k p → ((j : ℕ) (d : SlotId) → j + 1 ≡ p → is_eq (side k (find r (slice_index_or ids j d))) ≡ false) → IsGap r ids k p
@@ -73,7 +75,7 @@ gap_past r ids k p h n =
     record {
       fits = h.fits;
       below = λ j d e. greater _ (h.below j d e) (n j d e);
-      above = λ d l. less _ (h.above d l);
+      above = λ d l. less_of _ (h.above d l);
     }
 
 pub gap_before : (r : SeenRegion Entry) (ids : List SlotId) (k : RowKey) (p : ℕ) (id : SlotId) → IsPast r ids k p → 0 < p → id ≡ slice_index_or ids (p - 1) id → is_eq (side k (find r id)) ≡ false → IsGap r ids k p

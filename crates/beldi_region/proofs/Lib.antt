@@ -1,10 +1,13 @@
 mod Alike
 mod Along
 mod Counts
+mod Flat
 mod Free
 mod Held
+mod Kept
 mod Listed
 mod Lists
 mod Moved
 mod Past
 mod Seen
+mod Spots

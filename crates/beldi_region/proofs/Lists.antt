@@ -68,19 +68,19 @@ module _ {K : Type 0} {R : K → K → Ordering} (o : IsTotalOrder R) where
     pub below : (j : ℕ) (d : K) → j + 1 ≡ p → R k (slice_index_or ks j d) ≡ Greater
     pub above : (d : K) → p < length ks → R k (slice_index_or ks p d) ≡ Less
 
-  less_of : (x y : K) → R x y ≡ Greater → R y x ≡ Less
-  less_of x y h = o.antisymm y x ∙ ap ordering_reverse h
+  lesser : (x y : K) → R x y ≡ Greater → R y x ≡ Less
+  lesser x y h = o.antisymm y x ∙ ap ordering_reverse h
 
   greater_of : (x y : K) → R x y ≡ Less → R y x ≡ Greater
   greater_of x y h = o.antisymm y x ∙ ap ordering_reverse h
 
   -- the first key is lesser, where the place is behind it
   first_below : (k : K) (p : ℕ) (y : K) (ys : List K) → IsStrictlySortedBy R (y ∷ ys) → IsBetween k (suc p) (y ∷ ys) → R y k ≡ Less
-  first_below k zero y ys s b = less_of k y (b.below 0 y (omega arith))
+  first_below k zero y ys s b = lesser k y (b.below 0 y (omega arith))
   first_below k (suc p) y ys s b =
       let fits : suc (suc p) ≤ suc (length ys) = b.fits in
       let z = slice_index_or ys p y in
-      o.trans y z k (at_each (λ x. R y x ≡ Less) ys p y (omega (arith, fits)) (sorted_head R y ys s)) (less_of k z (b.below (suc p) y (omega arith)))
+      o.trans y z k (at_each (λ x. R y x ≡ Less) ys p y (omega (arith, fits)) (sorted_head R y ys s)) (lesser k z (b.below (suc p) y (omega arith)))
 
   later : (k : K) (p : ℕ) (y : K) (ys : List K) → IsBetween k (suc p) (y ∷ ys) → IsBetween k p ys
   later k p y ys b =

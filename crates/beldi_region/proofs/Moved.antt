@@ -4,7 +4,7 @@ use Rattle.std.proofs.lemmas.Cmp.{tied_itself}
 use Rattle.std.proofs.lemmas.List.{take_more, get_or-map, get_or-take, get_or_default, length-take-le, take-map}
 use Rattle.std.proofs.lemmas.Map.Keys.{Less-from_sorted}
 use lib.ListN.{length-map}
-use Rattle.std.proofs.Common.{◌≡◌, ℕ, ◌+◌, ◌<◌, ◌≤◌, List, [], ◌∷◌, ◌++◌, length, take, Some, refl, subst, ap, sym, ◌∙◌, slice_index_or, insert, arith}
+use Rattle.std.proofs.Common.{◌≡◌, ℕ, ◌+◌, ◌<◌, ◌≤◌, false, List, [], ◌∷◌, ◌++◌, length, take, Some, None, is_some, IsTrue, refl, subst, ap, sym, ◌∙◌, slice_index_or, insert, arith, true≢false}
 use Rattle.beldi_row.{specs.Key.RowKey, specs.Key.key_cmp, specs.KeyOrder.key_total, specs.declared.row.Row.Row}
 use Rattle.beldi_region.specs.{Region.SeenRegion, Region.find, Region.Taken, Order.pair_of, Order.pair_at, Order.pairs, Order.side, Order.IsGap, Order.IsHeld, declared.region.SlotId.SlotId, declared.order.Entry.Entry}
 use Rattle.beldi_region.proofs.Held.{nowhere, key_of, length_keys, side_of}
@@ -21,6 +21,13 @@ pub moved_length : (r s : SeenRegion Entry) (ids js : List SlotId) (i : ℕ) →
 moved_length r s ids js i fits moved =
     let all = length-map ids (pair_at r) in
     sym (length-map js (pair_at s)) ∙ ap length moved ∙ length-take-le i (pairs r ids) (omega (arith, fits, all))
+
+-- it is still there
+pub not_gone : (r now : SeenRegion Entry) (ids : List SlotId) (i : ℕ) (id : SlotId) → IsHeld r ids → i < length ids → id ≡ slice_index_or ids i id → StillThere r now ids i → find now id ≡ None → ⊥
+not_gone r now ids i id l fits at still gone =
+    let there : IsTrue (is_some (find r (slice_index_or ids i id))) = l.ordered.taken i id fits in
+    let none : is_some (find r (slice_index_or ids i id)) ≡ false = ap is_some (sym (still i id (omega arith) fits) ∙ ap (find now) (sym at) ∙ gone) in
+    true≢false (sym there ∙ none)
 
 -- the next one is taken out of a region now, which was r
 module _ (r now rest : SeenRegion Entry) (ids : List SlotId) (i : ℕ) (id : SlotId) (x : Entry) (l : IsHeld r ids) (fits : i < length ids) (at : id ≡ slice_index_or ids i id) (still : StillThere r now ids i) (out : Taken now rest id x) where

@@ -1,8 +1,9 @@
 -- What the calls of a region do, where one slot changes.
-use Rattle.std.proofs.Common.{◌≡◌, ◌≢◌, ℕ, ◌+◌, ◌<◌, Bool, true, false, Option, Some, None, is_some, IsSomeAnd, count_by, nat_eq, refl, sym, subst, ap, ap₂, if◌then◌else◌, ◌∙◌, inl, inr, arith}
-use Rattle.std.proofs.lemmas.Bool.{cases_eq, ne_eqb, eq-eqb}
+use Rattle.std.proofs.Common.{◌≡◌, ◌≢◌, ℕ, ◌+◌, ◌<◌, Bool, true, false, List, length, get_or, Option, Some, None, is_some, IsSomeAnd, count_by, nat_eq, refl, sym, subst, ap, ap₂, if◌then◌else◌, ◌∙◌, inl, inr, arith}
+use Rattle.std.proofs.lemmas.Bool.{cases_eq, cases_lt, ne_eqb, eq-eqb}
+use Rattle.std.proofs.lemmas.List.{get_or_past, get_or-set_same, get_or-set_other}
 use Rattle.std.proofs.lemmas.Bool.Decides.{eqb_tells}
-use Rattle.beldi_region.specs.Region.{SeenSlot, SeenRegion, slot_at, value_of, find, is_usable, spaces, Beside, PutAt, Taken}
+use Rattle.beldi_region.specs.Region.{SeenSlot, SeenRegion, slot_at, value_of, find, is_usable, spaces, with_value, Beside, PutAt, Taken, Changed}
 use Rattle.beldi_region.specs.declared.region.SlotId.{SlotId}
 use Rattle.beldi_region.proofs.Counts.{weight, one_moves}
 
@@ -103,4 +104,29 @@ module _ {V : Type 0} where
         stale = subst (Later id.generation) (sym one.after) (omega arith);
         beside = beside old new id (Some was) (Some is) one (record { values = λ g n. freed g is refl ∙ sym (other_value was g n); stale = λ g s. omega (arith, s) });
         spaces = omega (arith, written, usable, one.room);
+      }
+
+  slot_within : (xs : List (Option (SeenSlot V))) (k : ℕ) (s : SeenSlot V) → get_or xs k None ≡ Some s → k < length xs
+  slot_within xs k s h = elim (cases_lt k (length xs)) [
+    | inl l ↦ l
+    | inr g ↦ absurd (let none = get_or_past xs k None g in cc)
+  ]
+
+  pub changes : (r : SeenRegion V) (id : SlotId) (v : V) → is_some (find r id) ≡ true → Changed r (with_value r id v) id v
+  changes r id v taken =
+      let has = seen_found r id taken in
+      let was : SeenSlot V = record { generation = id.generation; value = Some has.0 } in
+      let is : SeenSlot V = record { generation = id.generation; value = Some v } in
+      let one : OneSlot r (with_value r id v) id.slot (Some was) (Some is) = record {
+        before = has.1;
+        after = get_or-set_same r.slots id.slot (Some is) None (slot_within r.slots id.slot was has.1);
+        others = λ other n. get_or-set_other r.slots id.slot other (Some is) None n;
+        room = refl;
+      } in
+      let written = moves is_some refl r (with_value r id v) id.slot (Some was) (Some is) one in
+      let usable = moves is_usable refl r (with_value r id v) id.slot (Some was) (Some is) one in
+      record {
+        found = ap (λ o. value_of o id.generation) one.after ∙ own_value is;
+        beside = beside r (with_value r id v) id (Some was) (Some is) one (record { values = λ g n. other_value is g n ∙ sym (other_value was g n); stale = λ g s. s });
+        spaces = omega (arith, written, usable);
       }

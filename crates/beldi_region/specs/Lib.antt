@@ -1,4 +1,6 @@
+pub mod Blocks
 pub mod Follows
+pub mod Ids
 pub mod Lends
 pub mod Order
 pub mod Region

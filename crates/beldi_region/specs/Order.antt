@@ -1,8 +1,8 @@
 -- Slots in the order of the keys of their rows.
-use Rattle.std.specs.Prelude.{◌≡◌, ◌≢◌, ℕ, ◌+◌, ◌<◌, ◌≤◌, true, false, List, length, map, Option, Some, None, Result, Ok, Err, slice_index_or, is_some, IsTrue, All}
+use Rattle.std.specs.Prelude.{◌≡◌, ◌≢◌, ℕ, ◌+◌, ◌<◌, ◌≤◌, Bool, true, false, List, length, map, Option, Some, None, Result, Ok, Err, slice_get, slice_index_or, is_some, IsTrue, All}
 use Rattle.std.specs.{FinMap.from_entries, List.Sorted.IsStrictlySortedBy, Map.lookup, Map.keys_of, BTreeMap.is_at, Ordering.is_lt, declared.cmp.Ordering.Ordering, declared.cmp.Ordering.TheVariants.Less, declared.cmp.Ordering.TheVariants.Equal, declared.cmp.Ordering.TheVariants.Greater}
 use Rattle.beldi_row.specs.{Key.RowKey, Key.key_cmp, Key.least_key, Table.Rows, Table.is_open, declared.row.Row.Row}
-use Rattle.beldi_region.specs.{Region.SeenRegion, Region.find, Region.spaces, declared.region.SlotId.SlotId, declared.order.Entry.Entry}
+use Rattle.beldi_region.specs.{Region.SeenRegion, Region.find, Region.spaces, Blocks.block_at, declared.region.SlotId.SlotId, declared.order.Entry.Entry}
 
 -- the key and the row in a slot; what stands for a slot that has none is of no account
 abbrev pub pair_of : Option Entry → RowKey × Row
@@ -36,6 +36,20 @@ pub record IsPast (r : SeenRegion Entry) (ids : List SlotId) (k : RowKey) (place
   pub fits : place ≤ length ids
   pub below : (j : ℕ) (d : SlotId) → j + 1 ≡ place → is_lt (side k (find r (slice_index_or ids j d))) ≡ false
   pub above : (d : SlotId) → place < length ids → is_lt (side k (find r (slice_index_or ids place d))) ≡ true
+
+-- whether a block begins with a greater key; one without slots does
+abbrev pub is_past : SeenRegion Entry → RowKey → Option SlotId → Bool
+is_past r k None = true
+is_past r k (Some id) = is_lt (side k (find r id))
+
+abbrev pub begins_past : SeenRegion Entry → RowKey → List SlotId → Bool
+begins_past r k b = is_past r k (slice_get b 0)
+
+-- of the blocks on both sides of a place, the one before it begins with no greater key, and the one behind it with one
+pub record IsBlockPast (r : SeenRegion Entry) (bs : List (List SlotId)) (k : RowKey) (place : ℕ) : Type 0 where
+  pub fits : place ≤ length bs
+  pub below : (j : ℕ) → j + 1 ≡ place → begins_past r k (block_at bs j) ≡ false
+  pub above : place < length bs → begins_past r k (block_at bs place) ≡ true
 
 -- the one before it has a lesser key, and the one behind it a greater one
 pub record IsGap (r : SeenRegion Entry) (ids : List SlotId) (k : RowKey) (place : ℕ) : Type 0 where

@@ -1,10 +1,10 @@
 -- The rows of a table over a region.
 use Rattle.std.specs.Prelude.{◌≡◌, ℕ, Some, None, Result, Ok, Err, IsErrOf}
 use Rattle.beldi_row.specs.{Key.RowKey, Act.Tell, Act.tell_of, Table.Rows, Table.TableState, Table.Acted, declared.act.Act.Act, declared.act.Said.Said, declared.table.TableErr.TableErr, declared.table.TableErr.TheVariants.OutOfMemory}
-use Rattle.beldi_region.specs.{Order.rows_in, declared.region_table.RegionTable.RegionTable}
+use Rattle.beldi_region.specs.{Order.rows_in, Ids.ids_of, declared.region_table.RegionTable.RegionTable}
 
 abbrev pub rows_of : RegionTable → Rows
-rows_of t = rows_in t.region t.index.ids.items
+rows_of t = rows_in t.region (ids_of t.index)
 
 -- it never fails, and counts no calls
 abbrev pub region_state : RegionTable → TableState

@@ -1,6 +1,7 @@
 // Which slots have open intents.
-ghost use Rattle.std.specs.Prelude.{◌≡◌, false, IsTrue, is_some, vec_capacity};
+ghost use Rattle.std.specs.Prelude.{◌≡◌, false, IsTrue, is_some};
 ghost use Rattle.beldi_region.specs.Region.{find};
+ghost use Rattle.beldi_region.specs.Ids.{ids_of};
 ghost use Rattle.beldi_region.specs.Order.{IsListed, IsListedBut, IsWithin};
 
 use crate::order::{Entry, Order};
@@ -11,11 +12,11 @@ use beldi_table::is_open;
 #[inline(always)]
 pub(crate) fn follow(opened: &mut Order, region: &Region<Entry>, id: SlotId, switched: bool)
     requires taken { IsTrue (is_some (find region.now id)) }
-    requires within { IsWithin region.now (vec_capacity opened.old.ids) }
-    requires listed { IsListedBut id region.now opened.old.ids.items }
-    requires stays { switched ≡ false → IsListed region.now opened.old.ids.items }
-    ensures listed { IsListed region.now opened.new.ids.items }
-    ensures capacity { vec_capacity opened.new.ids ≡ vec_capacity opened.old.ids }
+    requires within { IsWithin region.now opened.old.room }
+    requires listed { IsListedBut id region.now (ids_of opened.old) }
+    requires stays { switched ≡ false → IsListed region.now (ids_of opened.old) }
+    ensures listed { IsListed region.now (ids_of opened.new) }
+    ensures room { opened.new.room ≡ opened.old.room }
 {
     if switched {
         list(opened, region, id);
@@ -25,23 +26,23 @@ pub(crate) fn follow(opened: &mut Order, region: &Region<Entry>, id: SlotId, swi
 // The slot is listed where its row is that of an open intent, and else it is not.
 fn list(opened: &mut Order, region: &Region<Entry>, id: SlotId)
     requires taken { IsTrue (is_some (find region.now id)) }
-    requires within { IsWithin region.now (vec_capacity opened.old.ids) }
-    requires listed { IsListedBut id region.now opened.old.ids.items }
-    ensures listed { IsListed region.now opened.new.ids.items }
-    ensures capacity { vec_capacity opened.new.ids ≡ vec_capacity opened.old.ids }
+    requires within { IsWithin region.now opened.old.room }
+    requires listed { IsListedBut id region.now (ids_of opened.old) }
+    ensures listed { IsListed region.now (ids_of opened.new) }
+    ensures room { opened.new.room ≡ opened.old.room }
 {
     match region.get(id) {
         Ok(entry) => {
             let wanted = is_open(entry.key.kind(), &entry.row);
             match opened.place_of(region, &entry.key) {
-                Ok(place) => {
+                Ok(spot) => {
                     if !wanted {
-                        opened.remove(place);
+                        opened.remove(spot);
                     }
                 }
-                Err(place) => {
+                Err(spot) => {
                     if wanted {
-                        opened.insert(place, id);
+                        opened.insert(spot, id);
                     }
                 }
             }

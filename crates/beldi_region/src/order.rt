@@ -1,8 +1,10 @@
 // Slots in the order of the keys of their rows.
-ghost use Rattle.std.specs.Prelude.{◌≡◌, ◌<◌, ◌≤◌, [], IfOk, length, vec_capacity, insert, remove};
+ghost use Rattle.std.specs.Prelude.{◌≡◌, ◌+◌, ◌-◌, ◌*◌, ◌<◌, ◌≤◌, [], IfOk, IfErr, IfSome, length, insert, remove, slice_get, option_map};
 ghost use Rattle.beldi_region.specs.Region.{find};
-ghost use Rattle.beldi_region.specs.Order.{side, IsPast, Places, Finds};
+ghost use Rattle.beldi_region.specs.Blocks.{AreTight, tight_prop, flat, half_room, IsAt, IsSpot};
+ghost use Rattle.beldi_region.specs.Order.{side, IsBlockPast, IsPast, Places, Finds};
 
+use crate::blocks::{Blocks, Spot};
 use crate::region::{Region, SlotId};
 use beldi_row::{Row, RowKey};
 use std::alloc::{AllocError, Global};
@@ -28,38 +30,59 @@ pub(crate) fn side(region: &Region<Entry>, id: SlotId, key: &RowKey) -> Ordering
 /// The slots of a table, in the order of their keys. No slot occurs twice.
 #[derive(Drop)]
 pub struct Order {
-    pub(crate) ids: Vec<SlotId>,
+    pub(crate) blocks: Blocks,
+    len: u32,
+    room: u32,
+    ghost tight: { AreTight half_room blocks.lists } by { tight_prop half_room blocks.lists },
+    ghost count: { len ≡ length (flat blocks.lists) },
+    // There is a block for each 32 slots of the room, and two more: so one is spare wherever there is room for a slot.
+    ghost wide: { room ≤ 32 * (length blocks.lists + blocks.spares - 2) },
 }
 
 impl Order {
-    /// No slots, and no room for any.
+    ghost use Rattle.beldi_region.specs.Ids.{ids_of, place_of, placed, found};
+
+    /// No slots, and no room for any. It takes no memory.
     pub(crate) fn new(alloc: Global) -> Order
-        ensures { result.ids.items ≡ [] }
+        ensures ids { ids_of result ≡ [] }
+        ensures room { result.room ≡ 0 }
     {
         Order {
-            ids: Vec::new(alloc),
+            blocks: Blocks::new(alloc),
+            len: 0,
+            room: 0,
         }
     }
 
     /// No slots, with room for so many.
     pub(crate) fn with_room(alloc: Global, room: u32) -> Result<Order, AllocError>
-        ensures none { IfOk result (λ o. o.ids.items ≡ []) }
-        ensures room { IfOk result (λ o. room ≤ vec_capacity o.ids) }
+        ensures ids { IfOk result (λ o. ids_of o ≡ []) }
+        ensures room { IfOk result (λ o. o.room ≡ room) }
     {
+        // Two blocks side by side have more than 64 slots.
         Ok(Order {
-            ids: Vec::with_capacity(alloc, room as usize)?,
+            blocks: Blocks::with_spares(alloc, room as usize / 32 + 3)?,
+            len: 0,
+            room,
         })
     }
 
-    /// The place behind all slots whose keys are not greater than this one.
-    pub(crate) fn past(&self, region: &Region<Entry>, key: &RowKey) -> usize
-        ensures { IsPast region.now self.now.ids.items key.now result }
+    /// How many slots there are.
+    pub(crate) fn len(&self) -> u32
+        ensures { result ≡ length (ids_of self.now) }
+    {
+        self.len
+    }
+
+    // The place behind all blocks that begin with a key that is not greater than this one.
+    fn block_past(&self, region: &Region<Entry>, key: &RowKey) -> usize
+        ensures { IsBlockPast region.now self.now.blocks.lists key.now result }
     {
         let mut low = 0;
-        let mut high = self.ids.len();
+        let mut high = self.blocks.len();
         while low < high {
             let middle = low + (high - low) / 2;
-            if side(region, self.ids[middle], key).is_lt() {
+            if self.blocks.get(middle).begins_past(region, key) {
                 high = middle;
             } else {
                 low = middle + 1;
@@ -68,46 +91,112 @@ impl Order {
         low
     }
 
-    /// The place of the slot with a key, or else the place where it is to stand.
-    pub(crate) fn place_of(&self, region: &Region<Entry>, key: &RowKey) -> Result<usize, usize>
-        ensures { Places region.now self.now.ids.items key.now result }
+    /// The place behind all slots whose keys are not greater than this one.
+    pub(crate) fn past(&self, region: &Region<Entry>, key: &RowKey) -> Spot
+        ensures spot { IsSpot self.now.blocks.lists result }
+        ensures first { result.at ≡ 0 → place_of self.now result ≡ 0 }
+        ensures past { IsPast region.now (ids_of self.now) key.now (place_of self.now result) }
     {
-        let place = self.past(region, key);
-        if place > 0 {
-            let id = self.ids[place - 1];
-            if side(region, id, key).is_eq() {
-                return Ok(place - 1);
+        let behind = self.block_past(region, key);
+        if behind == 0 {
+            return Spot { block: 0, at: 0 };
+        }
+        let block = behind - 1;
+        Spot {
+            block,
+            at: self.blocks.get(block).past(region, key),
+        }
+    }
+
+    /// The place of the slot with a key, or else the place where it is to stand.
+    pub(crate) fn place_of(&self, region: &Region<Entry>, key: &RowKey) -> Result<Spot, Spot>
+        ensures at { IfOk result (IsAt self.now.blocks.lists) }
+        ensures spot { IfErr result (IsSpot self.now.blocks.lists) }
+        ensures places { Places region.now (ids_of self.now) key.now (placed self.now result) }
+    {
+        let spot = self.past(region, key);
+        if spot.at > 0 {
+            let last = Spot {
+                block: spot.block,
+                at: spot.at - 1,
+            };
+            if let Some(id) = self.blocks.slot(last) {
+                if side(region, id, key).is_eq() {
+                    return Ok(last);
+                }
             }
         }
-        Err(place)
+        Err(spot)
     }
 
     /// The slot of the row with a key, or else the place where it is to stand.
-    pub(crate) fn find(&self, region: &Region<Entry>, key: &RowKey) -> Result<SlotId, usize>
-        ensures { Finds region.now self.now.ids.items key.now result }
+    pub(crate) fn find(&self, region: &Region<Entry>, key: &RowKey) -> Result<SlotId, Spot>
+        ensures spot { IfErr result (IsSpot self.now.blocks.lists) }
+        ensures finds { Finds region.now (ids_of self.now) key.now (found self.now result) }
     {
         match self.place_of(region, key) {
-            Ok(place) => Ok(self.ids[place]),
-            Err(place) => Err(place),
+            Ok(spot) => match self.blocks.slot(spot) {
+                Some(id) => Ok(id),
+                None => unreachable!(),
+            },
+            Err(spot) => Err(spot),
+        }
+    }
+
+    /// The slot behind a place, and the place behind it.
+    pub(crate) fn next(&self, spot: Spot) -> Option<(SlotId, Spot)>
+        requires { IsSpot self.now.blocks.lists spot }
+        ensures slot { option_map (λ n. n.0) result ≡ slice_get (ids_of self.now) (place_of self.now spot) }
+        ensures spot { IfSome result (λ n. IsSpot self.now.blocks.lists n.1) }
+        ensures place { IfSome result (λ n. place_of self.now n.1 ≡ place_of self.now spot + 1) }
+    {
+        self.blocks.next(spot)
+    }
+
+    /// The place before all slots.
+    pub(crate) fn start(&self) -> Spot
+        ensures spot { IsSpot self.now.blocks.lists result }
+        ensures place { place_of self.now result ≡ 0 }
+    {
+        Spot { block: 0, at: 0 }
+    }
+
+    /// The place behind all slots.
+    pub(crate) fn end(&self) -> Spot
+        ensures spot { IsSpot self.now.blocks.lists result }
+        ensures place { place_of self.now result ≡ length (ids_of self.now) }
+    {
+        let blocks = self.blocks.len();
+        if blocks == 0 {
+            return Spot { block: 0, at: 0 };
+        }
+        let block = blocks - 1;
+        Spot {
+            block,
+            at: self.blocks.get(block).len(),
         }
     }
 
     /// Puts a slot at a place, for which there is room. It takes no memory.
-    pub(crate) fn insert(&mut self, place: usize, id: SlotId)
-        requires fits { place ≤ length self.old.ids.items }
-        requires room { length self.old.ids.items < vec_capacity self.old.ids }
-        ensures ids { self.new.ids.items ≡ insert self.old.ids.items place id }
-        ensures capacity { vec_capacity self.new.ids ≡ vec_capacity self.old.ids }
+    pub(crate) fn insert(&mut self, spot: Spot, id: SlotId)
+        requires fits { IsSpot self.old.blocks.lists spot }
+        requires room { length (ids_of self.old) < self.old.room }
+        ensures ids { ids_of self.new ≡ insert (ids_of self.old) (place_of self.old spot) id }
+        ensures room { self.new.room ≡ self.old.room }
     {
-        drop(self.ids.insert(place, id));
+        let spot = self.blocks.make_room(spot);
+        self.blocks.insert(spot, id);
+        self.len += 1;
     }
 
-    /// Takes the slot at a place away.
-    pub(crate) fn remove(&mut self, place: usize)
-        requires { place < length self.old.ids.items }
-        ensures ids { self.new.ids.items ≡ remove self.old.ids.items place }
-        ensures capacity { vec_capacity self.new.ids ≡ vec_capacity self.old.ids }
+    /// Takes the slot behind a place away.
+    pub(crate) fn remove(&mut self, spot: Spot)
+        requires { IsAt self.old.blocks.lists spot }
+        ensures ids { ids_of self.new ≡ remove (ids_of self.old) (place_of self.old spot) }
+        ensures room { self.new.room ≡ self.old.room }
     {
-        let _ = self.ids.remove(place);
+        self.blocks.remove(spot);
+        self.blocks.close_up(spot.block);
+        self.len -= 1;
     }
 }

@@ -240,10 +240,11 @@ impl<V: Drop> Region<V> {
     }
 
     // The value of an id that has one, to change it.
-    fn value_mut(&mut self, id: SlotId) -> &mut V
+    pub(crate) fn value_mut(&mut self, id: SlotId) -> &mut V
         requires { IsSome (find self.old id) }
         ensures* writes_back { sem 𝓛 (lends_value V.row self.entry id result) }
         ensures value { find self.old id ≡ Some result.now }
+        ensures changes { (v : V) → Changed self.old (with_value self.old id v) id v }
     {
         self.slots[id.slot as usize].value_mut()
     }

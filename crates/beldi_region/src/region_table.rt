@@ -1,5 +1,5 @@
 // A table over a region.
-ghost use Rattle.std.specs.Prelude.{◌≡◌, ◌<◌, ◌≤◌, [], length, insert, None, Ok, IfOk, IfSome, IsErrOf, ⊤, vec_capacity};
+ghost use Rattle.std.specs.Prelude.{◌≡◌, ◌<◌, ◌≤◌, [], length, insert, None, Ok, IfOk, IfErr, IfSome, IsErrOf, ⊤};
 ghost use Rattle.std.specs.Borrow.{sem, follows_so};
 ghost use Rattle.std.proofs.Props.{props};
 ghost use mathlib.Core.Option.{none};
@@ -11,9 +11,12 @@ ghost use Rattle.beldi_row.specs.Table.{entry_of, next_row, Acted, LeadsOn, Went
 ghost use Rattle.beldi_row.specs.declared.table.TableErr.TheVariants.{OutOfMemory};
 ghost use Rattle.beldi_table.specs.MapTable.{ChangedOn};
 ghost use Rattle.beldi_region.specs.Region.{find};
-ghost use Rattle.beldi_region.specs.Order.{pairs, side, Finds, IsGap, IsHeld, IsListed};
+ghost use Rattle.beldi_region.specs.Ids.{ids_of, place_of, found};
+ghost use Rattle.beldi_region.specs.Blocks.{IsSpot};
+ghost use Rattle.beldi_region.specs.Order.{pairs, rows_in, side, Finds, IsGap, IsHeld, IsListed};
 ghost use Rattle.beldi_region.specs.Follows.{Follows};
 
+use crate::blocks::Spot;
 use crate::hints::Hints;
 use crate::opened::follow;
 use crate::order::{Entry, Order, side};
@@ -21,13 +24,14 @@ use crate::region::{Region, SlotId};
 use beldi_row::{
     Act, Change, Opens, Row, RowKey, Said, Table, TableErr, apply, made, missing, tell,
 };
-use beldi_table::{counted, is_open, room_in, switches};
+use beldi_table::{is_open, room_in, switches};
 use beldi_value::{Place, or_drop};
 use std::alloc::{AllocError, Global};
 use std::mem::replace;
 
 /// A table in memory that never fails. It tells its rows, and counts no calls. The memory for its rows is taken by `ready`, so
-/// no act and no step is out of memory. A row takes some 350 bytes, and what it holds apart.
+/// no act and no step is out of memory. For each row of its room it takes some 400 bytes, 64 of
+/// them for the orders of slots, and besides what a row holds apart.
 #[derive(Drop)]
 pub struct RegionTable {
     alloc: Global,
@@ -37,11 +41,11 @@ pub struct RegionTable {
     opened: Order,
     hints: Hints,
     room: u32,
-    ghost held: { IsHeld region index.ids.items } by { Prim.hlevel props },
-    ghost listed: { IsListed region opened.ids.items } by { Prim.hlevel props },
-    ghost wide: { region.room ≤ vec_capacity opened.ids },
+    ghost held: { IsHeld region (ids_of index) } by { Prim.hlevel props },
+    ghost listed: { IsListed region (ids_of opened) } by { Prim.hlevel props },
+    ghost wide: { region.room ≤ opened.room },
     ghost fits: { room ≤ region.room },
-    ghost reserved: { region.room ≤ vec_capacity index.ids },
+    ghost reserved: { region.room ≤ index.room },
 }
 
 // The number of the row that follows this one of an item, which has no entry of the place.
@@ -79,8 +83,9 @@ impl RegionTable {
     }
 
     // The slot of the row with a key, which the hint may name, or else the place where it is to stand.
-    fn find(&self, key: &RowKey, hint: usize) -> Result<SlotId, usize>
-        ensures { Finds self.now.region self.now.index.ids.items key.now result }
+    fn find(&self, key: &RowKey, hint: usize) -> Result<SlotId, Spot>
+        ensures spot { IfErr result (IsSpot self.now.index.blocks.lists) }
+        ensures finds { Finds self.now.region (ids_of self.now.index) key.now (found self.now.index result) }
     {
         let id = self.hints.at(hint);
         if side(&self.region, id, key).is_eq() {
@@ -97,10 +102,8 @@ impl RegionTable {
         ensures there { side key.now (find self.new.region id) ≡ Equal }
     {
         let switched = switches(&act);
-        let change = match self.region.get_mut(id) {
-            Ok(entry) => apply(&mut entry.row, act, now),
-            Err(_) => unreachable!(),
-        };
+        let entry = self.region.value_mut(id);
+        let change = apply(&mut entry.row, act, now);
         follow(&mut self.opened, &self.region, id, switched);
         change
     }
@@ -127,8 +130,9 @@ impl RegionTable {
     }
 
     // An act where no row has this key. What it says lends nothing.
-    fn add(&mut self, key: RowKey, act: Act, now: u64, place: usize) -> Result<Change, TableErr>
-        requires { IsGap self.old.region self.old.index.ids.items key place }
+    fn add(&mut self, key: RowKey, act: Act, now: u64, spot: Spot) -> Result<Change, TableErr>
+        requires spot { IsSpot self.old.index.blocks.lists spot }
+        requires gap { IsGap self.old.region (ids_of self.old.index) key (place_of self.old.index spot) }
         ensures rows { ChangedOn act now key self.old.room (rows_of self.old) (rows_of self.new) None result }
         ensures room { self.new.room ≡ self.old.room }
         ensures never { IsErrOf result OutOfMemory → ⊥ }
@@ -140,34 +144,35 @@ impl RegionTable {
                 Ok(said)
             }
             Some(row) => {
-                let live = self.index.ids.len();
-                if live >= self.room as usize {
+                let live = self.index.len();
+                if live >= self.room {
                     drop(key);
                     drop(row);
                     return Err(TableErr::Full {
-                        live: counted(live),
+                        live,
                         room: self.room,
                     });
                 }
-                self.put(key, row, place);
+                self.put(key, row, spot);
                 Ok(said)
             }
         }
     }
 
     // Puts a row where it is to stand. There is room for it.
-    fn put(&mut self, key: RowKey, row: Row, place: usize)
-        requires gap { IsGap self.old.region self.old.index.ids.items key place }
-        requires room { length self.old.index.ids.items < self.old.room }
+    fn put(&mut self, key: RowKey, row: Row, spot: Spot)
+        requires spot { IsSpot self.old.index.blocks.lists spot }
+        requires gap { IsGap self.old.region (ids_of self.old.index) key (place_of self.old.index spot) }
+        requires room { length (ids_of self.old.index) < self.old.room }
         ensures rows { rows_of self.new ≡ map.insert (rows_of self.old) key row }
-        ensures pairs { pairs self.new.region self.new.index.ids.items ≡ insert (pairs self.old.region self.old.index.ids.items) place (key, row) }
+        ensures pairs { pairs self.new.region (ids_of self.new.index) ≡ insert (pairs self.old.region (ids_of self.old.index)) (place_of self.old.index spot) (key, row) }
         ensures room { self.new.room ≡ self.old.room }
     {
         let hint = Hints::number(&key);
         let opens = is_open(key.kind(), &row);
         match self.region.put(Entry { key, row }) {
             Ok(id) => {
-                self.index.insert(place, id);
+                self.index.insert(spot, id);
                 self.hints.set(hint, id);
                 follow(&mut self.opened, &self.region, id, opens);
             }
@@ -177,41 +182,61 @@ impl RegionTable {
 
     // A table without rows, with the memory for so many.
     fn with_room(alloc: Global, room: u32) -> Result<RegionTable, AllocError>
-        ensures empty { IfOk result (λ t. t.index.ids.items ≡ []) }
+        ensures empty { IfOk result (λ t. ids_of t.index ≡ []) }
         ensures room { IfOk result (λ t. t.region.room ≡ room) }
     {
         let region = Region::open(alloc, room)?;
         let mut hints = Hints::new(alloc);
         or_drop!(hints.fill(); region, hints);
         let index = or_drop!(Order::with_room(alloc, room); region, hints);
-        let opened = or_drop!(Order::with_room(alloc, room); region, hints, index);
-        Ok(RegionTable {
-            alloc,
-            region,
-            index,
-            opened,
-            hints,
-            room: 0,
-        })
+        match Order::with_room(alloc, room) {
+            Ok(opened) => Ok(RegionTable {
+                alloc,
+                region,
+                index,
+                opened,
+                hints,
+                room: 0,
+            }),
+            Err(error) => {
+                drop(region);
+                drop(hints);
+                drop(index);
+                Err(error)
+            }
+        }
     }
 
     // Puts all rows of another table here, where none are yet and there is room for them.
     fn take_rows(&mut self, old: RegionTable)
-        requires empty { self.old.index.ids.items ≡ [] }
-        requires room { length old.index.ids.items ≤ self.old.room }
+        requires empty { ids_of self.old.index ≡ [] }
+        requires room { length (ids_of old.index) ≤ self.old.room }
         ensures rows { rows_of self.new ≡ rows_of old }
         ensures room { self.new.room ≡ self.old.room }
     {
-        let ids = old.index.ids;
+        let index = old.index;
         let mut region = old.region;
-        for index in 0..ids.len() {
-            match region.take(ids[index]) {
+        self.take_each(&index, &mut region);
+    }
+
+    // Takes the rows out of these slots of another region, and puts them here.
+    fn take_each(&mut self, index: &Order, region: &mut Region<Entry>)
+        requires held { IsHeld region.old (ids_of index.now) }
+        requires empty { ids_of self.old.index ≡ [] }
+        requires room { length (ids_of index.now) ≤ self.old.room }
+        ensures rows { rows_of self.new ≡ rows_in region.old (ids_of index.now) }
+        ensures room { self.new.room ≡ self.old.room }
+    {
+        let mut spot = index.start();
+        while let Some((id, next)) = index.next(spot) {
+            match region.take(id) {
                 Ok(entry) => {
-                    let end = self.index.ids.len();
+                    let end = self.index.end();
                     self.put(entry.key, entry.row, end);
                 }
                 Err(_) => unreachable!(),
             }
+            spot = next;
         }
     }
 
@@ -232,11 +257,11 @@ impl RegionTable {
     fn row_past(&self, after: &RowKey) -> Option<(&RowKey, &Row)>
         ensures { entry_of result ≡ next_row (rows_of self.now) after.now }
     {
-        let place = self.index.past(&self.region, after);
-        if place >= self.index.ids.len() {
+        let spot = self.index.past(&self.region, after);
+        let Some((id, _)) = self.index.next(spot) else {
             return None;
-        }
-        match self.region.get(self.index.ids[place]) {
+        };
+        match self.region.get(id) {
             Ok(entry) => Some((&entry.key, &entry.row)),
             Err(_) => None,
         }
@@ -250,7 +275,7 @@ impl Table for RegionTable {
     ghost state = { region_state };
 
     fn len(&self) -> u32 {
-        counted(self.index.ids.len())
+        self.index.len()
     }
 
     fn ready(&mut self, rooms: &[u32]) -> Result<(), TableErr> {
@@ -279,8 +304,8 @@ impl Table for RegionTable {
                 drop(key);
                 Ok(tell(row, change))
             }
-            Err(place) => {
-                let added = self.add(key, act, now, place)?;
+            Err(spot) => {
+                let added = self.add(key, act, now, spot)?;
                 Ok(tell(None, added))
             }
         }
@@ -295,11 +320,11 @@ impl Table for RegionTable {
     }
 
     fn opens(&self, after: &RowKey) -> Opens<'_> {
-        let place = self.opened.past(&self.region, after);
-        if place >= self.opened.ids.len() {
+        let spot = self.opened.past(&self.region, after);
+        let Some((id, _)) = self.opened.next(spot) else {
             return Opens::None;
-        }
-        match self.region.get(self.opened.ids[place]) {
+        };
+        match self.region.get(id) {
             Ok(entry) => Opens::First(&entry.key),
             Err(_) => Opens::Untold,
         }

@@ -214,3 +214,59 @@ fn open_intents_are_told(rt: HostRuntime) -> Result<(), Fail> {
     assert_eq!(rt; open_past(alloc, &table, 0), 0);
     Ok(())
 }
+
+// The ticket of a turn. In 601 turns each ticket up to 601 comes once.
+fn ticket_at(turn: u32) -> u32 {
+    turn.wrapping_mul(389) % 601 + 1
+}
+
+// How many rows there are, or as far as they stand in the order of their tickets.
+fn in_order(alloc: Global, table: &mut RegionTable) -> Result<u32, Fail> {
+    let mut last = 0;
+    for rows in 0..1_000u32 {
+        let next = after(alloc, table, last)?;
+        if next <= last {
+            return Ok(rows);
+        }
+        last = next;
+    }
+    Ok(1_000)
+}
+
+// The same of the open intents.
+fn open_in_order(alloc: Global, table: &RegionTable) -> u32 {
+    let mut last = 0;
+    for rows in 0..1_000u32 {
+        let next = open_past(alloc, table, last);
+        if next <= last {
+            return rows;
+        }
+        last = next;
+    }
+    1_000
+}
+
+#[test]
+fn many_rows_stand_in_order(rt: HostRuntime) -> Result<(), Fail> {
+    let alloc = rt.alloc();
+    let mut table = RegionTable::new(alloc);
+    table.ready(&[601])?;
+    for turn in 0..601u32 {
+        assert!(rt; issues(alloc, &mut table, ticket_at(turn)));
+        assert!(rt; binds(alloc, &mut table, ticket_at(turn))?);
+    }
+    assert_eq!(rt; in_order(alloc, &mut table)?, 601);
+    assert_eq!(rt; open_in_order(alloc, &table), 601);
+    for turn in 0..500u32 {
+        assert!(rt; ends(alloc, &mut table, ticket_at(turn))?);
+    }
+    assert_eq!(rt; open_in_order(alloc, &table), 101);
+    table.ready(&[700])?;
+    assert_eq!(rt; in_order(alloc, &mut table)?, 601);
+    assert_eq!(rt; open_in_order(alloc, &table), 101);
+    for turn in 500..601u32 {
+        assert!(rt; ends(alloc, &mut table, ticket_at(turn))?);
+    }
+    assert_eq!(rt; open_in_order(alloc, &table), 0);
+    Ok(())
+}

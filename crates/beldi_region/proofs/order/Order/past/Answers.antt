@@ -1,17 +1,12 @@
-use Rattle.std.specs.Ordering.{is_lt}
-use Rattle.std.proofs.Common.{◌≡◌, true, slice_index_or, subst, arith}
-use Rattle.beldi_region.specs.{Region.find, Order.side}
+use Rattle.std.proofs.Common.{◌-◌, subst, arith}
+use Rattle.beldi_region.specs.{Blocks.half_room, Order.IsPast}
+use Rattle.beldi_region.proofs.Spots.{past_in}
 use Rattle.beldi_region.proofs.order.Order.past.Goals as goal
 
-pub returns : goal.returns
-returns c =
-    let kept = c.loop-low.invariant in
-    let ids = c.args.self.now.ids.items in
-    let ordered = kept.ordered in
-    let met : c.loop-low.high ≡ c.loop-low.low = omega (arith, ordered) in
-    let long = kept.fits in
-    record {
-      fits = omega (arith, long, met);
-      below = kept.below;
-      above = λ d l. subst (λ n. is_lt (side c.args.key.now (find c.args.region.now (slice_index_or ids n d))) ≡ true) met (kept.above d (omega (arith, l, met)));
-    }
+pub returns-clause-past : goal.returns-clause-past
+returns-clause-past c =
+    let o = c.args.self.now in
+    let behind = c.block_past-behind.result in
+    let some = c.if-behind-eq0.false in
+    past_in c.args.region.now c.args.key.now half_room o.blocks.lists behind (behind - 1) c.past.result o.tight (omega (arith, some)) c.block_past-behind.ensures
+    (subst (λ b. IsPast c.args.region.now b c.args.key.now c.past.result) c.get.ensures c.past.ensures.past) c.past.ensures.some

@@ -1,20 +1,23 @@
-use Rattle.std.proofs.Common.{Some, sym, ap, ◌∙◌, option_map, arith}
-use Rattle.std.proofs.lemmas.Option.{slice_get_past, slice_get_read}
-use Rattle.beldi_region.{specs.Order.pair_at, specs.Order.pair_of, proofs.Held.next_is}
+use Rattle.std.proofs.Common.{Some, sym, ap, ◌∙◌, option_map}
+use Rattle.beldi_region.{specs.Order.pair_at, specs.Order.pair_of, specs.Ids.ids_of, specs.Ids.place_of, proofs.Held.next_is, proofs.Held.taken_at}
 use Rattle.beldi_region.proofs.region_table.RegionTable.row_past.Goals as goal
 
-pub returns-then-place-len : goal.returns-then-place-len
-returns-then-place-len c =
+pub returns-in_default : goal.returns-in_default
+returns-in_default c =
     let t = c.args.self.now in
-    let ids = t.index.ids.items in
-    let real = t.index.ids.ok.0 in
-    sym (next_is t.region ids c.args.after.now c.past-place.result t.held.ordered c.past-place.ensures ∙ ap (option_map (pair_at t.region)) (slice_get_past ids c.past-place.result (omega (arith, real))))
+    let place = place_of t.index c.past-spot.result in
+    sym (next_is t.region (ids_of t.index) c.args.after.now place t.held.ordered c.past-spot.ensures.past ∙ ap (option_map (pair_at t.region)) (sym c.in_default.ensures.slot))
 
 pub returns-in-Ok : goal.returns-in-Ok
 returns-in-Ok c =
     let t = c.args.self.now in
-    let ids = t.index.ids.items in
+    let place = place_of t.index c.past-spot.result in
     sym
-    (next_is t.region ids c.args.after.now c.past-place.result t.held.ordered c.past-place.ensures
-    ∙ ap (option_map (pair_at t.region)) (slice_get_read ids t.index.ids.len c.past-place.result c.index.result.now t.index.ids.ok.0 (omega arith) c.index.ensures)
+    (next_is t.region (ids_of t.index) c.args.after.now place t.held.ordered c.past-spot.ensures.past
+    ∙ ap (option_map (pair_at t.region)) (sym c.in-Some.ensures.slot)
     ∙ ap (λ e. Some (pair_of e)) c.in-Ok.ensures.found)
+
+pub returns-in-Err : goal.returns-in-Err
+returns-in-Err c =
+    let t = c.args.self.now in
+    absurd (taken_at t.region (ids_of t.index) (place_of t.index c.past-spot.result) c.in-Some.id t.held.ordered (sym c.in-Some.ensures.slot) c.in-Err.ensures.none)

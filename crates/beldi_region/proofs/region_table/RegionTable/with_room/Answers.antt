@@ -1,5 +1,5 @@
 use Rattle.std.proofs.Common.{rules, sym, subst, ◌∙◌}
-use Rattle.beldi_region.specs.Order.{IsHeld, IsListed}
+use Rattle.beldi_region.specs.Order.{IsHeld, AreListed}
 use Rattle.beldi_region.proofs.{Held.held_none, Listed.listed_none}
 use Rattle.beldi_region.proofs.region_table.RegionTable.with_room.Goals as goal
 
@@ -12,4 +12,4 @@ invariant_of-result-clause-held c =
 pub invariant_of-result-clause-listed : goal.invariant_of-result-clause-listed
 invariant_of-result-clause-listed c =
     let r = c.in_ok-region.region in
-    subst (IsListed r) (search rules) (listed_none r c.in_ok-region.ensures.empty)
+    subst (AreListed (λ id. Unit {0}) r) (sym c.in-Ok.ensures.ids) (listed_none r c.in_ok-region.ensures.empty)

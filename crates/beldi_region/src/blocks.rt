@@ -1,0 +1,223 @@
+// A list of slots in blocks.
+ghost use Rattle.std.specs.Prelude.{◌≡◌, ◌+◌, ◌<◌, ◌≤◌, [], IfOk, IfSome, length, insert, remove};
+ghost use Rattle.beldi_region.specs.Blocks.{block_room, half_room, block_at, slot_at, next_in, is_small, split_spot, with_block, opened, split_at, joined, closed, roomy, closed_up, IsIn, IsAt};
+
+use crate::block::{Block, HALF};
+use crate::region::SlotId;
+use beldi_value::or_drop;
+use std::alloc::{AllocError, Global};
+use std::marker::Model;
+
+/// A place in a list in blocks: behind so many slots of a block.
+#[derive(Clone, Copy)]
+pub struct Spot {
+    pub(crate) block: usize,
+    pub(crate) at: usize,
+}
+
+/// Blocks of slots, and spare blocks for more. No call after `with_spares` takes memory. Contracts see the slots of each block,
+/// and how many blocks are spare.
+#[derive(Drop)]
+pub struct Blocks {
+    used: Vec<Block>,
+    // The slots in these are of no account: whoever takes one empties it.
+    spare: Vec<Block>,
+}
+
+impl Model for Blocks {
+    ghost use Rattle.std.specs.Prelude.{◌+◌, ◌≤◌, length, vec_capacity};
+    ghost use Rattle.beldi_region.specs.Blocks.{SeenBlocks};
+
+    ghost Value = { SeenBlocks };
+
+    ghost view = { λ b. record { lists = b.used.items; spares = length b.spare.items } };
+
+    ghost invariant = { λ b. (length b.used.items + length b.spare.items ≤ vec_capacity b.used) × (length b.used.items + length b.spare.items ≤ vec_capacity b.spare) };
+}
+
+// The place that this one is at, once its block was split, with this one behind it.
+fn split_spot(spot: Spot, upper: usize) -> Spot
+    requires { upper ≡ spot.block + 1 }
+    ensures { result ≡ split_spot spot }
+{
+    if spot.at <= HALF {
+        return spot;
+    }
+    Spot {
+        block: upper,
+        at: spot.at - HALF,
+    }
+}
+
+impl Blocks {
+    /// No blocks, and none spare.
+    pub(crate) fn new(alloc: Global) -> Blocks
+        ensures { result ≡ record { lists = []; spares = 0 } }
+    {
+        Blocks {
+            used: Vec::new(alloc),
+            spare: Vec::new(alloc),
+        }
+    }
+
+    /// No blocks, and so many spare.
+    pub(crate) fn with_spares(alloc: Global, count: usize) -> Result<Blocks, AllocError>
+        ensures { IfOk result (λ b. b ≡ record { lists = []; spares = count }) }
+    {
+        let used = Vec::with_capacity(alloc, count)?;
+        let mut spare = or_drop!(Vec::with_capacity(alloc, count); used);
+        for index in 0..count {
+            let block = or_drop!(Block::new(alloc); used, spare);
+            spare.push_reserved(block);
+        }
+        Ok(Blocks { used, spare })
+    }
+
+    /// How many blocks there are.
+    pub(crate) fn len(&self) -> usize
+        ensures { result ≡ length self.now.lists }
+    {
+        self.used.len()
+    }
+
+    /// A block.
+    pub(crate) fn get(&self, block: usize) -> &Block
+        requires { block < length self.now.lists }
+        ensures { result.now ≡ block_at self.now.lists block }
+    {
+        &self.used[block]
+    }
+
+    /// The slot behind a place in its block.
+    pub(crate) fn slot(&self, spot: Spot) -> Option<SlotId>
+        ensures slot { result ≡ slot_at self.now.lists spot }
+        ensures fits { IfSome result (λ _. spot.at < block_room) }
+    {
+        match self.used.get(spot.block) {
+            Some(block) => block.get(spot.at),
+            None => None,
+        }
+    }
+
+    /// The slot behind a place, which may be in the next block, and the place behind it.
+    pub(crate) fn next(&self, spot: Spot) -> Option<(SlotId, Spot)>
+        requires { spot.block ≤ length self.now.lists }
+        ensures { result ≡ next_in self.now.lists spot }
+    {
+        let Spot { block, at } = spot;
+        if let Some(id) = self.slot(spot) {
+            return Some((id, Spot { block, at: at + 1 }));
+        }
+        if self.used.len() - block <= 1 {
+            return None;
+        }
+        let block = block + 1;
+        match self.slot(Spot { block, at: 0 }) {
+            Some(id) => Some((id, Spot { block, at: 1 })),
+            None => None,
+        }
+    }
+
+    /// Puts a slot at a place in a block that has room.
+    pub(crate) fn insert(&mut self, spot: Spot, id: SlotId)
+        requires spot { IsIn self.old.lists spot }
+        requires room { length (block_at self.old.lists spot.block) < block_room }
+        ensures { self.new ≡ with_block self.old spot.block (insert (block_at self.old.lists spot.block) spot.at id) }
+    {
+        self.used[spot.block].insert(spot.at, id);
+    }
+
+    /// Takes the slot behind a place out of its block.
+    pub(crate) fn remove(&mut self, spot: Spot)
+        requires { IsAt self.old.lists spot }
+        ensures { self.new ≡ with_block self.old spot.block (remove (block_at self.old.lists spot.block) spot.at) }
+    {
+        self.used[spot.block].remove(spot.at);
+    }
+
+    // Puts a spare block before all others.
+    fn open(&mut self)
+        requires { 0 < self.old.spares }
+        ensures { self.new ≡ opened self.old }
+    {
+        let mut first = self.spare.take_last();
+        first.clear();
+        drop(self.used.insert(0, first));
+    }
+
+    // Moves the slots behind the first half of a block into a spare one behind it, whose number it gives.
+    fn split(&mut self, block: usize) -> usize
+        requires block { block < length self.old.lists }
+        requires half { half_room ≤ length (block_at self.old.lists block) }
+        requires spare { 0 < self.old.spares }
+        ensures blocks { self.new ≡ split_at self.old block }
+        ensures upper { result ≡ block + 1 }
+    {
+        let mut upper = self.spare.take_last();
+        self.used[block].split(&mut upper);
+        drop(self.used.insert(block + 1, upper));
+        block + 1
+    }
+
+    // Moves the slots of the next block into this one, which has room for them. The next one is spare then.
+    fn join(&mut self, block: usize)
+        requires next { block + 1 < length self.old.lists }
+        requires room { length (block_at self.old.lists block) + length (block_at self.old.lists (block + 1)) ≤ block_room }
+        ensures { self.new ≡ joined self.old block }
+    {
+        let upper = self.used.remove(block + 1);
+        self.used[block].append(&upper);
+        self.spare.push_reserved(upper);
+    }
+
+    // Takes a block away, which is spare then.
+    fn close(&mut self, block: usize)
+        requires { block < length self.old.lists }
+        ensures { self.new ≡ closed self.old block }
+    {
+        let gone = self.used.remove(block);
+        self.spare.push_reserved(gone);
+    }
+
+    /// The same place, in a block that has room for one more slot. Where there is none, a spare block is taken.
+    pub(crate) fn make_room(&mut self, spot: Spot) -> Spot
+        requires spare { 0 < self.old.spares }
+        requires block { 0 < length self.old.lists → spot.block < length self.old.lists }
+        ensures blocks { self.new ≡ (roomy self.old spot).0 }
+        ensures spot { result ≡ (roomy self.old spot).1 }
+        ensures fits { 0 < length self.old.lists → length (block_at self.old.lists spot.block) ≤ block_room }
+    {
+        if self.used.len() == 0 {
+            self.open();
+            return spot;
+        }
+        if self.used[spot.block].is_full() {
+            let upper = self.split(spot.block);
+            return split_spot(spot, upper);
+        }
+        spot
+    }
+
+    // Whether a block and the next one have together at most half of what a block has room for.
+    fn is_small(&self, block: usize) -> bool
+        requires { block < length self.now.lists }
+        ensures { result ≡ is_small self.now.lists block }
+    {
+        self.used.len() - block > 1 && self.used[block].len() + self.used[block + 1].len() <= HALF
+    }
+
+    /// After a slot was taken out of a block: the block is spare if it has no other, or is joined with one beside it, where both
+    /// are small.
+    pub(crate) fn close_up(&mut self, block: usize)
+        requires { block < length self.old.lists }
+        ensures { self.new ≡ closed_up self.old block }
+    {
+        if self.used[block].len() == 0 {
+            self.close(block);
+        } else if self.is_small(block) {
+            self.join(block);
+        } else if block > 0 && self.is_small(block - 1) {
+            self.join(block - 1);
+        }
+    }
+}
