@@ -1,5 +1,5 @@
-//! The program over the real streams, a table in memory or in a file, a link over TCP and the system's clock. What it does is `top` of
-//! `beldi_program`.
+//! The program over the real streams, a table in memory (`RegionTable`) or in a file, a link over TCP and the system's clock. What it
+//! does is `top` of `beldi_program`.
 //! Its tests show what no clause can: what is written where a read, a write or a call of the table or the link fails, what clients
 //! of a service over the link in memory are answered, and how sessions go on over a table that is handed on.
 #![tactic(auto)]
@@ -10,10 +10,10 @@ mod tests;
 use beldi_file::{KeptFile, KeptLink, KeptSink, SharedBlobs};
 use beldi_outside::{Link, ReadyLink, Sink, StdSink, StdSource, WallClock};
 use beldi_program::top;
+use beldi_region::RegionTable;
 use beldi_row::Table;
 use beldi_sqlrows::BlobRows;
 use beldi_sqltable::RowTable;
-use beldi_table::MapTable;
 use beldi_value::Str;
 use sqlite::Alter;
 use std::cell::RefCell;
@@ -55,7 +55,7 @@ fn over_memory(rt: &HostRuntime, words: &[Str]) -> u8 {
     let alloc = rt.alloc();
     let mut sink = StdSink::new(io::writer(rt));
     let mut link = ReadyLink::new(alloc, rt, rt.stderr());
-    let (status, table) = carry_out(rt, words, MapTable::new(alloc), &mut sink, &mut link);
+    let (status, table) = carry_out(rt, words, RegionTable::new(alloc), &mut sink, &mut link);
     // The process ends: the rows are not given back one by one.
     mem::forget(table);
     link.finish();
