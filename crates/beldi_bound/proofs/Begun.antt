@@ -13,6 +13,7 @@ use Rattle.beldi_row.specs.{Key.RowKey, Table.Rows, declared.key.Kind.Kind, decl
 use Rattle.beldi_walk.specs.Query.{rows_after, told_by}
 use Rattle.beldi_call.specs.declared.{async_call.AsyncAt.AsyncAt, call.CallAt.CallAt}
 use Rattle.beldi_known.proofs.Cases.{by_cases}
+use Rattle.beldi_step.proofs.PutRun.{put_self}
 use Rattle.beldi_step.specs.{Host.Core, Host.counted, Host.has_run, Host.is_crowded, Host.made, Host.may_start, Host.started, Host.with_run, Host.put_run, Host.turn_next, Host.turned_core, Next.next_run, declared.run.Begun.Begun, declared.run.Mark.Mark, declared.run.Run.Run, declared.run.RunAt.RunAt, declared.run.RunTx.RunTx, declared.run.Says.Says, declared.run.Stage.Stage, declared.run.Wait.Wait, declared.event.Seen.Seen}
 use Rattle.beldi_step.specs.Run.{Turned, asks_at, at_once, at_stage, callee_of, says_of, first_stage, goes_from, run_asks, takes, told_at, turned_by}
 use Rattle.beldi_laws.specs.OneAnswer.{IsBegun}
@@ -21,7 +22,7 @@ use Rattle.beldi_bound.specs.{Cost.AreAsked, Cost.cost_from, Cost.step_cost, End
 use Rattle.beldi_bound.proofs.{Costs.body_costs, Costs.its_cost, Costs.splits, Costs.rest_more, Ending.covers_left, Ending.knows_it, Ending.over, Ending.some_left, Ending.waits, Entries.run_there, Numbers.put_apart, Numbers.put_same, Waited.async_goes, Facts.GoesOn, Facts.Stands, Facts.begun_left, Facts.rest_left, Facts.rest_cost, GoingOn.Funds, GoingOn.by_key, GoingOn.by_none, GoingOn.fewer, Lists.without, GoingOn.Keys, GoingOn.goes_at, GoingOn.goes_on, GoingOn.leaves}
 use Rattle.beldi_bound.proofs.Ledger.{CoversAt, Covers, HasBody, IsStarted, Ledger, Pays, find}
 use Rattle.beldi_bound.proofs.Frames.{Cost, Covered, Due, Leaves, Mid, Paid, Spare, Stuck, body_on, ended_stays, stays_so}
-use Rattle.beldi_bound.proofs.Paying.{New, amount_of, own_live, pays, put_self, with_new}
+use Rattle.beldi_bound.proofs.Paying.{New, amount_of, own_live, pays, with_new}
 use Rattle.beldi_bound.proofs.Turns.{FullStays, Paying, either}
 
 -- a run that goes on at another stage stands where it stood

@@ -33,7 +33,7 @@ mod Lengths
 mod Lists
 mod LogRows
 mod Machine
-mod Nexts
+pub mod Nexts
 mod NoLocks
 mod Numbers
 mod Parked

@@ -1,22 +1,18 @@
 -- What a turn makes of a ledger: its run's amount is set anew, a run that it starts is put in front, and keys are put in or taken out.
 use Rattle.beldi_order.proofs.Maps.{same_some}
 use Rattle.std.specs.FinMap as map
-use Rattle.std.specs.{FinMap.FinMap, Cmp.nat_cmp_total, Ordering.is_eq, Ordering.nat_cmp}
-use Rattle.std.proofs.lemmas.Cmp.{tied_itself}
-use Rattle.std.proofs.Common.{◌≡◌, ◌⊎◌, inl, inr, ℕ, ◌+◌, ◌*◌, ◌<◌, ◌≤◌, ◌==◌, eq-eqb, eqb-true, cond, true, false, List, ◌∷◌, Option, Some, None, is_some, IsTrue, if◌then◌else◌, refl, sym, ap, subst, ◌∙◌, arith}
+use Rattle.std.specs.{FinMap.FinMap, Ordering.nat_cmp}
+use Rattle.std.proofs.Common.{◌≡◌, ◌⊎◌, inl, inr, ℕ, ◌+◌, ◌*◌, ◌<◌, ◌≤◌, ◌==◌, eq-eqb, eqb-true, true, false, List, ◌∷◌, Option, Some, None, is_some, IsTrue, if◌then◌else◌, refl, sym, ap, subst, ◌∙◌, arith}
 use Rattle.beldi_value.specs.declared.id.IntentId.{IntentId}
 use Rattle.beldi_tree.specs.declared.deployment.Deployment.{Deployment}
 use Rattle.beldi_lang.specs.declared.effect.Answer.{Answer}
 use Rattle.beldi_row.specs.{Key.RowKey, Table.Rows}
 use Rattle.beldi_known.proofs.Cases.{by_cases}
-use Rattle.beldi_step.{proofs.PutRun.put_got, specs.Host.Core, specs.Host.put_run, specs.Next.next_run, specs.declared.run.Run.Run}
+use Rattle.beldi_step.{proofs.PutRun.put_self, specs.Host.Core, specs.Host.put_run, specs.Next.next_run, specs.declared.run.Run.Run}
 use Rattle.beldi_bound.specs.{Ends.IsIn, Work.has_ended, Work.one_more, Work.seat, Work.sum_of}
 use Rattle.beldi_bound.proofs.{Lists.find_other, Lists.find_put, Lists.put, Lists.sum_put, Numbers.put_apart}
 use Rattle.beldi_bound.proofs.Ledger.{Ledger, Pays, amount, find}
 use Rattle.beldi_bound.proofs.Frames.{Cost, Covered, Due, Leaves, Paid, ledger_by, others}
-
-pub put_self : (live : FinMap nat_cmp Run) (i : ℕ) (o : Option Run) → map.get (put_run live i o) i ≡ o
-put_self live i o = put_got live i o i ∙ ap (λ z. cond (is_eq z) o (map.get live i)) (tied_itself nat_cmp_total i)
 
 -- a run more, with its amount, if any
 abbrev pub New : Type 0

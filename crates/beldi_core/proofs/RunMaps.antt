@@ -1,5 +1,5 @@
 -- The runs as a map, and a turn of one of them.
-use Rattle.beldi_core.proofs.Names.{AllCounted, AllGiven, AllKept, Bool, CountMap, Deployment, Equal-is, Err, IsSome, List, Mark, None, Ok, Option, Result, Run, RunMap, RunTold, Some, Told, TurnSays, Turned, Turns, ap, arith, cond, ends_run, eq_by_cmp, eq_by_cmp_equiv, false, followed, get-empty, get-insert, get-remove, get_rows, going, id_cmp, is_at, is_eq, is_none, is_of, kept_as, lookup, ltb-false, ltb-true, more, nat_cmp, nat_cmp-IsAntisymmetric, nat_cmp_total, nat_lt, none_removed, put_run, refl, remove_put, run_told, same_map, says_of, settled, settled_counts, subst, suc, sym, tied_itself, true, uncounted, withdrawn, ℕ, ◌+◌, ◌-◌, ◌<◌, ◌∙◌, ◌≡◌, ◌≤◌}
+use Rattle.beldi_core.proofs.Names.{AllCounted, AllGiven, AllKept, Bool, Core, CountMap, Deployment, Equal-is, Err, IsSome, IsWalk, List, Mark, None, Ok, Option, Result, Run, RunMap, RunTold, Some, Told, TurnSays, Turned, Turns, WalkTold, Walking, ap, arith, cond, ends_run, eq_by_cmp, eq_by_cmp_equiv, false, followed, get-empty, get-insert, get-remove, get_rows, going, id_cmp, is_at, is_eq, is_none, is_of, kept_as, lookup, ltb-false, ltb-true, more, nat_cmp, nat_cmp-IsAntisymmetric, nat_cmp_total, nat_lt, none_removed, past_first, put_run, refl, remove_put, row_of, run_told, same_map, says_of, settled, settled_counts, subst, suc, sym, tied_itself, true, uncounted, unless_first, walked, walked_in, walking, withdrawn, ℕ, ◌+◌, ◌-◌, ◌<◌, ◌==◌, ◌∙◌, ◌≡◌, ◌≤◌}
 use Rattle.beldi_core.proofs.Counting.{inside, none_counted, put_counted, removed_counted, same_counted, counted_lower, gone_here, put_there}
 use Rattle.beldi_core.proofs.Names.map
 
@@ -128,3 +128,25 @@ run_was_told d changes a b c i r s t (Err m) here set is h = subst (λ (o : Opti
 
 pub absent_run : (o : Option Run) → IsSome o → o ≡ None → ⊥
 absent_run o h is = cc
+
+-- ---- a run that walks
+pub set_forward : (a b : RunMap) (i row : ℕ) (r s : Run) → map.get a i ≡ Some r → b ≡ map.insert a i s → s ≡ walked row r → b ≡ walked_in a i row (map.get a i)
+set_forward a b i row r s here set is = set ∙ ap (map.insert a i) is ∙ sym (ap (walked_in a i row) here)
+
+pub not_live : (a b : RunMap) (i row : ℕ) (o : Option Run) → o ≡ None → b ≡ a → b ≡ walked_in a i row o
+not_live a b i row o is same = same ∙ sym (ap (walked_in a i row) is)
+
+pub kept_forward : (g : ℕ) (a b : RunMap) (n : CountMap) (i : ℕ) (r s : Run) → map.get a i ≡ Some r → s.id ≡ r.id → b ≡ map.insert a i s → AllKept g a n → AllKept g b n
+kept_forward g a b n i r s here same set h = kept_told g a b b n n i r s false here same set refl refl h
+
+past_is : (o : Option Walking) (w : Walking) → past_first o ≡ Some w → o ≡ Some w
+past_is None w h = cc
+past_is (Some v) w h = by_test (row_of v.key.kind == 0) h
+  where
+    by_test : (b : Bool) → unless_first b v ≡ Some w → Some v ≡ Some w
+    by_test true is = cc
+    by_test false is = is
+
+pub walk_told : (c : Core) (i : ℕ) (r : Run) (o : Option Walking) → map.get c.runs i ≡ Some r → c.shut ≡ false → nat_lt r.deadline c.now ≡ false → o ≡ past_first (walking r) → WalkTold c i o
+walk_told c i r None here unshut late is = tt {0}
+walk_told c i r (Some w) here unshut late is = subst (IsWalk c w) (sym here) (unshut, late, past_is (walking r) w (sym is))

@@ -1,5 +1,5 @@
 -- An event is planned, and then followed: what holds between the two.
-use Rattle.std.specs.Prelude.{◌≡◌, ℕ, ◌-◌, ◌^◌, ◌≤◌, ◌<◌, Bool, true, false, ◌++◌, ◌∷◌, [], Option, Some, None, Result, Ok, Err, IsSome}
+use Rattle.std.specs.Prelude.{◌≡◌, ℕ, ◌+◌, ◌-◌, ◌^◌, ◌≤◌, ◌<◌, nat_lt, Bool, true, false, ◌++◌, ◌∷◌, [], Option, Some, None, Result, Ok, Err, IsSome}
 use Rattle.std.specs.declared.alloc.AllocError.{AllocError}
 use Rattle.std.specs.FinMap as map
 use Rattle.beldi_value.specs.{Id.root_of, declared.id.IntentId.IntentId, declared.value.Value.Value, declared.outcome.Outcome.Outcome}
@@ -9,8 +9,9 @@ use Rattle.beldi_row.specs.{declared.table.TableErr.TableErr, declared.table.Tab
 use Rattle.beldi_walk.specs.{declared.query.Query.Query, Query.Told, Query.Came, Query.lends}
 use Rattle.beldi_intent.specs.{declared.intent.Binding.Binding, Intent.binding_of}
 use Rattle.beldi_step.specs.Host.{Core, Plan, at_once, asks, reads_all, plan, plan_of, counted, new_run, unbound, refused, ended_run, marked, after_turn, acted, AtOnce, Followed}
-use Rattle.beldi_step.specs.declared.{event.Event.Event, event.Event.TheVariants.Ticket, event.Event.TheVariants.Request, event.Event.TheVariants.Turn, event.Event.TheVariants.Lost, event.Event.TheVariants.Ic, event.Seen.Seen, run.Mark.Mark, run.Run.Run, run.TurnSays.TurnSays}
-use Rattle.beldi_core.specs.{declared.host_core.HostCore.HostCore, declared.events.Planned.Planned as Plans, declared.events.Immediate.Immediate, declared.events.Pending.Pending, declared.runs.Copies.Copies, Runs.Numbered, Runs.withdrawn, Runs.started, Runs.copied}
+use Rattle.beldi_step.specs.Stride.{walking}
+use Rattle.beldi_step.specs.declared.{event.Event.Event, event.Event.TheVariants.Ticket, event.Event.TheVariants.Request, event.Event.TheVariants.Turn, event.Event.TheVariants.Lost, event.Event.TheVariants.Ic, event.Seen.Seen, run.Mark.Mark, run.Run.Run, run.TurnSays.TurnSays, run.Walking.Walking}
+use Rattle.beldi_core.specs.{declared.host_core.HostCore.HostCore, declared.events.Planned.Planned as Plans, declared.events.Immediate.Immediate, declared.events.Pending.Pending, declared.runs.Copies.Copies, Runs.Numbered, Runs.withdrawn, Runs.started, Runs.copied, Runs.walked_in}
 
 -- the host without its table, as events speak of it
 abbrev pub core_in : HostCore → Core
@@ -144,3 +145,17 @@ TellsTurn c i n x z (Err e) = z ≡ ended_run (entered c n x) i
 -- the one query of an event that was planned, and what follows
 abbrev pub Asked : Deployment → Pending → Core → Core → Query → TableState → TableState → Result Seen AllocError → Type 0
 Asked d p k z q old new r = (w : Result Told TableErr) × Followed d (event_of p) (base (event_of p) k) w z r × Came q k.now w old new
+
+-- ---- a run that walks
+-- what is told of the walk of a live run that is not past its deadline, where the host is not shut: none may be told
+abbrev pub IsWalk : Core → Walking → Option Run → Type 0
+IsWalk c w None = ⊥
+IsWalk c w (Some r) = (c.shut ≡ false) × (nat_lt r.deadline c.now ≡ false) × (walking r ≡ Some w)
+
+abbrev pub WalkTold : Core → ℕ → Option Walking → Type 0
+WalkTold c i None = Unit {0}
+WalkTold c i (Some w) = IsWalk c w (map.get c.runs i)
+
+-- the run of number i is set forward to the row of a number, by so many turns
+abbrev pub strode : Core → ℕ → ℕ → ℕ → Core
+strode c i turns row = record c { runs = walked_in c.runs i row (map.get c.runs i); taken = c.taken + turns }

@@ -4,7 +4,7 @@ use Rattle.std.specs.{FinMap.FinMap, BTreeMap.BTreeMap, Ordering.nat_cmp}
 use Rattle.std.specs.FinMap as map
 use Rattle.beldi_tree.specs.declared.deployment.Deployment.{Deployment}
 use Rattle.beldi_walk.specs.{declared.query.Query.Query, Query.Told}
-use Rattle.beldi_step.specs.{declared.run.Mark.Mark, declared.run.Run.Run, declared.run.TurnSays.TurnSays, Run.says_of, Run.callee_of, Run.run_asks, Run.run_told, Host.put_run}
+use Rattle.beldi_step.specs.{Stride.walked, declared.run.Mark.Mark, declared.run.Run.Run, declared.run.TurnSays.TurnSays, Run.says_of, Run.callee_of, Run.run_asks, Run.run_told, Host.put_run}
 use Rattle.beldi_core.specs.{Counts.CountMap, Counts.AllCounted, Counts.less, declared.runs.Copies.Copies}
 
 abbrev pub RunMap : Type 0
@@ -73,3 +73,9 @@ abbrev pub RunTold : Deployment → ℕ → RunMap → RunMap → ℕ → Option
 RunTold d changes a b i None t x = ⊥
 RunTold d changes a b i (Some r) t (Ok x) = (b ≡ put_run a i (run_told d changes r t).next) × (x ≡ says_of (run_told d changes r t))
 RunTold d changes a b i (Some r) t (Err m) = (b ≡ map.remove a i) × (m ≡ (run_told d changes r t).mark)
+
+-- ---- a run that walks
+-- the run of number i is set forward to the row of a number, where it is live
+abbrev pub walked_in : RunMap → ℕ → ℕ → Option Run → RunMap
+walked_in m i row None = m
+walked_in m i row (Some r) = map.insert m i (walked row r)

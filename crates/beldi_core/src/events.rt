@@ -9,7 +9,7 @@ ghost use Rattle.beldi_step.specs.declared.run.Wait.TheVariants as waits;
 ghost use Rattle.beldi_tree.specs.declared.deployment.Deployment.{Deployment};
 ghost use Rattle.beldi_step.specs.Host.{collected as collected_of, launched, passed, Core, Followed, acted as acted_by, after_turn as after_turn_of, may_start as may_start_of, started, at_once, asks, crash_plan, tick_plan, new_run as new_run_of, entry_of as entry_by, no_run as no_run_of, refused, refused_by, ticket_next, unbound, is_halt, halt_next};
 ghost use Rattle.beldi_core.specs.declared.events.Planned.TheVariants as planned;
-ghost use Rattle.beldi_core.specs.Parts.{as_seen, core_in, Planned as IsPlanned, PlannedBy, PlannedOf, Ready, HasPlace, event_of, base, BoundBy, Copied, TellsTurn, acted_unless, mark_told, turn_event, turn_pending};
+ghost use Rattle.beldi_core.specs.Parts.{as_seen, core_in, Planned as IsPlanned, PlannedBy, PlannedOf, Ready, HasPlace, event_of, base, BoundBy, Copied, TellsTurn, acted_unless, mark_told, turn_event, turn_pending, WalkTold, strode};
 
 use crate::host_core::HostCore;
 use crate::runs::{Copies, asked};
@@ -18,12 +18,14 @@ use beldi_collect::{Found, collect_query, collect_told};
 use beldi_intent::{Binding, bind_query, bind_told, issue_query, issue_told};
 use beldi_lang::Deployment;
 use beldi_row::{RowKey, TableErr};
-use beldi_step::{Event, Mark, Run, RunAt, Seen, TurnSays, Wait};
+use beldi_step::{Event, Mark, Run, RunAt, Seen, TurnSays, Wait, Walking};
+use beldi_turn::walking;
 use beldi_value::{Apart, IntentId, Outcome, Value, or_drop};
 use beldi_walk::{Heard, Query};
 use std::alloc::{AllocError, Global};
 
-const MOST_EVENTS: u64 = 1 << 62;
+/// How many events a host takes.
+pub const MOST_EVENTS: u64 = 1 << 62;
 
 const MOST_RUNS: usize = 1024;
 
@@ -304,6 +306,33 @@ impl HostCore {
                 Err(why)
             }
         }
+    }
+
+    /// The row that the walk of this run looks at next, past the first row of its item, and the place whose entry it looks for there, if
+    /// any. None where it makes no walk, is over or past its deadline, where the host is shut, and where there is no memory for the key or
+    /// the place.
+    pub fn walking(&self, run: u64) -> Option<Walking>
+        ensures { WalkTold (core_in self.entry.now) run result }
+    {
+        let Some(found) = self.runs.get(run) else {
+            return None;
+        };
+        if self.shut || self.now > found.deadline {
+            return None;
+        }
+        match walking(self.alloc, found) {
+            Ok(walk) => walk,
+            Err(_) => None,
+        }
+    }
+
+    /// Counts so many turns of this run, which is live, and sets its walk to the row that the last of them leads to.
+    pub fn stride(&mut self, run: u64, turns: u64, row: u32)
+        requires { (core_in self.old).taken + turns ≤ 2 ^ 62 }
+        ensures { core_in self.new ≡ strode (core_in self.old) run turns row }
+    {
+        self.taken += turns;
+        self.runs.stride(run, row);
     }
 
     fn plan_ic(&mut self) -> Result<Planned, AllocError>

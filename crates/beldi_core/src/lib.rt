@@ -7,6 +7,8 @@
 //!   `halted` follow what was told, refused or read, as the definition of an event says (`PlannedOf`, `Asked`, `halt_next`); crashes, lost answers, restarts, faults, want of room and out of memory are
 //!   cases of it.
 //! - `Runs::next_after` is the least live run past a number (`IsLeastPast`), the first one in their order (`first_past`).
+//! - `HostCore::walking` is the row that a run's walk looks at next (`WalkTold`), and `stride` sets the run to another one, by so many turns
+//!   (`strode`).
 //!
 //! Files:
 //! - Code (`src/`): `host_core` the host without its table; `events` what an event asks, and what follows; `runs` the live
@@ -20,6 +22,6 @@ mod events;
 mod host_core;
 mod runs;
 
-pub use events::{LAST_MOMENT, Pending, Planned};
+pub use events::{LAST_MOMENT, MOST_EVENTS, Pending, Planned};
 pub use host_core::HostCore;
 pub use runs::Runs;

@@ -2,9 +2,9 @@
 ghost use Rattle.std.specs.Prelude.{◌≡◌, ℕ, ◌+◌, ◌-◌, ◌^◌, ◌<◌, ◌≤◌, IsSome, IfOk, IfErr, OnOk, OnErr, option_copied};
 ghost use Rattle.std.specs.FinMap as map;
 ghost use Rattle.beldi_walk.specs.Query.{told_of};
-ghost use Rattle.beldi_core.specs.Runs.{map_of, IsLeastPast, started, withdrawn, ends_run, settled, uncounted, settled_counts, AllKept, asked_of, RunTold};
+ghost use Rattle.beldi_core.specs.Runs.{map_of, IsLeastPast, started, withdrawn, ends_run, settled, uncounted, settled_counts, AllKept, asked_of, RunTold, walked_in};
 ghost use Rattle.beldi_step.specs.Next.{first_past};
-ghost use Rattle.beldi_core.specs.Counts.{count_at, more, kept_as};
+ghost use Rattle.beldi_core.specs.Counts.{CountMap, count_at, more, kept_as};
 ghost use Rattle.beldi_step.specs.Host.{has_run};
 ghost use Rattle.beldi_step.specs.Run.{run_asks};
 
@@ -12,7 +12,7 @@ use crate::counts::Counts;
 use beldi_book::Book;
 use beldi_lang::Deployment;
 use beldi_step::{Mark, Run, TurnSays};
-use beldi_turn::{ask, callee, told};
+use beldi_turn::{ask, callee, told, walk_to};
 use beldi_value::{Apart, IntentId, or_drop};
 use beldi_walk::{Heard, Query};
 use std::alloc::{AllocError, Global};
@@ -136,6 +136,17 @@ fn tell(
     let result = told(alloc, run.get_mut(), code, changes, heard);
     settle(live, counts, number, ends(&result));
     result
+}
+
+// The walk of the run of this number, if it is live, is set to another row.
+fn set_forward(live: &mut BTreeMap<u64, Apart<Run>>, number: u64, row: u32)
+    ensures walked { map_of live.new ≡ walked_in (map_of live.old) number row (map.get (map_of live.old) number) }
+    ensures kept { (g : ℕ) (n : CountMap) → AllKept g (map_of live.old) n → AllKept g (map_of live.new) n }
+{
+    let Some(run) = live.get_mut(&number) else {
+        return;
+    };
+    walk_to(run.get_mut(), row);
 }
 
 /// What the answer to a run's turn needs: the id of the instance, and a run of what it calls, if it stands at a call.
@@ -279,5 +290,12 @@ impl Runs {
             changes,
             heard,
         )
+    }
+
+    /// Sets the walk of the run of this number, if it is live, to another row.
+    pub fn stride(&mut self, number: u64, row: u32)
+        ensures { self.new ≡ record { runs = walked_in self.old.runs number row (map.get self.old.runs number); given = self.old.given } }
+    {
+        set_forward(&mut self.live, number, row);
     }
 }

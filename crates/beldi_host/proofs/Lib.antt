@@ -7,4 +7,5 @@ mod Openings
 pub mod Right
 mod Skips
 mod Steps
+mod Strides
 pub mod Taken

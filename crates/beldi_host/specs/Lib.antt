@@ -3,4 +3,5 @@ pub mod LastRow
 pub mod Opening
 pub mod Right
 pub mod Said
+pub mod Stride
 pub mod Survey

@@ -1,12 +1,12 @@
 // The host: the one place where an event touches the table.
-ghost use Rattle.std.specs.Prelude.{◌≡◌, ◌++◌, ◌≤◌, ◌^◌, ◌↔◌, IsTrue, true, false, IfOk, IfErr, OnOk, OnErr};
+ghost use Rattle.std.specs.Prelude.{◌≡◌, ◌+◌, ◌++◌, ◌≤◌, ◌^◌, ◌↔◌, IsTrue, true, false, IfOk, IfErr, IfSome, OnOk, OnErr};
 
 use crate::survey::{OpenErr, ReplySeen, ahead, find_newest, list_tables, prepare, read_reply};
 use beldi_book::Book;
 use beldi_check::Checked;
-use beldi_core::{HostCore, Pending, Planned, Runs};
+use beldi_core::{HostCore, MOST_EVENTS, Pending, Planned, Runs};
 use beldi_row::{Act, RowKey, Table};
-use beldi_step::{Event, Seen};
+use beldi_step::{Event, Seen, Walking};
 use beldi_value::{Str, or_drop};
 use beldi_walk::{Heard, Query};
 use std::alloc::{AllocError, Global};
@@ -24,7 +24,7 @@ pub struct Host<T: Table> {
 impl<T: Table> Host<T> {
     ghost use Rattle.beldi_row.specs.Table.{IsCount, AtMostOne};
     ghost use Rattle.beldi_check.specs.Keeps.{KeepsRules};
-    ghost use Rattle.beldi_step.specs.Host.{StepBy, Stepped, last_moment, reads_all};
+    ghost use Rattle.beldi_step.specs.Host.{StepBy, Stepped, last_moment, most_events, reads_all};
     ghost use Rattle.beldi_step.specs.declared.event.Event.TheVariants as events;
     ghost use Rattle.beldi_step.specs.Tables.{tables_text};
     ghost use Rattle.beldi_host.specs.Survey.{Opened, PassesToldOpen, Refused, NewestAt, Reads, reply_seen, is_unknown};
@@ -32,6 +32,7 @@ impl<T: Table> Host<T> {
     ghost use Rattle.beldi_core.specs.Runs.{IsLeastPast};
     ghost use Rattle.beldi_walk.specs.declared.query.Query.TheVariants as queries;
     ghost use Rattle.beldi_host.specs.Host.{core_of};
+    ghost use Rattle.beldi_host.specs.Stride.{Passes, Strides};
     ghost use Rattle.beldi_step.specs.Next.{at_key, next_run, reset};
     ghost use Rattle.beldi_core.specs.Parts.{core_in, Ready, Asked};
     ghost use Rattle.beldi_laws.specs.Laws.{is_gone};
@@ -209,6 +210,45 @@ impl<T: Table> Host<T> {
             return Ok(ReplySeen::Unknown);
         }
         read_reply(self.core.alloc, &mut self.table, ticket, self.core.now)
+    }
+
+    /// Sets a run that walks along an item's rows forward over rows that hold nothing for it, where the table looks ahead: it is as so
+    /// many turns of the run, each answered `Acted` with no more. It tells how many, at most `most`.
+    pub fn stride(&mut self, run: u64, most: u64) -> u64
+        ensures strides { IfSome (T.state self.old.table).rows (Strides self.old.code (T.state self.old.table).room (T.state self.old.table).faults run result (core_of self.old) (core_of self.new)) }
+        ensures most { result ≤ most }
+        ensures taken { (core_of self.new).taken ≡ (core_of self.old).taken + result }
+        ensures few { (core_of self.new).taken ≤ most_events }
+        ensures none { result ≡ 0 → self.new ≡ self.old }
+        ensures table { self.new.table ≡ self.old.table }
+        ensures code { self.new.code ≡ self.old.code }
+        ensures right { IsRight self.old → IsRight self.new }
+    {
+        let most = most.min(MOST_EVENTS - self.core.taken);
+        match self.passes(run, most) {
+            Some((turns, row)) => {
+                if turns == 0 || turns > most {
+                    return 0;
+                }
+                self.core.stride(run, turns, row);
+                turns
+            }
+            None => 0,
+        }
+    }
+
+    // Over how many rows the walk of a run goes, at most so many, and to which one, as the table tells.
+    fn passes(&self, run: u64, most: u64) -> Option<(u64, u32)>
+        ensures { IfSome result (λ x. Passes (core_of self.entry.now) run most x (T.state self.entry.now.table).rows) }
+    {
+        match self.core.walking(run) {
+            Some(Walking { key, place }) => {
+                let passes = self.table.passes(key, place.as_ref(), most);
+                drop(place);
+                passes
+            }
+            None => None,
+        }
     }
 
     /// Carries out one event, with at most one call of the table's `act` or `next`; an event that is answered at once makes

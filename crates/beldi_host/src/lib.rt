@@ -2,8 +2,8 @@
 //! table at most one thing, and is followed by what the table told (`beldi_core`); only `Host` touches the table.
 //! It stands on `beldi_core`, and on `beldi_laws`, which says what every event keeps. Its
 //! definitions: `specs/Host` (the host as the core that events speak of), `specs/Survey` (calls that read the rows), `specs/LastRow`
-//! (what is read of a chain), `specs/Opening` (their errors), `specs/Said` (that what is said of a reply is so) and `specs/Right`
-//! (what the calls keep, and what a right host has).
+//! (what is read of a chain), `specs/Opening` (their errors), `specs/Said` (that what is said of a reply is so), `specs/Stride` (many
+//! turns of a run at once) and `specs/Right` (what the calls keep, and what a right host has).
 //!
 //! Proved:
 //! - `Host::event` is one step of the definition, for every table that keeps the trait's contract; crashes, lost
@@ -32,13 +32,16 @@
 //! - `next_run` is the least live run past a number (`IsLeastPast`); `ic_reset` sets the intent collector before all rows, and `ic_skip` to
 //!   a key, where it stood or past rows that are of no open intent, as far as the table's rows are told (`passes`). Both make no event,
 //!   leave the table as it was, and keep a right host right (`right`).
+//! - `Host::stride` gives a run that walks along an item's rows many turns at once, where the table tells how far it goes: it is so many
+//!   events, one after another, each with the same answer (`strides`), it counts them (`taken`), and keeps a right host right (`right`).
 //!
 //! Files:
 //! - Code (`src/`): `host` the host over its table; `survey` reads the rows, `last_row` those of a chain; `laws` what a right host
 //!   has.
 //! - Lemmas (`proofs/`): `Steps` reading all rows, `Skips` all but the items', `Lines` what is written of each; `Looks` at one row,
 //!   `LastRows` at those of a chain; `Newest` the greatest ticket;
-//!   `Openings` where the intent collector may go on; `Right` what follows from the laws; `Taken` that an event counts once.
+//!   `Openings` where the intent collector may go on; `Right` what follows from the laws; `Taken` that an event counts once; `Strides` many turns of a
+//!   run that walks.
 #![tactic(auto)]
 
 mod high_water;

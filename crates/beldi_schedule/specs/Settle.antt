@@ -1,6 +1,6 @@
 -- Settling, as a machine over the events of a host: each live run is given turns until all that are left wait, and an intent that has
 -- no run is given one. The runs that wait are the live ones up to a number, so no set of them is kept.
-use Rattle.std.specs.Prelude.{◌≡◌, ℕ, ◌+◌, ◌-◌, ◌<◌, nat_le, Bool, true, false, not, ◌&&◌, List, [], ◌∷◌, ◌++◌, Option, Some, None, if◌then◌else◌}
+use Rattle.std.specs.Prelude.{◌≡◌, ℕ, ◌+◌, ◌-◌, ◌<◌, ◌≤◌, nat_le, Bool, true, false, not, ◌&&◌, List, [], ◌∷◌, ◌++◌, Option, Some, None, if◌then◌else◌}
 use Rattle.beldi_step.specs.{declared.event.Event.Event, declared.event.Seen.Seen, Host.Core, Host.most_events, Next.next_run, Next.reset}
 use Rattle.beldi_schedule.specs.declared.machine.{At.At, Next.Next, Next.TheVariants.Turn, Next.TheVariants.Collect, Next.TheVariants.Reset, Settled.Settled, Settled.TheVariants.All, Settled.TheVariants.Unsettled, Settled.TheVariants.Spent, Settled.TheVariants.Shut, Settled.TheVariants.Stuck, Standing.Standing, Standing.TheVariants.Goes, Standing.TheVariants.Over}
 
@@ -54,9 +54,13 @@ is_waiting x = false
 abbrev pub parked : At → ℕ → Seen → At
 parked s i x = record s { past = i; waiting = s.waiting ++ (i, x) ∷ [] }
 
+-- so many turns more
+abbrev pub strode : At → ℕ → At
+strode s n = record s { turns = s.turns + n; moved = true }
+
 -- a turn more
 abbrev pub counted : ℕ → At → Standing
-counted budget s = go_on budget (record s { turns = s.turns + 1; moved = true })
+counted budget s = go_on budget (strode s 1)
 
 -- a host that is spent takes no event more, and one that is shut none but a halt
 abbrev pub is_turned_away : Seen → Bool
@@ -127,7 +131,7 @@ turns_of (Spent n) = n
 turns_of (Shut n) = n
 turns_of (Stuck n ws) = n
 
--- ---- what is kept: a settling that goes on has turns left, and each event that it went on after was taken
+-- ---- what is kept: a settling that goes on has turns left, and the events that it went on after were taken, one at least
 abbrev pub HasTurns : ℕ → Standing → Type 0
 HasTurns budget (Goes s) = s.turns < budget
 HasTurns budget (Over r) = Unit {0}
@@ -138,7 +142,7 @@ turns_in (Collect s) = s.turns
 turns_in (Reset s) = s.turns
 
 abbrev pub WasTaken : Core → Core → Standing → Type 0
-WasTaken c z (Goes s) = (c.taken < most_events) × (z.taken ≡ c.taken + 1)
+WasTaken c z (Goes s) = (c.taken < z.taken) × (z.taken ≤ most_events)
 WasTaken c z (Over r) = Unit {0}
 
 -- how many events a settling may still make; none where it is over

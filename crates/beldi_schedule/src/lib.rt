@@ -13,5 +13,6 @@
 mod machine;
 
 pub use machine::{
-    At, Next, Settled, Standing, Waits, begun, first_at, go_on, ic_heard, turn_heard, unparked,
+    At, Next, Settled, Standing, Waits, begun, first_at, go_on, ic_heard, strode, turn_heard,
+    unparked,
 };

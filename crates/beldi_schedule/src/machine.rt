@@ -1,6 +1,6 @@
 // Where a settling stands, and where it goes.
-ghost use Rattle.std.specs.Prelude.{◌≡◌, ◌<◌, ◌++◌, ◌∷◌, [], IfOk, OnOk};
-ghost use Rattle.beldi_schedule.specs.Settle.{HasTurns, away, begun, counted, counts, end_of, ends_round, first_at, go_on, ic_heard, is_empty, is_turned_away, is_waiting, parked, round_over, turn_heard, unparked};
+ghost use Rattle.std.specs.Prelude.{◌≡◌, ◌+◌, ◌<◌, ◌≤◌, ◌++◌, ◌∷◌, [], IfOk, OnOk};
+ghost use Rattle.beldi_schedule.specs.Settle.{HasTurns, away, begun, counted, counts, end_of, ends_round, first_at, go_on, ic_heard, is_empty, is_turned_away, is_waiting, parked, round_over, strode, turn_heard, unparked};
 ghost use Rattle.beldi_schedule.specs.declared.machine.Standing.TheVariants.{Goes};
 
 use beldi_step::Seen;
@@ -172,18 +172,27 @@ fn is_waiting(seen: &Seen) -> bool
     }
 }
 
-fn counted(budget: u64, at: At) -> Standing
-    requires { at.turns < budget }
-    ensures { result ≡ counted budget at }
+/// A run was given so many turns, each of which is counted.
+pub fn strode(budget: u64, at: At, turns: u64) -> Standing
+    requires { at.turns + turns ≤ budget }
+    ensures next { result ≡ go_on budget (strode at turns) }
+    ensures turns { HasTurns budget result }
 {
     go_on(
         budget,
         At {
-            turns: at.turns + 1,
+            turns: at.turns + turns,
             moved: true,
             ..at
         },
     )
+}
+
+fn counted(budget: u64, at: At) -> Standing
+    requires { at.turns < budget }
+    ensures { result ≡ counted budget at }
+{
+    strode(budget, at, 1)
 }
 
 fn parked(mut at: At, run: u64, seen: Seen) -> Result<Standing, AllocError>

@@ -26,13 +26,13 @@ tells_with (Some m) None f q p = p
 tells_with (Some m) (Some n) f q p = f m n q p
 
 module _ {d : Deployment} {room budget : ℕ} where
-  settles_then : {x y z : Standing} {s t u : State} → Settles d room budget x s y t → Settles d room budget y t z u → Settles d room budget x s z u
+  pub settles_then : {x y z : Standing} {s t u : State} → Settles d room budget x s y t → Settles d room budget y t z u → Settles d room budget x s z u
   settles_then (stands y t) h = h
   settles_then {z = z} {u = u} (goes a s w v y t first rest) h = goes a s w v z u first (settles_then rest h)
   settles_then {z = z} {u = u} (skips a s b q y t may rest) h = skips a s b q z u may (settles_then rest h)
 
   -- one event
-  settles_once : {a : At} {z : Standing} {s u : State} → Advances d room budget a s u z → Settles d room budget (Goes a) s z u
+  pub settles_once : {a : At} {z : Standing} {s u : State} → Advances d room budget a s u z → Settles d room budget (Goes a) s z u
   settles_once {a} {z} {s} {u} h = goes a s z u z u h (stands z u)
 
 -- ---- one event

@@ -5,4 +5,5 @@ mod Names
 mod Refusals
 pub mod Responses
 mod SettleEvents
+mod Strides
 pub mod Went

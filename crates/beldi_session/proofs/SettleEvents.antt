@@ -7,15 +7,15 @@ use Rattle.beldi_schedule.specs.Settle.{by_round, counted, is_empty, restless, t
 use Rattle.beldi_session.{proofs.Calls.Calm, proofs.Calls.made, proofs.Responses.event_answered, proofs.Responses.event_broke, proofs.Went.broken, proofs.Went.by_one, proofs.Went.fine}
 use Rattle.beldi_session.proofs.Names.{Action, AllocError, Answered, At, Bool, BrokeOff, Collect, Core, DoesTo, Err, Event, Goes, IfOk, IsErrOf, IsStep, List, Next, None, Ok, OnOk, Option, OutOfMemory, Over, ReplyAlone, Reset, Response, Result, Rows, Seen, Settle, SettlingLeaves, Sight, SinkFault, Some, Standing, Stepped, Stop, TableState, Told, WasTaken, WentBack, WentBy, WentOn, [], ap, append-nil, arith, away, begun, counts, ends_round, false, ic_heard, if◌then◌else◌, is_turned_away, is_waiting, left_by, most_events, next_of, next_run, parked, refl, reset, response_text, round_over, state_at, subst, sym, told_same, true, turn_heard, unless_away, ℕ, ◌&&◌, ◌++◌, ◌+◌, ◌<◌, ◌∙◌, ◌∷◌, ◌≡◌, ◌≤◌}
 
--- ---- an event that a settling goes on after was taken
-taken_by : (c z : Core) (next : Standing) → (c.taken < most_events) × (z.taken ≡ c.taken + 1) → WasTaken c z next
-taken_by c z (Goes s) h = h
-taken_by c z (Over r) h = tt
+-- ---- the events that a settling goes on after were taken, one at least
+pub taken_by : (c z : Core) (next : Standing) → c.taken < z.taken → z.taken ≤ most_events → WasTaken c z next
+taken_by c z (Goes s) some few = (some, few)
+taken_by c z (Over r) some few = tt
 
 taken_unless_away : (c z : Core) (s : At) (x : Seen) (next : Standing) → ((x ≡ Seen.Spent → ⊥) → (c.taken < most_events) × (z.taken ≡ c.taken + 1)) → WasTaken c z (unless_away s x next)
 taken_unless_away c z s x next h = (elim (is_turned_away x) as (λ b. is_turned_away x ≡ b → WasTaken c z (if b then Over (away s.turns x) else next)) [
   | true ↦ λ e. tt
-  | false ↦ λ e. taken_by c z next (h (λ same. let clash : false ≡ true = sym e ∙ ap is_turned_away same in cc))
+  | false ↦ λ e. let once = h (λ same. let clash : false ≡ true = sym e ∙ ap is_turned_away same in cc) in taken_by c z next (omega (arith, once.1)) (omega (arith, once.0, once.1))
 ]) refl
 
 pub turn_taken : (c z : Core) (budget : ℕ) (s : At) (i : ℕ) (x : Seen) (next : Standing) → next ≡ turn_heard budget s i x → ((x ≡ Seen.Spent → ⊥) → (c.taken < most_events) × (z.taken ≡ c.taken + 1)) → WasTaken c z next
@@ -44,7 +44,7 @@ module _ (budget : ℕ) (a b : Sight) (held : b.held ≡ a.held) (faults : b.fau
 
 -- the intent collector was set before all rows, or past some
 module _ (budget : ℕ) (a b : Sight) (held : b.held ≡ a.held) (faults : b.faults ≡ a.faults) (code : b.code ≡ a.code) (table : b.table ≡ a.table) (waiting : b.waiting ≡ a.waiting) (s at : At) where
-  calm : Calm a b
+  pub calm : Calm a b
   calm = record { held = held; faults = faults; code = code; room = ap (λ (t : TableState). t.room) table; later = subst (λ (t : TableState). a.table.faults ≤ t.faults) (sym table) (omega arith) }
 
   abbrev first : List Action
@@ -65,7 +65,7 @@ module _ (budget : ℕ) (a b : Sight) (held : b.held ≡ a.held) (faults : b.fau
   all_set t = made first then_on a b (fine {X = Unit {0}} tt) calm (λ e. cc)
       (subst (λ (t : TableState). Told a.table.rows t.rows (λ m n. WentBy a.code a.table.room first then_on (state_at a m) (state_at b n) a.waiting [] b.waiting (fine {X = Unit {0}} tt))) (sym table) t)
 
-  same_state : (c : Core) → b.core ≡ c → (m : Rows) → state_at b m ≡ record (state_at a m) { core = c }
+  pub same_state : (c : Core) → b.core ≡ c → (m : Rows) → state_at b m ≡ record (state_at a m) { core = c }
   same_state c core m = λ j. record { core = core j; rows = m; faults = (table j).faults }
 
   pub went_back : (z : At) → next_of a.core s ≡ Reset z → at ≡ begun z → b.core ≡ reset a.core → DoesTo first then_on a b (fine {X = Unit {0}} tt)

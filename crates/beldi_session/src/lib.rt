@@ -15,7 +15,8 @@
 //! - An event that is out of memory is a response too, and leaves its action to do (`BrokeOff`): its step is that of the definition, in which
 //!   the act may have been made.
 //! - A line `settle` is carried out as just the events of the machine of `beldi_schedule` (`Leaves`), each a step of the host as those of other
-//!   lines; before a turn of the intent collector that is set past rows of no open intent alone, where the table tells them (`WentOn`). It
+//!   lines, also where the host gives a run many turns at once; before a turn of the intent collector that is set past rows of no open
+//!   intent alone, where the table tells them (`WentOn`). It
 //!   comes to its end, since each event that it goes on after was taken; and it keeps the promises of `beldi_bound` (`promises`).
 //! - A script is to be empty where a source is served: `find_line` gives the refusal of its first line that is not (`first_line`).
 //! - `write_refusal` writes the line of a refusal, with its number in the source and its cause (`refusal_text`).
@@ -25,7 +26,7 @@
 //!   script's lines, from a line to the host's calls; `settling` one line that is many events; `check` a source that is tested;
 //!   `answer` the text of an answer; `output` text on its way.
 //! - Lemmas (`proofs/`): `Went` actions that were done, `Calls` calls one after another; `Responses` what the host answers;
-//!   `SettleEvents` an event of a settling, `Led` that they lead on, and its promises; `Lines`, `Refusals`.
+//!   `SettleEvents` an event of a settling, `Strides` many turns at once, `Led` that they lead on, and its promises; `Lines`, `Refusals`.
 #![tactic(auto)]
 
 mod answer;

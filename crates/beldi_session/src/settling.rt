@@ -22,7 +22,8 @@ use beldi_host::Host;
 use beldi_joined::settlings_after_sessions_are_as_promised;
 use beldi_row::Table;
 use beldi_schedule::{
-    At, Next, Settled, Standing, Waits, begun, first_at, go_on, ic_heard, turn_heard, unparked,
+    At, Next, Settled, Standing, Waits, begun, first_at, go_on, ic_heard, strode, turn_heard,
+    unparked,
 };
 use beldi_step::{Event, Seen};
 use beldi_value::Str;
@@ -87,6 +88,27 @@ fn give_turn<T: Table>(
     }
 }
 
+// Gives a run a turn, or, where its walk goes over many rows at once, as many.
+fn give_turns<T: Table>(
+    alloc: Global,
+    host: &mut Host<T>,
+    out: &mut Str,
+    budget: u64,
+    at: At,
+    run: u64,
+) -> Result<Standing, Stop>
+    requires { at.turns < budget }
+    ensures does { (s : At) (held : Option (List ℕ)) (faults : ℕ) → next_of (core_of host.old) s ≡ Turn at run → DoesTo (Settle budget (Goes s) ∷ []) (left_by budget result) (sight host.old out.old held faults) (sight host.new out.new held faults) result }
+    ensures turns { IfOk result (λ next. HasTurns budget next) }
+    ensures taken { IfOk result (λ next. WasTaken (core_of host.old) (core_of host.new) next) }
+    ensures led { (s : At) → next_of (core_of host.old) s ≡ Turn at run → IfOk result (λ next. Led host.old.code budget (Goes s) next (core_of host.old) (core_of host.new) (T.state host.old.table) (T.state host.new.table)) }
+{
+    match host.stride(run, budget - at.turns) {
+        0 => give_turn(alloc, host, out, budget, at, run),
+        turns => Ok(strode(budget, at, turns)),
+    }
+}
+
 // Sets the intent collector past rows that are of no open intent, and gives it a turn.
 fn collect<T: Table>(host: &mut Host<T>, budget: u64, at: At) -> Result<Standing, Stop>
     requires { at.turns < budget }
@@ -121,7 +143,7 @@ fn advance<T: Table>(
     ensures led { IfOk result (λ next. Led host.old.code budget (Goes at) next (core_of host.old) (core_of host.new) (T.state host.old.table) (T.state host.new.table)) }
 {
     match next_of(host, at) {
-        Next::Turn(at, run) => give_turn(alloc, host, out, budget, at, run),
+        Next::Turn(at, run) => give_turns(alloc, host, out, budget, at, run),
         Next::Collect(at) => collect(host, budget, at),
         Next::Reset(at) => {
             host.ic_reset();

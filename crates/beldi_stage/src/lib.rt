@@ -11,17 +11,21 @@
 //!   (`first_stage`).
 //! - What is called in a transaction is in it throughout, and the call, the operations and the return make no entry (`callee_by`,
 //!   `step_mark`, `back_says`). It is stamped by the owner's end, and not by its own (`close_asks`).
+//! - `stage_walk` is the row that the walk of a stage looks at next (`stage_walking`), past the first row of its item, and `set_row` sets
+//!   that walk to another row (`stage_to`).
 //!
 //! Files:
 //! - Code (`src/`): `stage`, with `call_stage` for calls and `tx_stage` inside a transaction and at its end: what a stage
-//!   asks and says.
+//!   asks and says; `stride` the walk that it makes.
 //! - Lemmas (`proofs/`): `Ended` a visit leaves no mark.
 #![tactic(auto)]
 
 mod call_stage;
 mod stage;
+mod stride;
 mod tx_stage;
 
 pub use call_stage::callee_body;
 pub use stage::{first_stage, hear, look, place_of, stage_query};
+pub use stride::{set_row, stage_walk};
 pub use tx_stage::tx_at;

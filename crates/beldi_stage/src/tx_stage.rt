@@ -24,7 +24,12 @@ use std::alloc::{AllocError, Global};
 use std::mem::replace;
 
 // A run's own transaction, which is open.
-fn own_tx(alloc: Global, id: &IntentId, func: u16, tx: &OpenTx) -> Result<TxId, AllocError>
+pub(crate) fn own_tx(
+    alloc: Global,
+    id: &IntentId,
+    func: u16,
+    tx: &OpenTx,
+) -> Result<TxId, AllocError>
     ensures { IfOk result (λ x. x ≡ own_tx_of id.now func tx.now) }
 {
     Ok(TxId {

@@ -1,3 +1,4 @@
+pub mod Forward
 pub mod Given
 mod Inside
 pub mod Late
@@ -6,3 +7,4 @@ pub mod PutRun
 pub mod Runs
 pub mod Shut
 pub mod Steps
+pub mod Stride

@@ -6,5 +6,6 @@ pub mod Next
 pub mod Noted
 pub mod Run
 pub mod Shut
+pub mod Stride
 pub mod Tables
 pub mod Told

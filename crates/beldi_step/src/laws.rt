@@ -1,9 +1,10 @@
-// What one step of the host says over rows that are told, over any table, of deadlines, and of halts; and what runs say that were called
-// in a transaction.
+// What one step of the host says over rows that are told, over any table, of deadlines, and of halts; what runs say that were called in a
+// transaction; and that a walk goes on from row to row.
 ghost use Rattle.beldi_step.specs.Deadlines.{CalledRunsHaveTheirCallersDeadline, KeepsSoon, NoRunIsPastALife, RunsKeepTheirDeadline};
 ghost use Rattle.beldi_step.specs.Inside.{StaysInherited, BeginsInside, MakesNoEntry};
 ghost use Rattle.beldi_step.specs.Laws.{StepsOverRows, StepsOverAnyTable, ExpiresPastDeadline};
 ghost use Rattle.beldi_step.specs.Shut.{HaltsAsOpened, HaltsEndRuns, OnlyShutAnswersShut, ShutAnswersShut, ShutHasNoRuns, ShutsAtAFailedHalt, StaysShut};
+ghost use Rattle.beldi_step.specs.Stride.{WalksOn};
 
 /// Over rows that are told, a step is a relation between the host and the rows before and after.
 pub fn a_step_over_rows()
@@ -93,4 +94,10 @@ pub fn a_shut_host_has_no_runs()
 /// number of runs that were started and the count of events, which stay or count on.
 pub fn a_halted_host_is_as_opened()
     ensures { HaltsAsOpened }
+{}
+
+/// A turn of a run that walks along an item's rows, at a row which another one follows and which has no entry of the place that is looked
+/// for, if any is, leaves the rows and goes on to that one: it makes no entry, starts no run, and does not wait.
+pub fn a_walk_goes_on()
+    ensures { WalksOn }
 {}

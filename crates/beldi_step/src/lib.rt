@@ -1,7 +1,7 @@
 //! The step of the host as definitions: events, their answers, the runs of instances, and what one event does. Nothing here touches a
 //! table. Its definitions: `specs/Run` (what a run asks in its next turn, and where it goes after what it was told),
 //! `specs/Host` (the host without its table, what an event asks, what follows, and what one event does), `specs/Laws` (the same over rows
-//! that are told, and over any table), `specs/Deadlines` (which deadlines runs are given), `specs/Shut` (halts), `specs/Inside` (a run that was called in a transaction), `specs/Told` (what an event and its
+//! that are told, and over any table), `specs/Deadlines` (which deadlines runs are given), `specs/Shut` (halts), `specs/Inside` (a run that was called in a transaction), `specs/Stride` (a run that walks along rows), `specs/Told` (what an event and its
 //! answer tell), `specs/Noted` (the answer that a note stands for) and `specs/Tables` (the listing of the rows). `beldi_stage` and `beldi_turn` carry out what a run does, and `beldi_core` what an event does.
 //!
 //! Proved:
@@ -16,6 +16,8 @@
 //! - What is called in a transaction stays in it (`a_run_stays_in_its_transaction`), begins each effect as an operation of it, a call
 //!   or a return (`a_run_begins_inside`), and makes no entry (`a_run_inside_makes_no_entry`): the words of these laws are in
 //!   `specs/Inside`.
+//! - A walk along an item's rows goes on where a row has nothing for it: such a turn does no more than to set the run to the next row
+//!   (`a_walk_goes_on`, in the words of `specs/Stride`).
 //! - No run acts past its deadline: an event of it is answered at once, and ends it (`a_run_expires_past_its_deadline`).
 //! - A run that a call started has the deadline of its caller, and any other one a life from its start on
 //!   (`a_called_run_has_its_callers_deadline`). It keeps that deadline (`a_run_keeps_its_deadline`), and none is more than a life
@@ -25,7 +27,7 @@
 //! Files:
 //! - Code (`src/`): `event` events and answers; `run` the runs of instances, as data; `laws`.
 //! - Lemmas (`proofs/`): `Steps` both; `Plans` which plans and answers speak of a halt, `Shut` what is said of it; `Late` no run acts past its deadline; `Runs` the live runs after an event,
-//!   `Given` which deadlines they have; `Inside`; `PutRun` a map of runs.
+//!   `Given` which deadlines they have; `Inside`; `Stride` and `Forward` a run that walks; `PutRun` a map of runs.
 #![tactic(auto)]
 
 mod event;
@@ -38,7 +40,7 @@ pub use laws::{
     a_halted_host_is_as_opened, a_run_begins_inside, a_run_expires_past_its_deadline,
     a_run_inside_makes_no_entry, a_run_keeps_its_deadline, a_run_stays_in_its_transaction,
     a_shut_host_answers_shut, a_shut_host_has_no_runs, a_shut_host_stays_shut,
-    a_step_over_any_table, a_step_over_rows, an_event_keeps_deadlines_soon,
+    a_step_over_any_table, a_step_over_rows, a_walk_goes_on, an_event_keeps_deadlines_soon,
     no_live_run_is_past_a_life_from_now, only_a_shut_host_answers_shut,
 };
-pub use run::{Begun, Mark, OpenTx, Run, RunAt, RunTx, Says, Stage, TurnSays, Wait};
+pub use run::{Begun, Mark, OpenTx, Run, RunAt, RunTx, Says, Stage, TurnSays, Wait, Walking};

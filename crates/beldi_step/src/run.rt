@@ -5,7 +5,7 @@ ghost use Rattle.beldi_step.specs.Run.{begin_of};
 use beldi_call::{AsyncAt, CallAt};
 use beldi_daal::WriteAt;
 use beldi_lang::{Answer, Machine};
-use beldi_row::Body;
+use beldi_row::{Body, RowKey};
 use beldi_txn::{TxAt, Visit};
 use beldi_value::{
     Apart, Caller, Cause, IntentId, Outcome, Owner, Place, TxId, Value, copy_holder, or_drop,
@@ -172,4 +172,11 @@ pub struct TurnSays {
     pub starts: bool,
     pub wait: Option<Wait>,
     pub reply: Option<Apart<Outcome>>,
+}
+
+/// The row of an item that a run's walk looks at next, and the place whose entry it looks for there; None where it reads.
+#[derive(Drop)]
+pub struct Walking {
+    pub key: RowKey,
+    pub place: Option<Place>,
 }

@@ -5,6 +5,8 @@
 //! - `ask` asks what the definition of a run asks, and `told` goes where it goes; out of memory, the error tells the mark of the act
 //!   (`Turns`). `callee` is a run of what a run calls, with its deadline (`callee_of`).
 //! - A run carries out the transactions that its function begins: a begin and an abort take no turn (`at_once`).
+//! - `walking` is the row that a run's walk looks at next, past the first one of its item, and `walk_to` sets the walk to another one
+//!   (`walked`).
 //!
 //! Files:
 //! - Code (`src/`): `turn` what a run asks in its next turn, and where it goes by what it is told; `begun` its machine and
@@ -15,4 +17,4 @@
 mod begun;
 mod turn;
 
-pub use turn::{ask, callee, told};
+pub use turn::{ask, callee, told, walk_to, walking};

@@ -4,6 +4,7 @@ ghost use Rattle.beldi_tree.specs.Names.{func_at};
 ghost use Rattle.beldi_walk.specs.Query.{told_of};
 ghost use Rattle.beldi_intent.specs.Intent.{body_in, body_told, open_body as open_body_of, register_asks};
 ghost use Rattle.beldi_step.specs.Run.{run_asks, run_told, followed, plain_says, begin_in, goes_to, takes, at_stage, body_found, body_added, turned_by, Turns, callee_of, callee_run as callee_run_of};
+ghost use Rattle.beldi_step.specs.Stride.{walking as walking_of, past_first, walked};
 ghost use Rattle.beldi_step.specs.declared.run.Begun.{Begun};
 ghost use Rattle.beldi_step.specs.declared.run.Mark.{Mark};
 ghost use Rattle.beldi_step.specs.declared.run.RunAt.{RunAt};
@@ -14,8 +15,8 @@ use beldi_call::CallAt;
 use beldi_intent::{open_body, register_query};
 use beldi_lang::{Answer, Deployment, Effect};
 use beldi_row::{Body, IntentRow, Row, Said};
-use beldi_stage::{callee_body, hear, look, stage_query, tx_at};
-use beldi_step::{Begun, Mark, Run, RunAt, Says, Stage, TurnSays};
+use beldi_stage::{callee_body, hear, look, set_row, stage_query, stage_walk, tx_at};
+use beldi_step::{Begun, Mark, Run, RunAt, Says, Stage, TurnSays, Walking};
 use beldi_value::{Apart, IntentId, or_drop};
 use beldi_walk::{Heard, Query};
 use std::alloc::{AllocError, Global};
@@ -324,4 +325,25 @@ fn go_on(
     };
     take(alloc, begun, code, answer)?;
     go_to(alloc, begun, code, &run.id)
+}
+
+/// The row that the run's walk looks at next, past the first row of its item, and the place whose entry it looks for there; None where it
+/// makes no walk, or is at the first row.
+pub fn walking(alloc: Global, run: &Run) -> Result<Option<Walking>, AllocError>
+    ensures { IfOk result (λ w. w ≡ past_first (walking_of run.now)) }
+{
+    match &run.at {
+        RunAt::Begins(begun) => stage_walk(alloc, &run.id, run.func, begun),
+        _ => Ok(None),
+    }
+}
+
+/// Sets the run's walk to the row of this number, as turns along the rows before that one do.
+pub fn walk_to(run: &mut Run, row: u32)
+    ensures walked { run.new ≡ walked row run.old }
+    ensures id { run.new.id ≡ run.old.id }
+{
+    if let RunAt::Begins(begun) = &mut run.at {
+        set_row(&mut begun.stage, row);
+    }
 }

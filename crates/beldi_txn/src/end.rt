@@ -328,8 +328,8 @@ fn free_query(
     }
 }
 
-// The place at which who is visited gives items back.
-fn free_place(alloc: Global, tx: &TxId, end: u32, way: &Way) -> Result<Place, AllocError>
+/// The place at which who is visited gives items back, where the transaction ends at the step `end`.
+pub fn free_place(alloc: Global, tx: &TxId, end: u32, way: &Way) -> Result<Place, AllocError>
     ensures { IfOk result (λ p. p ≡ freed_at tx.now end way.now) }
 {
     let (intent, _) = way.member(alloc, tx)?;

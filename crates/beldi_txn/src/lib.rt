@@ -51,7 +51,9 @@ mod tx;
 mod tx_walk;
 mod way;
 
-pub use end::{EndAt, EndGoes, EndSays, Visit, decide_query, decide_told, end_query, end_told};
+pub use end::{
+    EndAt, EndGoes, EndSays, Visit, decide_query, decide_told, end_query, end_told, free_place,
+};
 pub use end_walk::EndWalk;
 pub use invokes::{invokes_query, invokes_told};
 pub use laws::{

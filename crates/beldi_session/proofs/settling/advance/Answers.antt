@@ -2,7 +2,7 @@ use Rattle.beldi_row.specs.Key.{least_key}
 use Rattle.beldi_step.specs.Next.{at_key}
 use Rattle.beldi_schedule.specs.Settles.{MaySkip}
 use Rattle.beldi_session.proofs.Names.{Goes, Settle, [], ap, core_of, refl, sight, subst, sym, ◌∙◌, ◌∷◌}
-use Rattle.beldi_session.proofs.{Calls.does_on, Led.after_reset, Led.if_collected, Led.turn_led, SettleEvents.begun_collects, SettleEvents.collects_so, SettleEvents.went_back}
+use Rattle.beldi_session.proofs.{Calls.does_on, Led.after_reset, Led.if_collected, SettleEvents.begun_collects, SettleEvents.collects_so, SettleEvents.went_back}
 use Rattle.beldi_session.proofs.settling.advance.Goals as goal
 
 pub returns-in-Reset-clause-does : goal.returns-in-Reset-clause-does
@@ -17,12 +17,7 @@ returns-in-Reset-clause-does g c = λ held faults.
     (c.collect-in-Reset.ensures.does b out held faults (begun_collects (core_of c.ic_reset.new.self) b c.in-Reset.at begins))
 
 pub returns-in-Turn-clause-led : goal.returns-in-Turn-clause-led
-returns-in-Turn-clause-led g c =
-    let t = g.T.Table in
-    let old = c.args.host.now in
-    let new = c.give_turn.new.host in
-    let is = sym c.next_of.ensures.next ∙ c.in-Turn.is in
-    turn_led old.code c.args.budget c.args.at (core_of old) (core_of new) (t.state old.table) (t.state new.table) c.in-Turn.at c.in-Turn.run' c.give_turn.result is c.give_turn.ensures.heard
+returns-in-Turn-clause-led g c = c.give_turns.ensures.led c.args.at (sym c.next_of.ensures.next ∙ c.in-Turn.is)
 
 pub returns-in-Collect-clause-led : goal.returns-in-Collect-clause-led
 returns-in-Collect-clause-led g c =
