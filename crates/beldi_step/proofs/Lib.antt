@@ -1,3 +1,4 @@
+pub mod Failures
 pub mod Forward
 pub mod Given
 mod Inside

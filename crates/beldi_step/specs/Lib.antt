@@ -1,4 +1,5 @@
 pub mod Deadlines
+pub mod Failures
 pub mod Host
 pub mod Inside
 pub mod Laws

@@ -1,6 +1,7 @@
-// What one step of the host says over rows that are told, over any table, of deadlines, and of halts; what runs say that were called in a
-// transaction; and that a walk goes on from row to row.
+// What one step of the host says over rows that are told, over any table, of failures, of deadlines, and of halts; what runs say that were
+// called in a transaction; and that a walk goes on from row to row.
 ghost use Rattle.beldi_step.specs.Deadlines.{CalledRunsHaveTheirCallersDeadline, KeepsSoon, NoRunIsPastALife, RunsKeepTheirDeadline};
+ghost use Rattle.beldi_step.specs.Failures.{FailuresMakeNothing};
 ghost use Rattle.beldi_step.specs.Inside.{StaysInherited, BeginsInside, MakesNoEntry};
 ghost use Rattle.beldi_step.specs.Laws.{StepsOverRows, StepsOverAnyTable, ExpiresPastDeadline};
 ghost use Rattle.beldi_step.specs.Shut.{HaltsAsOpened, HaltsEndRuns, OnlyShutAnswersShut, ShutAnswersShut, ShutHasNoRuns, ShutsAtAFailedHalt, StaysShut};
@@ -15,6 +16,11 @@ pub fn a_step_over_rows()
 /// that leaves the table as it was. A halt makes as many calls as it reads rows.
 pub fn a_step_over_any_table()
     ensures { StepsOverAnyTable }
+{}
+
+/// An event whose query the table failed is answered as dropped, and makes nothing: no turn, no entry and no run; a run that had it is over.
+pub fn a_failure_makes_nothing()
+    ensures { FailuresMakeNothing }
 {}
 
 /// No run acts past its deadline: an event of a run that is past it makes no call of the table, and the run is over. A host that is

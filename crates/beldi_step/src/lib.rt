@@ -9,6 +9,8 @@
 //!   to. Over rows that are told it is a relation between the host and the rows before and after (`a_step_over_rows`).
 //!   Over any table it makes at most one call, and none where it is answered at once: then the table is as it was
 //!   (`a_step_over_any_table`). A halt alone reads the keys of all rows: its witness is the newest ticket, or what the reading met.
+//! - An event whose query the table failed is answered as dropped, and makes nothing: a run that had it is over
+//!   (`a_failure_makes_nothing`; its words are in `specs/Failures`).
 //! - After a halt no run is live (`a_halt_ends_the_runs`). Answered as halted it leaves what is first over these rows, but for moment, book
 //!   and counts (`a_halted_host_is_as_opened`); where the table failed the host is shut (`a_failed_halt_shuts`), and answers so, and does
 //!   nothing, until one is answered as halted (`a_shut_host_answers_shut`, `only_a_shut_host_answers_shut`, `a_shut_host_stays_shut`,
@@ -26,7 +28,7 @@
 //!
 //! Files:
 //! - Code (`src/`): `event` events and answers; `run` the runs of instances, as data; `laws`.
-//! - Lemmas (`proofs/`): `Steps` both; `Plans` which plans and answers speak of a halt, `Shut` what is said of it; `Late` no run acts past its deadline; `Runs` the live runs after an event,
+//! - Lemmas (`proofs/`): `Steps` both; `Failures`; `Plans` which plans and answers speak of a halt, `Shut` what is said of it; `Late` no run acts past its deadline; `Runs` the live runs after an event,
 //!   `Given` which deadlines they have; `Inside`; `Stride` and `Forward` a run that walks; `PutRun` a map of runs.
 #![tactic(auto)]
 
@@ -36,11 +38,12 @@ mod run;
 
 pub use event::{Event, Seen};
 pub use laws::{
-    a_called_run_has_its_callers_deadline, a_failed_halt_shuts, a_halt_ends_the_runs,
-    a_halted_host_is_as_opened, a_run_begins_inside, a_run_expires_past_its_deadline,
-    a_run_inside_makes_no_entry, a_run_keeps_its_deadline, a_run_stays_in_its_transaction,
-    a_shut_host_answers_shut, a_shut_host_has_no_runs, a_shut_host_stays_shut,
-    a_step_over_any_table, a_step_over_rows, a_walk_goes_on, an_event_keeps_deadlines_soon,
-    no_live_run_is_past_a_life_from_now, only_a_shut_host_answers_shut,
+    a_called_run_has_its_callers_deadline, a_failed_halt_shuts, a_failure_makes_nothing,
+    a_halt_ends_the_runs, a_halted_host_is_as_opened, a_run_begins_inside,
+    a_run_expires_past_its_deadline, a_run_inside_makes_no_entry, a_run_keeps_its_deadline,
+    a_run_stays_in_its_transaction, a_shut_host_answers_shut, a_shut_host_has_no_runs,
+    a_shut_host_stays_shut, a_step_over_any_table, a_step_over_rows, a_walk_goes_on,
+    an_event_keeps_deadlines_soon, no_live_run_is_past_a_life_from_now,
+    only_a_shut_host_answers_shut,
 };
 pub use run::{Begun, Mark, OpenTx, Run, RunAt, RunTx, Says, Stage, TurnSays, Wait, Walking};
