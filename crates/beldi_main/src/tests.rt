@@ -51,47 +51,46 @@ fn ends<N: Link>(
     Ok(status)
 }
 
+// The status with which `run` ends over this source and a table that fails these calls; what it writes is in the sink.
+fn runs(
+    alloc: Global,
+    mut source: MemSource,
+    sink: &mut MemSink,
+    calls: &[u32],
+) -> Result<u8, Fail> {
+    let mut link = ClosedLink::new();
+    let ended = ends(alloc, &["run"], &mut source, sink, &mut link, calls);
+    drop(source);
+    ended
+}
+
 // Whether `run` ends so over these streams, and has written this text.
 fn is_end(
     alloc: Global,
-    mut source: MemSource,
+    source: MemSource,
     mut sink: MemSink,
     calls: &[u32],
     wanted: (u8, &[u8]),
 ) -> Result<bool, Fail> {
-    let mut link = ClosedLink::new();
-    let ended = ends(alloc, &["run"], &mut source, &mut sink, &mut link, calls);
-    drop(source);
-    let status = or_drop!(ended; sink);
+    let status = or_drop!(runs(alloc, source, &mut sink, calls); sink);
     let is_written = sink.as_slice() == wanted.1;
     drop(sink);
     Ok(status == wanted.0 && is_written)
 }
 
-// Whether this source ends so where these reads, writes and calls of the table fail.
-fn source_ends(
-    alloc: Global,
-    source: &[u8],
-    fail: (&[u32], &[u32], &[u32]),
-    wanted: u8,
-    text: &[u8],
-) -> Result<bool, Fail> {
-    let bytes = Vec::from_slice(alloc, source)?;
-    let reads = or_drop!(Vec::from_slice(alloc, fail.0); bytes);
-    let source = MemSource::new(bytes, reads);
-    let writes = or_drop!(Vec::from_slice(alloc, fail.1); source);
-    let sink = MemSink::new(alloc, writes);
-    is_end(alloc, source, sink, fail.2, (wanted, text))
-}
-
-// Whether the smallest path does.
+// Whether the smallest path ends so where these reads, writes and calls of the table fail.
 fn path_ends(
     alloc: Global,
     fail: (&[u32], &[u32], &[u32]),
     wanted: u8,
     text: &[u8],
 ) -> Result<bool, Fail> {
-    source_ends(alloc, SOURCE, fail, wanted, text)
+    let bytes = Vec::from_slice(alloc, SOURCE)?;
+    let reads = or_drop!(Vec::from_slice(alloc, fail.0); bytes);
+    let source = MemSource::new(bytes, reads);
+    let writes = or_drop!(Vec::from_slice(alloc, fail.1); source);
+    let sink = MemSink::new(alloc, writes);
+    is_end(alloc, source, sink, fail.2, (wanted, text))
 }
 
 #[test]
@@ -137,37 +136,93 @@ fn a_call_of_the_table_that_fails_is_answered(rt: HostRuntime) -> Result<(), Fai
     Ok(())
 }
 
-// The call of the table that fails, a source, and what is written: where a row is to be added for a run's write, and at a halt, after which
+// What the scripts here are scripts of.
+const WRITES: &[u8] =
+    b"life 100;\nfunction f(x) { table t; write t[\"k\"] = x; return x; }\nscript\n";
+
+// A source of this deployment.
+fn source_of(alloc: Global, script: &[u8]) -> Result<MemSource, Fail> {
+    let mut bytes = Vec::from_slice(alloc, WRITES)?;
+    or_drop!(bytes.extend_from_slice(script); bytes);
+    Ok(MemSource::new(bytes, Vec::new(alloc)))
+}
+
+// The call of the table that fails, a script, and what is written: where a row is to be added for a run's write, and at a halt, after which
 // only a halt goes on.
 const FAILED: [(u32, &[u8], &[u8]); 4] = [
     (
         5,
-        b"life 100;\nfunction f(x) { table t; write t[\"k\"] = x; return x; }\nscript\nticket\nrequest 1 f 7\nturn 1 3\nrestart 1 f\nturn 2 5\n",
+        b"ticket\nrequest 1 f 7\nturn 1 3\nrestart 1 f\nturn 2 5\n",
         b"ticket 1\nbound 1 run 1\nacted\nacted\ndropped\nrun 2\nacted\nacted\nacted\nacted step 1\nacted step 1 over\nreply 1 value 7\n== tables\nf t \"k\" 7\n== book\nstart 1 f 7\nstep 1\nstep 1\n",
     ),
     (
         3,
-        b"life 100;\nfunction f(x) { table t; write t[\"k\"] = x; return x; }\nscript\nticket\nhalt\nticket\nhalt\nticket\n",
+        b"ticket\nhalt\nticket\nhalt\nticket\n",
         b"ticket 1\ndropped\nshut\nhalted\nticket 2\n== tables\n== book\n",
     ),
     (
         3,
-        b"life 100;\nfunction f(x) { table t; write t[\"k\"] = x; return x; }\nscript\nticket\nhalt\nsettle 10\n",
+        b"ticket\nhalt\nsettle 10\n",
         b"ticket 1\ndropped\nshut 0\n== tables\n== book\n",
     ),
     (
         4,
-        b"life 100;\nfunction f(x) { table t; write t[\"k\"] = x; return x; }\nscript\nticket\nrequest 1 f 7\nhalt\nturn 1\nic\ntick 1\nreply 1\nhalt\nturn 1\nsettle 100\ntick 1\n",
+        b"ticket\nrequest 1 f 7\nhalt\nturn 1\nic\ntick 1\nreply 1\nhalt\nturn 1\nsettle 100\ntick 1\n",
         b"ticket 1\nbound 1 run 1\ndropped\nshut\nshut\nshut\nreply 1 waiting\nhalted\nrun-over\nreply 1 value 7\nsettled 6\nnow 1\n== tables\nf t \"k\" 7\n== book\nstart 1 f 7\nstep 1\nstep 1\n",
     ),
 ];
 
+// Whether this script ends with status 0, and has written this text.
+fn script_ends(alloc: Global, script: &[u8], call: u32, text: &[u8]) -> Result<bool, Fail> {
+    let source = source_of(alloc, script)?;
+    let sink = MemSink::new(alloc, Vec::new(alloc));
+    is_end(alloc, source, sink, &[call], (0, text))
+}
+
 #[test]
 fn a_halt_goes_on_where_a_call_of_the_table_failed(rt: HostRuntime) -> Result<(), Fail> {
     let alloc = rt.alloc();
-    for (call, source, text) in &FAILED {
-        assert!(rt; source_ends(alloc, source, (&[], &[], &[*call]), 0, text)?);
+    for (call, script, text) in &FAILED {
+        assert!(rt; script_ends(alloc, script, *call, text)?);
     }
+    Ok(())
+}
+
+// A script that asks for a ticket, binds the request and settles twice, and halts between, so that whichever one call of the table fails,
+// the request is made, and once.
+const HALTING: &[u8] =
+    b"ticket\nticket\nrequest 1 f 7\nturn 1 2\nhalt\nrequest 1 f 7\nturn 2 2\nhalt\nsettle 100\nhalt\nsettle 100\nreply 1\n";
+
+// What is written at its end: the listings; and where the call is one of the listing of the tables.
+const MADE: &[u8] = b"\n== tables\nf t \"k\" 7\n== book\nstart 1 f 7\nstep 1\nstep 1\n";
+
+const UNREAD: &[u8] = b"\n== tables\ndropped\n== book\nstart 1 f 7\nstep 1\nstep 1\n";
+
+// The first call of the listing, where none fails before it, and the first one that is not made.
+const LISTING: u32 = 34;
+
+const CALLS: u32 = 36;
+
+// Whether its text ends so where this call fails.
+fn halting_ends(alloc: Global, call: u32, end: &[u8]) -> Result<bool, Fail> {
+    let source = source_of(alloc, HALTING)?;
+    let mut sink = MemSink::new(alloc, Vec::new(alloc));
+    let status = or_drop!(runs(alloc, source, &mut sink, &[call]); sink);
+    let is_so = sink.as_slice().ends_with(end);
+    drop(sink);
+    Ok(status == 0 && is_so)
+}
+
+#[test]
+fn a_request_is_made_once_whichever_call_fails(rt: HostRuntime) -> Result<(), Fail> {
+    let alloc = rt.alloc();
+    for call in 1..LISTING {
+        assert!(rt; halting_ends(alloc, call, MADE)?);
+    }
+    for call in LISTING..CALLS {
+        assert!(rt; halting_ends(alloc, call, UNREAD)?);
+    }
+    assert!(rt; halting_ends(alloc, CALLS, MADE)?);
     Ok(())
 }
 
