@@ -245,10 +245,13 @@ class Session:
         return self.lines[self.at - 1] if self.at <= len(self.lines) else ""
 
     def listing(self, head, form):
-        """The lines of a listing that begins here; None where none does."""
+        """The lines of a listing that begins here; None where none does. At the end of a script, the tables
+        that could not be read are the one line `dropped`."""
         if self.peek() != head:
             return None
         self.take()
+        if form is ITEM and self.lines[self.at:self.at + 2] == ["dropped", "== book"]:
+            return [self.take()]
         found = []
         while form.match(self.peek()):
             found.append(self.take())
