@@ -18,7 +18,7 @@ pub mod Frames
 mod GivingBack
 mod Grown
 pub mod InTx
-mod Keeping
+pub mod Keeping
 mod KeptSane
 pub mod Listing
 pub mod Lives

@@ -26,14 +26,14 @@ there_still : (b : Bool) {A : Type 0} (x : A) (o : Option A) → is_some o ≡ t
 there_still true x o h = refl
 there_still false x o h = h
 
-at_most : (k : RowKey) (es : List (RowKey × Row)) → is_some (find key_cmp k es) ≡ true → key_ticket k ≤ greatest es
+pub at_most : (k : RowKey) (es : List (RowKey × Row)) → is_some (find key_cmp k es) ≡ true → key_ticket k ≤ greatest es
 at_most k [] h = cc
 at_most k (e ∷ es) h = (elim (is_eq (key_cmp k e.0)) as (λ b. is_eq (key_cmp k e.0) ≡ b → is_some (cond b (Some e.1) (find key_cmp k es)) ≡ true → key_ticket k ≤ max (key_ticket e.0) (greatest es)) [
   | true ↦ λ t here. let same : key_ticket k ≡ key_ticket e.0 = ap key_ticket (key_same k e.0 t) in omega (arith, same)
   | false ↦ λ t here. let rest = at_most k es here in omega (arith, rest)
 ]) refl h
 
-bounded : (n : ℕ) (es : List (RowKey × Row)) → ((k : RowKey) → is_some (find key_cmp k es) ≡ true → key_ticket k ≤ n) → greatest es ≤ n
+pub bounded : (n : ℕ) (es : List (RowKey × Row)) → ((k : RowKey) → is_some (find key_cmp k es) ≡ true → key_ticket k ≤ n) → greatest es ≤ n
 bounded n [] h = omega arith
 bounded n (e ∷ es) h =
     let first : key_ticket e.0 ≤ n = h e.0 (ap (λ b. is_some (cond b (Some e.1) (find key_cmp e.0 es))) (ap is_eq (tied_itself key_total e.0))) in

@@ -1,11 +1,11 @@
 mod Asked
-mod Asking
+pub mod Asking
 mod CallLaws
 mod Carried
 mod CellActs
 mod Chains
 mod Edges
-mod EndRows
+pub mod EndRows
 mod EndsLast
 mod Finishes
 mod FirstTurns
@@ -13,11 +13,11 @@ mod Firsts
 mod Frees
 pub mod FromRight
 mod Functions
-mod GivenBack
-mod Kept
+pub mod GivenBack
+pub mod Kept
 mod Leaving
 pub mod Nearness
-mod NewWork
+pub mod NewWork
 pub mod Notes
 mod Open
 pub mod Overs
@@ -34,7 +34,7 @@ mod PastRows
 mod PastSays
 mod PastStages
 mod PastTurns
-mod Quiet
+pub mod Quiet
 mod Roots
 mod RowNotes
 mod RowSets

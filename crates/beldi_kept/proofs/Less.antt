@@ -1,0 +1,108 @@
+-- One row is set in both; what an act does to the two; and what a removal leaves.
+use Rattle.std.specs.FinMap as map
+use Rattle.std.specs.Ordering.{is_eq}
+use Rattle.std.proofs.Common.{◌≡◌, ◌⊎◌, inl, inr, ℕ, Bool, true, false, cond, Option, Some, None, refl, ap, sym, ◌∙◌, subst, arith}
+use Rattle.beldi_value.specs.{Id.id_cmp, declared.id.IntentId.IntentId, declared.outcome.Outcome.Outcome}
+use Rattle.beldi_row.specs.{Act.act, Act.end_with, Act.stamp_with, Key.RowKey, Key.key_cmp, Table.Rows, Table.set_row, declared.act.Act.Act, declared.row.Row.Row}
+use Rattle.beldi_row.proofs.Gets.{got, key_same}
+use Rattle.beldi_walk.specs.{declared.query.Query.Query, Query.said, Query.told_by, Query.rows_after}
+use Rattle.beldi_laws.proofs.Names.{tied_itself, id_total}
+use Rattle.beldi_laws.specs.Inside.{has_finish}
+use Rattle.beldi_upkeep.specs.Callees.{belongs_to}
+use Rattle.beldi_kept.specs.Less.{IsGone, Less, and_gone}
+
+-- what is so of two maps at each key is so of them once a row of both was set
+set_two : (m kept : Rows) (k : RowKey) (o p : Option Row) (P : RowKey → Option Row → Option Row → Type 0) → P k o p → ((l : RowKey) → P l (map.get m l) (map.get kept l)) → (l : RowKey) → P l (map.get (set_row m k o) l) (map.get (set_row kept k p) l)
+set_two m kept k o p P here all l = at (is_eq (key_cmp l k)) refl
+  where
+    at : (b : Bool) → is_eq (key_cmp l k) ≡ b → P l (map.get (set_row m k o) l) (map.get (set_row kept k p) l)
+    at b e = subst (λ z. P l z (map.get (set_row kept k p) l)) (sym (got m k l o ∙ ap (λ b. cond b o (map.get m l)) e)) (subst (P l (cond b o (map.get m l))) (sym (got kept k l p ∙ ap (λ b. cond b p (map.get kept l)) e)) (by_test b e))
+      where
+        by_test : (b : Bool) → is_eq (key_cmp l k) ≡ b → P l (cond b o (map.get m l)) (cond b p (map.get kept l))
+        by_test true e = subst (λ z. P z o p) (sym (key_same l k e)) here
+        by_test false e = all l
+
+-- the row of an intent that has no body
+abbrev pub IsBare : Option Row → Type 0
+IsBare (Some (Row.Intent w)) = w.body ≡ None
+IsBare r = ⊥
+
+abbrev pub binds : Act → Bool
+binds (Act.Bind f v) = true
+binds a = false
+
+pub bare_stays : (a : Act) (now : ℕ) (w : Option Row) → binds a ≡ false → IsBare w → IsBare (act a now w).0
+bare_stays (Act.Bind f v) now w off bare = cc
+bare_stays (Act.End o stamp) now (Some (Row.Intent i)) off bare = by_outcome i.outcome
+  where
+    by_outcome : (p : Option Outcome) → (end_with o stamp now i p).0.body ≡ None
+    by_outcome None = bare
+    by_outcome (Some p) = bare
+bare_stays Act.Stamp now (Some (Row.Intent i)) off bare = by_finish i.finish
+  where
+    by_finish : (f : Option ℕ) → (stamp_with now i f).0.body ≡ None
+    by_finish None = bare
+    by_finish (Some f) = bare
+bare_stays a now (Some (Row.Intent i)) off bare = bare
+bare_stays a now None off bare = absurd bare
+bare_stays a now (Some w) off bare = absurd bare
+
+-- no act takes a finish away
+pub finish_stays : (a : Act) (now : ℕ) (w : Option Row) → has_finish w ≡ true → has_finish (act a now w).0 ≡ true
+finish_stays a now w fin = grind (arith, fin)
+
+-- ---- the rows after an event, over the two
+pub record GoesOn (gone : IntentId → Bool) (m kept n after : Rows) : Type 0 where
+  pub less : Less gone n after
+  -- who has no body, and no row in the table, stays so
+  pub bare : (k : RowKey) → map.get m k ≡ None → IsBare (map.get kept k) → (map.get n k ≡ None) × IsBare (map.get after k)
+
+module _ (gone : IntentId → Bool) (m kept : Rows) (less : Less gone m kept) where
+  pub stays_on : GoesOn gone m kept m kept
+  stays_on = record { less = less; bare = λ k none bare. (none, bare) }
+
+  set_both : (k : RowKey) (o p : Option Row) → (o ≡ p) ⊎ ((o ≡ None) × IsGone gone (belongs_to k.kind)) → (map.get m k ≡ None → IsBare (map.get kept k) → (o ≡ None) × IsBare p) → GoesOn gone m kept (set_row m k o) (set_row kept k p)
+  set_both k o p here bare = record {
+    less = record { rows = set_two m kept k o p (λ l x y. (x ≡ y) ⊎ ((x ≡ None) × IsGone gone (belongs_to l.kind))) here less.rows };
+    bare = set_two m kept k o p (λ l x y. map.get m l ≡ None → IsBare (map.get kept l) → (x ≡ None) × IsBare y) bare (λ l none has. (none, has));
+  }
+
+  -- an act at a key where they agree
+  pub act_both : (k : RowKey) (a : Act) (now : ℕ) → map.get m k ≡ map.get kept k → GoesOn gone m kept (rows_after (Query.Act k a) now m) (rows_after (Query.Act k a) now kept)
+  act_both k a now same = set_both k (act a now (map.get m k)).0 (act a now (map.get kept k)).0 (inl (ap (λ r. (act a now r).0) same)) (λ none bare. absurd (subst IsBare (sym same ∙ none) bare))
+
+  pub told_both : (k : RowKey) (a : Act) (now : ℕ) → map.get m k ≡ map.get kept k → told_by (Query.Act k a) now m ≡ told_by (Query.Act k a) now kept
+  told_both k a now same = ap (λ r. said (act a now r).1) same
+
+  -- an act that adds nothing and binds nobody, at a key of who is gone
+  pub act_gone : (k : RowKey) (a : Act) (now : ℕ) → map.get m k ≡ None → IsGone gone (belongs_to k.kind) → (act a now None).0 ≡ None → binds a ≡ false → GoesOn gone m kept (rows_after (Query.Act k a) now m) (rows_after (Query.Act k a) now kept)
+  act_gone k a now none of adds off =
+      let stays : (act a now (map.get m k)).0 ≡ None = ap (λ r. (act a now r).0) none ∙ adds in
+      set_both k (act a now (map.get m k)).0 (act a now (map.get kept k)).0 (inr (stays, of)) (λ e bare. (stays, bare_stays a now (map.get kept k) off bare))
+
+  -- ---- a removal
+  gone_itself : (i : IntentId) → and_gone gone i i ≡ true
+  gone_itself i = ap (λ b. cond b true (gone i)) (ap is_eq (tied_itself id_total i))
+
+  pub gone_more : (i j : IntentId) → gone j ≡ true → and_gone gone i j ≡ true
+  gone_more i j e = by_test (is_eq (id_cmp j i))
+    where
+      by_test : (b : Bool) → cond b true (gone j) ≡ true
+      by_test true = refl
+      by_test false = e
+
+  is_gone_more : (i : IntentId) (o : Option IntentId) → IsGone gone o → IsGone (and_gone gone i) o
+  is_gone_more i None of = of
+  is_gone_more i (Some j) of = gone_more i j of
+
+  pub goes : (k : RowKey) (i : IntentId) → belongs_to k.kind ≡ Some i → Less (and_gone gone i) (set_row m k None) kept
+  goes k i of = record { rows = λ l. by_test l (is_eq (key_cmp l k)) refl }
+    where
+      by_less : (l : RowKey) → (map.get m l ≡ map.get kept l) ⊎ ((map.get m l ≡ None) × IsGone gone (belongs_to l.kind)) → (map.get m l ≡ map.get kept l) ⊎ ((map.get m l ≡ None) × IsGone (and_gone gone i) (belongs_to l.kind))
+      by_less l (inl same) = inl same
+      by_less l (inr off) = inr (off.0, is_gone_more i (belongs_to l.kind) off.1)
+
+      by_test : (l : RowKey) (b : Bool) → is_eq (key_cmp l k) ≡ b → (map.get (set_row m k None) l ≡ map.get kept l) ⊎ ((map.get (set_row m k None) l ≡ None) × IsGone (and_gone gone i) (belongs_to l.kind))
+      by_test l true e = inr (got m k l None ∙ ap (λ b. cond b None (map.get m l)) e, subst (IsGone (and_gone gone i)) (sym (ap (λ (q : RowKey). belongs_to q.kind) (key_same l k e) ∙ of)) (gone_itself i))
+      by_test l false e = let x : map.get (set_row m k None) l ≡ map.get m l = got m k l None ∙ ap (λ b. cond b None (map.get m l)) e in
+          subst (λ z. (z ≡ map.get kept l) ⊎ ((z ≡ None) × IsGone (and_gone gone i) (belongs_to l.kind))) (sym x) (by_less l (less.rows l))

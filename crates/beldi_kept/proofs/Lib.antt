@@ -1,0 +1,14 @@
+mod Begins
+mod Between
+mod Elsewhere
+mod Events
+mod Gone
+mod Keeps
+mod Less
+mod Newest
+mod NextAlike
+mod Removals
+mod Step
+mod Turn
+mod VisitAlike
+mod Visits

@@ -1,0 +1,303 @@
+-- A turn of a visit: it is the same over both where who is visited is not gone; who is gone is closed, so the visit may go on without the
+-- rows that the table has no more.
+use Rattle.std.specs.FinMap as map
+use Rattle.std.specs.Prelude.{Result}
+use Rattle.std.specs.declared.alloc.AllocError.{AllocError}
+use Rattle.std.proofs.Common.{◌≡◌, inl, inr, ℕ, ◌+◌, ◌-◌, ◌≤◌, Bool, true, false, List, [], ◌∷◌, ◌++◌, Option, Some, None, is_some, refl, ap, sym, ◌∙◌, subst}
+use Rattle.std.proofs.lemmas.List.{append-nil}
+use Rattle.std.specs.Option.{option_map}
+use Rattle.beldi_value.specs.{Id.has_callees, Id.has_no_hops, declared.id.IntentId.IntentId, declared.place.Owner.Owner, declared.place.Place.Place, declared.place.TxId.TxId, declared.value.Value.Value}
+use Rattle.beldi_tree.specs.declared.deployment.Deployment.{Deployment}
+use Rattle.beldi_lang.specs.declared.effect.Effect.{Effect}
+use Rattle.beldi_book.specs.Order.{count_changes}
+use Rattle.beldi_row.specs.{Key.RowKey, Key.at_row, Log.blank, Table.IsNext, Table.Rows, Table.next_row, declared.act.Act.Act, declared.row.Row.Row}
+use Rattle.beldi_row.proofs.Least.{next_row_least}
+use Rattle.beldi_walk.specs.{declared.query.Query.Query, Query.Told, Query.found, Query.told_by, Query.rows_after}
+use Rattle.beldi_daal.specs.{Cell.cell_key, Cell.shadow_key, declared.cell.CellOp.CellOp, declared.cell.WriteAt.WriteAt, Cell.op_act}
+use Rattle.beldi_intent.specs.Intent.{intent_key}
+use Rattle.beldi_lock.specs.{Lock.lockset_key, Lockset.item_after, Lockset.lockset_after}
+use Rattle.beldi_txn.specs.{Closed.ClosedArePassed, Closed.Passes, End.call_goes, End.calls_goes, End.end_goes, End.free_asks, End.free_first, End.free_place, End.next_goes, End.shadow_asks, End.visit_asks, End.visited_by, Invokes.call_after, Invokes.func_called, Invokes.invokes_after, Visited.IsPassed, Visited.IsWithin, Visited.Levels, Visited.Visited, Visited.called_at, Visited.is_closed, Visited.row_closed, Way.Member, Way.callee_of, Way.member_at, declared.end.EndAt.EndAt, declared.end.Visit.Visit, declared.way.Called.Called}
+use Rattle.beldi_txn.proofs.Visited.{FindsFirstCall, FindsFirstLock}
+use Rattle.beldi_step.specs.Host.{Core, asks, counted, put_run, turn_next, turned_core}
+use Rattle.beldi_step.specs.Run.{Turned, asks_at, end_by_asks, end_here_asks, own_tx, run_asks, run_told, stage_asks, turned_by, visit_says}
+use Rattle.beldi_step.specs.declared.{event.Event.Event, event.Seen.Seen, run.Begun.Begun, run.OpenTx.OpenTx, run.Run.Run, run.RunAt.TheVariants.Begins, run.RunTx.RunTx, run.RunTx.TheVariants.Own, run.Says.Says, run.Stage.Stage}
+use Rattle.beldi_known.specs.{Known.tx_end, Stands.key_in}
+use Rattle.beldi_laws.specs.{Inside.end_walk, Inside.has_finish, Right.AtStage, Right.KnowsAt, Right.RunAt, Right.is_past}
+use Rattle.beldi_laws.proofs.{Members.members_joined, Members.part_below, Members.took_part, Others.decided_past, Widths.finds_first}
+use Rattle.beldi_upkeep.specs.{Callees.belongs_to, Work.WorksFor}
+use Rattle.beldi_upkeep.proofs.EndRows.{tx_is_ended}
+use Rattle.beldi_kept.specs.{Kept.HasKept, Kept.IsOver, Less.IsGone}
+use Rattle.beldi_kept.proofs.{Between.call_key_is, Between.lock_key, Elsewhere.stands_elsewhere, Elsewhere.works_still, Events.Goal, Events.as_were, Events.core_of, Events.turns_alike, Events.turns_by, Gone.one_row, Gone.unbound_root, Less.stays_on, Less.GoesOn, Step.Step, Step.upkeep_elsewhere, Turn.SameTurn}
+use Rattle.beldi_kept.proofs.VisitAlike as alike
+
+-- ---- rows of who is visited
+finish_closes : (r : Option Row) → has_finish r ≡ true → row_closed r ≡ true
+finish_closes None fin = cc
+finish_closes (Some (Row.Intent w)) fin = fin
+finish_closes (Some r) fin = refl
+
+finish_there : (r : Option Row) → has_finish r ≡ true → is_some r ≡ true
+finish_there None fin = cc
+finish_there (Some r) fin = refl
+
+-- of who calls nobody, all calls are passed
+none_called : (m : Rows) (p : Member) (At Past Then : ℕ → Type 0) (cs : List Called) → has_callees (member_at p cs).0 ≡ false → Levels m p At cs Past → Levels m p At cs Then
+none_called m p At Past Then [] off l = λ c call here. let clash = sym off ∙ call.0 in cc
+none_called m p At Past Then (c ∷ cs) off l = (l.0, none_called m (callee_of p c) (λ n. Unit {0}) Past Then cs off l.1)
+
+module _ (d : Deployment) (c : Core) (m : Rows) (h : HasKept d c m) (p : Member) where
+  -- a row that the table has, by its value
+  there_kept : (q : RowKey) (s : Row) → map.get m q ≡ Some s → map.get h.kept q ≡ Some s
+  there_kept q s there = elim (h.less.rows q) [
+    | inl same ↦ sym same ∙ there
+    | inr off ↦ let clash = sym there ∙ off.0 in cc
+  ]
+
+  found_call : (k : RowKey) (f : Option (RowKey × Row)) → IsNext m k f → (x : Called) → call_after p.1 p.0 f ≡ Some x → called_at h.kept p x.step ≡ Some x.func
+  found_call k None next x is = cc
+  found_call k (Some e) next x is = let q = call_key_is p.1 p.0 e x is in ap (λ z. option_map func_called (map.get h.kept z)) (sym q.0) ∙ ap (option_map func_called) (there_kept e.0 e.1 next.1) ∙ ap Some q.1
+
+  found_lock : (begin : ℕ) (k : RowKey) (f : Option (RowKey × Row)) → IsNext m k f → (x : ℕ × List ℕ) → item_after p.1 p.0 begin f ≡ Some x → is_some (map.get h.kept (lockset_key p.1 p.0 begin x.0 x.1)) ≡ true
+  found_lock begin k None next x is = cc
+  found_lock begin k (Some e) next x is = ap (λ z. is_some (map.get h.kept z)) (sym (lock_key p.1 p.0 begin e x is)) ∙ ap is_some (there_kept e.0 e.1 next.1)
+
+  -- who is gone and has hops is closed
+  gone_closed : has_no_hops p.0.hops ≡ false → h.gone p.0 ≡ true → is_closed h.kept p ≡ true
+  gone_closed below off = by_row (map.get h.kept (intent_key p.0 p.1)) refl
+    where
+      o : IsOver c.newest m h.kept p.0
+      o = h.over p.0 off
+
+      by_row : (r : Option Row) → map.get h.kept (intent_key p.0 p.1) ≡ r → row_closed r ≡ true
+      by_row None is = refl
+      by_row (Some r) is = elim (h.over p.0 off).over [
+        | inl fin ↦ ap row_closed (sym is) ∙ finish_closes (map.get h.kept (intent_key p.0 p.1)) (subst (λ k. has_finish (map.get h.kept k) ≡ true)
+            (one_row d c h.kept h.upkeep.right p.0 (h.over p.0 off).home (intent_key p.0 p.1).home (finish_there (map.get h.kept (key_in (h.over p.0 off).home p.0)) fin) (ap is_some is)) fin)
+        | inr u ↦ let clash = sym below ∙ unbound_root c.newest p.0 (map.get m (key_in (h.over p.0 off).home p.0)) (map.get h.kept (key_in (h.over p.0 off).home p.0)) u in cc
+      ]
+
+-- ---- a turn
+module _ (may_pass : ClosedArePassed) (d : Deployment) (c : Core) (m : Rows) (h : HasKept d c m) (room old new : ℕ) (b : Core) (n : Rows) (x : Result Seen AllocError) (i : ℕ) (r : Run) (live : map.get c.runs i ≡ Some r) (in_time : c.now ≤ r.deadline)
+    (g : Begun) (at : r.at ≡ Begins g) (o : OpenTx) (tx : g.tx ≡ Some (Own o)) (commit : Bool) (ends : g.machine.effect ≡ Effect.End commit) where
+  abbrev t : TxId
+  t = own_tx r.id r.func o
+
+  abbrev step : ℕ
+  step = g.machine.steps
+
+  abbrev Turns : Type 0
+  Turns = Goal d c m h room old new b n x (Event.Turn i) (asks (run_asks r)) × Goal d c m h room old new b n x (Event.Lost i) (asks (run_asks r))
+
+  alive : h.gone r.id ≡ false
+  alive = h.spared i r r.id live in_time (subst (λ y. WorksFor r y r.id) (sym at) (inl refl))
+
+  before : KnowsAt d h.kept h.upkeep.right.plain c.book h.upkeep.right.known r (Begins g)
+  before = subst (KnowsAt d h.kept h.upkeep.right.plain c.book h.upkeep.right.known r) at (subst (RunAt d h.kept h.upkeep.right.plain c.book h.upkeep.right.known) live (h.upkeep.right.runs.runs i))
+
+  module _ (v : Visit) (stage : g.stage ≡ Stage.End v) (past : is_past v.at ≡ true) (visited : Visited (end_walk r.id r.func o step commit v) h.kept) where
+    abbrev p : Member
+    p = visited_by t v.way
+
+    abbrev q : EndAt → Query
+    q a = visit_asks t step commit v.way v.after v.item v.value a
+
+    asks_is : run_asks r ≡ q v.at
+    asks_is = ap (asks_at r) at ∙ ap (stage_asks r.id r.func g.caller g.tx step g.machine.effect) stage ∙ ap (λ e. end_here_asks r.id r.func step e v g.tx) ends ∙ ap (λ z. end_by_asks r.id r.func step commit v z) tx
+
+    has : tx_end d h.upkeep.right.known t ≡ Some (step, commit)
+    has = tx_is_ended d c h.kept h.upkeep.right h.upkeep.seats h.upkeep.owe r g before.0 before.1 o tx commit ends (decided_past v.at (end_walk r.id r.func o step commit v) h.kept past visited.decided)
+
+    pub same_turn : (a : EndAt) → v.at ≡ a → SameTurn d c h.gone m h.kept r (q a) → Turns
+    same_turn a is same = turns_alike d c m h room old new b n x i r live (subst (SameTurn d c h.gone m h.kept r) (ap q (sym is) ∙ sym asks_is) same)
+
+    -- ---- the visit stands elsewhere, by what the table tells; the kept rows stay
+    module _ (w : Visit) (on : is_past w.at ≡ true) (there : Visited (end_walk r.id r.func o step commit w) h.kept) where
+      abbrev left : Turned
+      left = turned_by d r g (Says.On (Stage.End w) None)
+
+      leaves : b ≡ turned_core (counted c) i r.id left → n ≡ m → Step d c b h.gone m h.kept n
+      leaves is same = subst (λ z. Step d c z h.gone m h.kept n) (sym (is ∙ ap (λ z. record (counted c) { runs = put_run c.runs i left.next; book = z }) (append-nil c.book))) (record {
+        after = h.kept;
+        upkeep = upkeep_elsewhere d (record c { runs = put_run c.runs i left.next }) c.cursor (c.taken + 1) c.shut h.kept (stands_elsewhere d c h.kept h.upkeep i r g v w live at stage o tx commit ends on there);
+        goes = as_were d c m h room old new b n x same;
+        works = λ k s j is works. inl (works_still d c h.kept h.upkeep i r g v w live at stage o tx commit ends on there k s j is works);
+        stay = λ k there. there;
+        finishes = λ k fin. fin;
+      })
+
+      module _ (k : RowKey) (after_it : q v.at ≡ Query.After k) (goes : run_told d (count_changes c.book) r (found (next_row m k)) ≡ left) (mark : (run_told d (count_changes c.book) r (found (next_row h.kept k))).mark ≡ None) where
+        asks_it : run_asks r ≡ Query.After k
+        asks_it = asks_is ∙ after_it
+
+        turned : (l : Rows) → run_told d (count_changes c.book) r (told_by (run_asks r) c.now l) ≡ run_told d (count_changes c.book) r (found (next_row l k))
+        turned l = ap (λ z. run_told d (count_changes c.book) r (told_by z c.now l)) asks_it
+
+        goes_on : Turns
+        goes_on = turns_by d c m h room old new b n x i r live (ap (λ (z : Turned). z.mark) (turned m ∙ goes) ∙ sym (ap (λ (z : Turned). z.mark) (turned h.kept) ∙ mark))
+            (subst (λ z. GoesOn h.gone m h.kept (rows_after z c.now m) (rows_after z c.now h.kept)) (sym asks_it) (stays_on h.gone m h.kept h.less))
+            (λ y f rows over. inr (leaves (core_of (f ∙ ap (turn_next (counted c) i r) (turned m ∙ goes))) (rows ∙ ap (λ z. rows_after z c.now m) asks_it)))
+
+  -- ---- who is visited is gone
+  module _ (e : Called) (es : List Called) (after : Option ℕ) (value : Option Value) where
+    abbrev w : Member
+    w = visited_by t (e ∷ es)
+
+    abbrev V : Option (ℕ × List ℕ) → EndAt → Visit
+    V item a = record { way = e ∷ es; after = after; item = item; value = value; at = a }
+
+    module _ (off : h.gone w.0 ≡ true) where
+      module _ (item : Option (ℕ × List ℕ)) (a : EndAt) (stage : g.stage ≡ Stage.End (V item a)) (past : is_past a ≡ true) (visited : Visited (end_walk r.id r.func o step commit (V item a)) h.kept) where
+        closed : is_closed h.kept w ≡ true
+        closed =
+            let ended = has (V item a) stage past visited in
+            let part = took_part (members_joined d h.kept h.upkeep.right.known h.upkeep.right.locked h.upkeep.right.rows h.upkeep.right.sane t (step, commit) ended e es visited.member) in
+            gone_closed d c m h w (part_below d h.upkeep.right.known h.upkeep.right.sane t w.0 part) off
+
+        passes : Passes t step commit e es after h.kept
+        passes = may_pass t step commit e es after h.kept closed
+
+        says : (u : Told) → run_told d (count_changes c.book) r u ≡ turned_by d r g (visit_says commit (V item a) (end_goes t step commit (e ∷ es) a u))
+        says u = alike.says d c h.gone m h.kept h.less r g (V item a) at stage alive o tx commit ends u
+
+      -- its calls
+      module _ (stage : g.stage ≡ Stage.End (V None EndAt.Callees)) (visited : Visited (end_walk r.id r.func o step commit (V None EndAt.Callees)) h.kept) where
+        abbrev k : RowKey
+        k = invokes_after w.1 w.0 after
+
+        mark : (f : Option Called) → (turned_by d r g (visit_says commit (V None EndAt.Callees) (calls_goes step w (e ∷ es) f))).mark ≡ None
+        mark None = refl
+        mark (Some z) = by_callees (has_callees w.0)
+          where
+            by_callees : (y : Bool) → (turned_by d r g (visit_says commit (V None EndAt.Callees) (call_goes y (e ∷ es) z))).mark ≡ None
+            by_callees true = refl
+            by_callees false = refl
+
+        kept_mark : (run_told d (count_changes c.book) r (found (next_row h.kept k))).mark ≡ None
+        kept_mark = ap (λ (z : Turned). z.mark) (says None EndAt.Callees stage refl visited (found (next_row h.kept k))) ∙ mark (call_after w.1 w.0 (next_row h.kept k))
+
+        told : (f : Option Called) → call_after w.1 w.0 (next_row m k) ≡ f → run_told d (count_changes c.book) r (found (next_row m k)) ≡ turned_by d r g (visit_says commit (V None EndAt.Callees) (calls_goes step w (e ∷ es) f))
+        told f is = says None EndAt.Callees stage refl visited (found (next_row m k)) ∙ ap (λ z. turned_by d r g (visit_says commit (V None EndAt.Callees) (calls_goes step w (e ∷ es) z))) is
+
+        passed : (s : ℕ) → has_callees w.0 ≡ false → Visited (end_walk r.id r.func o step commit (record (V None EndAt.Callees) { after = Some s })) h.kept
+        passed s none = record {
+          decided = visited.decided;
+          item = visited.item;
+          begins = tt;
+          from = tt;
+          member = visited.member;
+          gives = tt;
+          sees = tt;
+          asked = tt;
+          callees = none_called h.kept (t.intent, t.func) (IsWithin (end_walk r.id r.func o step commit (V None EndAt.Callees))) (IsPassed EndAt.Callees after) (IsPassed EndAt.Callees (Some s)) (e ∷ es) none visited.callees;
+          freed = λ q r at past. absurd past;
+          released = visited.released;
+          marked = visited.marked;
+          linked = visited.linked;
+        }
+
+        called : (z : Called) → call_after w.1 w.0 (next_row m k) ≡ Some z → (t2 : Bool) → has_callees w.0 ≡ t2 → Turns
+        called z is true has_some = goes_on (V None EndAt.Callees) stage refl visited (record { way = e ∷ (es ++ z ∷ []); after = None; item = None; value = None; at = EndAt.Callees }) refl
+            ((passes None EndAt.Callees stage refl visited).called value z (has_some, found_call d c m h w k (next_row m k) (next_row_least m k) z is) visited)
+            k refl (told (Some z) is ∙ ap (λ y. turned_by d r g (visit_says commit (V None EndAt.Callees) (call_goes y (e ∷ es) z))) has_some) kept_mark
+        called z is false none = goes_on (V None EndAt.Callees) stage refl visited (record (V None EndAt.Callees) { after = Some z.step }) refl (passed z.step none)
+            k refl (told (Some z) is ∙ ap (λ y. turned_by d r g (visit_says commit (V None EndAt.Callees) (call_goes y (e ∷ es) z))) none) kept_mark
+
+        calls_gone : (f : Option Called) → call_after w.1 w.0 (next_row m k) ≡ f → Turns
+        calls_gone None is = goes_on (V None EndAt.Callees) stage refl visited (V None EndAt.Next) refl ((passes None EndAt.Callees stage refl visited).calls value visited) k refl (told None is) kept_mark
+        calls_gone (Some z) is = called z is (has_callees w.0) refl
+
+      -- its locks
+      module _ (item : Option (ℕ × List ℕ)) (stage : g.stage ≡ Stage.End (V item EndAt.Next)) (visited : Visited (end_walk r.id r.func o step commit (V item EndAt.Next)) h.kept) where
+        abbrev l : RowKey
+        l = lockset_after w.1 w.0 t.begin item
+
+        lock_mark : (f : Option (ℕ × List ℕ)) → (turned_by d r g (visit_says commit (V item EndAt.Next) (next_goes (e ∷ es) f))).mark ≡ None
+        lock_mark None = refl
+        lock_mark (Some z) = refl
+
+        kept_lock : (run_told d (count_changes c.book) r (found (next_row h.kept l))).mark ≡ None
+        kept_lock = ap (λ (z : Turned). z.mark) (says item EndAt.Next stage refl visited (found (next_row h.kept l))) ∙ lock_mark (item_after w.1 w.0 t.begin (next_row h.kept l))
+
+        lock_told : (f : Option (ℕ × List ℕ)) → item_after w.1 w.0 t.begin (next_row m l) ≡ f → run_told d (count_changes c.book) r (found (next_row m l)) ≡ turned_by d r g (visit_says commit (V item EndAt.Next) (next_goes (e ∷ es) f))
+        lock_told f is = says item EndAt.Next stage refl visited (found (next_row m l)) ∙ ap (λ z. turned_by d r g (visit_says commit (V item EndAt.Next) (next_goes (e ∷ es) z))) is
+
+        frees : (y : Bool) → is_past (free_first y) ≡ true
+        frees true = refl
+        frees false = refl
+
+        locks_gone : (f : Option (ℕ × List ℕ)) → item_after w.1 w.0 t.begin (next_row m l) ≡ f → Turns
+        locks_gone None is = goes_on (V item EndAt.Next) stage refl visited (V item EndAt.Stamp) refl ((passes item EndAt.Next stage refl visited).stamp item value visited) l refl (lock_told None is) kept_lock
+        locks_gone (Some z) is = goes_on (V item EndAt.Next) stage refl visited (record (V item EndAt.Next) { item = Some z; value = None; at = free_first commit }) (frees commit)
+            ((passes item EndAt.Next stage refl visited).locks item value z (found_lock d c m h w t.begin l (next_row m l) (next_row_least m l) z is) visited) l refl (lock_told (Some z) is) kept_lock
+
+  -- ---- by where the visit stands
+  by_gone : (y : Bool) (i : IntentId) → h.gone i ≡ y → (h.gone i ≡ false → Turns) → (h.gone i ≡ true → Turns) → Turns
+  by_gone true i is stays goes = goes is
+  by_gone false i is stays goes = stays is
+
+  module _ (v : Visit) (stage : g.stage ≡ Stage.End v) where
+    abbrev Alike : Query → Type 0
+    Alike z = SameTurn d c h.gone m h.kept r z
+
+    row_alike : (k : RowKey) (a : Act) → (IsGone h.gone (belongs_to k.kind) → ⊥) → Alike (Query.Act k a)
+    row_alike = alike.act_alike d c h.gone m h.kept h.less r g v at stage alive o tx commit ends
+
+    shadow : (f : Member) (row : ℕ) (z : Option (ℕ × List ℕ)) → is_some z ≡ true → Alike (shadow_asks t f row z)
+    shadow f row None there = cc
+    shadow f row (Some z) there = row_alike (at_row (shadow_key f.1 t z.0 z.1) row) Act.Look (λ off. let clash = sym off ∙ alive in cc)
+
+    free : (f : Member) (place : Place) (y : Option Value) (a : WriteAt) (z : Option (ℕ × List ℕ)) → is_some z ≡ true → Alike (free_asks t f place y a z)
+    free f place y a None there = cc
+    free f place y (WriteAt.Try j) (Some z) there = row_alike (at_row (cell_key f.1 z.0 z.1) j) (op_act place (Owner.Tx t) (CellOp.Free y)) (λ off. off)
+    free f place y WriteAt.Make (Some z) there = row_alike (cell_key f.1 z.0 z.1) (Act.MakeCell Value.Null None blank) (λ off. off)
+    free f place y (WriteAt.Append j told) (Some z) there = row_alike (at_row (cell_key f.1 z.0 z.1) j) (Act.MakeCell told.value told.owner blank) (λ off. off)
+    free f place y (WriteAt.Link j) (Some z) there = row_alike (at_row (cell_key f.1 z.0 z.1) (j - 1)) (Act.LinkCell j) (λ off. off)
+
+  abbrev VisitOf : List Called → Option ℕ → Option (ℕ × List ℕ) → Option Value → EndAt → Visit
+  VisitOf way after item value a = record { way = way; after = after; item = item; value = value; at = a }
+
+  abbrev Finds : List Called → Visit → Type 0
+  Finds way v = g.stage ≡ Stage.End v → is_past v.at ≡ true → Visited (end_walk r.id r.func o step commit v) h.kept → FindsFirstCall (visited_by t way) h.kept × FindsFirstLock t (visited_by t way) h.kept
+
+  finds : (v : Visit) → Finds v.way v
+  finds v stage past visited = finds_first d c h.kept h.upkeep.right t (step, commit) (has v stage past visited) v.way visited.member
+
+  by_visit : (way : List Called) (after : Option ℕ) (item : Option (ℕ × List ℕ)) (value : Option Value) (a : EndAt) → g.stage ≡ Stage.End (VisitOf way after item value a) → is_past a ≡ true → Visited (end_walk r.id r.func o step commit (VisitOf way after item value a)) h.kept → Turns
+  by_visit way after item value EndAt.Decide stage past visited = cc
+  by_visit [] after item value EndAt.Callees stage past visited =
+      let v = VisitOf [] after item value EndAt.Callees in
+      same_turn v stage past visited EndAt.Callees refl (alike.calls d c h.gone m h.kept h.less r g v at stage alive o tx commit ends refl alive (finds v stage past visited).0)
+  by_visit (e ∷ es) after None value EndAt.Callees stage past visited =
+      let v = VisitOf (e ∷ es) after None value EndAt.Callees in
+      by_gone (h.gone (visited_by t (e ∷ es)).0) (visited_by t (e ∷ es)).0 refl
+      (λ on. same_turn v stage past visited EndAt.Callees refl (alike.calls d c h.gone m h.kept h.less r g v at stage alive o tx commit ends refl on (finds v stage past visited).0))
+      (λ off. calls_gone e es after value off stage visited (call_after (visited_by t (e ∷ es)).1 (visited_by t (e ∷ es)).0 (next_row m (invokes_after (visited_by t (e ∷ es)).1 (visited_by t (e ∷ es)).0 after))) refl)
+  by_visit (e ∷ es) after (Some z) value EndAt.Callees stage past visited = let clash = visited.item in cc
+  by_visit [] after item value EndAt.Next stage past visited =
+      let v = VisitOf [] after item value EndAt.Next in
+      same_turn v stage past visited EndAt.Next refl (alike.locks d c h.gone m h.kept h.less r g v at stage alive o tx commit ends refl alive (finds v stage past visited).1)
+  by_visit (e ∷ es) after item value EndAt.Next stage past visited =
+      let v = VisitOf (e ∷ es) after item value EndAt.Next in
+      by_gone (h.gone (visited_by t (e ∷ es)).0) (visited_by t (e ∷ es)).0 refl
+      (λ on. same_turn v stage past visited EndAt.Next refl (alike.locks d c h.gone m h.kept h.less r g v at stage alive o tx commit ends refl on (finds v stage past visited).1))
+      (λ off. locks_gone e es after value off item stage visited (item_after (visited_by t (e ∷ es)).1 (visited_by t (e ∷ es)).0 t.begin (next_row m (lockset_after (visited_by t (e ∷ es)).1 (visited_by t (e ∷ es)).0 t.begin item))) refl)
+  by_visit way after item value (EndAt.Shadow row) stage past visited =
+      let v = VisitOf way after item value (EndAt.Shadow row) in same_turn v stage past visited (EndAt.Shadow row) refl (shadow v stage (visited_by t way) row item visited.item)
+  by_visit way after item value (EndAt.Free a) stage past visited =
+      let v = VisitOf way after item value (EndAt.Free a) in same_turn v stage past visited (EndAt.Free a) refl (free v stage (visited_by t way) (free_place t step way) value a item visited.item)
+  by_visit way after item value EndAt.Stamp stage past visited =
+      let v = VisitOf way after item value EndAt.Stamp in same_turn v stage past visited EndAt.Stamp refl (alike.stamps d c h.gone m h.kept h.less r g v at stage alive o tx commit ends refl)
+
+-- by the effect and the transaction of the run
+pub visit_turns : ClosedArePassed → (d : Deployment) (c : Core) (m : Rows) (h : HasKept d c m) (room old new : ℕ) (b : Core) (n : Rows) (x : Result Seen AllocError) (i : ℕ) (r : Run) → map.get c.runs i ≡ Some r → c.now ≤ r.deadline → (g : Begun) → r.at ≡ Begins g → (v : Visit) → g.stage ≡ Stage.End v
+    → Goal d c m h room old new b n x (Event.Turn i) (asks (run_asks r)) × Goal d c m h room old new b n x (Event.Lost i) (asks (run_asks r))
+visit_turns may_pass d c m h room old new b n x i r live in_time g at v stage =
+    by_effect g.machine.effect refl g.tx refl (subst (λ s. AtStage h.kept h.upkeep.right.plain c.book knows.0 s g.machine.effect g.tx) stage knows.1.here)
+  where
+    knows : KnowsAt d h.kept h.upkeep.right.plain c.book h.upkeep.right.known r (Begins g)
+    knows = subst (KnowsAt d h.kept h.upkeep.right.plain c.book h.upkeep.right.known r) at (subst (RunAt d h.kept h.upkeep.right.plain c.book h.upkeep.right.known) live (h.upkeep.right.runs.runs i))
+
+    by_effect : (e : Effect) → g.machine.effect ≡ e → (o : Option RunTx) → g.tx ≡ o → AtStage h.kept h.upkeep.right.plain c.book knows.0 (Stage.End v) e o
+        → Goal d c m h room old new b n x (Event.Turn i) (asks (run_asks r)) × Goal d c m h room old new b n x (Event.Lost i) (asks (run_asks r))
+    by_effect (Effect.End commit) ends (Some (Own o)) tx here = by_visit may_pass d c m h room old new b n x i r live in_time g at o tx commit ends v.way v.after v.item v.value v.at stage here.0 here.1
+    by_effect e ends o tx here = absurd here
