@@ -82,7 +82,7 @@ abbrev pub split_spot : Spot → Spot
 split_spot p = if nat_le p.at half_room then p else record { block = p.block + 1; at = p.at - half_room }
 
 -- ---- the changes of blocks
--- the slots of each block, and how many blocks are spare
+-- the slots of each block, and how many blocks there is room for besides
 pub record SeenBlocks : Type 0 where
   pub lists : List (List SlotId)
   pub spares : ℕ
@@ -91,7 +91,7 @@ pub record SeenBlocks : Type 0 where
 abbrev pub with_block : SeenBlocks → ℕ → List SlotId → SeenBlocks
 with_block s n b = record { lists = slice_set s.lists n b; spares = s.spares }
 
--- a spare block stands before all others
+-- a block without slots stands before all others
 abbrev pub opened : SeenBlocks → SeenBlocks
 opened s = record { lists = [] ∷ s.lists; spares = s.spares - 1 }
 

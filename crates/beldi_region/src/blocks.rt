@@ -4,7 +4,6 @@ ghost use Rattle.beldi_region.specs.Blocks.{block_room, half_room, block_at, slo
 
 use crate::block::{Block, HALF};
 use crate::region::SlotId;
-use beldi_value::or_drop;
 use std::alloc::{AllocError, Global};
 use std::marker::Model;
 
@@ -15,24 +14,20 @@ pub struct Spot {
     pub(crate) at: usize,
 }
 
-/// Blocks of slots, and spare blocks for more. No call after `with_spares` takes memory. Contracts see the slots of each block,
-/// and how many blocks are spare.
+/// Blocks of slots, and room for more blocks. No call after `with_spares` takes memory, and a block is written as it is first used.
+/// Contracts see the slots of each block, and how many blocks there is room for besides.
 #[derive(Drop)]
 pub struct Blocks {
     used: Vec<Block>,
-    // The slots in these are of no account: whoever takes one empties it.
-    spare: Vec<Block>,
 }
 
 impl Model for Blocks {
-    ghost use Rattle.std.specs.Prelude.{◌+◌, ◌≤◌, length, vec_capacity};
+    ghost use Rattle.std.specs.Prelude.{◌-◌, length, vec_capacity};
     ghost use Rattle.beldi_region.specs.Blocks.{SeenBlocks};
 
     ghost Value = { SeenBlocks };
 
-    ghost view = { λ b. record { lists = b.used.items; spares = length b.spare.items } };
-
-    ghost invariant = { λ b. (length b.used.items + length b.spare.items ≤ vec_capacity b.used) × (length b.used.items + length b.spare.items ≤ vec_capacity b.spare) };
+    ghost view = { λ b. record { lists = b.used.items; spares = vec_capacity b.used - length b.used.items } };
 }
 
 // The place that this one is at, once its block was split, with this one behind it.
@@ -50,27 +45,22 @@ fn split_spot(spot: Spot, upper: usize) -> Spot
 }
 
 impl Blocks {
-    /// No blocks, and none spare.
+    /// No blocks, and room for none.
     pub(crate) fn new(alloc: Global) -> Blocks
         ensures { result ≡ record { lists = []; spares = 0 } }
     {
         Blocks {
             used: Vec::new(alloc),
-            spare: Vec::new(alloc),
         }
     }
 
-    /// No blocks, and so many spare.
+    /// No blocks, and room for so many.
     pub(crate) fn with_spares(alloc: Global, count: usize) -> Result<Blocks, AllocError>
         ensures { IfOk result (λ b. b ≡ record { lists = []; spares = count }) }
     {
-        let used = Vec::with_capacity(alloc, count)?;
-        let mut spare = or_drop!(Vec::with_capacity(alloc, count); used);
-        for index in 0..count {
-            let block = or_drop!(Block::new(alloc); used, spare);
-            spare.push_reserved(block);
-        }
-        Ok(Blocks { used, spare })
+        Ok(Blocks {
+            used: Vec::with_capacity(alloc, count)?,
+        })
     }
 
     /// How many blocks there are.
@@ -135,17 +125,15 @@ impl Blocks {
         self.used[spot.block].remove(spot.at);
     }
 
-    // Puts a spare block before all others.
+    // Puts a block without slots before all others.
     fn open(&mut self)
         requires { 0 < self.old.spares }
         ensures { self.new ≡ opened self.old }
     {
-        let mut first = self.spare.take_last();
-        first.clear();
-        drop(self.used.insert(0, first));
+        drop(self.used.insert(0, Block::new()));
     }
 
-    // Moves the slots behind the first half of a block into a spare one behind it, whose number it gives.
+    // Moves the slots behind the first half of a block into one of their own behind it, whose number it gives.
     fn split(&mut self, block: usize) -> usize
         requires block { block < length self.old.lists }
         requires half { half_room ≤ length (block_at self.old.lists block) }
@@ -153,13 +141,12 @@ impl Blocks {
         ensures blocks { self.new ≡ split_at self.old block }
         ensures upper { result ≡ block + 1 }
     {
-        let mut upper = self.spare.take_last();
-        self.used[block].split(&mut upper);
+        let upper = self.used[block].split();
         drop(self.used.insert(block + 1, upper));
         block + 1
     }
 
-    // Moves the slots of the next block into this one, which has room for them. The next one is spare then.
+    // Moves the slots of the next block into this one, which has room for them.
     fn join(&mut self, block: usize)
         requires next { block + 1 < length self.old.lists }
         requires room { length (block_at self.old.lists block) + length (block_at self.old.lists (block + 1)) ≤ block_room }
@@ -167,19 +154,18 @@ impl Blocks {
     {
         let upper = self.used.remove(block + 1);
         self.used[block].append(&upper);
-        self.spare.push_reserved(upper);
+        drop(upper);
     }
 
-    // Takes a block away, which is spare then.
+    // Takes a block away.
     fn close(&mut self, block: usize)
         requires { block < length self.old.lists }
         ensures { self.new ≡ closed self.old block }
     {
-        let gone = self.used.remove(block);
-        self.spare.push_reserved(gone);
+        drop(self.used.remove(block));
     }
 
-    /// The same place, in a block that has room for one more slot. Where there is none, a spare block is taken.
+    /// The same place, in a block that has room for one more slot. Where there is none, there is a block more.
     pub(crate) fn make_room(&mut self, spot: Spot) -> Spot
         requires spare { 0 < self.old.spares }
         requires block { 0 < length self.old.lists → spot.block < length self.old.lists }
@@ -206,8 +192,7 @@ impl Blocks {
         self.used.len() - block > 1 && self.used[block].len() + self.used[block + 1].len() <= HALF
     }
 
-    /// After a slot was taken out of a block: the block is spare if it has no other, or is joined with one beside it, where both
-    /// are small.
+    /// After a slot was taken out of a block: the block goes if it has no other, or is joined with one beside it, where both are small.
     pub(crate) fn close_up(&mut self, block: usize)
         requires { block < length self.old.lists }
         ensures { self.new ≡ closed_up self.old block }

@@ -10,7 +10,7 @@ use std::marker::Model;
 use thiserror::Error;
 
 /// The name of a value in a region: its slot, and the generation that the slot has while it holds this value.
-#[derive(Clone, Copy, Debug, PartialEq, Eq)]
+#[derive(Clone, Copy, Debug, Default, PartialEq, Eq)]
 pub struct SlotId {
     pub slot: u32,
     pub generation: u32,

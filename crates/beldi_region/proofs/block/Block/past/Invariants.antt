@@ -5,7 +5,7 @@ use Rattle.beldi_region.proofs.block.Block.past.Given as goal
 
 abbrev pub invariant-loop-low : goal.invariant-loop-low
 invariant-loop-low l =
-    let ids = l.self-inside.ids.items in
+    let ids = l.ids in
     record {
       some : 0 < l.low;
       ordered : l.low ≤ l.high;
