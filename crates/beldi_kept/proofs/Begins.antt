@@ -1,12 +1,43 @@
--- Over no rows; and what a look finds.
+-- Over no rows, and over rows that are all there; and what a look finds.
+use borrow.Author.Tests.{le-leb}
 use Rattle.std.specs.FinMap as map
-use Rattle.std.proofs.Common.{◌≡◌, ◌⊎◌, inl, inr, true, false, None, is_some, refl, ap, sym, ◌∙◌, subst}
+use Rattle.std.specs.FinMap.{same_map}
+use Rattle.std.specs.Prelude.{nat_le, nat_lt, ◌&&◌}
+use Rattle.std.proofs.lemmas.Bool.{lt-ltb}
+use Rattle.beldi_value.specs.declared.id.IntentId.{IntentId}
+use Rattle.beldi_row.specs.KeyOrder.{key_exact, key_total}
+use Rattle.beldi_intent.specs.Intent.{root_key}
+use Rattle.beldi_upkeep.specs.Upkeep.{Upkeep}
+use Rattle.std.proofs.Common.{◌≡◌, ◌⊎◌, inl, inr, ℕ, zero, suc, Bool, true, false, Option, Some, None, is_some, refl, ap, sym, ◌∙◌, subst, arith}
 use Rattle.beldi_upkeep.specs.{Callees.belongs_to, Callees.seat_of, Work.finish_in}
 use Rattle.beldi_upkeep.proofs.Together.{begins_upkept}
-use Rattle.beldi_kept.specs.{Less.IsGone, Kept.IsOld, Laws.BeginsKept, Laws.LooksFindOld}
+use Rattle.beldi_kept.proofs.Gone.{old_still}
+use Rattle.beldi_kept.specs.{Less.IsGone, Kept.IsOld, Laws.AllAreKept, Laws.BeginsKept, Laws.LooksFindOld, Laws.NobodyGone, Laws.OldStays}
 
 pub begins_kept : BeginsKept
-begins_kept d now = record { kept = map.empty; upkeep = begins_upkept d now; gone = λ i. false; less = record { rows = λ k. inl refl }; over = λ i off. cc; spared = λ n r i live in_time works. refl; newest = inl refl }
+begins_kept d now = record { kept = map.empty; upkeep = begins_upkept d now; gone = λ i. false; latest = 0; less = record { rows = λ k. inl refl }; over = λ i off. cc; spared = λ n r i live in_time works. refl; newest = inl refl }
+
+-- ---- all rows are there
+issued_newest : (n : ℕ) (o : Bool) → o ≡ (nat_lt 0 n && nat_le n n) → (n ≡ 0) ⊎ (o ≡ true)
+issued_newest zero o is = inl refl
+issued_newest (suc n) o is = inr (is ∙ ap (λ b. b && nat_le (suc n) (suc n)) (lt-ltb 0 (suc n) (omega arith)) ∙ le-leb (suc n) (suc n) (omega arith))
+
+pub all_are_kept : AllAreKept
+all_are_kept d c m u = (
+  record { kept = m; upkeep = u; gone = λ i. false; latest = 0; less = record { rows = λ k. inl refl }; over = λ i off. cc; spared = λ n r i live in_time works. refl; newest = issued_newest c.newest (is_some (map.get m (root_key c.newest))) (u.right.tickets c.newest) },
+  refl,
+  λ i. refl,
+)
+
+nobody : (gone : IntentId → Bool) → ((i : IntentId) → gone i ≡ false) → (o : Option IntentId) → IsGone gone o → ⊥
+nobody gone none None of = of
+nobody gone none (Some i) of = let clash = sym of ∙ none i in cc
+
+pub nobody_gone : NobodyGone
+nobody_gone d c m h none = subst (Upkeep d c) (same_map key_total key_exact h.kept m (λ k. elim (h.less.rows k) [
+  | inl same ↦ sym same
+  | inr off ↦ absurd (nobody h.gone none (belongs_to k.kind) off.1)
+])) h.upkeep
 
 pub looks_find_old : LooksFindOld
 looks_find_old d c m h k i there of told = record { intent = i; belongs = of; old = by_less (h.less.rows (seat_of k i)) told }
@@ -19,3 +50,10 @@ looks_find_old d c m h k i there of told = record { intent = i; belongs = of; ol
         → (h.gone i ≡ true) ⊎ IsOld d.life c.now (finish_in (map.get h.kept (seat_of k i)))
     by_less (inl same) t = by_told same t
     by_less (inr off) t = inl off.1
+
+pub old_stays : OldStays
+old_stays d c b m n h g later k w = record { intent = w.intent; belongs = w.belongs; old = by_old w.old }
+  where
+    by_old : (h.gone w.intent ≡ true) ⊎ IsOld d.life c.now (finish_in (map.get h.kept (seat_of k w.intent))) → (g.gone w.intent ≡ true) ⊎ IsOld d.life b.now (finish_in (map.get g.kept (seat_of k w.intent)))
+    by_old (inl off) = inl (later.gone w.intent off)
+    by_old (inr old) = inr (old_still d.life c.now b.now (finish_in (map.get h.kept (seat_of k w.intent))) (finish_in (map.get g.kept (seat_of k w.intent))) later.moment (later.finishes (seat_of k w.intent)) old)

@@ -1,15 +1,16 @@
 -- Who is gone, by the kept rows: its rows stand in one home, where it has its finish, or no body.
 use Rattle.std.specs.FinMap as map
-use Rattle.std.proofs.Common.{◌≡◌, ◌⊎◌, inl, inr, ℕ, ◌==◌, Bool, true, false, Option, Some, None, is_some, if◌then◌else◌, eqb-true, refl, ap, sym, ◌∙◌, arith}
+use Rattle.std.proofs.Common.{◌≡◌, ◌⊎◌, inl, inr, ℕ, ◌≤◌, ◌==◌, Bool, true, false, Option, Some, None, is_some, if◌then◌else◌, eqb-true, refl, ap, sym, ◌∙◌, subst, arith}
 use Rattle.beldi_value.specs.{Id.has_no_hops, declared.id.IntentId.IntentId}
 use Rattle.beldi_tree.specs.declared.deployment.Deployment.{Deployment}
 use Rattle.beldi_plain.specs.Plain.{Instance}
 use Rattle.beldi_row.specs.{Table.Rows, declared.key.Kind.Kind, declared.row.Body.Body, declared.row.Row.Row}
+use Rattle.beldi_intent.specs.Intent.{intent_key}
 use Rattle.beldi_step.specs.Host.{Core}
 use Rattle.beldi_known.specs.{Matches.has_ended, Rows.CalleeBodyMatches, Rows.IntentMatches, Rows.RootMatches, Stands.key_in}
 use Rattle.beldi_laws.specs.{Inside.has_finish, Right.Right}
 use Rattle.beldi_upkeep.specs.Work.{IsUnfinished, finish_in}
-use Rattle.beldi_kept.specs.Kept.{IsOver, IsUnbound}
+use Rattle.beldi_kept.specs.Kept.{IsOld, IsOver, IsUnbound}
 use Rattle.beldi_kept.proofs.Less.{IsBare}
 
 module _ (d : Deployment) (c : Core) (m : Rows) (h : Right d c m) where
@@ -38,6 +39,10 @@ module _ (d : Deployment) (c : Core) (m : Rows) (h : Right d c m) where
   pub one_row : (i : IntentId) (home room : ℕ) → is_some (map.get m (key_in home i)) ≡ true → is_some (map.get m (key_in room i)) ≡ true → key_in home i ≡ key_in room i
   one_row i home room here there = let e : home ≡ room = home_of_rows i home here ∙ sym (home_of_rows i room there) in λ k. record { home = e k; kind = Kind.Intent i }
 
+  -- .. and of one that is known they stand at its function
+  pub known_home : (i : IntentId) (q : Instance) (home : ℕ) → map.get h.known i ≡ Some q → is_some (map.get m (key_in home i)) ≡ true → key_in home i ≡ intent_key i q.func
+  known_home i q home made there = let e = home_of_rows i home there ∙ ap (λ o. if has_no_hops i.hops then 0 else func_in o) made in λ k. record { home = e k; kind = Kind.Intent i }
+
   pub root_home : (i : IntentId) (home : ℕ) → has_no_hops i.hops ≡ true → is_some (map.get m (key_in home i)) ≡ true → home ≡ 0
   root_home i home root there = home_of_rows i home there ∙ ap (λ b. if b then 0 else func_in (map.get h.known i)) root
 
@@ -62,11 +67,25 @@ unbound_root newest i None None u = absurd u
 unbound_root newest i None (Some r) u = absurd u
 unbound_root newest i (Some s) r u = absurd u
 
-pub is_done : (newest : ℕ) (m kept : Rows) (i : IntentId) → IsOver newest m kept i → IsDone kept i
-is_done newest m kept i o = record { home = o.home; over = by_over o.over }
+-- ---- finishes that are old
+pub old_finished : (life now : ℕ) (r : Option Row) → IsOld life now (finish_in r) → has_finish r ≡ true
+old_finished life now None old = absurd old
+old_finished life now (Some (Row.Intent i)) old = by_finish i.finish old
   where
-    by_over : (has_finish (map.get kept (key_in o.home i)) ≡ true) ⊎ IsUnbound newest i (map.get m (key_in o.home i)) (map.get kept (key_in o.home i)) → (has_finish (map.get kept (key_in o.home i)) ≡ true) ⊎ IsBare (map.get kept (key_in o.home i))
-    by_over (inl fin) = inl fin
+    by_finish : (f : Option ℕ) → IsOld life now f → is_some f ≡ true
+    by_finish None o = absurd o
+    by_finish (Some f) o = refl
+old_finished life now (Some r) old = absurd old
+
+pub old_still : (life now after : ℕ) (o p : Option ℕ) → now ≤ after → ((f : ℕ) → o ≡ Some f → p ≡ Some f) → IsOld life now o → IsOld life after p
+old_still life now after None p later same old = absurd old
+old_still life now after (Some f) p later same old = subst (IsOld life after) (sym (same f refl)) (omega (arith, later, old))
+
+pub is_done : (life newest latest : ℕ) (m kept : Rows) (i : IntentId) → IsOver life newest latest m kept i → IsDone kept i
+is_done life newest latest m kept i o = record { home = o.home; over = by_over o.over }
+  where
+    by_over : IsOld life latest (finish_in (map.get kept (key_in o.home i))) ⊎ IsUnbound newest i (map.get m (key_in o.home i)) (map.get kept (key_in o.home i)) → (has_finish (map.get kept (key_in o.home i)) ≡ true) ⊎ IsBare (map.get kept (key_in o.home i))
+    by_over (inl old) = inl (old_finished life latest (map.get kept (key_in o.home i)) old)
     by_over (inr u) = inr (unbound_bare newest i (map.get m (key_in o.home i)) (map.get kept (key_in o.home i)) u)
 
 pub done_there : (r : Option Row) → (has_finish r ≡ true) ⊎ IsBare r → is_some r ≡ true

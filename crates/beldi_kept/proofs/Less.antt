@@ -1,14 +1,13 @@
 -- One row is set in both; what an act does to the two; and what a removal leaves.
 use Rattle.std.specs.FinMap as map
 use Rattle.std.specs.Ordering.{is_eq}
-use Rattle.std.proofs.Common.{◌≡◌, ◌⊎◌, inl, inr, ℕ, Bool, true, false, cond, Option, Some, None, refl, ap, sym, ◌∙◌, subst, arith}
+use Rattle.std.proofs.Common.{◌≡◌, ◌⊎◌, inl, inr, ℕ, Bool, true, false, cond, Option, Some, None, is_some, refl, ap, sym, ◌∙◌, subst}
 use Rattle.beldi_value.specs.{Id.id_cmp, declared.id.IntentId.IntentId, declared.outcome.Outcome.Outcome}
-use Rattle.beldi_row.specs.{Act.act, Act.end_with, Act.stamp_with, Key.RowKey, Key.key_cmp, Table.Rows, Table.set_row, declared.act.Act.Act, declared.row.Row.Row}
+use Rattle.beldi_row.specs.{Act.act, Act.bind_to, Act.end_with, Act.finish_at, Act.stamp_with, Key.RowKey, Key.key_cmp, Table.Rows, Table.set_row, declared.act.Act.Act, declared.row.Body.Body, declared.row.Row.Row}
 use Rattle.beldi_row.proofs.Gets.{got, key_same}
 use Rattle.beldi_walk.specs.{declared.query.Query.Query, Query.said, Query.told_by, Query.rows_after}
 use Rattle.beldi_laws.proofs.Names.{tied_itself, id_total}
-use Rattle.beldi_laws.specs.Inside.{has_finish}
-use Rattle.beldi_upkeep.specs.Callees.{belongs_to}
+use Rattle.beldi_upkeep.specs.{Callees.belongs_to, Work.finish_in}
 use Rattle.beldi_kept.specs.Less.{IsGone, Less, and_gone}
 
 -- what is so of two maps at each key is so of them once a row of both was set
@@ -26,6 +25,10 @@ set_two m kept k o p P here all l = at (is_eq (key_cmp l k)) refl
 abbrev pub IsBare : Option Row → Type 0
 IsBare (Some (Row.Intent w)) = w.body ≡ None
 IsBare r = ⊥
+
+pub bare_there : (r : Option Row) → IsBare r → is_some r ≡ true
+bare_there None bare = absurd bare
+bare_there (Some r) bare = refl
 
 abbrev pub binds : Act → Bool
 binds (Act.Bind f v) = true
@@ -47,29 +50,61 @@ bare_stays a now (Some (Row.Intent i)) off bare = bare
 bare_stays a now None off bare = absurd bare
 bare_stays a now (Some w) off bare = absurd bare
 
--- no act takes a finish away
-pub finish_stays : (a : Act) (now : ℕ) (w : Option Row) → has_finish w ≡ true → has_finish (act a now w).0 ≡ true
-finish_stays a now w fin = grind (arith, fin)
+-- no act takes a finish away, or changes it
+pub dates_stay : (a : Act) (now : ℕ) (w : Option Row) (f : ℕ) → finish_in w ≡ Some f → finish_in (act a now w).0 ≡ Some f
+dates_stay (Act.Bind g v) now (Some (Row.Intent i)) f is = by_body i.body
+  where
+    by_body : (b : Option Body) → (bind_to g v i b).0.finish ≡ Some f
+    by_body None = is
+    by_body (Some b) = is
+dates_stay (Act.End o stamp) now (Some (Row.Intent i)) f is = by_outcome i.outcome
+  where
+    by_stamp : (y : Bool) (z : Option ℕ) → z ≡ Some f → finish_at y now z ≡ Some f
+    by_stamp false z is = is
+    by_stamp true None is = cc
+    by_stamp true (Some z) is = is
+
+    by_outcome : (p : Option Outcome) → (end_with o stamp now i p).0.finish ≡ Some f
+    by_outcome None = by_stamp stamp i.finish is
+    by_outcome (Some p) = is
+dates_stay Act.Stamp now (Some (Row.Intent i)) f is = by_finish i.finish is
+  where
+    by_finish : (z : Option ℕ) → z ≡ Some f → (stamp_with now i z).0.finish ≡ Some f
+    by_finish None is = cc
+    by_finish (Some z) was = is
+dates_stay a now (Some (Row.Intent i)) f is = is
+dates_stay a now None f is = cc
+dates_stay a now (Some w) f is = cc
 
 -- ---- the rows after an event, over the two
 pub record GoesOn (gone : IntentId → Bool) (m kept n after : Rows) : Type 0 where
   pub less : Less gone n after
-  -- who has no body, and no row in the table, stays so
-  pub bare : (k : RowKey) → map.get m k ≡ None → IsBare (map.get kept k) → (map.get n k ≡ None) × IsBare (map.get after k)
+  -- a row that went does not come back
+  pub none : (k : RowKey) → map.get m k ≡ None → is_some (map.get kept k) ≡ true → map.get n k ≡ None
+  -- .. and one without body that went gets none
+  pub bare : (k : RowKey) → map.get m k ≡ None → IsBare (map.get kept k) → IsBare (map.get after k)
 
 module _ (gone : IntentId → Bool) (m kept : Rows) (less : Less gone m kept) where
-  pub stays_on : GoesOn gone m kept m kept
-  stays_on = record { less = less; bare = λ k none bare. (none, bare) }
+  -- what the table has was kept
+  pub there_kept : (q : RowKey) (s : Row) → map.get m q ≡ Some s → map.get kept q ≡ Some s
+  there_kept q s there = elim (less.rows q) [
+    | inl same ↦ sym same ∙ there
+    | inr off ↦ let clash = sym there ∙ off.0 in cc
+  ]
 
-  set_both : (k : RowKey) (o p : Option Row) → (o ≡ p) ⊎ ((o ≡ None) × IsGone gone (belongs_to k.kind)) → (map.get m k ≡ None → IsBare (map.get kept k) → (o ≡ None) × IsBare p) → GoesOn gone m kept (set_row m k o) (set_row kept k p)
-  set_both k o p here bare = record {
+  pub stays_on : GoesOn gone m kept m kept
+  stays_on = record { less = less; none = λ k none there. none; bare = λ k none bare. bare }
+
+  set_both : (k : RowKey) (o p : Option Row) → (o ≡ p) ⊎ ((o ≡ None) × IsGone gone (belongs_to k.kind)) → (map.get m k ≡ None → is_some (map.get kept k) ≡ true → o ≡ None) → (map.get m k ≡ None → IsBare (map.get kept k) → IsBare p) → GoesOn gone m kept (set_row m k o) (set_row kept k p)
+  set_both k o p here none bare = record {
     less = record { rows = set_two m kept k o p (λ l x y. (x ≡ y) ⊎ ((x ≡ None) × IsGone gone (belongs_to l.kind))) here less.rows };
-    bare = set_two m kept k o p (λ l x y. map.get m l ≡ None → IsBare (map.get kept l) → (x ≡ None) × IsBare y) bare (λ l none has. (none, has));
+    none = set_two m kept k o p (λ l x y. map.get m l ≡ None → is_some (map.get kept l) ≡ true → x ≡ None) none (λ l none there. none);
+    bare = set_two m kept k o p (λ l x y. map.get m l ≡ None → IsBare (map.get kept l) → IsBare y) bare (λ l none has. has);
   }
 
   -- an act at a key where they agree
   pub act_both : (k : RowKey) (a : Act) (now : ℕ) → map.get m k ≡ map.get kept k → GoesOn gone m kept (rows_after (Query.Act k a) now m) (rows_after (Query.Act k a) now kept)
-  act_both k a now same = set_both k (act a now (map.get m k)).0 (act a now (map.get kept k)).0 (inl (ap (λ r. (act a now r).0) same)) (λ none bare. absurd (subst IsBare (sym same ∙ none) bare))
+  act_both k a now same = set_both k (act a now (map.get m k)).0 (act a now (map.get kept k)).0 (inl (ap (λ r. (act a now r).0) same)) (λ none there. let clash = sym (ap is_some (sym same ∙ none)) ∙ there in cc) (λ none bare. absurd (subst IsBare (sym same ∙ none) bare))
 
   pub told_both : (k : RowKey) (a : Act) (now : ℕ) → map.get m k ≡ map.get kept k → told_by (Query.Act k a) now m ≡ told_by (Query.Act k a) now kept
   told_both k a now same = ap (λ r. said (act a now r).1) same
@@ -78,7 +113,7 @@ module _ (gone : IntentId → Bool) (m kept : Rows) (less : Less gone m kept) wh
   pub act_gone : (k : RowKey) (a : Act) (now : ℕ) → map.get m k ≡ None → IsGone gone (belongs_to k.kind) → (act a now None).0 ≡ None → binds a ≡ false → GoesOn gone m kept (rows_after (Query.Act k a) now m) (rows_after (Query.Act k a) now kept)
   act_gone k a now none of adds off =
       let stays : (act a now (map.get m k)).0 ≡ None = ap (λ r. (act a now r).0) none ∙ adds in
-      set_both k (act a now (map.get m k)).0 (act a now (map.get kept k)).0 (inr (stays, of)) (λ e bare. (stays, bare_stays a now (map.get kept k) off bare))
+      set_both k (act a now (map.get m k)).0 (act a now (map.get kept k)).0 (inr (stays, of)) (λ e there. stays) (λ e bare. bare_stays a now (map.get kept k) off bare)
 
   -- ---- a removal
   gone_itself : (i : IntentId) → and_gone gone i i ≡ true

@@ -1,14 +1,17 @@
+mod Alive
 mod Begins
 mod Between
 mod Elsewhere
 mod Events
 mod Gone
 mod Keeps
+mod LeftRows
 mod Less
 mod Newest
 mod NextAlike
 mod Removals
 mod Step
+mod Telling
 mod Turn
 mod VisitAlike
 mod Visits

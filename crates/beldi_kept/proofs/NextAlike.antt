@@ -11,6 +11,7 @@ use Rattle.beldi_known.proofs.Cases.{by_option}
 use Rattle.beldi_step.proofs.Runs.{same_some}
 use Rattle.beldi_upkeep.specs.Callees.{belongs_to}
 use Rattle.beldi_kept.specs.Less.{IsGone, Less}
+use Rattle.beldi_kept.proofs.Less.{there_kept}
 
 by_order : (o : Ordering) (P : Type 0) → (o ≡ Before → P) → (o ≡ Equal → P) → (o ≡ Greater → P) → P
 by_order Before P less equal greater = less refl
@@ -20,13 +21,6 @@ by_order Greater P less equal greater = greater refl
 module _ (gone : IntentId → Bool) (m kept : Rows) (less : Less gone m kept) (k : RowKey) {X : Type 0} (g : Option (RowKey × Row) → Option X) (none : g None ≡ None)
     (alive : (e : RowKey × Row) (x : X) → g (Some e) ≡ Some x → IsGone gone (belongs_to e.0.kind) → ⊥)
     (between : (e : RowKey × Row) (x : X) → g (Some e) ≡ Some x → (q : RowKey) (s : Row) → IsNext kept k (Some (q, s)) → key_cmp q e.0 ≡ Before → g (Some (q, s)) ≡ None → ⊥) where
-  -- what the table has was kept
-  was_kept : (q : RowKey) (s : Row) → map.get m q ≡ Some s → map.get kept q ≡ Some s
-  was_kept q s there = elim (less.rows q) [
-    | inl same ↦ sym same ∙ there
-    | inr off ↦ let clash = sym there ∙ off.0 in cc
-  ]
-
   after : (q e : RowKey) → key_cmp q e ≡ Greater → key_cmp e q ≡ Before
   after q e h = key_total.antisymm e q ∙ ap ordering_reverse h
 
@@ -36,7 +30,7 @@ module _ (gone : IntentId → Bool) (m kept : Rows) (less : Less gone m kept) (k
   same_row q s there here (Some e) next = by_order (key_cmp q e.0) (g (Some e) ≡ g (Some (q, s)))
       (λ l. let clash = sym here ∙ next.2 q there.0 l in cc)
       (λ l. let at : q ≡ e.0 = key_exact q e.0 l in let row : s ≡ e.1 = same_some (sym here ∙ ap (map.get m) at ∙ next.1) in λ i. g (Some (sym at i, sym row i)))
-      (λ l. let clash = sym (was_kept e.0 e.1 next.1) ∙ there.2 e.0 next.0 (after q e.0 l) in cc)
+      (λ l. let clash = sym (there_kept gone m kept less e.0 e.1 next.1) ∙ there.2 e.0 next.0 (after q e.0 l) in cc)
 
   -- it is gone
   other_row : (q : RowKey) (s : Row) → IsNext kept k (Some (q, s)) → map.get m q ≡ None → g (Some (q, s)) ≡ None → (o : Option (RowKey × Row)) → IsNext m k o → g o ≡ None
@@ -44,14 +38,14 @@ module _ (gone : IntentId → Bool) (m kept : Rows) (less : Less gone m kept) (k
   other_row q s there here off (Some e) next = by_option (g (Some e)) (λ z. z) (λ x is. absurd (by_order (key_cmp q e.0) ⊥
       (λ l. between e x is q s there l off)
       (λ l. let clash = sym next.1 ∙ ap (map.get m) (sym (key_exact q e.0 l)) ∙ here in cc)
-      (λ l. let clash = sym (was_kept e.0 e.1 next.1) ∙ there.2 e.0 next.0 (after q e.0 l) in cc)))
+      (λ l. let clash = sym (there_kept gone m kept less e.0 e.1 next.1) ∙ there.2 e.0 next.0 (after q e.0 l) in cc)))
 
   pub next_alike : g (next_row m k) ≡ g (next_row kept k)
   next_alike = by_kept (next_row kept k) (next_row_least kept k)
     where
       no_row : ((q : RowKey) → key_cmp k q ≡ Before → map.get kept q ≡ None) → (o : Option (RowKey × Row)) → IsNext m k o → g o ≡ g None
       no_row all None next = refl
-      no_row all (Some e) next = let clash = sym (was_kept e.0 e.1 next.1) ∙ all e.0 next.0 in cc
+      no_row all (Some e) next = let clash = sym (there_kept gone m kept less e.0 e.1 next.1) ∙ all e.0 next.0 in cc
 
       by_kept : (o : Option (RowKey × Row)) → IsNext kept k o → g (next_row m k) ≡ g o
       by_kept None next = no_row next (next_row m k) (next_row_least m k)

@@ -14,12 +14,11 @@ use Rattle.beldi_step.specs.Host.{Core, EventOn, Plan, asks, at_once, counted, p
 use Rattle.beldi_step.specs.declared.{event.Event.Event, event.Seen.Seen, run.Run.Run}
 use Rattle.beldi_step.proofs.Runs.{adds_by, after_event}
 use Rattle.beldi_known.specs.Stands.{key_in}
-use Rattle.beldi_laws.specs.Inside.{has_finish}
 use Rattle.beldi_laws.proofs.{Keeping.act_stays, Moves.with_runs}
-use Rattle.beldi_upkeep.specs.{Upkeep.Upkeep, Work.IsUnfinished, Work.IsWorkedFor, Work.WorksFor}
+use Rattle.beldi_upkeep.specs.{Upkeep.Upkeep, Work.IsUnfinished, Work.IsWorkedFor, Work.WorksFor, Work.finish_in}
 use Rattle.beldi_upkeep.proofs.{Kept.PlanKeeps, Kept.event_keeps, NewWork.new_work, NewWork.work_bound, Together.keeps_upkeep}
-use Rattle.beldi_kept.specs.{Kept.HasKept, Kept.IsOver, Kept.IsUnbound}
-use Rattle.beldi_kept.proofs.{Gone.finished, Gone.root_home, Gone.unbound_bare, Gone.unbound_none, Gone.unbound_root, Less.GoesOn, Less.IsBare, Less.finish_stays}
+use Rattle.beldi_kept.specs.{Kept.HasKept, Kept.IsLater, Kept.IsOld, Kept.IsOver, Kept.IsUnbound}
+use Rattle.beldi_kept.proofs.{Gone.done_there, Gone.finished, Gone.old_finished, Gone.old_still, Gone.root_home, Gone.unbound_bare, Gone.unbound_none, Gone.unbound_root, Less.GoesOn, Less.IsBare, Less.bare_there, Less.dates_stay}
 
 -- the host, but for where the intent collector stands, the events that were taken, and whether it is shut
 abbrev pub elsewhere : Core → RowKey → ℕ → Bool → Core
@@ -35,7 +34,7 @@ pub record Step (d : Deployment) (c b : Core) (gone : IntentId → Bool) (m kept
   pub goes : GoesOn gone m kept n after
   pub works : (k : ℕ) (r : Run) (i : IntentId) → map.get b.runs k ≡ Some r → WorksFor r r.at i → IsWorkedFor c r.deadline i ⊎ IsUnfinished kept i
   pub stay : (k : RowKey) → is_some (map.get kept k) ≡ true → is_some (map.get after k) ≡ true
-  pub finishes : (k : RowKey) → has_finish (map.get kept k) ≡ true → has_finish (map.get after k) ≡ true
+  pub dates : (k : RowKey) (f : ℕ) → finish_in (map.get kept k) ≡ Some f → finish_in (map.get after k) ≡ Some f
 
 -- ---- what every event keeps
 -- what is so of a row stays so
@@ -48,15 +47,15 @@ keeps_plan P acts z reads_all = tt
 abbrev Stays : Rows → RowKey → Option Row → Type 0
 Stays m k r = is_some (map.get m k) ≡ true → is_some r ≡ true
 
-abbrev StaysOver : Rows → RowKey → Option Row → Type 0
-StaysOver m k r = has_finish (map.get m k) ≡ true → has_finish r ≡ true
+abbrev StaysDated : Rows → RowKey → Option Row → Type 0
+StaysDated m k r = (f : ℕ) → finish_in (map.get m k) ≡ Some f → finish_in r ≡ Some f
 
 module _ (d : Deployment) (room old new : ℕ) (e : Event) (c b : Core) (m n : Rows) (x : Result Seen AllocError) (s : EventOn d room old new e c m b n x) where
   pub rows_stay : (k : RowKey) → is_some (map.get m k) ≡ true → is_some (map.get n k) ≡ true
   rows_stay = event_keeps (Stays m) d room old new e c b m n x (keeps_plan (Stays m) (λ a now k r h there. act_stays a now r (h there)) (counted c) (plan d e c)) (λ k there. there) s
 
-  pub finishes_stay : (k : RowKey) → has_finish (map.get m k) ≡ true → has_finish (map.get n k) ≡ true
-  finishes_stay = event_keeps (StaysOver m) d room old new e c b m n x (keeps_plan (StaysOver m) (λ a now k r h fin. finish_stays a now r (h fin)) (counted c) (plan d e c)) (λ k fin. fin) s
+  pub dates_on : (k : RowKey) (f : ℕ) → finish_in (map.get m k) ≡ Some f → finish_in (map.get n k) ≡ Some f
+  dates_on = event_keeps (StaysDated m) d room old new e c b m n x (keeps_plan (StaysDated m) (λ a now k r h f is. dates_stay a now r f (h f is)) (counted c) (plan d e c)) (λ k f is. is) s
 
   pub moment_rises : c.now ≤ b.now
   moment_rises = (after_event (λ k r. Unit {0}) (λ q t. Unit {0}) d e c b (λ k r is. tt) (adds_by (λ k r. Unit {0}) (λ q t. Unit {0}) d e (counted c) (λ id f. tt) (λ i r live t told. record { goes = λ r is. tt; calls = λ starts r is. tt })) x room old new m n (λ q. tt) s).later
@@ -72,7 +71,7 @@ by_event d room old new e c b gone m kept n after x k l t u s v h on goes =
       goes = goes;
       works = λ j r i live works. by_work r i (new_work d room old new e (elsewhere c k t s) b kept after x before.right before.seats on j r i live works);
       stay = rows_stay d room old new e (elsewhere c k t s) b kept after x on;
-      finishes = finishes_stay d room old new e (elsewhere c k t s) b kept after x on;
+      dates = dates_on d room old new e (elsewhere c k t s) b kept after x on;
     }
   where
     by_work : (r : Run) (i : IntentId) → IsWorkedFor (elsewhere c k t s) r.deadline i ⊎ IsUnfinished kept i → IsWorkedFor c r.deadline i ⊎ IsUnfinished kept i
@@ -87,7 +86,7 @@ by_rest d c gone m kept n k t s h goes = record {
   goes = goes;
   works = λ j r i live works. inl (record { number = j; run = r; live = live; works = works; due = refl });
   stay = λ k there. there;
-  finishes = λ k fin. fin;
+  dates = λ k f is. is;
 }
 
 -- ---- so the invariant holds again
@@ -123,17 +122,9 @@ module _ (d : Deployment) (c : Core) (m : Rows) (h : HasKept d c m) where
   pub gone_issued : (t : ℕ) → h.gone (root_of t) ≡ true → is_some (map.get h.kept (root_key t)) ≡ true
   gone_issued t off = let o = h.over (root_of t) off in by_home o.home t (by_over o.home o.over)
     where
-      has_row : (r : Option Row) → has_finish r ≡ true → is_some r ≡ true
-      has_row None fin = cc
-      has_row (Some r) fin = refl
-
-      bare_row : (r : Option Row) → IsBare r → is_some r ≡ true
-      bare_row None bare = absurd bare
-      bare_row (Some r) bare = refl
-
-      by_over : (home : ℕ) → (has_finish (map.get h.kept (key_in home (root_of t))) ≡ true) ⊎ IsUnbound c.newest (root_of t) (map.get m (key_in home (root_of t))) (map.get h.kept (key_in home (root_of t))) → is_some (map.get h.kept (key_in home (root_of t))) ≡ true
-      by_over home (inl fin) = has_row (map.get h.kept (key_in home (root_of t))) fin
-      by_over home (inr u) = bare_row (map.get h.kept (key_in home (root_of t))) (unbound_bare c.newest (root_of t) (map.get m (key_in home (root_of t))) (map.get h.kept (key_in home (root_of t))) u)
+      by_over : (home : ℕ) → IsOld d.life h.latest (finish_in (map.get h.kept (key_in home (root_of t)))) ⊎ IsUnbound c.newest (root_of t) (map.get m (key_in home (root_of t))) (map.get h.kept (key_in home (root_of t))) → is_some (map.get h.kept (key_in home (root_of t))) ≡ true
+      by_over home (inl old) = done_there (map.get h.kept (key_in home (root_of t))) (inl (old_finished d.life h.latest (map.get h.kept (key_in home (root_of t))) old))
+      by_over home (inr u) = bare_there (map.get h.kept (key_in home (root_of t))) (unbound_bare c.newest (root_of t) (map.get m (key_in home (root_of t))) (map.get h.kept (key_in home (root_of t))) u)
 
 module _ (d : Deployment) (c b : Core) (m n : Rows) (h : HasKept d c m) (s : Step d c b h.gone m h.kept n) (later : c.now ≤ b.now) (stay : (k : RowKey) → is_some (map.get m k) ≡ true → is_some (map.get n k) ≡ true) where
   newest_rises : c.newest ≤ b.newest
@@ -143,19 +134,20 @@ module _ (d : Deployment) (c b : Core) (m n : Rows) (h : HasKept d c m) (s : Ste
   ]
 
   -- ---- who is gone
-  over_on : (i : IntentId) → IsOver c.newest m h.kept i → IsOver b.newest n s.after i
+  over_on : (i : IntentId) → IsOver d.life c.newest h.latest m h.kept i → IsOver d.life b.newest h.latest n s.after i
   over_on i o = record { home = o.home; over = by_over o.over }
     where
-      by_over : (has_finish (map.get h.kept (key_in o.home i)) ≡ true) ⊎ IsUnbound c.newest i (map.get m (key_in o.home i)) (map.get h.kept (key_in o.home i)) → (has_finish (map.get s.after (key_in o.home i)) ≡ true) ⊎ IsUnbound b.newest i (map.get n (key_in o.home i)) (map.get s.after (key_in o.home i))
-      by_over (inl fin) = inl (s.finishes (key_in o.home i) fin)
+      by_over : IsOld d.life h.latest (finish_in (map.get h.kept (key_in o.home i))) ⊎ IsUnbound c.newest i (map.get m (key_in o.home i)) (map.get h.kept (key_in o.home i)) → IsOld d.life h.latest (finish_in (map.get s.after (key_in o.home i))) ⊎ IsUnbound b.newest i (map.get n (key_in o.home i)) (map.get s.after (key_in o.home i))
+      by_over (inl old) = inl (old_still d.life h.latest h.latest (finish_in (map.get h.kept (key_in o.home i))) (finish_in (map.get s.after (key_in o.home i))) (omega arith) (s.dates (key_in o.home i)) old)
       by_over (inr u) =
           let x = map.get m (key_in o.home i) in
           let y = map.get h.kept (key_in o.home i) in
-          let on = s.goes.bare (key_in o.home i) (unbound_none c.newest i x y u) (unbound_bare c.newest i x y u) in
+          let none = s.goes.none (key_in o.home i) (unbound_none c.newest i x y u) (bare_there y (unbound_bare c.newest i x y u)) in
+          let bare = s.goes.bare (key_in o.home i) (unbound_none c.newest i x y u) (unbound_bare c.newest i x y u) in
           let below : i.ticket < b.newest = (let low = unbound_below c.newest i x y u in let rise = newest_rises in omega (arith, low, rise)) in
-          inr (still_unbound b.newest i (map.get n (key_in o.home i)) (map.get s.after (key_in o.home i)) on.0 on.1 (unbound_root c.newest i x y u) below)
+          inr (still_unbound b.newest i (map.get n (key_in o.home i)) (map.get s.after (key_in o.home i)) none bare (unbound_root c.newest i x y u) below)
 
-  over_now : (i : IntentId) → h.gone i ≡ true → IsOver b.newest n s.after i
+  over_now : (i : IntentId) → h.gone i ≡ true → IsOver d.life b.newest h.latest n s.after i
   over_now i off = over_on i (h.over i off)
 
   -- nobody begins to work for who is gone
@@ -166,11 +158,11 @@ module _ (d : Deployment) (c b : Core) (m n : Rows) (h : HasKept d c m) (s : Ste
 
   none_new : (k : ℕ) (r : Run) (i : IntentId) → map.get b.runs k ≡ Some r → WorksFor r r.at i → IsUnfinished h.kept i → h.gone i ≡ true → ⊥
   none_new k r i live works none off = let o = h.over i off in elim o.over [
-    | inl fin ↦ finished h.kept i o.home fin none
+    | inl old ↦ finished h.kept i o.home (old_finished d.life h.latest (map.get h.kept (key_in o.home i)) old) none
     | inr u ↦
         let x = map.get m (key_in o.home i) in
         let y = map.get h.kept (key_in o.home i) in
-        bound_there k r i live works o.home (map.get s.after (key_in o.home i)) refl (s.goes.bare (key_in o.home i) (unbound_none c.newest i x y u) (unbound_bare c.newest i x y u)).1
+        bound_there k r i live works o.home (map.get s.after (key_in o.home i)) refl (s.goes.bare (key_in o.home i) (unbound_none c.newest i x y u) (unbound_bare c.newest i x y u))
   ]
 
   not_gone : (i : IntentId) (g : Bool) → h.gone i ≡ g → (h.gone i ≡ true → ⊥) → h.gone i ≡ false
@@ -205,4 +197,8 @@ module _ (d : Deployment) (c b : Core) (m n : Rows) (h : HasKept d c m) (s : Ste
       inr (stay (root_key (suc t)) (subst (λ z. is_some (map.get m (root_key z)) ≡ true) same there))
 
   pub has_kept : HasKept d b n
-  has_kept = record { kept = s.after; upkeep = s.upkeep; gone = h.gone; less = s.goes.less; over = over_now; spared = spared; newest = newest_there h.newest b.newest refl (is_some (map.get h.kept (root_key b.newest))) refl }
+  has_kept = record { kept = s.after; upkeep = s.upkeep; gone = h.gone; less = s.goes.less; latest = h.latest; over = over_now; spared = spared; newest = newest_there h.newest b.newest refl (is_some (map.get h.kept (root_key b.newest))) refl }
+
+  pub is_later : IsLater h has_kept
+  unfolding has_kept
+  is_later = record { moment = later; ticket = newest_rises; rows = s.stay; finishes = s.dates; gone = λ i off. off; latest = omega arith }

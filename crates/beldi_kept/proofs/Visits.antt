@@ -1,7 +1,7 @@
 -- A turn of a visit: it is the same over both where who is visited is not gone; who is gone is closed, so the visit may go on without the
 -- rows that the table has no more.
 use Rattle.std.specs.FinMap as map
-use Rattle.std.specs.Prelude.{Result}
+use Rattle.std.specs.Prelude.{IfOk, Ok, Result}
 use Rattle.std.specs.declared.alloc.AllocError.{AllocError}
 use Rattle.std.proofs.Common.{◌≡◌, inl, inr, ℕ, ◌+◌, ◌-◌, ◌≤◌, Bool, true, false, List, [], ◌∷◌, ◌++◌, Option, Some, None, is_some, refl, ap, sym, ◌∙◌, subst}
 use Rattle.std.proofs.lemmas.List.{append-nil}
@@ -19,6 +19,7 @@ use Rattle.beldi_lock.specs.{Lock.lockset_key, Lockset.item_after, Lockset.locks
 use Rattle.beldi_txn.specs.{Closed.ClosedArePassed, Closed.Passes, End.call_goes, End.calls_goes, End.end_goes, End.free_asks, End.free_first, End.free_place, End.next_goes, End.shadow_asks, End.visit_asks, End.visited_by, Invokes.call_after, Invokes.func_called, Invokes.invokes_after, Visited.IsPassed, Visited.IsWithin, Visited.Levels, Visited.Visited, Visited.called_at, Visited.is_closed, Visited.row_closed, Way.Member, Way.callee_of, Way.member_at, declared.end.EndAt.EndAt, declared.end.Visit.Visit, declared.way.Called.Called}
 use Rattle.beldi_txn.proofs.Visited.{FindsFirstCall, FindsFirstLock}
 use Rattle.beldi_step.specs.Host.{Core, asks, counted, put_run, turn_next, turned_core}
+use Rattle.beldi_step.specs.Told.{entries_told, told_outcome}
 use Rattle.beldi_step.specs.Run.{Turned, asks_at, end_by_asks, end_here_asks, own_tx, run_asks, run_told, stage_asks, turned_by, visit_says}
 use Rattle.beldi_step.specs.declared.{event.Event.Event, event.Seen.Seen, run.Begun.Begun, run.OpenTx.OpenTx, run.Run.Run, run.RunAt.TheVariants.Begins, run.RunTx.RunTx, run.RunTx.TheVariants.Own, run.Says.Says, run.Stage.Stage}
 use Rattle.beldi_known.specs.{Known.tx_end, Stands.key_in}
@@ -27,7 +28,7 @@ use Rattle.beldi_laws.proofs.{Members.members_joined, Members.part_below, Member
 use Rattle.beldi_upkeep.specs.{Callees.belongs_to, Work.WorksFor}
 use Rattle.beldi_upkeep.proofs.EndRows.{tx_is_ended}
 use Rattle.beldi_kept.specs.{Kept.HasKept, Kept.IsOver, Less.IsGone}
-use Rattle.beldi_kept.proofs.{Between.call_key_is, Between.lock_key, Elsewhere.stands_elsewhere, Elsewhere.works_still, Events.Goal, Events.as_were, Events.core_of, Events.turns_alike, Events.turns_by, Gone.one_row, Gone.unbound_root, Less.stays_on, Less.GoesOn, Step.Step, Step.upkeep_elsewhere, Turn.SameTurn}
+use Rattle.beldi_kept.proofs.{Between.call_key_is, Between.lock_key, Elsewhere.stands_elsewhere, Elsewhere.works_still, Events.Goal, Events.as_were, Events.core_of, Events.turns_alike, Events.turns_by, Gone.done_there, Gone.old_finished, Gone.one_row, Gone.unbound_root, Less.stays_on, Less.there_kept, Less.GoesOn, Step.Step, Step.upkeep_elsewhere, Turn.SameTurn}
 use Rattle.beldi_kept.proofs.VisitAlike as alike
 
 -- ---- rows of who is visited
@@ -36,43 +37,34 @@ finish_closes None fin = cc
 finish_closes (Some (Row.Intent w)) fin = fin
 finish_closes (Some r) fin = refl
 
-finish_there : (r : Option Row) → has_finish r ≡ true → is_some r ≡ true
-finish_there None fin = cc
-finish_there (Some r) fin = refl
-
 -- of who calls nobody, all calls are passed
 none_called : (m : Rows) (p : Member) (At Past Then : ℕ → Type 0) (cs : List Called) → has_callees (member_at p cs).0 ≡ false → Levels m p At cs Past → Levels m p At cs Then
 none_called m p At Past Then [] off l = λ c call here. let clash = sym off ∙ call.0 in cc
 none_called m p At Past Then (c ∷ cs) off l = (l.0, none_called m (callee_of p c) (λ n. Unit {0}) Past Then cs off l.1)
 
 module _ (d : Deployment) (c : Core) (m : Rows) (h : HasKept d c m) (p : Member) where
-  -- a row that the table has, by its value
-  there_kept : (q : RowKey) (s : Row) → map.get m q ≡ Some s → map.get h.kept q ≡ Some s
-  there_kept q s there = elim (h.less.rows q) [
-    | inl same ↦ sym same ∙ there
-    | inr off ↦ let clash = sym there ∙ off.0 in cc
-  ]
-
   found_call : (k : RowKey) (f : Option (RowKey × Row)) → IsNext m k f → (x : Called) → call_after p.1 p.0 f ≡ Some x → called_at h.kept p x.step ≡ Some x.func
   found_call k None next x is = cc
-  found_call k (Some e) next x is = let q = call_key_is p.1 p.0 e x is in ap (λ z. option_map func_called (map.get h.kept z)) (sym q.0) ∙ ap (option_map func_called) (there_kept e.0 e.1 next.1) ∙ ap Some q.1
+  found_call k (Some e) next x is = let q = call_key_is p.1 p.0 e x is in ap (λ z. option_map func_called (map.get h.kept z)) (sym q.0) ∙ ap (option_map func_called) (there_kept h.gone m h.kept h.less e.0 e.1 next.1) ∙ ap Some q.1
 
   found_lock : (begin : ℕ) (k : RowKey) (f : Option (RowKey × Row)) → IsNext m k f → (x : ℕ × List ℕ) → item_after p.1 p.0 begin f ≡ Some x → is_some (map.get h.kept (lockset_key p.1 p.0 begin x.0 x.1)) ≡ true
   found_lock begin k None next x is = cc
-  found_lock begin k (Some e) next x is = ap (λ z. is_some (map.get h.kept z)) (sym (lock_key p.1 p.0 begin e x is)) ∙ ap is_some (there_kept e.0 e.1 next.1)
+  found_lock begin k (Some e) next x is = ap (λ z. is_some (map.get h.kept z)) (sym (lock_key p.1 p.0 begin e x is)) ∙ ap is_some (there_kept h.gone m h.kept h.less e.0 e.1 next.1)
 
   -- who is gone and has hops is closed
   gone_closed : has_no_hops p.0.hops ≡ false → h.gone p.0 ≡ true → is_closed h.kept p ≡ true
   gone_closed below off = by_row (map.get h.kept (intent_key p.0 p.1)) refl
     where
-      o : IsOver c.newest m h.kept p.0
+      o : IsOver d.life c.newest h.latest m h.kept p.0
       o = h.over p.0 off
 
       by_row : (r : Option Row) → map.get h.kept (intent_key p.0 p.1) ≡ r → row_closed r ≡ true
       by_row None is = refl
       by_row (Some r) is = elim (h.over p.0 off).over [
-        | inl fin ↦ ap row_closed (sym is) ∙ finish_closes (map.get h.kept (intent_key p.0 p.1)) (subst (λ k. has_finish (map.get h.kept k) ≡ true)
-            (one_row d c h.kept h.upkeep.right p.0 (h.over p.0 off).home (intent_key p.0 p.1).home (finish_there (map.get h.kept (key_in (h.over p.0 off).home p.0)) fin) (ap is_some is)) fin)
+        | inl old ↦
+            let fin = old_finished d.life h.latest (map.get h.kept (key_in (h.over p.0 off).home p.0)) old in
+            ap row_closed (sym is) ∙ finish_closes (map.get h.kept (intent_key p.0 p.1)) (subst (λ k. has_finish (map.get h.kept k) ≡ true)
+            (one_row d c h.kept h.upkeep.right p.0 (h.over p.0 off).home (intent_key p.0 p.1).home (done_there (map.get h.kept (key_in (h.over p.0 off).home p.0)) (inl fin)) (ap is_some is)) fin)
         | inr u ↦ let clash = sym below ∙ unbound_root c.newest p.0 (map.get m (key_in (h.over p.0 off).home p.0)) (map.get h.kept (key_in (h.over p.0 off).home p.0)) u in cc
       ]
 
@@ -122,7 +114,7 @@ module _ (may_pass : ClosedArePassed) (d : Deployment) (c : Core) (m : Rows) (h 
         goes = as_were d c m h room old new b n x same;
         works = λ k s j is works. inl (works_still d c h.kept h.upkeep i r g v w live at stage o tx commit ends on there k s j is works);
         stay = λ k there. there;
-        finishes = λ k fin. fin;
+        dates = λ k f is. is;
       })
 
       module _ (k : RowKey) (after_it : q v.at ≡ Query.After k) (goes : run_told d (count_changes c.book) r (found (next_row m k)) ≡ left) (mark : (run_told d (count_changes c.book) r (found (next_row h.kept k))).mark ≡ None) where
@@ -135,7 +127,12 @@ module _ (may_pass : ClosedArePassed) (d : Deployment) (c : Core) (m : Rows) (h 
         goes_on : Turns
         goes_on = turns_by d c m h room old new b n x i r live (ap (λ (z : Turned). z.mark) (turned m ∙ goes) ∙ sym (ap (λ (z : Turned). z.mark) (turned h.kept) ∙ mark))
             (subst (λ z. GoesOn h.gone m h.kept (rows_after z c.now m) (rows_after z c.now h.kept)) (sym asks_it) (stays_on h.gone m h.kept h.less))
-            (λ y f rows over. inr (leaves (core_of (f ∙ ap (turn_next (counted c) i r) (turned m ∙ goes))) (rows ∙ ap (λ z. rows_after z c.now m) asks_it)))
+            (λ y is f rows over.
+            let made : (b, y) ≡ turn_next (counted c) i r left = f ∙ ap (turn_next (counted c) i r) (turned m ∙ goes) in
+            inr (
+              leaves (core_of made) (rows ∙ ap (λ z. rows_after z c.now m) asks_it),
+              record { book = ap (λ (z : Core). z.book) (core_of made) ∙ append-nil c.book; tells = subst (λ u. IfOk u (λ y. (told_outcome y ≡ None) × (entries_told (Event.Turn i) y ≡ []))) (sym (is ∙ ap (λ z. Ok z.1) made)) (refl, refl) },
+            ))
 
   -- ---- who is visited is gone
   module _ (e : Called) (es : List Called) (after : Option ℕ) (value : Option Value) where

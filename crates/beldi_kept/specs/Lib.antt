@@ -1,3 +1,5 @@
 pub mod Kept
 pub mod Laws
 pub mod Less
+pub mod Stands
+pub mod Told

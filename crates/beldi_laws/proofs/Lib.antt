@@ -13,7 +13,7 @@ pub mod Ended
 mod Endings
 pub mod Events
 mod Fallen
-mod FirstOutcomes
+pub mod FirstOutcomes
 pub mod Frames
 mod GivingBack
 mod Grown

@@ -1,5 +1,5 @@
 -- The listing of the rows is that of the plain state.
-use Rattle.beldi_laws.proofs.Names.{Bool, Core, Deployment, Item, KeepsNoNull, Kind, List, None, Null, Option, Ordering, PlainState, Right, Row, RowKey, Rows, Some, T, Value, [], ap, arith, below_all, cond, entries_sorted, false, find, flat_map, get-entries, head_key, is_eq, is_lt, is_sorted, item_cmp, item_exact, item_text, item_total, key_cmp, key_same, line_at, listed, listed_under, listing_of, no_null, or_null, refl, row_line, run_of, same_entries, shown_under, subst, sym, tables_text, tied_itself, true, value_line, zero, ℕ, ◌&&◌, ◌++◌, ◌∙◌, ◌∷◌, ◌≡◌}
+use Rattle.beldi_laws.proofs.Names.{Bool, Core, Deployment, Entry, Item, KeepsNoNull, Kind, List, None, Null, Option, Ordering, PlainState, Right, Row, RowKey, Rows, Some, T, Value, [], ap, arith, below_all, cond, entries_sorted, false, find, flat_map, get-entries, head_key, is_eq, is_lt, is_sorted, item_cmp, item_exact, item_text, item_total, key_cmp, key_same, line_at, listed, listed_under, listing_of, no_null, or_null, refl, row_line, run_of, same_entries, shown_under, subst, sym, tables_text, tied_itself, true, value_at, value_line, zero, ℕ, ◌&&◌, ◌++◌, ◌∙◌, ◌∷◌, ◌≡◌}
 use Rattle.beldi_value.specs.declared.place.Place.{Place}
 use Rattle.beldi_row.specs.declared.notes.Note.{Note}
 use Rattle.beldi_chain.{proofs.OneRow.no_tail, proofs.OneRow.tail_is_head, specs.Chain.above, specs.Chain.chain, specs.Chain.most_rows, specs.Chain.next_of, specs.Chain.notes_from, specs.Chain.tail, specs.Content.held_in}
@@ -182,7 +182,9 @@ same_items : (m : Rows) (p : PlainState) → KeepsNoNull p → ((x : Item) → l
 same_items m p none is = same_entries item_cmp item_total item_exact (map.entries p.items) (items_in m (map.entries m)) (entries_sorted p.items) (sorted_items m (map.entries m) (entries_sorted m)) (λ x.
     sym (get-entries p.items x) ∙ kept_value (map.get p.items x) (none x) ∙ ap not_null (sym (is x)) ∙ listed_shows m x ∙ ap (shown_in m x) (get-entries m (head_key x)) ∙ sym (found m x (map.entries m) (entries_sorted m)))
 
+-- so the listing is plain wherever the rows list the plain values
+pub listing_by : (d : Deployment) (book : List Entry) (m : Rows) (p : PlainState) → run_of d book ≡ Some p → ((x : Item) → listed m x ≡ value_at p x) → tables_text d m ≡ listing_of d p
+listing_by d book m p is values = lines m d (map.entries m) ∙ ap (flat_map (item_line d)) (sym (same_items m p (no_null d book p is) values))
+
 pub listing_plain : (d : Deployment) (c : Core) (m : Rows) (p : PlainState) → Right d c m → run_of d c.book ≡ Some p → tables_text d m ≡ listing_of d p
-listing_plain d c m p h is =
-    lines m d (map.entries m)
-    ∙ ap (flat_map (item_line d)) (sym (same_items m p (no_null d c.book p is) (λ x. h.values x ∙ ap (λ (q : PlainState). or_null (map.get q.items x)) (same_run d c m p h is))))
+listing_plain d c m p h is = listing_by d c.book m p is (λ x. h.values x ∙ ap (λ (q : PlainState). value_at q x) (same_run d c m p h is))

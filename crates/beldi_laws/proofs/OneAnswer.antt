@@ -13,7 +13,7 @@ module _ (d : Deployment) (c : Core) (m : Rows) (h : Right d c m) (id : IntentId
   given_of : (q : Instance) (r : Run) (g : Begun) → map.get h.known id ≡ Some q → r.id ≡ id → Knows d h.known r g → WasGiven d q r g
   given_of q r g made same k = grind arith
 
-  answers_of : (o : Option Instance) → map.get h.known id ≡ o → AnswersOf d c m id o
+  pub answers_of : (o : Option Instance) → map.get h.known id ≡ o → AnswersOf d c m id o
   answers_of None none = λ r g b. let k = known b.number r g b.live b.begun in let clash : Some k.instance ≡ None = sym k.made ∙ ap (map.get h.known) b.same_id ∙ none in cc
   answers_of (Some q) made = record {
     held = λ n a at. held_here d m h.known h.locked h.rows h.sane id q made n a at;

@@ -1,0 +1,144 @@
+-- Whose rows the table has as they were kept: items, who has a row whose finish is not old, and the owner of a transaction that is not finished.
+use Rattle.std.specs.FinMap as map
+use Rattle.std.proofs.Common.{◌≡◌, ◌⊎◌, inl, inr, ℕ, ◌==◌, Bool, true, false, Option, Some, None, is_some, if◌then◌else◌, refl, ap, sym, ◌∙◌, subst}
+use Rattle.std.specs.Option.{option_map}
+use Rattle.std.specs.Prelude.{option_and_then}
+use Rattle.beldi_value.specs.{Id.has_no_hops, declared.id.IntentId.IntentId, declared.place.Owner.Owner, declared.place.Owner.TheVariants.Tx, declared.place.Place.Place, declared.place.TxId.TxId, declared.value.Value.Value}
+use Rattle.beldi_tree.specs.declared.deployment.Deployment.{Deployment}
+use Rattle.beldi_lang.specs.{Callee.answer_of, declared.effect.Answer.Answer, declared.effect.Effect.Effect}
+use Rattle.beldi_plain.specs.{Item.Item, Operation.OnItem, Operation.item_in, Operation.op_of, Plain.Instance}
+use Rattle.beldi_row.specs.{Key.RowKey, Key.at_row, Log.note_at, Table.Rows, declared.row.IntentRow.IntentRow, declared.row.Row.Row}
+use Rattle.beldi_chain.specs.Chain.{chain, content, tail}
+use Rattle.beldi_readlog.specs.ReadLog.{given_in, log_key}
+use Rattle.beldi_intent.specs.Intent.{intent_key}
+use Rattle.beldi_invokelog.specs.InvokeLog.{call_in, invoke_key, result_in}
+use Rattle.beldi_step.specs.{Host.Core, Noted.noted_answer, Tables.decision_key, Tables.is_committed, Tables.value_in}
+use Rattle.beldi_known.specs.{Contents.content_of, Contents.head_key, Contents.shadow_chain, Contents.shadow_key, Listed.listed, Listed.listed_under, Matches.has_ended, Rows.BodyMatches, Rows.IntentMatches, Rows.RootMatches, Stands.answer_aside, Stands.decides, Stands.held_answer, Stands.held_inside, Stands.held_note, Stands.held_outside, Stands.key_in, Stands.note_of_lock, Stands.told_by}
+use Rattle.beldi_laws.specs.Inside.{has_finish}
+use Rattle.beldi_laws.proofs.Cases.{false_by}
+use Rattle.beldi_upkeep.specs.{Callees.belongs_to, Callees.owner_key, Work.finish_in}
+use Rattle.beldi_upkeep.proofs.PastOwn.{WasOwner, got_owner}
+use Rattle.beldi_kept.specs.{Kept.HasKept, Kept.IsOld, Kept.IsUnbound, Less.IsGone}
+use Rattle.beldi_kept.proofs.{Gone.done_there, Gone.known_home, Gone.old_finished, Gone.one_row, Gone.unbound_bare, Gone.unbound_none, Gone.unbound_root, Less.IsBare, Less.there_kept}
+
+-- a root that is known has a body
+bound_root : (b : Bool) (r : Option Row) (q : Instance) → RootMatches b r (Some q) → IsBare r → ⊥
+bound_root true (Some (Row.Intent r)) q f bare = let clash = subst (λ y. BodyMatches y r.outcome (Some q)) bare f.body in cc
+bound_root true None q f bare = absurd bare
+bound_root true (Some r) q f bare = absurd bare
+bound_root false r q f bare = absurd (subst IsBare f bare)
+
+module _ (d : Deployment) (c : Core) (m : Rows) (h : HasKept d c m) where
+  pub same_row : (k : RowKey) → (IsGone h.gone (belongs_to k.kind) → ⊥) → map.get m k ≡ map.get h.kept k
+  same_row k alive = elim (h.less.rows k) [
+    | inl same ↦ same
+    | inr off ↦ absurd (alive off.1)
+  ]
+
+  -- ---- who is not gone
+  -- one that has a row in the table whose finish is not old
+  pub alive_there : (home : ℕ) (i : IntentId) (w : IntentRow) → map.get m (key_in home i) ≡ Some (Row.Intent w) → (IsOld d.life h.latest w.finish → ⊥) → h.gone i ≡ false
+  alive_there home i w there fresh = false_by (h.gone i) (λ off. not_over off (h.over i off).home (h.over i off).over)
+    where
+      row : map.get h.kept (key_in home i) ≡ Some (Row.Intent w)
+      row = there_kept h.gone m h.kept h.less (key_in home i) (Row.Intent w) there
+
+      not_over : h.gone i ≡ true → (room : ℕ) → IsOld d.life h.latest (finish_in (map.get h.kept (key_in room i))) ⊎ IsUnbound c.newest i (map.get m (key_in room i)) (map.get h.kept (key_in room i)) → ⊥
+      not_over off room (inl old) =
+          let same = one_row d c h.kept h.upkeep.right i room home (done_there (map.get h.kept (key_in room i)) (inl (old_finished d.life h.latest (map.get h.kept (key_in room i)) old))) (ap is_some row) in
+          fresh (subst (λ o. IsOld d.life h.latest (finish_in o)) (ap (map.get h.kept) same ∙ row) old)
+      not_over off room (inr u) =
+          let x = map.get m (key_in room i) in
+          let y = map.get h.kept (key_in room i) in
+          let same = one_row d c h.kept h.upkeep.right i room home (done_there y (inr (unbound_bare c.newest i x y u))) (ap is_some row) in
+          let clash = sym (unbound_none c.newest i x y u) ∙ ap (map.get m) same ∙ there in cc
+
+  -- one that is known, and whose kept row has no finish
+  pub known_alive : (i : IntentId) (q : Instance) → map.get h.upkeep.right.known i ≡ Some q → (has_finish (map.get h.kept (intent_key i q.func)) ≡ true → ⊥) → h.gone i ≡ false
+  known_alive i q made open_still = false_by (h.gone i) (λ off. not_over (h.over i off).home (h.over i off).over)
+    where
+      fits : (room : ℕ) → IntentMatches (has_ended d h.upkeep.right.known) (has_no_hops i.hops) room (map.get h.kept (key_in room i)) (Some q)
+      fits room = subst (IntentMatches (has_ended d h.upkeep.right.known) (has_no_hops i.hops) room (map.get h.kept (key_in room i))) made (h.upkeep.right.rows.keys (key_in room i))
+
+      not_over : (room : ℕ) → IsOld d.life h.latest (finish_in (map.get h.kept (key_in room i))) ⊎ IsUnbound c.newest i (map.get m (key_in room i)) (map.get h.kept (key_in room i)) → ⊥
+      not_over room (inl old) =
+          let fin = old_finished d.life h.latest (map.get h.kept (key_in room i)) old in
+          open_still (subst (λ k. has_finish (map.get h.kept k) ≡ true) (known_home d c h.kept h.upkeep.right i q room made (done_there (map.get h.kept (key_in room i)) (inl fin))) fin)
+      not_over room (inr u) =
+          let x = map.get m (key_in room i) in
+          let y = map.get h.kept (key_in room i) in
+          bound_root (room == 0) y q (subst (λ z. IntentMatches (has_ended d h.upkeep.right.known) z room y (Some q)) (unbound_root c.newest i x y u) (fits room)) (unbound_bare c.newest i x y u)
+
+  -- so the owner of a transaction
+  pub owner_alive : (t : TxId) → WasOwner d h.upkeep.right.known t → (has_finish (map.get h.kept (owner_key t)) ≡ true → ⊥) → h.gone t.intent ≡ false
+  owner_alive t w open_still = known_alive t.intent w.owner w.made (λ fin. open_still (subst (λ f. has_finish (map.get h.kept (intent_key t.intent f)) ≡ true) (sym w.func_is) fin))
+
+  -- .. and so the owner of an item
+  pub holder_alive : (t : TxId) (x : Item) → (content_of h.kept x).owner ≡ Some (Tx t) → h.gone t.intent ≡ false
+  holder_alive t x owned = owner_alive t (got_owner d h.upkeep.right.known h.upkeep.right.sane t h.upkeep.right.locked x ((h.upkeep.right.rows.txs x).owned_is_got t owned)) (λ fin. h.upkeep.seats.owns_none t x fin owned)
+
+  -- ---- the rows of items, and those of a transaction and of an intent that are not gone
+  alive_key : (i : IntentId) → h.gone i ≡ false → h.gone i ≡ true → ⊥
+  alive_key i alive off = let clash = sym off ∙ alive in cc
+
+  pub same_item : (x : Item) → chain m (head_key x) ≡ chain h.kept (head_key x)
+  same_item x = λ j n. same_row (at_row (head_key x) n) (λ off. off) j
+
+  pub same_content : (x : Item) → content_of m x ≡ content_of h.kept x
+  same_content x = ap content (same_item x)
+
+  pub same_shadow : (t : TxId) (x : Item) → h.gone t.intent ≡ false → shadow_chain m t x ≡ shadow_chain h.kept t x
+  same_shadow t x alive = λ j n. same_row (at_row (shadow_key t x) n) (alive_key t.intent alive) j
+
+  pub same_decision : (t : TxId) → h.gone t.intent ≡ false → map.get m (decision_key t) ≡ map.get h.kept (decision_key t)
+  same_decision t alive = same_row (decision_key t) (alive_key t.intent alive)
+
+  -- ---- what is listed
+  listed_alike : (x : Item) (o : Option Owner) (v : Value) → ((t : TxId) → o ≡ Some (Tx t) → h.gone t.intent ≡ false) → listed_under m x o v ≡ listed_under h.kept x o v
+  listed_alike x (Some (Owner.Tx t)) v alive = let live = alive t refl in λ j. if is_committed (same_decision t live j) then value_in (tail (same_shadow t x live j)) v else v
+  listed_alike x (Some (Owner.Intent i)) v alive = refl
+  listed_alike x None v alive = refl
+
+  pub same_listed : (x : Item) → listed m x ≡ listed h.kept x
+  same_listed x = ap (λ z. listed_under m x z.owner z.value) (same_content x) ∙ listed_alike x (content_of h.kept x).owner (content_of h.kept x).value (λ t owned. holder_alive t x owned)
+
+  -- ---- the answers that the rows hold
+  note_alike : (p : Place) (func : ℕ) (o : Option OnItem) → held_note m p func o ≡ held_note h.kept p func o
+  note_alike p func None = refl
+  note_alike p func (Some o) = ap (λ z. option_and_then noted_answer (note_at z.notes p)) (same_content (item_in func o))
+
+  lock_alike : (p : Place) (x : Item) → note_of_lock m p x ≡ note_of_lock h.kept p x
+  lock_alike p x = ap (λ z. note_at z.notes p) (same_content x)
+
+  module _ (p : Place) (alive : h.gone p.intent ≡ false) (func : ℕ) where
+    log_alike : map.get m (log_key func p) ≡ map.get h.kept (log_key func p)
+    log_alike = same_row (log_key func p) (alive_key p.intent alive)
+
+    call_alike : map.get m (invoke_key func p) ≡ map.get h.kept (invoke_key func p)
+    call_alike = same_row (invoke_key func p) (alive_key p.intent alive)
+
+    outside_alike : (e : Effect) → held_outside m p func e ≡ held_outside h.kept p func e
+    outside_alike (Effect.Read t k) = ap (λ r. option_map Answer.Value (option_map given_in r)) log_alike
+    outside_alike (Effect.Call f v) = ap (λ r. option_map answer_of (result_in (call_in r))) call_alike
+    outside_alike (Effect.Async f v) = ap (λ r. option_map (λ i. Answer.Done) (call_in r)) call_alike
+    outside_alike e = note_alike p func (op_of e)
+
+    module _ (t : TxId) (live : h.gone t.intent ≡ false) where
+      aside_alike : (x : Item) → answer_aside m t p x ≡ answer_aside h.kept t p x
+      aside_alike x = ap (λ z. option_and_then noted_answer (note_at (content z).notes p)) (same_shadow t x live)
+
+      told_alike : (x : Item) → told_by p (note_of_lock m p x) (answer_aside m t p x) ≡ told_by p (note_of_lock h.kept p x) (answer_aside h.kept t p x)
+      told_alike x = λ j. told_by p (lock_alike p x j) (aside_alike x j)
+
+      inside_alike : (e : Effect) → held_inside m t p func e ≡ held_inside h.kept t p func e
+      inside_alike Effect.Begin = refl
+      inside_alike Effect.Abort = refl
+      inside_alike (Effect.End y) = ap (λ r. option_and_then (decides y) (option_map given_in r)) (same_decision t live)
+      inside_alike (Effect.Read u k) = λ j. told_by p (lock_alike p (record { func = func; table = u; key = k }) j) (option_map Answer.Value (option_map given_in (log_alike j)))
+      inside_alike (Effect.Write u k v) = told_alike (record { func = func; table = u; key = k })
+      inside_alike (Effect.CondWrite u k r o v) = told_alike (record { func = func; table = u; key = k })
+      inside_alike e = outside_alike e
+
+  pub same_held : (i : IntentId) (func step : ℕ) (t : Option TxId) (e : Effect) → h.gone i ≡ false → ((u : TxId) → t ≡ Some u → h.gone u.intent ≡ false) → held_answer m i func step t e ≡ held_answer h.kept i func step t e
+  same_held i func step None e alive owner = outside_alike (record { intent = i; step = step }) alive func e
+  same_held i func step (Some u) e alive owner = inside_alike (record { intent = i; step = step }) alive func u (owner u refl) e

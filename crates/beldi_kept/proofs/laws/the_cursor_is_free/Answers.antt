@@ -1,0 +1,5 @@
+use Rattle.beldi_kept.proofs.Keeps.{cursor_is_free}
+use Rattle.beldi_kept.proofs.laws.the_cursor_is_free.Goals as goal
+
+pub returns : goal.returns
+returns c = cursor_is_free
