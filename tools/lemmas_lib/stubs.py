@@ -1,5 +1,5 @@
-"""Stubs of crates: types and definitions stay. A function has no contract, and its body is one foreign call that never returns, whose
-contract is ⊥. They are built in a small part of the time, and cannot be linked."""
+"""Stubs of crates: types and definitions stay. A function has no contract but where it is to keep it, and its body is one foreign call that
+never returns, whose contract is ⊥. They are built in a small part of the time, and cannot be linked."""
 import os, re, subprocess
 from lemmas_lib.crates import TOP, closing, reached, read, sync
 
@@ -44,7 +44,8 @@ def parts_of(plain, at):
 
 
 def stubbed(text, plain, keep):
-    """The text with all bodies replaced, and without comments, and contracts but of traits and of those that are named; and how many."""
+    """The text with all bodies replaced, and without comments, and contracts but of traits and of those that are named, all where `keep` is
+    none; and how many."""
     traits = [it.end() for it in BLOCK.finditer(plain) if it[1] == "trait" or re.search(r"\bfor\b(?!\s*<)", it[2])]
     traits = [(it, closing(plain, it)) for it in traits]
     out, done, count = [], 0, 0
@@ -53,7 +54,7 @@ def stubbed(text, plain, keep):
         found = it.start() >= done and not is_const and parts_of(plain, it.end())
         if found:
             contract, body, end = found
-            stays = it[1] in keep or any(a < it.start() < b for a, b in traits)
+            stays = keep is None or it[1] in keep or any(a < it.start() < b for a, b in traits)
             out += [text[done:body if stays else contract], BODY]
             done, count = end, count + 1
     return GONE.sub("", "".join([*out, text[done:]])).encode("latin-1").decode(), count
