@@ -9,7 +9,7 @@ use Rattle.sqlite.specs.State.{State}
 use Rattle.beldi_blobs.specs.declared.entry.Entry.{Entry}
 use Rattle.beldi_blobs.specs.declared.error.BlobErr.{BlobErr}
 use Rattle.beldi_blobs.specs.Entries.{IsTable, entries_in, entries_of}
-use Rattle.beldi_blobs.specs.Calls.{Keeps, Finds, FindsAbove, ReadsValue, ReadsEntry, IsNext, Puts, PutsOr, pair_of}
+use Rattle.beldi_blobs.specs.Calls.{Keeps, Finds, FindsAbove, ReadsValue, ReadsEntry, IsNext, Puts, PutsOr, Removes, RemovesOr, pair_of}
 
 pub value_is : (s : State) (key : List ℕ) (row : Option Row) (value : Option (Vec ℕ Global)) → Finds s key row → ReadsValue row value → option_map (λ v. v.items) value ≡ map.get (entries_in s) key
 value_is s key None None h r = sym h
@@ -44,3 +44,11 @@ put_table old new key value (Err e) h = h.table
 pub put_entries : {A : Type 0} (old new : State) (key value : List ℕ) (r : Result A BlobErr) → PutsOr key value old new r → Puts key value (entries_in old) (entries_in new) r
 put_entries old new key value (Ok done) h = h.entries
 put_entries old new key value (Err e) h = same_entries old new h
+
+pub remove_table : {A : Type 0} (old new : State) (key : List ℕ) (r : Result A BlobErr) → RemovesOr key old new r → IsTable new
+remove_table old new key (Ok done) h = h.table
+remove_table old new key (Err e) h = h.table
+
+pub remove_entries : {A : Type 0} (old new : State) (key : List ℕ) (r : Result A BlobErr) → RemovesOr key old new r → Removes key (entries_in old) (entries_in new) r
+remove_entries old new key (Ok done) h = h.entries
+remove_entries old new key (Err e) h = same_entries old new h

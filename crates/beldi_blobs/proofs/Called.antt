@@ -6,7 +6,7 @@ use Rattle.sqlite.specs.Order.{Row}
 use Rattle.sqlite.specs.Listing.{understood}
 use Rattle.sqlite.specs.State.{State, Executes, QueriesRow}
 use Rattle.sqlite.proofs.Callers.{IsPlain}
-use Rattle.beldi_blobs.specs.Texts.{get_text, put_text, next_text}
+use Rattle.beldi_blobs.specs.Texts.{get_text, put_text, next_text, remove_text}
 use Rattle.beldi_blobs.specs.Entries.{IsTable}
 use Rattle.beldi_blobs.specs.Calls.{Keeps}
 use Rattle.beldi_blobs.proofs.Understood.{get_plain, next_plain}
@@ -20,3 +20,6 @@ next_keeps old new key r h opened t = keeps old new t opened (query_leaves next_
 
 pub put_keeps : (old new : State) (key value : List ℕ) (e : Error) → Executes put_text (Blob key ∷ Blob value ∷ []) old new (Err e) → IsTrue new.is_open → IsTable old → Keeps old new
 put_keeps old new key value e h opened t = keeps old new t opened (write_leaves put_text (Blob key ∷ Blob value ∷ []) old new e h)
+
+pub remove_keeps : (old new : State) (key : List ℕ) (e : Error) → Executes remove_text (Blob key ∷ []) old new (Err e) → IsTrue new.is_open → IsTable old → Keeps old new
+remove_keeps old new key e h opened t = keeps old new t opened (write_leaves remove_text (Blob key ∷ []) old new e h)

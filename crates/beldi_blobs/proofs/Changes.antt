@@ -45,7 +45,7 @@ put_new rows id key value all keys free =
       entries = ap entries_of p.after ∙ entries_with p.front p.back new s ∙ ap (λ xs. map.insert (entries_of xs) key value) (sym p.before);
     }
 
-other_keys : (rows : List Row) (x : Row) (key : List ℕ) → column x 1 ≡ Blob key → AllByRecursion (AreApart x) rows → AllByRecursion (λ y. Blob key ≢ column y 1) rows
+pub other_keys : (rows : List Row) (x : Row) (key : List ℕ) → column x 1 ≡ Blob key → AllByRecursion (AreApart x) rows → AllByRecursion (λ y. Blob key ≢ column y 1) rows
 other_keys [] x key at apart = tt
 other_keys (r ∷ rows) x key at apart = ((λ e. apart.0.1 (at ∙ e)), other_keys rows x key at apart.1)
 

@@ -61,11 +61,11 @@ no_more : {X : Type 0} (f : X → Row) (xs : List X) → [] ≡ map f xs → xs 
 no_more f [] e = refl
 no_more f (x ∷ xs) e = absurd cc
 
-missing : (m : Option (List ℕ)) → ((value : List ℕ) → m ≡ Some value → ⊥) → m ≡ None
+pub missing : (m : Option (List ℕ)) → ((value : List ℕ) → m ≡ Some value → ⊥) → m ≡ None
 missing None h = refl
 missing (Some value) h = absurd (h value refl)
 
-key_of : (rows : List Row) (row : Row) (key : List ℕ) → AreStored rows → Has rows row → bytes (column row 1) ≡ key → column row 1 ≡ Blob key
+pub key_of : (rows : List Row) (row : Row) (key : List ℕ) → AreStored rows → Has rows row → bytes (column row 1) ≡ key → column row 1 ≡ Blob key
 key_of rows row key all has e = let s = stored_at rows row all has in ap (λ r. column r 1) s.is ∙ ap Blob (sym (ap (λ r. bytes (column r 1)) s.is) ∙ e)
 
 both : (b : Bool) → b ≡ true → (b && true) ≡ true

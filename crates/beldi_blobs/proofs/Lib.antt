@@ -6,6 +6,7 @@ pub mod Leaves
 pub mod Finding
 pub mod Changes
 pub mod Putting
+pub mod Removing
 pub mod Making
 pub mod Called
 pub mod Answered

@@ -84,7 +84,7 @@ matching_has test params (x ∷ rows) r (inr h) p =
       | false ↦ matching_has test params rows r h p
     ]
 
-none_match : (test : Term) (params : Row) (rows : List Row) → AllByRecursion (λ r. passes test params r ≡ false) rows → matching test params rows ≡ []
+pub none_match : (test : Term) (params : Row) (rows : List Row) → AllByRecursion (λ r. passes test params r ≡ false) rows → matching test params rows ≡ []
 none_match test params [] all = refl
 none_match test params (r ∷ rows) all = ap (λ b. (if b then (params ∷ r ∷ []) ∷ [] else []) ++ matching test params rows) all.0 ∙ none_match test params rows all.1
 

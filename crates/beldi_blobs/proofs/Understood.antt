@@ -5,8 +5,8 @@ use Rattle.sqlite.specs.Compile.{table_defined_by}
 use Rattle.sqlite_tied.specs.Compute.{everything}
 use Rattle.sqlite.specs.Listing.{understood, reads_listing}
 use Rattle.sqlite.proofs.Callers.{IsPlain, command_of, statement_of}
-use Rattle.beldi_blobs.specs.Texts.{beldi, one_table, no_schema, create_text, get_text, put_text, next_text}
-use Rattle.beldi_blobs.specs.Queries.{get_command, put_command, next_command}
+use Rattle.beldi_blobs.specs.Texts.{beldi, one_table, no_schema, create_text, get_text, put_text, next_text, remove_text}
+use Rattle.beldi_blobs.specs.Queries.{get_command, put_command, next_command, remove_command}
 
 pub create_is : (command_of (understood no_schema create_text) ≡ CreateTable) × (statement_of create_text (understood no_schema create_text) ≡ create_text) × (table_defined_by create_text ≡ Ok beldi)
 unfolding understood everything
@@ -39,3 +39,11 @@ put_plain = (refl, refl)
 pub next_plain : IsPlain (understood one_table next_text)
 unfolding understood everything
 next_plain = (refl, refl)
+
+pub remove_is : command_of (understood one_table remove_text) ≡ remove_command
+unfolding understood everything
+remove_is = refl
+
+pub remove_plain : IsPlain (understood one_table remove_text)
+unfolding understood everything
+remove_plain = (refl, refl)

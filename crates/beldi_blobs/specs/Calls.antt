@@ -38,6 +38,11 @@ abbrev pub Puts : {A : Type 0} → List ℕ → List ℕ → Entries → Entries
 Puts key value m n (Ok done) = n ≡ map.insert m key value
 Puts key value m n (Err e) = n ≡ m
 
+-- the entries m become n: without the one at the key, or as they were where it was refused
+abbrev pub Removes : {A : Type 0} → List ℕ → Entries → Entries → Result A BlobErr → Type 0
+Removes key m n (Ok done) = n ≡ map.remove m key
+Removes key m n (Err e) = n ≡ m
+
 -- the answer for the first entry above a key; the entries m stay, as n
 abbrev pub Nexts : List ℕ → Entries → Entries → Result (Option Entry) BlobErr → Type 0
 Nexts key m n r = (n ≡ m) × IfOk r (λ o. IsNext m key (option_map pair_of o))
@@ -62,6 +67,15 @@ pub record PutsIn (key value : List ℕ) (old new : State) : Type 0 where
 abbrev pub PutsOr : {A E : Type 0} → List ℕ → List ℕ → State → State → Result A E → Type 0
 PutsOr key value old new (Ok done) = PutsIn key value old new
 PutsOr key value old new (Err e) = Keeps old new
+
+-- the entry at the key was removed, where there was one
+pub record RemovesIn (key : List ℕ) (old new : State) : Type 0 where
+  pub table : IsTable new
+  pub entries : entries_in new ≡ map.remove (entries_in old) key
+
+abbrev pub RemovesOr : {A E : Type 0} → List ℕ → State → State → Result A E → Type 0
+RemovesOr key old new (Ok done) = RemovesIn key old new
+RemovesOr key old new (Err e) = Keeps old new
 
 -- ---- over the rows of an answer
 

@@ -6,7 +6,7 @@ use Rattle.sqlite.specs.Query.{Query, inner, end}
 use Rattle.sqlite.specs.Term.{Term, lit, col, op2}
 use Rattle.sqlite.specs.Source.TheVariants.{Values}
 use Rattle.sqlite.specs.Command.{Command}
-use Rattle.sqlite.specs.Command.TheVariants.{Select, InsertOr}
+use Rattle.sqlite.specs.Command.TheVariants.{Select, InsertOr, Delete}
 use Rattle.sqlite_sql.specs.declared.ops.BinaryOp.TheVariants.{Compare}
 use Rattle.sqlite_sql.specs.declared.ops.CompareOp.TheVariants.{Eq, Gt}
 use Rattle.sqlite_value.specs.declared.keys.Key.{Key}
@@ -59,3 +59,10 @@ put_terms = lit Null ∷ col 0 0 ∷ col 0 1 ∷ []
 
 abbrev pub put_command : Command
 put_command = InsertOr 0 Abort (Values put_terms 3) (record { target = Some (1 ∷ []); update = Some (record { lets = []; body = update_query }) } ∷ [])
+
+-- the rowid of the row at a key, which is removed
+abbrev pub remove_query : Query
+remove_query = over_table get_test (col 1 0 ∷ []) [] (negsuc 0)
+
+abbrev pub remove_command : Command
+remove_command = Delete 0 (record { lets = []; body = remove_query })

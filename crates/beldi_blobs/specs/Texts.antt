@@ -1,4 +1,4 @@
--- The table, its schema and the four texts.
+-- The table, its schema and the five texts.
 use Rattle.std.specs.Prelude.{true, false, [], ◌∷◌, None, codes, List, ℕ}
 use Rattle.sqlite.specs.Collation.TheVariants.{Binary}
 use Rattle.sqlite.specs.declared.types.Value.TheVariants.{Null}
@@ -42,3 +42,6 @@ put_text = codes "INSERT INTO beldi (k, v) VALUES (?1, ?2) ON CONFLICT (k) DO UP
 
 abbrev pub next_text : List ℕ
 next_text = codes "SELECT k, v FROM beldi WHERE k > ?1 ORDER BY k LIMIT 1"
+
+abbrev pub remove_text : List ℕ
+remove_text = codes "DELETE FROM beldi WHERE k = ?1"

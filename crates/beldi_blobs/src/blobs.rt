@@ -1,7 +1,7 @@
 // The trait of an ordered map from bytes to bytes.
 ghost use Rattle.std.specs.Prelude.{Option};
 ghost use Rattle.beldi_blobs.specs.Entries.{Entries};
-ghost use Rattle.beldi_blobs.specs.Calls.{Tells, Gets, Puts, Nexts};
+ghost use Rattle.beldi_blobs.specs.Calls.{Tells, Gets, Puts, Removes, Nexts};
 
 use crate::entry::Entry;
 use crate::error::BlobErr;
@@ -18,6 +18,10 @@ pub trait Blobs {
     /// Sets the value at the key.
     fn put(&mut self, key: &[u8], value: &[u8]) -> Result<(), BlobErr>
         ensures { Tells (entries self.old) (entries self.new) (λ m n. Puts key.now value.now m n result) };
+
+    /// Removes the entry at the key, where there is one.
+    fn remove(&mut self, key: &[u8]) -> Result<(), BlobErr>
+        ensures { Tells (entries self.old) (entries self.new) (λ m n. Removes key.now m n result) };
 
     /// The first entry whose key is greater, and None exactly where there is none. So a first entry under the empty key
     /// is passed over.

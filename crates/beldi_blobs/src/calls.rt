@@ -6,9 +6,9 @@ ghost use Rattle.sqlite.specs.Order.{column};
 ghost use Rattle.sqlite.specs.State.{HasCleanDisk, Executes, QueriesRow};
 ghost use Rattle.sqlite.specs.Steps.{IsEmpty};
 ghost use Rattle.sqlite.specs.Held.{state};
-ghost use Rattle.beldi_blobs.specs.Texts.{create_text, get_text, put_text, next_text};
+ghost use Rattle.beldi_blobs.specs.Texts.{create_text, get_text, put_text, remove_text, next_text};
 ghost use Rattle.beldi_blobs.specs.Entries.{IsTable, entries_in};
-ghost use Rattle.beldi_blobs.specs.Calls.{Keeps, Makes, PutsOr, Finds, FindsAbove, ReadsValue, ReadsEntry, IsNext, pair_of};
+ghost use Rattle.beldi_blobs.specs.Calls.{Keeps, Makes, PutsOr, RemovesOr, Finds, FindsAbove, ReadsValue, ReadsEntry, IsNext, pair_of};
 
 use crate::entry::Entry;
 use crate::error::{BlobErr, refusal};
@@ -37,6 +37,12 @@ fn write<S: Alter>(conn: &mut Connection<S>, key: &[u8], value: &[u8]) -> Result
         "INSERT INTO beldi (k, v) VALUES (?1, ?2) ON CONFLICT (k) DO UPDATE SET v = excluded.v",
         &[ValueRef::Blob(key), ValueRef::Blob(value)],
     )
+}
+
+fn delete<S: Alter>(conn: &mut Connection<S>, key: &[u8]) -> Result<usize, Error>
+    ensures { HasCleanDisk (state S.Store conn.new) → Executes remove_text (Blob key.now ∷ []) (state S.Store conn.old) (state S.Store conn.new) result }
+{
+    conn.execute("DELETE FROM beldi WHERE k = ?1", &[ValueRef::Blob(key)])
 }
 
 fn read_above<S: Alter>(conn: &mut Connection<S>, key: &[u8]) -> Result<Row, Error>
@@ -115,6 +121,16 @@ pub(crate) fn put<S: Alter>(
     ensures { HasCleanDisk (state S.Store conn.new) → IsTrue (state S.Store conn.new).is_open → IsTable (state S.Store conn.old) → PutsOr key.now value.now (state S.Store conn.old) (state S.Store conn.new) result }
 {
     match write(conn, key, value) {
+        Ok(_) => Ok(()),
+        Err(error) => Err(refusal(error)),
+    }
+}
+
+/// Removes the entry at the key, where there is one.
+pub(crate) fn remove<S: Alter>(conn: &mut Connection<S>, key: &[u8]) -> Result<(), BlobErr>
+    ensures { HasCleanDisk (state S.Store conn.new) → IsTrue (state S.Store conn.new).is_open → IsTable (state S.Store conn.old) → RemovesOr key.now (state S.Store conn.old) (state S.Store conn.new) result }
+{
+    match delete(conn, key) {
         Ok(_) => Ok(()),
         Err(error) => Err(refusal(error)),
     }

@@ -9,8 +9,8 @@ use sqlite::{Alter, Connection, File, FileStore};
 use sqlite_disk::Disk;
 use std::rt::HostRuntime;
 
-/// A map in a database file, or over any other store. It tells nothing of its entries. Each `put` outside a transaction is a commit of its own.
-/// Where it is dropped, what was not committed is gone, and what was stays in the file and the log beside it.
+/// A map in a database file, or over any other store. It tells nothing of its entries. Each `put` and each `remove` outside a transaction is a commit of
+/// its own. Where it is dropped, what was not committed is gone, and what was stays in the file and the log beside it.
 pub struct FileBlobs<S: Alter> {
     conn: Connection<S>,
 }
@@ -57,13 +57,13 @@ impl<D: Disk + Drop> FileBlobs<FileStore<D>> {
 }
 
 impl<S: Alter> FileBlobs<S> {
-    /// Whether each `put` is a commit of its own.
+    /// Whether each change is a commit of its own.
     pub fn is_autocommit(&self) -> bool {
         self.conn.is_autocommit()
     }
 
-    /// Begins a transaction, where none is open. A failure of memory, of the disk or of size inside it ends it, and what was put
-    /// since is gone.
+    /// Begins a transaction, where none is open. A failure of memory, of the disk or of size inside it ends it, and what was
+    /// changed since is gone.
     pub fn begin(&mut self) -> Result<(), BlobErr> {
         calls::hold(&mut self.conn)
     }
@@ -83,6 +83,10 @@ impl<S: Alter> Blobs for FileBlobs<S> {
 
     fn put(&mut self, key: &[u8], value: &[u8]) -> Result<(), BlobErr> {
         calls::put(&mut self.conn, key, value)
+    }
+
+    fn remove(&mut self, key: &[u8]) -> Result<(), BlobErr> {
+        calls::remove(&mut self.conn, key)
     }
 
     fn next(&mut self, key: &[u8]) -> Result<Option<Entry>, BlobErr> {

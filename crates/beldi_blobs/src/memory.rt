@@ -65,6 +65,10 @@ impl Blobs for MemoryBlobs {
         calls::put(&mut self.conn, key, value)
     }
 
+    fn remove(&mut self, key: &[u8]) -> Result<(), BlobErr> {
+        calls::remove(&mut self.conn, key)
+    }
+
     fn next(&mut self, key: &[u8]) -> Result<Option<Entry>, BlobErr> {
         calls::next(&mut self.conn, key)
     }
