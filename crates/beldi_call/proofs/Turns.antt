@@ -3,7 +3,7 @@ use Rattle.std.specs.FinMap as map
 use Rattle.std.proofs.Common.{◌≡◌, ℕ, Bool, true, false, cond, Option, None, Some, is_some, refl, ap, sym, ◌∙◌, subst}
 use Rattle.beldi_value.specs.declared.{outcome.Outcome.Outcome, place.Place.Place}
 use Rattle.beldi_row.{specs.Key.RowKey, specs.declared.row.Row.Row, specs.declared.row.Body.Body, specs.declared.act.Act.Act, specs.Act.act, specs.Act.register_to, specs.Table.Rows, specs.Table.set_row, proofs.Gets.got, proofs.Gets.key_self}
-use Rattle.beldi_walk.{specs.declared.query.Query.Query, specs.Query.said, specs.Query.rows_after, specs.Query.told_by, proofs.Promises.turned, proofs.Promises.at_each}
+use Rattle.beldi_walk.{specs.declared.query.Query.Query, specs.Query.said, specs.Query.may_remove, specs.Query.rows_after, specs.Query.told_by, proofs.Promises.turned, proofs.Promises.rows_there}
 use Rattle.beldi_invokelog.specs.InvokeLog.{invoke_key, call_in, result_in, registered_in, result_of, back_of}
 use Rattle.beldi_intent.specs.Intent.{intent_key}
 use Rattle.beldi_call.specs.Async.{AsyncTurn, CalleesAreEnrolled, EnrolledStays, EnrolledAt, OpenedAt, is_done, callee_key}
@@ -50,21 +50,13 @@ calls_tell w x now old new s h = turned (call.walk_asks w) now (call.walk_next w
     (λ m. let c = call_made w.home w.func w.place w.at now m in record { done = c.0; said = c.1 }) w x old new s h
 
 -- ---- a call that nobody waits for
--- a row that is there stays
-row_stays : (a : Act) (now : ℕ) (r : Option Row) → is_some r ≡ true → is_some (act a now r).0 ≡ true
-row_stays a now None h = cc
-row_stays a now (Some r) h = refl
-
-there_stays : (q : Query) (now : ℕ) (m : Rows) (k : RowKey) → is_some (map.get m k) ≡ true → is_some (map.get (rows_after q now m) k) ≡ true
-there_stays = at_each (λ r s. is_some r ≡ true → is_some s ≡ true) (λ r h. h) row_stays
-
-enrolled_stays : (at : AsyncAt) (q : Query) (now : ℕ) (m : Rows) (k : RowKey) → EnrolledAt at (map.get m k) → EnrolledAt at (map.get (rows_after q now m) k)
-enrolled_stays Open q now m k h = h
-enrolled_stays Register q now m k h = h
-enrolled_stays Note q now m k h = there_stays q now m k h
+enrolled_stays : (at : AsyncAt) (q : Query) → may_remove q ≡ false → (now : ℕ) (m : Rows) (k : RowKey) → EnrolledAt at (map.get m k) → EnrolledAt at (map.get (rows_after q now m) k)
+enrolled_stays Open q keeps now m k h = h
+enrolled_stays Register q keeps now m k h = h
+enrolled_stays Note q keeps now m k h = rows_there q keeps now m k h
 
 pub enrolled_callees_stay : EnrolledStays
-enrolled_callees_stay w q now m h = enrolled_stays w.at q now m (callee_key w) h
+enrolled_callees_stay w q keeps now m h = enrolled_stays w.at q keeps now m (callee_key w) h
 
 -- the row of the call in a turn that is told whether it is registered
 abbrev AsyncRow : AsyncAt → AsyncSays → Option Row → Option Row → Type 0
@@ -141,7 +133,7 @@ module _ (home : ℕ) (p : Place) (b : Body) (now : ℕ) (m : Rows) where
       let v = (act Act.NoteRegistered now o).0 in
       let says = async.note_says (back_of (said (act Act.NoteRegistered now o).1)) in
       let row = set_so (AsyncRow Note says) m key v (marks_so now o) in
-      let stays = there_stays (async.async_asks home p b Note) now m callee in
+      let stays = rows_there (async.async_asks home p b Note) refl now m callee in
       record { done = row.0; opened = row.1; enrolled = stays; marks = λ h before after. stays h }
 
 async_made : (home : ℕ) (p : Place) (b : Body) (at : AsyncAt) (now : ℕ) (m : Rows) → let q = async.async_asks home p b at in

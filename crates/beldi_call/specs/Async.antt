@@ -3,7 +3,7 @@ use Rattle.std.specs.Prelude.{◌≡◌, ℕ, ◌&&◌, Bool, true, false, is_so
 use Rattle.std.specs.FinMap as map
 use Rattle.beldi_value.specs.{Id.child_of, declared.id.IntentId.IntentId, declared.place.Place.Place}
 use Rattle.beldi_row.specs.{Key.RowKey, declared.row.Body.Body, declared.row.Row.Row, Table.Rows, Table.TableState, Table.Tells}
-use Rattle.beldi_walk.specs.{declared.query.Query.Query, Query.Told, Query.rows_after, Walk.Turned}
+use Rattle.beldi_walk.specs.{declared.query.Query.Query, Query.Told, Query.may_remove, Query.rows_after, Walk.Turned}
 use Rattle.beldi_invokelog.specs.InvokeLog.{invoke_key, call_at, registered_in, open_asks, registered_asks, invoked_of, back_of}
 use Rattle.beldi_invokelog.specs.declared.invoke_log.Back.{Back, TheVariants.Set, TheVariants.AlreadySet, TheVariants.Absent}
 use Rattle.beldi_intent.specs.Intent.{intent_key, register_asks}
@@ -105,7 +105,7 @@ CalleesAreEnrolled = (w x : AsyncWalk) (now : ℕ) (old new : TableState) (s : A
 
 -- and a callee's row that is there stays, whatever is asked of a table meanwhile
 abbrev pub EnrolledStays : Type 0
-EnrolledStays = (w : AsyncWalk) (q : Query) (now : ℕ) (m : Rows) → IsEnrolled w m → IsEnrolled w (rows_after q now m)
+EnrolledStays = (w : AsyncWalk) (q : Query) → may_remove q ≡ false → (now : ℕ) (m : Rows) → IsEnrolled w m → IsEnrolled w (rows_after q now m)
 
 -- what is called at two places is two callees
 abbrev pub CalleesHaveOnePlace : Type 0

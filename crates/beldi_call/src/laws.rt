@@ -14,7 +14,7 @@ pub fn a_callee_is_enrolled()
     ensures { CalleesAreEnrolled }
 {}
 
-/// Once a walk has come so far that the row of its callee is there, it stays, whatever is asked of the table.
+/// Once a walk has come so far that the row of its callee is there, it stays, whatever is asked of the table, but that a row is removed.
 pub fn an_enrolled_callee_stays()
     ensures { EnrolledStays }
 {}

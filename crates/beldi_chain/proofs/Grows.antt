@@ -3,9 +3,9 @@ use Rattle.std.specs.FinMap as map
 use Rattle.std.specs.Ordering.{is_eq}
 use Rattle.std.proofs.Common.{◌≡◌, ◌⊎◌, ℕ, zero, suc, Bool, true, false, cond, List, [], ◌∷◌, ◌++◌, Option, None, Some, nat_lt, if◌then◌else◌, inl, inr, refl, ap, sym, ◌∙◌, subst, append-nil}
 use Rattle.beldi_value.specs.{Id.age_of, Passes.passes, declared.place.Owner.Owner, declared.place.Place.Place, declared.value.Value.Value}
-use Rattle.beldi_row.specs.declared.act.Act.TheVariants.{Look, Issue, Bind, Register, End, Stamp, PutRead, OpenInvoke, CallBack, NoteRegistered, PutLockset, MakeCell, WriteCell, CondCell, LockCell, FreeCell, LinkCell}
-use Rattle.beldi_row.specs.Act.{Tell, act, gone, did, held, died, no_row, tested, not_owner, next, packed, not_full, on, on_intent, on_invoke, on_cell, bind_to, end_with, stamp_with, call_back_to, register_to, noted_or, next_or, held_or, waits_for, owned_or, at_tail, unless_held, if_owned, if_room, is_full, link_to, owns, given_or, other_owner, entered, write_at, cond_at, lock_at, free_at}
-use Rattle.beldi_row.{specs.Key.RowKey, specs.Key.at_row, specs.Key.key_cmp, specs.Table.Rows, specs.Table.after_act, proofs.Gets.got, proofs.Gets.key_same, specs.declared.act.Act.Act, specs.declared.notes.Note.Note, specs.declared.notes.Note.TheVariants.Wrote, specs.declared.notes.Note.TheVariants.Cond, specs.declared.notes.Note.TheVariants.Got, specs.declared.notes.Note.TheVariants.Died, specs.declared.notes.Note.TheVariants.Freed, specs.declared.row.Cell.Cell, specs.declared.row.IntentRow.IntentRow, specs.declared.row.InvokeRow.InvokeRow, specs.declared.row.Row.Row, specs.Log.note_at, specs.Log.place_eq}
+use Rattle.beldi_row.specs.declared.act.Act.TheVariants.{Look, Issue, Bind, Register, End, Stamp, PutRead, OpenInvoke, CallBack, NoteRegistered, PutLockset, MakeCell, WriteCell, CondCell, LockCell, FreeCell, LinkCell, DropIntent, DropRow}
+use Rattle.beldi_row.specs.Act.{Tell, act, drops, removes, stays_unless, gone, did, held, died, no_row, tested, not_owner, next, packed, not_full, on, on_intent, on_invoke, on_cell, bind_to, end_with, stamp_with, call_back_to, register_to, noted_or, next_or, held_or, waits_for, owned_or, at_tail, unless_held, if_owned, if_room, is_full, link_to, owns, given_or, other_owner, entered, write_at, cond_at, lock_at, free_at}
+use Rattle.beldi_row.{specs.Key.RowKey, specs.Key.at_row, specs.Key.key_cmp, specs.Table.Rows, specs.Table.after_act, proofs.Gets.got, proofs.Gets.key_same, proofs.Removed.not_removed, specs.declared.act.Act.Act, specs.declared.notes.Note.Note, specs.declared.notes.Note.TheVariants.Wrote, specs.declared.notes.Note.TheVariants.Cond, specs.declared.notes.Note.TheVariants.Got, specs.declared.notes.Note.TheVariants.Died, specs.declared.notes.Note.TheVariants.Freed, specs.declared.row.Cell.Cell, specs.declared.row.IntentRow.IntentRow, specs.declared.row.InvokeRow.InvokeRow, specs.declared.row.Row.Row, specs.Log.note_at, specs.Log.place_eq}
 use Rattle.beldi_chain.specs.{Chain.Chain, Chain.above, Chain.chain, Chain.content, Chain.most_rows, Chain.next_of, Chain.notes_from, Chain.on_next, Chain.tail_from, Content.held_in, Content.log_of, Laws.NotesStay}
 
 front_note : (es fs : List (Place × Note)) (p : Place) (n : Note) → note_at es p ≡ Some n → note_at (es ++ fs) p ≡ Some n
@@ -155,10 +155,12 @@ act_on (CondCell p w k o v) now r = on_cells (cond_at p w k o v) no_row (λ c. l
 act_on (LockCell p w s) now r = on_cells (lock_at p w) no_row (λ c. locked c p w) r
 act_on (FreeCell p w v) now r = on_cells (free_at p w v) no_row (λ c. owned c p w Freed (given_or v c.value) None did) r
 act_on (LinkCell n) now r = on_cells (link_to n) no_row (λ c. linked c n) r
+act_on (DropIntent l) now r = stays r
+act_on DropRow now r = stays r
 
-act_grows : (a : Act) (now : ℕ) (r : Option Row) → RowGrows r (act a now r).0
-act_grows a now None = tt
-act_grows a now (Some r) = act_on a now r
+act_grows : (a : Act) (now : ℕ) (r : Option Row) → drops a ≡ false → RowGrows r (act a now r).0
+act_grows a now None keeps = tt
+act_grows a now (Some r) keeps = subst (λ b. RowGrows (Some r) (stays_unless b (on a now r)).0) (sym (not_removed a now r keeps)) (act_on a now r)
 
 -- ---- on a chain
 -- each of its rows grows
@@ -215,13 +217,13 @@ chain_keeps f g p n grows is =
     ∙ keeps f g p n grows most_rows 0 (ap (λ es. note_at es p) (sym (notes_are (tail_from most_rows f 0) (notes_from most_rows f 0))) ∙ is)
 
 -- the rows of a chain grow by an act, on whatever row
-rows_grow : (a : Act) (now : ℕ) (l head : RowKey) (m : Rows) → ChainGrows (chain m head) (chain (after_act a now l m) head)
-rows_grow a now l head m i = let k = at_row head i in
+rows_grow : (a : Act) → drops a ≡ false → (now : ℕ) (l head : RowKey) (m : Rows) → ChainGrows (chain m head) (chain (after_act a now l m) head)
+rows_grow a keeps now l head m i = let k = at_row head i in
     subst (RowGrows (map.get m k)) (sym (got m l k (act a now (map.get m l)).0)) (by_key (is_eq (key_cmp k l)) refl)
   where
     by_key : (b : Bool) → is_eq (key_cmp (at_row head i) l) ≡ b → RowGrows (map.get m (at_row head i)) (cond b (act a now (map.get m l)).0 (map.get m (at_row head i)))
-    by_key true e = subst (λ z. RowGrows (map.get m (at_row head i)) (act a now (map.get m z)).0) (key_same (at_row head i) l e) (act_grows a now (map.get m (at_row head i)))
+    by_key true e = subst (λ z. RowGrows (map.get m (at_row head i)) (act a now (map.get m z)).0) (key_same (at_row head i) l e) (act_grows a now (map.get m (at_row head i)) keeps)
     by_key false e = row_stays (map.get m (at_row head i))
 
 pub notes_stay : NotesStay
-notes_stay a now l head m p n is = chain_keeps (chain m head) (chain (after_act a now l m) head) p n (rows_grow a now l head m) is
+notes_stay a keeps now l head m p n is = chain_keeps (chain m head) (chain (after_act a now l m) head) p n (rows_grow a keeps now l head m) is

@@ -3,7 +3,7 @@
 //! an item's rows, its chain, last row and content, and rows of which only one item's changed), `specs/Laws`.
 //!
 //! Proved:
-//! - No act takes away a note of a chain (`notes_of_a_chain_stay`).
+//! - No act but one that may remove its row takes away a note of a chain (`notes_of_a_chain_stay`).
 //!
 //! Files: lemmas (`proofs/`), which the crates above cite too: `Heads` keys of rows, and chains that are as before; `OneRow`
 //! chains of one row, and of none; `Grows` what an act leaves of a row, and so of a chain.

@@ -1,4 +1,5 @@
 pub mod Bars
 pub mod Logged
 pub mod OneRow
+pub mod Spares
 pub mod Turns

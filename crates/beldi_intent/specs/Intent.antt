@@ -5,7 +5,7 @@ use Rattle.std.specs.FinMap as map
 use Rattle.beldi_value.specs.{Id.home_of, Id.root_of, Same.same_value, declared.id.IntentId.IntentId, declared.outcome.Outcome.Outcome, declared.value.Value.Value}
 use Rattle.beldi_row.specs.Act.{here, added, bound, running, other, ended, already, did, finish_at}
 use Rattle.beldi_row.specs.{Key.RowKey, declared.key.Kind.TheVariants.Intent, declared.row.Body.Body, declared.row.IntentRow.IntentRow, declared.row.Row.Row, declared.act.Act.TheVariants.Look, declared.act.Act.TheVariants.Issue, declared.act.Act.TheVariants.Bind, declared.act.Act.TheVariants.Register, declared.act.Act.TheVariants.End, declared.act.Act.TheVariants.Stamp, Table.Rows, Table.set_row}
-use Rattle.beldi_walk.specs.{declared.query.Query.Query, declared.query.Query.TheVariants.Act, Query.Told, Query.said, Query.rows_after, Walk.Promises}
+use Rattle.beldi_walk.specs.{declared.query.Query.Query, declared.query.Query.TheVariants.Act, Query.Told, Query.said, Query.may_remove, Query.rows_after, Walk.Promises}
 use Rattle.beldi_intent.specs.declared.intent.{Binding.Binding, Put.Put}
 
 -- the row of an intent: a root's stands in the host's home, a callee's in its function's
@@ -177,6 +177,6 @@ pub record GoesOn (i j : IntentRow) : Type 0 where
 abbrev pub IntentGoesOn : Option Row → Option Row → Type 0
 IntentGoesOn r s = (i : IntentRow) → intent_in r ≡ Some i → (j : IntentRow) × (intent_in s ≡ Some j) × GoesOn i j
 
--- whatever is asked of a table, wherever, an intent that was put stays
+-- whatever is asked of a table, wherever, but that a row goes: an intent that was put stays
 abbrev pub IntentsStay : Type 0
-IntentsStay = (q : Query) (now : ℕ) (m : Rows) (k : RowKey) → IntentGoesOn (map.get m k) (map.get (rows_after q now m) k)
+IntentsStay = (q : Query) → may_remove q ≡ false → (now : ℕ) (m : Rows) (k : RowKey) → IntentGoesOn (map.get m k) (map.get (rows_after q now m) k)

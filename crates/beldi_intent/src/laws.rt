@@ -33,7 +33,7 @@ pub fn a_finish_is_set_once()
     ensures { FinishesAreSetOnce }
 {}
 
-/// Whatever is asked of a table, an intent that was put stays, with its body, its outcome and its finish.
+/// Whatever is asked of a table, but that a row is removed, an intent that was put stays, with its body, its outcome and its finish.
 pub fn an_intent_stays()
     ensures { IntentsStay }
 {}

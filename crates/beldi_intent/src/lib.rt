@@ -9,8 +9,8 @@
 //!   answer by what it told (`Answered`).
 //! - Laws: a row is added where none was (`a_root_is_put_once`, `a_callee_is_put_once`); `look` tells the intent that is there
 //!   (`an_intent_is_told`); a body, an outcome and a finish are set where the intent has none, and at every other answer and every
-//!   error the rows are as before (`a_body_is_set_once`, `an_outcome_is_set_once`, `a_finish_is_set_once`); whatever is asked of a table, an intent that was put stays,
-//!   with its body, its outcome and its finish (`an_intent_stays`).
+//!   error the rows are as before (`a_body_is_set_once`, `an_outcome_is_set_once`, `a_finish_is_set_once`); whatever is asked of a table, but
+//!   that a row is removed, an intent that was put stays, with its body, its outcome and its finish (`an_intent_stays`).
 //!
 //! Files:
 //! - Code (`src/`): `intent` calls on the rows of intents, and their parts; `laws`.

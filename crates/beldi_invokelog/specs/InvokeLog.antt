@@ -3,7 +3,7 @@ use Rattle.std.specs.Prelude.{◌≡◌, ℕ, Bool, true, false, is_some, Option
 use Rattle.std.specs.FinMap as map
 use Rattle.beldi_value.specs.declared.{outcome.Outcome.Outcome, place.Place.Place}
 use Rattle.beldi_row.specs.{Key.RowKey, declared.key.Kind.TheVariants.Invoke, declared.row.InvokeRow.InvokeRow, declared.row.Row.Row, declared.act.Act.TheVariants.Look, declared.act.Act.TheVariants.OpenInvoke, declared.act.Act.TheVariants.CallBack, declared.act.Act.TheVariants.NoteRegistered, Act.here, Act.added, Act.already, Act.did, Table.Rows, Table.set_row}
-use Rattle.beldi_walk.specs.{declared.query.Query.Query, declared.query.Query.TheVariants.Act, Query.Told, Query.said, Query.rows_after, Walk.Promises}
+use Rattle.beldi_walk.specs.{declared.query.Query.Query, declared.query.Query.TheVariants.Act, Query.Told, Query.said, Query.may_remove, Query.rows_after, Walk.Promises}
 use Rattle.beldi_invokelog.specs.declared.invoke_log.{Invoked.Invoked, Back.Back}
 
 -- the row of the call that a function makes at a place
@@ -107,6 +107,6 @@ pub record GoesOn (i j : InvokeRow) : Type 0 where
 abbrev pub CallGoesOn : Option Row → Option Row → Type 0
 CallGoesOn r s = (i : InvokeRow) → call_in r ≡ Some i → (j : InvokeRow) × (call_in s ≡ Some j) × GoesOn i j
 
--- whatever is asked of a table, wherever, a call that was put stays
+-- whatever is asked of a table, wherever, but that a row goes: a call that was put stays
 abbrev pub CallsStay : Type 0
-CallsStay = (q : Query) (now : ℕ) (m : Rows) (k : RowKey) → CallGoesOn (map.get m k) (map.get (rows_after q now m) k)
+CallsStay = (q : Query) → may_remove q ≡ false → (now : ℕ) (m : Rows) (k : RowKey) → CallGoesOn (map.get m k) (map.get (rows_after q now m) k)

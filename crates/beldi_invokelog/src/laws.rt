@@ -22,7 +22,7 @@ pub fn a_registration_is_set_once()
     ensures { RegistrationsAreSetOnce }
 {}
 
-/// Whatever is asked of a table, a call that was put stays, with its function, its result and its mark.
+/// Whatever is asked of a table, but that a row is removed, a call that was put stays, with its function, its result and its mark.
 pub fn a_call_stays()
     ensures { CallsStay }
 {}

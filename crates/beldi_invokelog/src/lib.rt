@@ -10,8 +10,8 @@
 //! - Laws: a call is put where no row was, without a result, and one that was there is told (`a_call_is_put_once`); `result`
 //!   tells the result that is kept, none exactly where none is (`a_result_is_told`); a result is set where the call has none, and a
 //!   mark where it has none, and at `AlreadySet`, `Absent` and every error the rows are as before (`a_result_is_set_once`,
-//!   `a_registration_is_set_once`); whatever is asked of a table, a call that was put stays, with its function, its result and its
-//!   mark (`a_call_stays`). So a place has one callee.
+//!   `a_registration_is_set_once`); whatever is asked of a table, but that a row is removed, a call that was put stays, with its
+//!   function, its result and its mark (`a_call_stays`). So a place has one callee.
 //!
 //! Files:
 //! - Code (`src/`): `invoke_log` the calls that were made, for calls and walks; `laws`.

@@ -4,7 +4,7 @@ use Rattle.std.specs.Ordering.{is_eq}
 use Rattle.std.proofs.lemmas.Option.{none-some}
 use Rattle.std.proofs.Common.{◌≡◌, ◌⊎◌, inl, inr, ℕ, ◌+◌, ◌<◌, Bool, true, false, length, Option, None, Some, refl, ap, sym, ◌∙◌, subst, arith}
 use Rattle.beldi_value.specs.declared.{place.Owner.Owner, place.Place.Place, value.Value.Value}
-use Rattle.beldi_row.{specs.declared.key.Kind.Kind, specs.declared.row.Cell.Cell, specs.declared.row.Row.Row, specs.Key.RowKey, specs.Key.at_row, specs.Key.key_cmp, specs.Key.kind_at, specs.Key.row_of, specs.Log.most_entries, specs.Log.note_at, specs.Table.Rows, proofs.Gets.key_same}
+use Rattle.beldi_row.{specs.declared.row.Cell.Cell, specs.declared.row.Row.Row, specs.Key.RowKey, specs.Key.at_row, specs.Key.key_cmp, specs.Key.kind_at, specs.Key.row_of, specs.Log.most_entries, specs.Log.note_at, specs.Table.Rows, proofs.Gets.key_same, proofs.Keys.key_twice}
 use Rattle.beldi_chain.{specs.Chain.Chain, specs.Chain.IsHead, specs.Chain.chain, specs.Chain.is_row_of, proofs.Heads.chain_off, proofs.Heads.chain_other}
 use Rattle.beldi_links.specs.{Laws.GrownAreFrozen, Laws.MakingGrows, Laws.OneItemGrows, Laws.OneRowGrows, Laws.OthersGrow, Laws.OthersKeep, Laws.ReadersKeep, Links.AllGrow, Links.At, Links.FitsAt, Links.LeadsTo, Links.Meets, Links.SetTo, Links.GrowsBy, Links.IsPassed, Links.Linkable, Links.Passed, Links.RowGrows, Links.RowsGrow, Links.StandsAt, Links.Told, Links.ToldBy}
 use Rattle.beldi_links.proofs.Ways.{few, meetings_stay, none_next, same_or}
@@ -167,14 +167,6 @@ item_grows m n head is alone grows k first = by_key (is_eq (key_cmp k head)) ref
 pub others_grow : OthersGrow
 others_grow m n l off same head is = same_rows_grow (chain m head) (chain n head) (λ i. ap (λ (f : Chain). f i) (chain_off m n l head same is (off head is)))
 
-kind_twice : (k : Kind) → kind_at (kind_at k 0) 1 ≡ kind_at k 1
-kind_twice (Kind.Data t x r) = refl
-kind_twice (Kind.Shadow y t x r) = refl
-kind_twice (Kind.Intent i) = refl
-kind_twice (Kind.ReadLog a) = refl
-kind_twice (Kind.Invoke a) = refl
-kind_twice (Kind.Lockset i b t x) = refl
-
 -- a row of another kind is of no item
 pub no_item : (l : RowKey) → row_of (kind_at l.kind 1) ≡ 0 → (head : RowKey) → IsHead head → is_row_of head l ≡ false
 no_item l flat head is = by_test (is_row_of head l) refl
@@ -182,6 +174,6 @@ no_item l flat head is = by_test (is_row_of head l) refl
     by_test : (b : Bool) → is_row_of head l ≡ b → is_row_of head l ≡ false
     by_test true e =
         let first = key_same (at_row l 0) head e in
-        let one : row_of (at_row head 1).kind ≡ 0 = ap (λ (z : RowKey). row_of (at_row z 1).kind) (sym first) ∙ ap row_of (kind_twice l.kind) ∙ flat in
+        let one : row_of (at_row head 1).kind ≡ 0 = ap (λ (z : RowKey). row_of (at_row z 1).kind) (sym first) ∙ ap (λ (z : RowKey). row_of z.kind) (key_twice l 0 1) ∙ flat in
         absurd (let two = is.numbered 1 in omega (arith, one, two))
     by_test false e = e

@@ -136,7 +136,7 @@ precedes id some a = by id.hops a
     by (h ∷ hs) a = callee_before id.ticket (split_last (h ∷ hs)) (h ∷ hs) (hops_before 62 h hs a)
 
 -- ---- keys
-assoc : (o p r : Ordering) → ordering_then o (ordering_then p r) ≡ ordering_then (ordering_then o p) r
+pub assoc : (o p r : Ordering) → ordering_then o (ordering_then p r) ≡ ordering_then (ordering_then o p) r
 assoc Less p r = refl
 assoc Equal p r = refl
 assoc Greater p r = refl

@@ -4,7 +4,7 @@ use Rattle.std.specs.Option.{option_map}
 use Rattle.std.specs.FinMap as map
 use Rattle.beldi_value.specs.declared.{value.Value.Value, value.Value.TheVariants.Null, place.Place.Place}
 use Rattle.beldi_row.specs.{Key.RowKey, declared.key.Kind.TheVariants.ReadLog, declared.row.Row.Row, declared.act.Act.TheVariants.Look, declared.act.Act.TheVariants.PutRead, Act.here, Act.added, Act.kept, Table.Rows, Table.set_row}
-use Rattle.beldi_walk.specs.{declared.query.Query.Query, declared.query.Query.TheVariants.Act, Query.Told, Query.said, Query.rows_after, Walk.Promises}
+use Rattle.beldi_walk.specs.{declared.query.Query.Query, declared.query.Query.TheVariants.Act, Query.Told, Query.said, Query.may_remove, Query.rows_after, Walk.Promises}
 use Rattle.beldi_readlog.specs.declared.read_log.{Kept.Kept, Given.Given, Keep.Keep}
 
 -- the row of what the read of a function at a place was given
@@ -80,6 +80,6 @@ ValuesArePutOnce = (home : ℕ) (at : Place) (v : Value) (now : ℕ) → let k =
 abbrev pub IsKept : Option Row → Option Row → Type 0
 IsKept r s = (v : Value) → r ≡ Some (Row.ReadLog v) → s ≡ Some (Row.ReadLog v)
 
--- whatever is asked of a table, wherever, what a read was given stays
+-- whatever is asked of a table, wherever, but that a row goes: what a read was given stays
 abbrev pub ValuesStay : Type 0
-ValuesStay = (q : Query) (now : ℕ) (m : Rows) (k : RowKey) → IsKept (map.get m k) (map.get (rows_after q now m) k)
+ValuesStay = (q : Query) → may_remove q ≡ false → (now : ℕ) (m : Rows) (k : RowKey) → IsKept (map.get m k) (map.get (rows_after q now m) k)

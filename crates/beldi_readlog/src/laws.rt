@@ -11,7 +11,7 @@ pub fn a_value_is_put_once()
     ensures { ValuesArePutOnce }
 {}
 
-/// Whatever is asked of a table, what a read was given stays.
+/// Whatever is asked of a table, but that a row is removed, what a read was given stays.
 pub fn a_value_stays()
     ensures { ValuesStay }
 {}

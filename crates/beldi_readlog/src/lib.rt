@@ -7,7 +7,7 @@
 //! - `get` and `put_once` each ask one thing, in at most one call of the table, and answer so by what was told (`Answered`).
 //! - Laws: `get` gives the value that a read was given, none exactly where there is no row, and changes nothing
 //!   (`what_was_given_is_given`); `put_once` keeps a value where none was, and gives the value that is kept, and at an
-//!   error the rows are as before (`a_value_is_put_once`); whatever is asked of a table, what a read was given stays
+//!   error the rows are as before (`a_value_is_put_once`); whatever is asked of a table, but that a row is removed, what a read was given stays
 //!   (`a_value_stays`).
 //!
 //! Files:

@@ -1,8 +1,10 @@
 mod Found
 mod Fronts
 pub mod Gets
+pub mod Keys
 pub mod Least
 pub mod Logs
+pub mod Removed
 pub mod Room
 pub mod Rows
 pub mod Tells

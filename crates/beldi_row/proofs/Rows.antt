@@ -17,6 +17,11 @@ module _ {K X : Type 0} {R : K → K → Ordering} (o : IsTotalOrder R) (exact :
       get_rows fs q ∙ h q ∙ ap (λ b. cond b (Some v) (lookup (is_at (R q)) es)) ((eq_by_cmp_equiv o).symm k q)
       ∙ sym (get-insert o (from_entries es) k v q ∙ ap (cond (is_at (R q) k) (Some v)) (get_rows es q)))
 
+  pub one_gone : (es fs : List (K × X)) (k : K) → ((q : K) → lookup (is_at (R q)) fs ≡ cond (is_at (R k) q) None (lookup (is_at (R q)) es)) → from_entries {R = R} fs ≡ remove (from_entries es) k
+  one_gone es fs k h = same_map o exact _ _ (λ q.
+      get_rows fs q ∙ h q ∙ ap (λ b. cond b None (lookup (is_at (R q)) es)) ((eq_by_cmp_equiv o).symm k q)
+      ∙ sym (get-remove o (from_entries es) k q ∙ ap (cond (is_at (R q) k) None) (get_rows es q)))
+
   -- what was taken out of where nothing is
   pub none_removed : (m : FinMap R X) (k : K) → get m k ≡ None → remove m k ≡ m
   none_removed m k h = same_map o exact _ _ (λ q. get-remove o m k q ∙ (elim (is_eq (R q k)) as (λ b. is_eq (R q k) ≡ b → cond b None (get m q) ≡ get m q) [

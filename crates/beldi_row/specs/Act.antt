@@ -1,8 +1,8 @@
 -- The act table: what an act does to one row, and what it says.
-use Rattle.std.specs.Prelude.{◌≡◌, ℕ, Bool, true, false, ◌&&◌, ◌==◌, [], ◌∷◌, ◌++◌, length, Option, Some, None, if◌then◌else◌, slice_get}
+use Rattle.std.specs.Prelude.{◌≡◌, ℕ, ◌+◌, Bool, true, false, not, ◌&&◌, ◌||◌, ◌==◌, nat_lt, is_some, [], ◌∷◌, ◌++◌, length, Option, Some, None, if◌then◌else◌, slice_get}
 use Rattle.std.specs.Option.{option_copied}
 use Rattle.beldi_value.specs.{declared.value.Value.Value, declared.outcome.Outcome.Outcome, declared.place.Place.Place, declared.place.Owner.Owner, declared.id.IntentId.IntentId, Id.age_of, Id.is_older, declared.rel.Rel.Rel, Passes.passes, Same.same_value}
-use Rattle.beldi_row.specs.declared.act.Act.TheVariants.{Look, Issue, Bind, Register, End, Stamp, PutRead, OpenInvoke, CallBack, NoteRegistered, PutLockset, MakeCell, WriteCell, CondCell, LockCell, FreeCell, LinkCell}
+use Rattle.beldi_row.specs.declared.act.Act.TheVariants.{Look, Issue, Bind, Register, End, Stamp, PutRead, OpenInvoke, CallBack, NoteRegistered, PutLockset, MakeCell, WriteCell, CondCell, LockCell, FreeCell, LinkCell, DropIntent, DropRow}
 use Rattle.beldi_row.specs.{declared.notes.Note.Note, declared.notes.Note.TheVariants.Wrote, declared.notes.Note.TheVariants.Cond, declared.notes.Note.TheVariants.Got, declared.notes.Note.TheVariants.Died, declared.notes.Note.TheVariants.Freed, declared.row.Body.Body, declared.row.IntentRow.IntentRow, declared.row.InvokeRow.InvokeRow, declared.row.Cell.Cell, declared.row.Row.Row, declared.act.Act.Act, declared.act.Said.Said, declared.act.Change.Change, Log.most_entries, Log.note_at, Log.note_of, Log.owner_eq}
 
 -- what an act says, without where it lies in memory
@@ -28,6 +28,7 @@ pub data Tell : Type 0 where
   died : IntentId → Tell
   packed : Value → Option Owner → Tell
   not_full : Tell
+  not_so : Tell
 
 abbrev pub tell_of : Said → Tell
 tell_of Said.Absent = absent
@@ -51,6 +52,7 @@ tell_of (Said.Tested b) = tested b
 tell_of (Said.Died a) = died a.now
 tell_of (Said.Packed v o) = packed v.now (option_copied o)
 tell_of Said.NotFull = not_full
+tell_of Said.NotSo = not_so
 
 -- ---- the acts on the row of an intent
 abbrev pub outcome_tell : Option Outcome → Tell
@@ -180,6 +182,41 @@ free_at p w v c = at_tail p c (if_owned w c (if_room c (entered p Freed (given_o
 abbrev pub link_to : ℕ → Cell → Cell × Tell
 link_to n c = next_or c c.next (if is_full c then (record c { next = Some n }, next n) else (c, not_full))
 
+-- ---- the acts that remove a row
+-- more than a life ago, by a moment, if there is one
+abbrev pub is_past : ℕ → ℕ → Option ℕ → Bool
+is_past life now None = false
+is_past life now (Some t) = nat_lt (t + life) now
+
+-- an intent is old: more than a life ago it finished, or it was issued and was given nothing to do
+abbrev pub is_old : ℕ → ℕ → IntentRow → Bool
+is_old life now i = (not (is_some i.body) && is_past life now (Some i.issued)) || is_past life now i.finish
+
+abbrev pub is_old_row : ℕ → ℕ → Row → Bool
+is_old_row life now (Row.Intent i) = is_old life now i
+is_old_row life now r = false
+
+-- a row that an intent left beside its own
+abbrev pub is_left_row : Row → Bool
+is_left_row (Row.Intent i) = false
+is_left_row r = true
+
+-- the acts that may remove the row, and whether one removes this one
+abbrev pub drops : Act → Bool
+drops (DropIntent l) = true
+drops DropRow = true
+drops a = false
+
+abbrev pub removes : Act → ℕ → Row → Bool
+removes (DropIntent l) now r = is_old_row l now r
+removes DropRow now r = is_left_row r
+removes a now r = false
+
+-- what is said then
+abbrev pub removed_tell : Bool → Tell
+removed_tell true = did
+removed_tell false = not_so
+
 -- ---- the acts on a row of any kind: one that does not fit its kind changes nothing, and says this
 abbrev pub on_intent : (IntentRow → IntentRow × Tell) → Tell → Row → Row × Tell
 on_intent f t (Row.Intent i) = (Row.Intent (f i).0, (f i).1)
@@ -202,7 +239,7 @@ on_cell f t (Row.Invoke v) = (Row.Invoke v, t)
 on_cell f t (Row.Cell c) = (Row.Cell (f c).0, (f c).1)
 on_cell f t Row.Lockset = (Row.Lockset, t)
 
--- on a row that is there: the row afterwards, and what is said
+-- on a row that is there: the row afterwards, and what is said. An act that removes it says so, and leaves it as it is
 abbrev pub on : Act → ℕ → Row → Row × Tell
 on Look now r = (r, here r)
 on Issue now r = (r, present)
@@ -221,6 +258,8 @@ on (CondCell p w k o v) now r = on_cell (cond_at p w k o v) no_row r
 on (LockCell p w s) now r = on_cell (lock_at p w) no_row r
 on (FreeCell p w v) now r = on_cell (free_at p w v) no_row r
 on (LinkCell n) now r = on_cell (link_to n) no_row r
+on (DropIntent l) now r = (r, removed_tell (is_old_row l now r))
+on DropRow now r = (r, removed_tell (is_left_row r))
 
 -- where no row is
 abbrev pub off : Act → ℕ → Option Row × Tell
@@ -241,14 +280,21 @@ off (CondCell p w k o v) now = (None, no_row)
 off (LockCell p w s) now = (None, no_row)
 off (FreeCell p w v) now = (None, no_row)
 off (LinkCell n) now = (None, no_row)
+off (DropIntent l) now = (None, gone)
+off DropRow now = (None, not_so)
 
 abbrev pub stays : Row × Tell → Option Row × Tell
 stays r = (Some r.0, r.1)
 
+-- .. and where it is removed
+abbrev pub stays_unless : Bool → Row × Tell → Option Row × Tell
+stays_unless false r = stays r
+stays_unless true r = (None, r.1)
+
 -- the row afterwards, or none, and what is said
 abbrev pub act : Act → ℕ → Option Row → Option Row × Tell
 act a now None = off a now
-act a now (Some r) = stays (on a now r)
+act a now (Some r) = stays_unless (removes a now r) (on a now r)
 
 -- ---- a change, and what is said of it once the row is as the change left it
 abbrev pub here_tell : Option Row → Tell
@@ -305,12 +351,13 @@ said_by (Change.Tested b) r = tested b
 said_by Change.Died r = cell_tell (λ c. died_tell c.owner) r
 said_by Change.Packed r = cell_tell (λ c. packed c.value c.owner) r
 said_by Change.NotFull r = not_full
+said_by Change.NotSo r = not_so
 
 -- what stands in the way of an act on a cell is told, or else the act is done
 abbrev pub way_or : Option Change → Cell → Cell × Tell → Cell × Tell
 way_or None c r = r
 way_or (Some w) c r = (c, said_by w (Some (Row.Cell c)))
 
--- the row and the answer of a change are those of the act
+-- the row and the answer of a change are those of the act, but for its removal
 abbrev pub Changes : Act → ℕ → Row → Row → Change → Type 0
 Changes a now before after c = (after, said_by c (Some after)) ≡ on a now before

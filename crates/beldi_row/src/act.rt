@@ -2,7 +2,7 @@
 ghost use Rattle.std.specs.Prelude.{◌≡◌, ◌&&◌, ◌==◌, ℕ, Some, Option};
 ghost use Rattle.beldi_value.specs.Same.{same_value};
 ghost use Rattle.beldi_row.specs.declared.row.Row as row_data;
-ghost use Rattle.beldi_row.specs.Act.{bind_to, end_with, stamp_with, call_back_to, register_to, kept_tell, on_intent, on_invoke, gone, off, said_by, Changes};
+ghost use Rattle.beldi_row.specs.Act.{bind_to, end_with, stamp_with, call_back_to, register_to, kept_tell, on_intent, on_invoke, gone, off, said_by, drops, removes, removed_tell, is_past, is_old, is_old_row, is_left_row, Changes};
 
 use crate::cell::{free, link, lock, write, write_where};
 use crate::notes::{Blank, Note};
@@ -11,8 +11,8 @@ use beldi_value::{IntentId, Outcome, Owner, Place, Rel, Spare, Value};
 
 /// An act on one row. `Look` is for rows of any kind, `Issue`, `Bind`, `Register`, `End` and `Stamp` are for intents, `PutRead` for what
 /// reads were given, `OpenInvoke`, `CallBack` and `NoteRegistered` for calls, `PutLockset` for what a transaction asked the lock
-/// of, the others for cells. A cell that has the place already, or that a row follows, is left as it is, and so is a full one but for
-/// the row that follows it.
+/// of. `DropIntent` and `DropRow` remove a row. The others are for cells: a cell that has the place already, or that a row follows,
+/// is left as it is, and so is a full one but for the row that follows it.
 #[derive(Drop)]
 pub enum Act {
     /// Reads the row.
@@ -90,6 +90,14 @@ pub enum Act {
     LinkCell {
         next: u32,
     },
+    /// Removes the row of an intent that finished more than a life ago, in ticks, or was issued that long ago and was given
+    /// nothing to do.
+    DropIntent {
+        life: u64,
+    },
+    /// Removes what an intent left beside its own row: what a read was given, a call, an item that the lock was asked of, or a
+    /// cell of a shadow.
+    DropRow,
 }
 
 /// What an act says. It lends what lies in the row.
@@ -137,6 +145,8 @@ pub enum Said<'a> {
     Packed(&'a Value, Option<&'a Owner>),
     /// The cell is not full, so no row was linked to it.
     NotFull,
+    /// The row is not one to remove, so none was.
+    NotSo,
 }
 
 /// What an act did: each says the same as the answer of `Said` with its name, but for what lies in the row.
@@ -164,6 +174,7 @@ pub enum Change {
     Died,
     Packed,
     NotFull,
+    NotSo,
 }
 
 /// What an act makes where no row is, if anything. It takes no memory.
@@ -218,13 +229,14 @@ pub fn missing(act: &Act) -> Change
         Act::Issue | Act::Register { .. } | Act::PutRead { .. } => Change::Added,
         Act::OpenInvoke { .. } | Act::PutLockset | Act::MakeCell { .. } => Change::Added,
         Act::Bind { .. } | Act::End { .. } | Act::Stamp => Change::Gone,
-        Act::CallBack { .. } | Act::NoteRegistered => Change::Gone,
+        Act::CallBack { .. } | Act::NoteRegistered | Act::DropIntent { .. } => Change::Gone,
+        Act::DropRow => Change::NotSo,
         Act::WriteCell { .. } | Act::CondCell { .. } => Change::NoRow,
         Act::LockCell { .. } | Act::FreeCell { .. } | Act::LinkCell { .. } => Change::NoRow,
     }
 }
 
-/// An act on a row that is there. It takes no memory.
+/// An act on a row that is there. It takes no memory. A row that the act removes is left as it is (`removes`).
 pub fn apply(row: &mut Row, act: Act, now: u64) -> Change
     ensures { Changes act now row.old row.new result }
 {
@@ -265,7 +277,69 @@ pub fn apply(row: &mut Row, act: Act, now: u64) -> Change
         Act::LockCell { place, who, spare } => lock(row, place, who, spare),
         Act::FreeCell { place, who, value } => free(row, place, who, value),
         Act::LinkCell { next } => link(row, next),
+        Act::DropIntent { life } => removal(is_old_row(row, life, now)),
+        Act::DropRow => removal(is_left_row(row)),
     }
+}
+
+/// Whether an act may remove a row.
+pub fn drops(act: &Act) -> bool
+    ensures { result ≡ drops act.now }
+{
+    matches!(act, Act::DropIntent { .. } | Act::DropRow)
+}
+
+/// Whether an act removes this row. Who keeps the row then takes it away.
+pub fn removes(act: &Act, row: &Row, now: u64) -> bool
+    ensures { result ≡ removes act.now now row.now }
+{
+    match act {
+        Act::DropIntent { life } => is_old_row(row, *life, now),
+        Act::DropRow => is_left_row(row),
+        _ => false,
+    }
+}
+
+// What is said of a row that is to be removed, or is not.
+fn removal(is_so: bool) -> Change
+    ensures { (row : Option row_data.Row) → said_by result row ≡ removed_tell is_so }
+{
+    if is_so { Change::Did } else { Change::NotSo }
+}
+
+/// Whether it is the row of an intent that is old: that finished more than a life before now, or was issued then and never bound. The
+/// life and the moment are in ticks.
+pub fn is_old_row(row: &Row, life: u64, now: u64) -> bool
+    ensures { result ≡ is_old_row life now row.now }
+{
+    match row {
+        Row::Intent(intent) => is_old(intent, life, now),
+        _ => false,
+    }
+}
+
+fn is_old(intent: &IntentRow, life: u64, now: u64) -> bool
+    ensures { result ≡ is_old life now intent.now }
+{
+    (intent.body.is_none() && is_past(Some(intent.issued), life, now))
+        || is_past(intent.finish, life, now)
+}
+
+/// Whether a moment, if there is one, lies more than a life before now. All three are in ticks.
+pub fn is_past(moment: Option<u64>, life: u64, now: u64) -> bool
+    ensures { result ≡ is_past life now moment }
+{
+    match moment {
+        Some(moment) => moment < now && life < now - moment,
+        None => false,
+    }
+}
+
+// Whether it is a row that an intent left beside its own.
+fn is_left_row(row: &Row) -> bool
+    ensures { result ≡ is_left_row row.now }
+{
+    !matches!(row, Row::Intent(_))
 }
 
 fn kept(row: &Row) -> Change

@@ -1,11 +1,23 @@
 // What is said of a change.
-ghost use Rattle.std.specs.Prelude.{◌≡◌, slice_get};
+ghost use Rattle.std.specs.Prelude.{◌≡◌, false, Option, slice_get};
 ghost use Rattle.std.specs.Option.{option_copied};
 ghost use Rattle.beldi_row.specs.Act.{tell_of, said_by, ended_tell, other_tell, held_tell, died_tell, noted_tell, packed};
 ghost use Rattle.beldi_row.specs.Log.{note_of};
+ghost use Rattle.beldi_row.specs.declared.row.Row as row_data;
 
 use crate::act::{Change, Said};
 use crate::row::{Cell, IntentRow, Row};
+
+/// Whether a change tells what lies in the row. Of any other the same is said whatever row there is.
+pub fn is_of_row(change: Change) -> bool
+    ensures { result ≡ false → (a b : Option row_data.Row) → said_by change a ≡ said_by change b }
+{
+    match change {
+        Change::Row | Change::Other | Change::Ended | Change::Kept => true,
+        Change::Noted(_) | Change::Held | Change::Died | Change::Packed => true,
+        _ => false,
+    }
+}
 
 /// What a change says, with what lies in the row as the change left it.
 pub fn tell(row: Option<&Row>, change: Change) -> Said<'_>
@@ -34,6 +46,7 @@ pub fn tell(row: Option<&Row>, change: Change) -> Said<'_>
         (Change::NotOwner, _) => Said::NotOwner,
         (Change::Tested(passed), _) => Said::Tested(passed),
         (Change::NotFull, _) => Said::NotFull,
+        (Change::NotSo, _) => Said::NotSo,
     }
 }
 

@@ -1,12 +1,12 @@
 -- Rows in bytes, through the calls of a map.
-use Rattle.std.specs.{FinMap.get-insert, FinMap.get-empty, Cmp.Lexicographic.nat_list_cmp_total, Ordering.is_eq, Ordering.ordering_reverse, declared.alloc.Global.Global}
+use Rattle.std.specs.{FinMap.get-insert, FinMap.get-remove, FinMap.get-empty, Cmp.Lexicographic.nat_list_cmp_total, Ordering.is_eq, Ordering.ordering_reverse, declared.alloc.Global.Global}
 use Rattle.std.specs.declared.cmp.Ordering.{TheVariants.Less, TheVariants.Equal, TheVariants.Greater}
 use Rattle.std.specs.FinMap as map
 use Rattle.std.specs.Prelude.{IfSome, IfOk, option_map, Vec}
 use Rattle.std.proofs.Common.{◌≡◌, ℕ, Bool, true, false, cond, List, Option, Some, None, Result, Ok, Err, refl, subst, ap, sym, ◌∙◌}
 use Rattle.beldi_row.{specs.Key.RowKey, specs.Key.key_cmp, specs.KeyOrder.key_total, specs.KeyOrder.key_exact, specs.Table.Rows, specs.Table.IsNext, specs.Table.next_row, specs.declared.row.Row.Row, proofs.Least.next_row_least}
 use Rattle.beldi_bytes.{specs.KeyBytes.key_bytes, specs.KeyBytes.bytes_cmp, specs.RowBytes.row_bytes, proofs.Ordered.are_ordered}
-use Rattle.beldi_blobs.specs.{Entries.Entries, Calls.Tells, Calls.Gets, Calls.Puts, Calls.Nexts, Calls.pair_of, declared.entry.Entry.Entry, declared.error.BlobErr.BlobErr}
+use Rattle.beldi_blobs.specs.{Entries.Entries, Calls.Tells, Calls.Gets, Calls.Puts, Calls.Removes, Calls.Nexts, Calls.pair_of, declared.entry.Entry.Entry, declared.error.BlobErr.BlobErr}
 use Rattle.beldi_blobs.specs.Calls as blobs
 use Rattle.beldi_sqltable.specs.{Store.Reads, Store.Stepped, Store.Steps, declared.store.StoreErr.StoreErr}
 use Rattle.beldi_sqlrows.specs.Held.{Holds, Held, rows_told, same_row, same_rows, bytes_of}
@@ -26,6 +26,18 @@ holds_put m e k r h q =
     ∙ ap (cond (is_eq (key_cmp q k)) (Some (row_bytes r))) (h q)
     ∙ in_bytes (is_eq (key_cmp q k)) r (map.get m q)
     ∙ sym (ap (option_map row_bytes) (get-insert key_total m k r q))
+
+none_in_bytes : (b : Bool) (x : Option Row) → cond b None (option_map row_bytes x) ≡ option_map row_bytes (cond b None x)
+none_in_bytes true x = refl
+none_in_bytes false x = refl
+
+holds_less : (m : Rows) (e : Entries) (k : RowKey) → Holds m e → Holds (map.remove m k) (map.remove e (key_bytes k))
+holds_less m e k h q =
+    get-remove nat_list_cmp_total e (key_bytes k) (key_bytes q)
+    ∙ ap (λ o. cond (is_eq o) None (map.get e (key_bytes q))) (are_ordered q k)
+    ∙ ap (cond (is_eq (key_cmp q k)) None) (h q)
+    ∙ none_in_bytes (is_eq (key_cmp q k)) (map.get m q)
+    ∙ sym (ap (option_map row_bytes) (get-remove key_total m k q))
 
 -- the row after a key, of the bytes after its bytes
 next_in : (m : Rows) (e : Entries) (k : RowKey) (o : Option (RowKey × Row)) → Holds m e → blobs.IsNext e (key_bytes k) (option_map bytes_of o) → IsNext m k o
@@ -128,6 +140,29 @@ put_told k r (Some e) (Some f) h j put = ap Some (same_rows j.0 (map.insert h.0 
 pub told_then : (k : RowKey) (r : Row) (key value : List ℕ) (a b : Option Entries) (h : Held a) (j : Held b) → key ≡ key_bytes k → value ≡ row_bytes r → Tells a b (λ m n. n ≡ map.insert m key value)
     → rows_told b j ≡ option_map (λ m. map.insert m k r) (rows_told a h)
 told_then k r key value a b h j same bytes put = put_told k r a b h j (puts k r key value a b (Ok tt) same bytes put)
+
+-- what was removed
+removes : (k : RowKey) (key : List ℕ) (a b : Option Entries) (res : Result Unit BlobErr) → key ≡ key_bytes k → Tells a b (λ m n. Removes key m n res) → Tells a b (λ m n. Removes (key_bytes k) m n res)
+removes k key a b res same removed = subst (λ q. Tells a b (λ m n. Removes q m n res)) same removed
+
+held_less : (k : RowKey) (a b : Option Entries) (res : Result Unit BlobErr) → Held a → Tells a b (λ m n. Removes (key_bytes k) m n res) → Held b
+held_less k None b res h removed = subst Held (sym removed) tt
+held_less k (Some e) None res h removed = absurd removed
+held_less k (Some e) (Some f) (Ok u) h removed = (map.remove h.0 k, subst (Holds (map.remove h.0 k)) (sym removed) (holds_less h.0 e k h.1))
+held_less k (Some e) (Some f) (Err why) h removed = (h.0, subst (Holds h.0) (sym removed) h.1)
+
+pub held_without : (k : RowKey) (key : List ℕ) (a b : Option Entries) (res : Result Unit BlobErr) → key ≡ key_bytes k → Held a → Tells a b (λ m n. Removes key m n res) → Held b
+held_without k key a b res same h removed = held_less k a b res h (removes k key a b res same removed)
+
+less_told : (k : RowKey) (a b : Option Entries) (h : Held a) (j : Held b) → Tells a b (λ m n. n ≡ map.remove m (key_bytes k)) → rows_told b j ≡ option_map (λ m. map.remove m k) (rows_told a h)
+less_told k None None h j removed = refl
+less_told k None (Some f) h j removed = cc
+less_told k (Some e) None h j removed = absurd removed
+less_told k (Some e) (Some f) h j removed = ap Some (same_rows j.0 (map.remove h.0 k) f j.1 (subst (Holds (map.remove h.0 k)) (sym removed) (holds_less h.0 e k h.1)))
+
+pub told_without : (k : RowKey) (key : List ℕ) (a b : Option Entries) (h : Held a) (j : Held b) → key ≡ key_bytes k → Tells a b (λ m n. n ≡ map.remove m key)
+    → rows_told b j ≡ option_map (λ m. map.remove m k) (rows_told a h)
+told_without k key a b h j same removed = less_told k a b h j (removes k key a b (Ok tt) same removed)
 
 pub told_still : (a b : Option Entries) (h : Held a) (j : Held b) → Tells a b (λ m n. n ≡ m) → rows_told b j ≡ rows_told a h
 told_still None b h j put = same_told None b h j put

@@ -166,6 +166,18 @@ impl<B: Blobs> RowStore for BlobRows<B> {
         }
     }
 
+    fn remove(&mut self, key: &RowKey) -> Result<(), StoreErr> {
+        let Ok(bytes) = write_key(self.alloc, key) else {
+            return Err(StoreErr::OutOfMemory);
+        };
+        let removed = self.blobs.remove(bytes.as_slice());
+        drop(bytes);
+        match removed {
+            Ok(()) => Ok(()),
+            Err(why) => Err(refusal(why)),
+        }
+    }
+
     fn after(&mut self, key: &RowKey) -> Result<Option<(RowKey, Row)>, StoreErr> {
         let Ok(bytes) = write_key(self.alloc, key) else {
             return Err(StoreErr::OutOfMemory);

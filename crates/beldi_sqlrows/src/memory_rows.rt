@@ -68,6 +68,13 @@ impl RowStore for MemoryRows {
         }
     }
 
+    fn remove(&mut self, key: &RowKey) -> Result<(), StoreErr> {
+        match &mut self.rows {
+            Some(rows) => rows.remove(key),
+            None => Ok(()),
+        }
+    }
+
     fn after(&mut self, key: &RowKey) -> Result<Option<(RowKey, Row)>, StoreErr> {
         match &mut self.rows {
             Some(rows) => rows.after(key),

@@ -2,8 +2,10 @@
 use Rattle.std.specs.FinMap as map
 use Rattle.std.specs.Prelude.{IfSome}
 use Rattle.std.proofs.Common.{◌≡◌, ℕ, ◌<◌, ◌≤◌, Bool, true, false, not, ◌&&◌, Option, None, Some, Ok, refl, subst, ap, sym, ◌∙◌, is_some, IsTrue}
-use Rattle.beldi_row.{specs.KeyOrder.key_total, specs.KeyOrder.key_exact, specs.Act.Changes, specs.Act.off, specs.Act.act, specs.Act.said_by, specs.Act.stays, specs.Act.here_tell, specs.Act.tell_of, specs.Table.Rows, specs.Table.adds, specs.Table.set_row, specs.Table.Tells, specs.Table.ActedOn, specs.Table.HasCause, specs.Key.RowKey, specs.declared.row.Row.Row, specs.declared.act.Act.Act, specs.declared.act.Act.TheVariants.Look, specs.declared.act.Change.Change, specs.declared.act.Said.Said, specs.declared.table.TableErr.TableErr, proofs.Rows.none_removed, proofs.Unchanged.looked, proofs.Tells.tells_map}
-use Rattle.beldi_sqltable.specs.{RowTable.ChangedOn, Store.written}
+use Rattle.beldi_row.{specs.KeyOrder.key_total, specs.KeyOrder.key_exact, specs.Act.Changes, specs.Act.off, specs.Act.act, specs.Act.said_by, specs.Act.stays, specs.Act.drops, specs.Act.removes, specs.Act.here_tell, specs.Act.tell_of, specs.Table.Rows, specs.Table.adds, specs.Table.set_row, specs.Table.Tells, specs.Table.ActedOn, specs.Table.HasCause, specs.Key.RowKey, specs.declared.row.Row.Row, specs.declared.act.Act.Act, specs.declared.act.Act.TheVariants.Look, specs.declared.act.Change.Change, specs.declared.act.Said.Said, specs.declared.table.TableErr.TableErr, proofs.Rows.none_removed, proofs.Unchanged.looked, proofs.Tells.tells_map}
+use Rattle.beldi_table.proofs.Changes.{removed, unremoved}
+use Rattle.beldi_row.proofs.Removed.{act_stays}
+use Rattle.beldi_sqltable.specs.{RowTable.ChangedOn, Store.without, Store.written}
 
 not_both : (b : Bool) → IsTrue b → b ≡ false → ⊥
 not_both b h e = cc
@@ -13,9 +15,9 @@ adds_none true h = cc
 adds_none false h = cc
 
 -- ---- over rows that are told
-pub changed : (a : Act) (now : ℕ) (k : RowKey) (room : ℕ) (m : Rows) (r s : Row) (c : Change) → map.get m k ≡ Some r → Changes a now r s c → ChangedOn a now k room (Some s) (Ok c) m (map.insert m k s)
-changed a now k room m r s c here done =
-    let acted : (Some s, said_by c (Some s)) ≡ act a now (map.get m k) = ap stays done ∙ ap (act a now) (sym here) in (
+pub changed : (a : Act) (now : ℕ) (k : RowKey) (room : ℕ) (m : Rows) (r s : Row) (c : Change) → drops a ≡ false → map.get m k ≡ Some r → Changes a now r s c → ChangedOn a now k room (Some s) (Ok c) m (map.insert m k s)
+changed a now k room m r s c keeps here done =
+    let acted : (Some s, said_by c (Some s)) ≡ act a now (map.get m k) = ap stays done ∙ sym (act_stays a now r keeps) ∙ ap (act a now) (sym here) in (
       ap (λ p. set_row m k p.0) acted,
       ap (λ p. p.1) acted,
       λ h. absurd (not_both (adds a now k m) h (ap (λ p. not (is_some p) && is_some (off a now).0) here)),
@@ -43,11 +45,21 @@ looks : (now : ℕ) (k : RowKey) (room : ℕ) (m : Rows) (r : Option Row) → r 
 looks now k room m r is = (sym (looked now k m), ap here_tell is ∙ look_tell now (map.get m k), λ h. absurd (adds_none _ h))
 
 -- ---- over rows that may be told
-pub told_changed : (a : Act) (now : ℕ) (k : RowKey) (room : ℕ) (told after : Option Rows) (r s : Row) (c : Change) → IfSome told (λ m. map.get m k ≡ Some r) → after ≡ written {E = TableErr} k s (Ok tt) told → Changes a now r s c
+pub told_changed : (a : Act) (now : ℕ) (k : RowKey) (room : ℕ) (told after : Option Rows) (r s : Row) (c : Change) → drops a ≡ false → IfSome told (λ m. map.get m k ≡ Some r) → after ≡ written {E = TableErr} k s (Ok tt) told → Changes a now r s c
     → Tells told after (ChangedOn a now k room (Some s) (Ok c))
-told_changed a now k room None after r s c here is done = is
-told_changed a now k room (Some m) after r s c here is done =
-    subst (λ o. Tells (Some m) o (ChangedOn a now k room (Some s) (Ok c))) (sym is) (changed a now k room m r s c here done)
+told_changed a now k room None after r s c keeps here is done = is
+told_changed a now k room (Some m) after r s c keeps here is done =
+    subst (λ o. Tells (Some m) o (ChangedOn a now k room (Some s) (Ok c))) (sym is) (changed a now k room m r s c keeps here done)
+
+-- the row is there, and the act removes it, or it does not
+pub told_removed : (a : Act) (now : ℕ) (k : RowKey) (room : ℕ) (told after : Option Rows) (o : Option Row) (r : Row) → drops a ≡ true → true ≡ removes a now r → IfSome told (λ m. map.get m k ≡ Some r) → after ≡ without {E = TableErr} k (Ok tt) told
+    → Tells told after (ChangedOn a now k room o (Ok Change.Did))
+told_removed a now k room None after o r may goes here is = is
+told_removed a now k room (Some m) after o r may goes here is = subst (λ z. Tells (Some m) z (ChangedOn a now k room o (Ok Change.Did))) (sym is) (removed a now k room m (map.remove m k) r may here goes refl)
+
+pub told_unremoved : (a : Act) (now : ℕ) (k : RowKey) (room : ℕ) (told : Option Rows) (o : Option Row) (r : Row) → drops a ≡ true → false ≡ removes a now r → IfSome told (λ m. map.get m k ≡ Some r) → Tells told told (ChangedOn a now k room o (Ok Change.NotSo))
+told_unremoved a now k room None o r may stay here = refl
+told_unremoved a now k room (Some m) o r may stay here = unremoved a now k room m m r may here stay refl
 
 pub told_none : (a : Act) (now : ℕ) (k : RowKey) (room : ℕ) (told : Option Rows) (r : Option Row) (c : Change) → IfSome told (λ m. map.get m k ≡ None) → (off a now).0 ≡ None → ((v : Option Row) → said_by c v ≡ (off a now).1)
     → Tells told told (ChangedOn a now k room r (Ok c))

@@ -1,12 +1,12 @@
 -- The number of rows and the keys of open intents, as a row is written.
-use Rattle.std.specs.{BTreeMap.is_at, BTreeSet.BTreeSet, BTreeSet.contains, Cmp.Equal-is, Ordering.is_eq, FinMap.len-insert, FinMap.get-empty, FinMap.len-empty}
+use Rattle.std.specs.{BTreeMap.is_at, BTreeSet.BTreeSet, BTreeSet.contains, Cmp.Equal-is, Ordering.is_eq, FinMap.len-insert, FinMap.len-remove, FinMap.get-empty, FinMap.len-empty}
 use Rattle.std.specs.FinMap as map
 use Rattle.std.specs.Prelude.{IfSome}
 use Rattle.std.proofs.lemmas.Cmp.{eq_by_cmp_equiv}
-use Rattle.std.proofs.Common.{◌≡◌, ℕ, ◌+◌, ◌<◌, Bool, true, false, not, ◌&&◌, ◌||◌, cond, Option, Some, None, Ok, is_some, refl, subst, ap, sym, ◌∙◌, if◌then◌else◌}
+use Rattle.std.proofs.Common.{◌≡◌, ℕ, ◌+◌, ◌-◌, ◌<◌, Bool, true, false, not, ◌&&◌, ◌||◌, cond, Option, Some, None, Ok, is_some, IsTrue, refl, subst, ap, sym, ◌∙◌, if◌then◌else◌}
 use Rattle.beldi_row.{specs.Key.RowKey, specs.Key.key_cmp, specs.KeyOrder.key_exact, specs.KeyOrder.key_total, specs.Table.Rows, specs.Table.is_open, specs.declared.row.Row.Row, specs.declared.table.TableErr.TableErr, proofs.Gets.got}
 use Rattle.beldi_table.specs.Opened.{opened, Sets}
-use Rattle.beldi_sqltable.specs.{Kept.Lists, Kept.Keeps, Kept.Stood, Store.written}
+use Rattle.beldi_sqltable.specs.{Kept.Lists, Kept.Keeps, Kept.Stood, Store.written, Store.without}
 
 -- ---- the keys, through two changes of one key
 turned : (k q : RowKey) → is_eq (key_cmp q k) ≡ is_at (key_cmp k) q
@@ -84,6 +84,28 @@ told_still k opens was new known w z c (Some m) after s t u same wanted unwanted
     subst (λ o. IfSome o (Keeps c u known)) (sym same)
     (kept_still k opens was new known c m s t u stood h (subst (λ x. Sets k (λ b. x || b) s t) wanted put) (subst (λ x. Sets k (λ b. not x && b) t u) unwanted took))
 
+-- a row goes, and its key with it
+listed_gone : (k : RowKey) (m : Rows) (s t : BTreeSet RowKey) → Lists s m → Sets k (λ b. false && b) s t → Lists t (map.remove m k)
+listed_gone k m s t h took q =
+    took q
+    ∙ (elim (is_at (key_cmp k) q) as (λ b. cond b false (contains key_cmp s q) ≡ opened q (cond b None (map.get m q))) [
+      | true ↦ refl
+      | false ↦ h q
+    ])
+    ∙ sym (ap (opened q) (got m k q None ∙ ap (λ b. cond b None (map.get m q)) (turned k q)))
+
+kept_gone : (k : RowKey) (known : Bool) (c : ℕ) (m : Rows) (s t : BTreeSet RowKey) → map.contains_key m k ≡ true → Keeps c s known m → Sets k (λ b. false && b) s t → Keeps (c - 1) t known (map.remove m k)
+kept_gone k known c m s t there h took = record {
+  counted = ap (λ n. n - 1) h.counted ∙ sym (len-remove key_total m k ∙ ap (λ b. cond b (map.len m - 1) (map.len m)) there);
+  listed = listed_gone k m s t h.listed took;
+  surveyed = h.surveyed;
+}
+
+pub told_gone : (k : RowKey) (known : Bool) (c d : ℕ) (told after : Option Rows) (s t : BTreeSet RowKey) → after ≡ without {E = TableErr} k (Ok tt) told → d ≡ c - 1 → IfSome told (λ m. IsTrue (map.contains_key m k)) → IfSome told (Keeps c s known) → Sets k (λ b. false && b) s t → IfSome after (Keeps d t known)
+told_gone k known c d None after s t same less there h took = subst (λ o. IfSome o (Keeps d t known)) (sym same) tt
+told_gone k known c d (Some m) after s t same less there h took =
+    subst (λ o. IfSome o (Keeps d t known)) (sym same) (subst (λ n. Keeps n t known (map.remove m k)) (sym less) (kept_gone k known c m s t there h took))
+
 -- there are no rows, and no keys
 pub kept_none : (s : BTreeSet RowKey) (told : Option Rows) → told ≡ Some map.empty → ((q : RowKey) → contains key_cmp s q ≡ false) → IfSome told (Keeps 0 s true)
 kept_none s told is none = subst (λ o. IfSome o (Keeps 0 s true)) (sym is) (record {
@@ -103,6 +125,10 @@ untold c s known None h not_known = refl
 untold c s known (Some m) h not_known = let clash : true ≡ false = sym h.surveyed ∙ not_known in cc
 
 -- a row that is there
+pub is_there : (k : RowKey) (r : Row) (told : Option Rows) → IfSome told (λ m. map.get m k ≡ Some r) → IfSome told (λ m. IsTrue (map.contains_key m k))
+is_there k r None here = tt
+is_there k r (Some m) here = ap is_some here
+
 pub stood_there : (k : RowKey) (r : Row) (was : Bool) (told : Option Rows) → was ≡ is_open k.kind r → IfSome told (λ m. map.get m k ≡ Some r) → IfSome told (Stood k was false)
 stood_there k r was None is here = tt
 stood_there k r was (Some m) is here = record { stood_open = is ∙ ap (opened k) (sym here); stood_new = ap (λ o. not (is_some o)) (sym here) }

@@ -4,7 +4,7 @@ use Rattle.std.specs.Prelude.{IfSome}
 use Rattle.std.proofs.Common.{◌≡◌, ℕ, Bool, true, false, not, ◌&&◌, Option, None, Some, Ok, slice_get, refl, subst, ap, sym, ◌∙◌, if◌then◌else◌}
 use Rattle.beldi_value.specs.declared.{value.Value.Value, outcome.Outcome.Outcome, place.Place.Place, place.Owner.Owner}
 use Rattle.beldi_row.{specs.Key.RowKey, specs.KeyOrder.key_total, specs.KeyOrder.key_exact, specs.Table.Rows, specs.Table.Tells, specs.declared.row.Row.Row, specs.declared.row.Body.Body, specs.declared.row.IntentRow.IntentRow, specs.declared.row.InvokeRow.InvokeRow, specs.declared.row.Cell.Cell, specs.declared.notes.Note.Note, specs.declared.act.Act.Act, specs.declared.act.Change.Change, specs.declared.table.TableErr.TableErr, proofs.Rows.same_set}
-use Rattle.beldi_row.specs.Act.{Tell, bound, did, tested, died, held, packed, Changes, on, on_intent, on_invoke, on_cell, said_by, intent_tell, cell_tell, other_tell, ended_tell, held_tell, noted_tell, bind_to, end_with, stamp_with, call_back_to, register_to, held_or, next_or, noted_or, owned_or, waits_for, owns, at_tail, other_owner, if_room, is_full, entered, cond_to, given_or}
+use Rattle.beldi_row.specs.Act.{Tell, drops, bound, did, tested, died, held, packed, Changes, on, on_intent, on_invoke, on_cell, said_by, intent_tell, cell_tell, other_tell, ended_tell, held_tell, noted_tell, bind_to, end_with, stamp_with, call_back_to, register_to, held_or, next_or, noted_or, owned_or, waits_for, owns, at_tail, other_owner, if_room, is_full, entered, cond_to, given_or}
 use Rattle.beldi_row.specs.Log.{note_at, note_of}
 use Rattle.beldi_row.specs.declared.notes.Note.TheVariants.{Wrote, Got, Died, Freed}
 use Rattle.beldi_value.specs.{Id.age_of, Passes.passes}
@@ -139,20 +139,20 @@ act_leaves (Act.LinkCell k) now r n = cc
 act_leaves a now r n = λ q. refl
 
 -- the row is there, and was left
-pub told_left : (a : Act) (now : ℕ) (k : RowKey) (room : ℕ) (told : Option Rows) (r s : Row) (c : Change) → IfSome told (λ m. map.get m k ≡ Some r) → Changes a now r s c → links a ≡ false → leaves c ≡ true → Tells told told (ChangedOn a now k room (Some s) (Ok c))
-told_left a now k room None r s c here done apart leave = refl
-told_left a now k room (Some m) r s c here done apart leave =
+pub told_left : (a : Act) (now : ℕ) (k : RowKey) (room : ℕ) (told : Option Rows) (r s : Row) (c : Change) → drops a ≡ false → IfSome told (λ m. map.get m k ≡ Some r) → Changes a now r s c → links a ≡ false → leaves c ≡ true → Tells told told (ChangedOn a now k room (Some s) (Ok c))
+told_left a now k room None r s c keeps here done apart leave = refl
+told_left a now k room (Some m) r s c keeps here done apart leave =
     let same : s ≡ r = ap (λ p. p.0) done ∙ act_leaves a now r apart (ap (λ p. sets p.1) (sym done) ∙ says_none c (Some s) leave) in
-    subst (λ n. ChangedOn a now k room (Some s) (Ok c) m n) (ap (map.insert m k) same ∙ same_set key_total key_exact m k r here) (changed a now k room m r s c here done)
+    subst (λ n. ChangedOn a now k room (Some s) (Ok c) m n) (ap (map.insert m k) same ∙ same_set key_total key_exact m k r here) (changed a now k room m r s c keeps here done)
 
 -- the row is there, and was written where it was changed
 first : (b d : Bool) → (not b && d) ≡ true → (b ≡ false) × (d ≡ true)
 first true d h = cc
 first false d h = (refl, h)
 
-pub told_settled : (a : Act) (now : ℕ) (k : RowKey) (room : ℕ) (told after : Option Rows) (r s : Row) (c : Change) (left : Bool) → IfSome told (λ m. map.get m k ≡ Some r) → after ≡ settled {E = TableErr} left k s (Ok tt) told → left ≡ (not (links a) && leaves c)
+pub told_settled : (a : Act) (now : ℕ) (k : RowKey) (room : ℕ) (told after : Option Rows) (r s : Row) (c : Change) (left : Bool) → drops a ≡ false → IfSome told (λ m. map.get m k ≡ Some r) → after ≡ settled {E = TableErr} left k s (Ok tt) told → left ≡ (not (links a) && leaves c)
     → Changes a now r s c → Tells told after (ChangedOn a now k room (Some s) (Ok c))
-told_settled a now k room told after r s c true here is l done =
+told_settled a now k room told after r s c true keeps here is l done =
     let p = first (links a) (leaves c) (sym l) in
-    subst (λ o. Tells told o (ChangedOn a now k room (Some s) (Ok c))) (sym is) (told_left a now k room told r s c here done p.0 p.1)
-told_settled a now k room told after r s c false here is l done = told_changed a now k room told after r s c here is done
+    subst (λ o. Tells told o (ChangedOn a now k room (Some s) (Ok c))) (sym is) (told_left a now k room told r s c keeps here done p.0 p.1)
+told_settled a now k room told after r s c false keeps here is l done = told_changed a now k room told after r s c keeps here is done

@@ -21,6 +21,11 @@ abbrev pub written : {E : Type 0} → RowKey → Row → Result Unit E → Optio
 written k r (Ok u) told = option_map (λ m. map.insert m k r) told
 written k r (Err e) told = told
 
+-- the rows after the row with a key was to be removed: without it, or as before where that was refused
+abbrev pub without : {E : Type 0} → RowKey → Result Unit E → Option Rows → Option Rows
+without k (Ok u) told = option_map (λ m. map.remove m k) told
+without k (Err e) told = told
+
 -- the rows after an act on a row that is there, by whether the act leaves it
 abbrev pub settled : {E : Type 0} → Bool → RowKey → Row → Result Unit E → Option Rows → Option Rows
 settled true k r result told = told

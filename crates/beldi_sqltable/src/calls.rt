@@ -2,7 +2,7 @@
 ghost use Rattle.std.specs.Prelude.{◌≡◌, ◌≤◌};
 ghost use Rattle.beldi_row.specs.Table.{IsNotFull};
 ghost use Rattle.beldi_sqltable.specs.Kept.{Blames, told_as, faults_of};
-ghost use Rattle.beldi_sqltable.specs.Store.{Reads, Steps, written};
+ghost use Rattle.beldi_sqltable.specs.Store.{Reads, Steps, without, written};
 
 use crate::store::{RowStore, StoreErr};
 use beldi_row::{Row, RowKey, TableErr};
@@ -60,6 +60,21 @@ pub(crate) fn write_row<R: RowStore>(
     ensures fits { IsNotFull result }
 {
     match store.write(key, row) {
+        Ok(()) => Ok(()),
+        Err(why) => Err(refusal(faults, why)),
+    }
+}
+
+pub(crate) fn remove_row<R: RowStore>(
+    store: &mut R,
+    faults: &mut u64,
+    key: &RowKey,
+) -> Result<(), TableErr>
+    ensures rows { R.rows store.new ≡ without key.now result (R.rows store.old) }
+    ensures blames { Blames faults.old faults.new result }
+    ensures fits { IsNotFull result }
+{
+    match store.remove(key) {
         Ok(()) => Ok(()),
         Err(why) => Err(refusal(faults, why)),
     }

@@ -10,6 +10,7 @@
 //!   adds a row is refused as full exactly where they are as many as the room or more.
 //! - A failure of the store is counted once, and is told as `Failed`; for want of memory nothing is counted (`Blames`). After each
 //!   error the rows are as before.
+//! - A row is removed only where an act removes it (`drop_row`).
 //! - A row is written only where an act makes or changes it (`leaves`, `told_left` of `proofs/Leaving`), or asks that another
 //!   follow it (`links`).
 //!

@@ -1,17 +1,19 @@
 // A table over a store of rows.
-ghost use Rattle.std.specs.Prelude.{◌≡◌, ◌<◌, ◌+◌, ◌-◌, ◌^◌, min, if◌then◌else◌, not, ◌&&◌, Result, IfSome, IfOk, IsTrue, false, Some, None, Ok};
+ghost use Rattle.std.specs.Prelude.{◌≡◌, ◌<◌, ◌+◌, ◌-◌, ◌^◌, min, if◌then◌else◌, not, ◌&&◌, Result, IfSome, IfOk, IsTrue, true, false, Some, None, Ok};
 ghost use Rattle.std.specs.Option.{option_copied};
 ghost use Rattle.std.proofs.Props.{props};
 ghost use Rattle.std.specs.FinMap as map;
+ghost use Rattle.beldi_row.specs.Act.{drops};
 ghost use Rattle.beldi_row.specs.Table.{IsNotFull, entry_of};
 ghost use Rattle.beldi_sqltable.specs.Kept.{Keeps, Stood, Blames, leaves, links};
-ghost use Rattle.beldi_sqltable.specs.Store.{Stepped, written, settled};
+ghost use Rattle.beldi_sqltable.specs.Store.{Stepped, without, written, settled};
 
-use crate::calls::{open_store, read_row, row_after, write_row};
+use crate::calls::{open_store, read_row, remove_row, row_after, write_row};
 use crate::store::RowStore;
 use crate::survey::{Survey, survey_rows};
 use beldi_row::{
-    Act, Change, Opens, Row, RowKey, Said, Table, TableErr, apply, made, missing, tell,
+    Act, Change, Opens, Row, RowKey, Said, Table, TableErr, apply, drops, made, missing, removes,
+    tell,
 };
 use beldi_table::{forget_if, is_open, note_if, room_in};
 use std::alloc::Global;
@@ -200,7 +202,49 @@ impl<R: RowStore> RowTable<R> {
         }
     }
 
-    // An act on the row that stands at the key.
+    // Removes the row that stands at the key, and keeps the number of rows and the keys of open intents. Where it is not removed,
+    // all is as before.
+    fn forget(&mut self, key: RowKey) -> Result<(), TableErr>
+        requires { IfSome (R.rows self.old.store) (λ m. IsTrue (map.contains_key m key)) }
+        ensures rows { R.rows self.new.store ≡ without key result (R.rows self.old.store) }
+        ensures blames { Blames self.old.faults self.new.faults result }
+        ensures fits { IsNotFull result }
+        ensures room { self.new.room ≡ self.old.room }
+    {
+        match remove_row(&mut self.store, &mut self.faults, &key) {
+            Ok(()) => {
+                forget_if(&mut self.open_keys, &key, true);
+                self.count = self.count.saturating_sub(1);
+                drop(key);
+                Ok(())
+            }
+            Err(why) => {
+                drop(key);
+                Err(why)
+            }
+        }
+    }
+
+    // An act that may remove the row that stands at the key.
+    fn drop_row(&mut self, key: RowKey, row: Row, act: Act, now: u64) -> Result<Change, TableErr>
+        requires may { drops act ≡ true }
+        requires here { IfSome (R.rows self.old.store) (λ m. map.get m key ≡ Some row) }
+        ensures { Carried act now key (table_state self.old) (table_state self.new) self.new.found result }
+    {
+        let is_removed = removes(&act, &row, now);
+        drop(act);
+        drop(row);
+        if !is_removed {
+            drop(key);
+            return Ok(Change::NotSo);
+        }
+        match self.forget(key) {
+            Ok(()) => Ok(Change::Did),
+            Err(why) => Err(why),
+        }
+    }
+
+    // An act that removes no row, on the row that stands at the key.
     fn change_row(
         &mut self,
         key: RowKey,
@@ -208,7 +252,8 @@ impl<R: RowStore> RowTable<R> {
         act: Act,
         now: u64,
     ) -> Result<Change, TableErr>
-        requires { IfSome (R.rows self.old.store) (λ m. map.get m key ≡ Some row) }
+        requires keeps { drops act ≡ false }
+        requires here { IfSome (R.rows self.old.store) (λ m. map.get m key ≡ Some row) }
         ensures { Carried act now key (table_state self.old) (table_state self.new) self.new.found result }
     {
         let was_open = is_open(key.kind(), &row);
@@ -218,6 +263,18 @@ impl<R: RowStore> RowTable<R> {
         match self.settle(key, row, was_open, left) {
             Ok(()) => Ok(change),
             Err(why) => Err(why),
+        }
+    }
+
+    // An act on the row that stands at the key.
+    fn meet_row(&mut self, key: RowKey, row: Row, act: Act, now: u64) -> Result<Change, TableErr>
+        requires { IfSome (R.rows self.old.store) (λ m. map.get m key ≡ Some row) }
+        ensures { Carried act now key (table_state self.old) (table_state self.new) self.new.found result }
+    {
+        if drops(&act) {
+            self.drop_row(key, row, act, now)
+        } else {
+            self.change_row(key, row, act, now)
         }
     }
 
@@ -288,7 +345,7 @@ impl<R: RowStore> RowTable<R> {
         ensures { Carried act now key (table_state self.old) (table_state self.new) self.new.found result }
     {
         match read_row(&mut self.store, &mut self.faults, &key) {
-            Ok(Some(row)) => self.change_row(key, row, act, now),
+            Ok(Some(row)) => self.meet_row(key, row, act, now),
             Ok(None) => self.add_row(key, act, now),
             Err(why) => {
                 drop(key);

@@ -1,7 +1,7 @@
 // The trait of a store of rows.
 ghost use Rattle.std.specs.Prelude.{◌≡◌, Option};
 ghost use Rattle.beldi_row.specs.Table.{Rows};
-ghost use Rattle.beldi_sqltable.specs.Store.{Reads, Steps, written};
+ghost use Rattle.beldi_sqltable.specs.Store.{Reads, Steps, without, written};
 
 use beldi_row::{Row, RowKey};
 use thiserror::Error;
@@ -34,6 +34,10 @@ pub trait RowStore {
     /// Puts the row at the key, in place of the one that is there.
     fn write(&mut self, key: &RowKey, row: &Row) -> Result<(), StoreErr>
         ensures { rows self.new ≡ written key.now row.now result (rows self.old) };
+
+    /// Removes the row with the key, where there is one.
+    fn remove(&mut self, key: &RowKey) -> Result<(), StoreErr>
+        ensures { rows self.new ≡ without key.now result (rows self.old) };
 
     /// The first row whose key is greater, and None exactly where there is none.
     fn after(&mut self, key: &RowKey) -> Result<Option<(RowKey, Row)>, StoreErr>

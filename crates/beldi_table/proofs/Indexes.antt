@@ -124,6 +124,10 @@ pub added : (k : RowKey) (r : Row) (w : Bool) (m n : BTreeMap RowKey Row) (s t :
 added k r w m n s t is none h rows put =
     indexes k (Some r) (λ b. w || b) m n s t h rows put ((λ i. is i || opened k (none i)) ∙ or_false (is_open k.kind r))
 
+-- a row goes, and its key with it
+pub removed : (k : RowKey) (m n : BTreeMap RowKey Row) (s t : BTreeSet RowKey) → Indexed m s → ((q : RowKey) → get key_cmp n q ≡ cond (is_at (key_cmp k) q) None (get key_cmp m q)) → Sets k (λ b. false && b) s t → Indexed n t
+removed k m n s t h rows took = indexes k None (λ b. false && b) m n s t h rows took refl
+
 -- ---- the keys past one
 none_at : (m : BTreeMap RowKey Row) (s : BTreeSet RowKey) (q : RowKey) (r : Row) → Indexed m s → contains key_cmp s q ≡ false → map.get {R = key_cmp} (map.from_entries m.entries) q ≡ Some r → is_open q.kind r ≡ false
 none_at m s q r h none here = ap (opened q) (sym here ∙ get_rows key_total key_exact m.entries q) ∙ sym (h q) ∙ none

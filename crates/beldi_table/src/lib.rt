@@ -5,8 +5,8 @@
 //! Proved:
 //! - `MapTable` and `FailingTable` keep the contract of the trait.
 //! - `MapTable` keeps the keys of its open intents in order, those and no others (`Indexed`). So `opens` looks one up, and
-//!   goes over no rows. Of acts, Bind, End and Stamp alone look at these keys, and Register where it adds a row; what takes
-//!   memory is done before a row is changed.
+//!   goes over no rows. Of acts, Bind, End and Stamp alone look at these keys, Register where it adds a row, and those that
+//!   remove one; what takes memory is done before a row is changed.
 //! - `FailingTable` fails a call of the numbers that it is given, counted from 0, and no other (`told` of `act` and
 //!   `next`); each raises its number by one (`acts`, `went`), until that stands at its end. It does not say which intents
 //!   are open.

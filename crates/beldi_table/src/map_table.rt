@@ -1,14 +1,15 @@
 // A table over an ordered map in memory.
-ghost use Rattle.std.specs.Prelude.{◌≡◌, ℕ, ◌^◌, ◌-◌, min, None};
+ghost use Rattle.std.specs.Prelude.{◌≡◌, ℕ, ◌^◌, ◌-◌, min, true, false, None, Ok, option_map};
 ghost use Rattle.std.specs.Option.{option_copied};
 ghost use Rattle.std.specs.FinMap as map;
-ghost use Rattle.beldi_row.specs.Act.{said_by};
+ghost use Rattle.beldi_row.specs.Act.{drops, removes, said_by};
 ghost use Rattle.beldi_row.specs.Table.{room_of};
 ghost use Rattle.beldi_table.specs.Opened.{Indexed};
 
 use crate::open_keys::{binds, follow, forget_if, is_open, note_if, switches};
 use beldi_row::{
-    Act, Change, Opens, Row, RowKey, Said, Table, TableErr, apply, made, missing, tell,
+    Act, Change, Opens, Row, RowKey, Said, Table, TableErr, apply, drops, is_of_row, made, missing,
+    removes, tell,
 };
 use beldi_value::or_drop;
 use std::alloc::Global;
@@ -69,8 +70,47 @@ impl MapTable {
         }
     }
 
+    // Whether an act removes the row with this key, where there is one.
+    fn is_removed(&self, key: &RowKey, act: &Act, now: u64) -> Option<bool>
+        ensures { result ≡ option_map (removes act.now now) (map.get (rows_of self.now) key.now) }
+    {
+        match self.rows.get(key) {
+            Some(row) => Some(removes(act, row, now)),
+            None => None,
+        }
+    }
+
+    // Takes the row with this key away.
+    fn forget(&mut self, key: &RowKey)
+        ensures rows { rows_of self.new ≡ map.remove (rows_of self.old) key.now }
+        ensures room { self.new.room ≡ self.old.room }
+    {
+        drop(self.rows.remove(key));
+        forget_if(&mut self.open_keys, key, true);
+    }
+
+    // An act that may remove the row with this key. What it says lends nothing.
+    fn drop_row(&mut self, key: &RowKey, act: Act, now: u64) -> Change
+        requires { drops act ≡ true }
+        ensures rows { ChangedOn act now key.now self.old.room (rows_of self.old) (rows_of self.new) None (Ok result) }
+        ensures room { self.new.room ≡ self.old.room }
+    {
+        let said = missing(&act);
+        let found = self.is_removed(key, &act, now);
+        drop(act);
+        match found {
+            None => said,
+            Some(false) => Change::NotSo,
+            Some(true) => {
+                self.forget(key);
+                Change::Did
+            }
+        }
+    }
+
     // An act on the row with this key. A Look changes nothing, so it needs no row yet.
     fn change(&mut self, key: &RowKey, act: Act, now: u64) -> Result<Tried, TableErr>
+        requires { drops act ≡ false }
         ensures tries { Tries act now key.now self.old self.new result }
         ensures room { self.new.room ≡ self.old.room }
     {
@@ -98,16 +138,10 @@ impl MapTable {
     fn row_told(&self, key: &RowKey, change: Change) -> Option<&Row>
         ensures { said_by change (option_copied result) ≡ said_by change (map.get (rows_of self.now) key.now) }
     {
-        match change {
-            Change::Row
-            | Change::Other
-            | Change::Ended
-            | Change::Kept
-            | Change::Noted(_)
-            | Change::Held
-            | Change::Died
-            | Change::Packed => self.rows.get(key),
-            _ => None,
+        if is_of_row(change) {
+            self.rows.get(key)
+        } else {
+            None
         }
     }
 
@@ -186,6 +220,11 @@ impl Table for MapTable {
     }
 
     fn act(&mut self, key: RowKey, act: Act, now: u64) -> Result<Said<'_>, TableErr> {
+        if drops(&act) {
+            let change = self.drop_row(&key, act, now);
+            drop(key);
+            return Ok(tell(None, change));
+        }
         match or_drop!(self.change(&key, act, now); key) {
             Tried::Done(change) => {
                 let row = self.row_told(&key, change);

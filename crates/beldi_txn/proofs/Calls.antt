@@ -1,5 +1,5 @@
 -- The rows of the calls of an intent, in the order of their steps.
-use Rattle.beldi_txn.proofs.Names.{AreFit, AreHops, Bool, Called, CallsFollow, Equal, FindsCall, Greater, IntentId, IsFirstFrom, IsFit, IsNext, IsNextCall, Kind, Less, None, Option, Ordering, Promises, Row, RowKey, Rows, Some, ap, arith, below, between, call_after, call_key, call_of, eq-eqb, eqb-true, false, func_called, id_before, id_cmp, id_eq, id_exact, id_same, id_self, id_total, if◌then◌else◌, invokes_after, invokes_asks, invokes_found, irreflexive, is_less, key_cmp, key_exact, key_total, most, nat_cmp, nat_cmp_total, next_row, next_row_least, option_map, ordering_reverse, ordering_then, parts, precedes, promised, refl, slice_cmp, sym, tied_itself, true, ℕ, ◌&&◌, ◌<◌, ◌==◌, ◌∙◌, ◌≡◌, ◌≤◌}
+use Rattle.beldi_txn.proofs.Names.{AreFit, AreHops, Bool, Called, CallsFollow, Equal, FindsCall, Greater, IntentId, IsFirstFrom, IsFit, IsNext, IsNextCall, Kind, Less, None, Option, Ordering, Promises, Row, RowKey, Rows, Some, ap, arith, assoc, below, between, call_after, call_key, call_of, eq-eqb, eqb-true, false, func_called, id_before, id_cmp, id_eq, id_exact, id_same, id_self, id_total, if◌then◌else◌, invokes_after, invokes_asks, invokes_found, irreflexive, is_less, key_cmp, key_exact, key_total, most, nat_cmp, nat_cmp_total, next_row, next_row_least, option_map, ordering_reverse, ordering_then, parts, precedes, promised, refl, slice_cmp, sym, tied_itself, true, ℕ, ◌&&◌, ◌<◌, ◌==◌, ◌∙◌, ◌≡◌, ◌≤◌}
 use Rattle.beldi_txn.proofs.Names.map
 
 pub by_order : (o : Ordering) (P : Type 0) → (o ≡ Less → P) → (o ≡ Equal → P) → (o ≡ Greater → P) → P
@@ -11,16 +11,11 @@ pub both : (a b : Bool) → (a && b) ≡ true → (a ≡ true) × (b ≡ true)
 both true b h = (refl, h)
 both false b h = cc
 
-assoc : (o p r : Ordering) → ordering_then o (ordering_then p r) ≡ ordering_then (ordering_then o p) r
-assoc Less p r = refl
-assoc Equal p r = refl
-assoc Greater p r = refl
-
 -- behind the intent: the step
-abbrev steps : ℕ → ℕ → Ordering
+abbrev pub steps : ℕ → ℕ → Ordering
 steps n k = ordering_then (nat_cmp n k) Equal
 
-by_steps : (home room : ℕ) (a i : IntentId) (n k : ℕ) → key_cmp (call_key home a n) (call_key room i k) ≡ ordering_then (nat_cmp home room) (ordering_then (id_cmp a i) (steps n k))
+pub by_steps : (home room : ℕ) (a i : IntentId) (n k : ℕ) → key_cmp (call_key home a n) (call_key room i k) ≡ ordering_then (nat_cmp home room) (ordering_then (id_cmp a i) (steps n k))
 by_steps home room a i n k = ap (ordering_then (nat_cmp home room)) (assoc (nat_cmp a.ticket i.ticket) (slice_cmp nat_cmp a.hops i.hops) (steps n k))
 
 steps_below : (n k : ℕ) → steps n k ≡ Less → n < k

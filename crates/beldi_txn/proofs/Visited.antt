@@ -1,6 +1,6 @@
 -- The end of a transaction visits all who took part, and passes all rows of their locks, one after another.
 use Rattle.beldi_txn.{specs.declared.end.EndAt.TheVariants.Shadow, proofs.TxTurn.others_set, proofs.TxTurn.here_set, proofs.TxTurn.Reads, proofs.TxTurn.reads_on, proofs.TxTurn.other_kind, proofs.TxTurn.item_kept, proofs.TxTurn.aside_kept, proofs.TxTurn.asked, proofs.Calls.by_order, proofs.Calls.next_call, proofs.Calls.first_call, proofs.Locks.Item, proofs.Locks.item_at, proofs.Locks.item_told, proofs.Locks.none_past, proofs.Locks.none_first, proofs.Locks.none_between, proofs.Locks.none_before}
-use Rattle.beldi_txn.proofs.Names.{Act, AllFreed, AllGrow, AllReleased, AreClosed, AreFit, AreLinked, AreMarked, AreReleased, AtEnd, Bool, Called, Callees, CellOp, Chain, ChangedAlone, Content, Decide, DecidedAt, EndAt, EndGoes, EndSays, EndTurn, EndWalk, EndsAreVisits, Free, Frees, Gives, HasItem, HasWay, IntentId, IsAfter, IsCall, IsDecided, IsFirstFrom, IsFrom, IsLinked, IsMember, IsNext, IsNextCall, IsPassed, IsPast, IsReleased, IsWay, IsWithin, Kind, Leaves, LeftAt, Less, Levels, List, LoggedTurn, Look, Member, Next, None, Note, Option, Owner, Place, Plain, PutRead, Query, ReadGoes, Row, RowKey, Rows, RowsStay, SeesRows, Some, Stamp, StampAct, Stamps, StartsWithin, Try, TxId, Value, Visit, Visited, VisitsBegin, VisitsStand, WasAsked, WriteAt, WriteGoes, WriteSays, WriteWalk, [], act, alone_by, ap, arith, aside_head, aside_row, at_each, at_of, at_row, back_from, by_op, call_after, call_goes, call_key, called_at, callee_of, calls_after, calls_goes, chain, chain_other, child_of, content, counts, decide_goes, decision_row, false, first_from, first_visit, free_first, free_place, freed_goes, func_called, given_value, has_callees, has_no_hops, head_asked, home_of, if◌then◌else◌, inl, inr, intent_key, invokes_after, is_closed, is_eq, is_none, is_own, is_owner, is_some, item_after, item_head, item_in, item_row, key_cmp, key_exact, key_same, key_total, last_goes, left_row, lock_row, lockset_after, lockset_key, logged_at, logged_so, looked, ltb-false, ltb-true, member_at, moved, next_goes, next_row, next_row_least, no_root, note_at, of_no_item, option_map, ordering_reverse, others_grow, others_keep, owner_of, owns, rank_of, read_goes, readers_keep, reads_begin, refl, row_closed, rows_after, said, said_of, same_grow, shadow_value, split_front, stamp_with, subst, suc, sym, tail, told_by, true, turned, unless_owned, value_goes, visited_by, walk_asks, walk_goes, walk_next, walk_says, walks_begin, write_goes, zero, ℕ, ◌++◌, ◌<◌, ◌∙◌, ◌∷◌, ◌≡◌, ◌≤◌, ◌⊎◌}
+use Rattle.beldi_txn.proofs.Names.{cell_key, rows_there, write_spares, Act, AllFreed, AllGrow, AllReleased, AreClosed, AreFit, AreLinked, AreMarked, AreReleased, AtEnd, Bool, Called, Callees, CellOp, Chain, ChangedAlone, Content, Decide, DecidedAt, EndAt, EndGoes, EndSays, EndTurn, EndWalk, EndsAreVisits, Free, Frees, Gives, HasItem, HasWay, IntentId, IsAfter, IsCall, IsDecided, IsFirstFrom, IsFrom, IsLinked, IsMember, IsNext, IsNextCall, IsPassed, IsPast, IsReleased, IsWay, IsWithin, Kind, Leaves, LeftAt, Less, Levels, List, LoggedTurn, Look, Member, Next, None, Note, Option, Owner, Place, Plain, PutRead, Query, ReadGoes, Row, RowKey, Rows, RowsStay, SeesRows, Some, Stamp, StampAct, Stamps, StartsWithin, Try, TxId, Value, Visit, Visited, VisitsBegin, VisitsStand, WasAsked, WriteAt, WriteGoes, WriteSays, WriteWalk, [], act, alone_by, ap, arith, aside_head, aside_row, at_each, at_of, at_row, back_from, by_op, call_after, call_goes, call_key, called_at, callee_of, calls_after, calls_goes, chain, chain_other, child_of, content, counts, decide_goes, decision_row, false, first_from, first_visit, free_first, free_place, freed_goes, func_called, given_value, has_callees, has_no_hops, head_asked, home_of, if◌then◌else◌, inl, inr, intent_key, invokes_after, is_closed, is_eq, is_none, is_own, is_owner, is_some, item_after, item_head, item_in, item_row, key_cmp, key_exact, key_same, key_total, last_goes, left_row, lock_row, lockset_after, lockset_key, logged_at, logged_so, looked, ltb-false, ltb-true, member_at, moved, next_goes, next_row, next_row_least, no_root, note_at, of_no_item, option_map, ordering_reverse, others_grow, others_keep, owner_of, owns, rank_of, read_goes, readers_keep, reads_begin, refl, row_closed, rows_after, said, said_of, same_grow, shadow_value, split_front, stamp_with, subst, suc, sym, tail, told_by, true, turned, unless_owned, value_goes, visited_by, walk_asks, walk_goes, walk_next, walk_says, walks_begin, write_goes, zero, ℕ, ◌++◌, ◌<◌, ◌∙◌, ◌∷◌, ◌≡◌, ◌≤◌, ◌⊎◌}
 use Rattle.beldi_txn.proofs.Levels.{ends_in, member_more, way_more, way_front, way_last, levels_top, levels_with, levels_pushed, levels_last, levels_popped, member_fit}
 use Rattle.beldi_txn.proofs.Names.map
 
@@ -64,14 +64,6 @@ asked_stands : (a : EndAt) (i : Option Item) (w : EndWalk) (p : Member) (m n : R
 asked_stands (Shadow r) (Some j) w p m n stay d = stay (lock_row w p j) d
 asked_stands (Free f) (Some j) w p m n stay d = stay (lock_row w p j) d
 asked_stands a i w p m n stay d = tt
-
--- an act takes no row away
-rows_stay : (q : Query) (now : ℕ) (m : Rows) → RowsStay m (rows_after q now m)
-rows_stay = at_each (λ r s. is_some r ≡ true → is_some s ≡ true) (λ r h. h) stays
-  where
-    stays : (a : Act) (now : ℕ) (r : Option Row) → is_some r ≡ true → is_some (act a now r).0 ≡ true
-    stays a now None h = cc
-    stays a now (Some r) h = refl
 
 module _ (w : EndWalk) (m n : Rows) (h : Leaves w m n) where
   -- the callee of a member is a participant
@@ -351,7 +343,7 @@ module _ (x : TxId) (end : ℕ) (commit : Bool) where
         others = alone_by m dn dk refl (others_set m dk s)
 
         stay : RowsStay m dn
-        stay = rows_stay (walk_asks (walk dz)) now m
+        stay = rows_there (walk_asks (walk dz)) refl now m
 
         grows : AllGrow m dn
         grows = others_grow m dn dk (of_no_item dk refl) (others_set m dk s)
@@ -671,7 +663,7 @@ module _ (x : TxId) (end : ℕ) (commit : Bool) where
     alone = alone_by m pn pk refl off_here
 
     stay : RowsStay m pn
-    stay = rows_stay (walk_asks (walk pz)) now m
+    stay = rows_there (walk_asks (walk pz)) refl now m
 
     grows : AllGrow m pn
     grows = others_grow m pn pk (of_no_item pk refl) off_here
@@ -755,7 +747,7 @@ module _ (x : TxId) (end : ℕ) (commit : Bool) where
     turns cs af (Some j) u (Free f) calls locks v =
         let q = walk_asks (walk (visit cs af (Some j) u (Free f))) in
         let n = rows_after q now m in
-        let stay = rows_stay q now m in
+        let stay = rows_there q (write_spares (cell_key (who cs).1 j.0 j.1) (free_place x end cs) (Owner.Tx x) (CellOp.Free u) f) now m in
         free_by cs af j u f m n stay v (write_goes Note.Freed f (told_by q now m)) (by_op (as_free cs af j u f m n stay v) m n now (v.linked (who cs).1 j).0 v.sees refl)
     turns cs af None u (Shadow r) calls locks v = let clash = v.item in cc
     turns cs af None u (Free f) calls locks v = let clash = v.item in cc

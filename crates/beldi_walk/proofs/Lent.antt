@@ -2,8 +2,8 @@
 use Rattle.std.specs.FinMap as map
 use Rattle.std.proofs.Common.{◌≡◌, inl, inr, ℕ, ◌==◌, ◌&&◌, Bool, true, false, if◌then◌else◌, Option, None, Some, Ok, Err, refl, ap, sym, ◌∙◌, subst}
 use Rattle.beldi_value.specs.{declared.value.Value.Value, declared.outcome.Outcome.Outcome, declared.place.Place.Place, declared.place.Owner.Owner, Passes.passes, Same.same_value, declared.id.IntentId.IntentId, Id.age_of}
-use Rattle.beldi_row.specs.declared.act.Act.TheVariants.{Look, Issue, Bind, Register, End, Stamp, PutRead, OpenInvoke, CallBack, NoteRegistered, PutLockset, MakeCell, WriteCell, CondCell, LockCell, FreeCell, LinkCell}
-use Rattle.beldi_row.specs.Act.{Tell, gone, no_row, did, not_owner, other, held, died, next, packed, not_full, kept_tell, outcome_tell, off, on, on_intent, on_invoke, on_cell, bind_to, end_with, stamp_with, call_back_to, register_to, other_owner, owns, noted_or, next_or, held_or, waits_for, owned_or, at_tail, unless_held, if_owned, if_room, is_full, given_or, entered, write_at, cond_to, cond_at, lock_at, free_at, link_to}
+use Rattle.beldi_row.specs.declared.act.Act.TheVariants.{Look, Issue, Bind, Register, End, Stamp, PutRead, OpenInvoke, CallBack, NoteRegistered, PutLockset, MakeCell, WriteCell, CondCell, LockCell, FreeCell, LinkCell, DropIntent, DropRow}
+use Rattle.beldi_row.specs.Act.{stays_unless, removes, removed_tell, is_old_row, is_left_row, Tell, gone, no_row, did, not_owner, other, held, died, next, packed, not_full, kept_tell, outcome_tell, off, on, on_intent, on_invoke, on_cell, bind_to, end_with, stamp_with, call_back_to, register_to, other_owner, owns, noted_or, next_or, held_or, waits_for, owned_or, at_tail, unless_held, if_owned, if_room, is_full, given_or, entered, write_at, cond_to, cond_at, lock_at, free_at, link_to}
 use Rattle.beldi_row.{specs.declared.notes.Note.Note, specs.declared.notes.Note.TheVariants.Wrote, specs.declared.notes.Note.TheVariants.Got, specs.declared.notes.Note.TheVariants.Died, specs.declared.notes.Note.TheVariants.Freed, specs.declared.row.Row.Row, specs.declared.row.Body.Body, specs.declared.row.Cell.Cell, specs.declared.row.IntentRow.IntentRow, specs.declared.row.InvokeRow.InvokeRow, specs.declared.act.Act.Act, specs.Log.note_at, specs.declared.table.TableErr.TableErr, specs.declared.table.TableErr.TheVariants.OutOfMemory, specs.declared.table.TableErr.TheVariants.Failed, specs.declared.table.TableErr.TheVariants.Full, specs.Table.Rows, specs.Table.TableState, specs.Table.Tells, proofs.Tells.tells_map, proofs.Unchanged.left}
 use Rattle.beldi_walk.specs.Query.{Told, lent, lends, is_death, tells_death, may_die, may_tell_death, LentStands, OnlyTransactionsDie, rows_after, told_by, CameOn}
 use Rattle.beldi_walk.specs.{declared.query.Query.Query, Walk.LeftAt, Walk.Left, Walk.Turned}
@@ -129,6 +129,8 @@ none_there (CondCell p w k o v) now h = refl
 none_there (LockCell p w s) now h = refl
 none_there (FreeCell p w v) now h = refl
 none_there (LinkCell n) now h = refl
+none_there (DropIntent l) now h = refl
+none_there DropRow now h = refl
 
 there : (a : Act) (now : ℕ) (r : Row) → Leaves r (on a now r)
 there Look now r = λ h. refl
@@ -148,10 +150,23 @@ there (CondCell p w k o v) now r = cell_leaves (cond_at p w k o v) no_row (λ c.
 there (LockCell p w s) now r = cell_leaves (lock_at p w) no_row (λ c. let z : Cell × Tell = (entered p Got c.value (Some w) c, did) in locked c p w (if_room c z) (room c z (λ h. cc))) r
 there (FreeCell p w v) now r = cell_leaves (free_at p w v) no_row (λ c. let z : Cell × Tell = (entered p Freed (given_or v c.value) None c, did) in owned c p w (if_room c z) (room c z (λ h. cc))) r
 there (LinkCell n) now r = cell_leaves (link_to n) no_row (λ c. linked c n) r
+there (DropIntent l) now r = λ h. refl
+there DropRow now r = λ h. refl
+
+-- an act that removes its row lends nothing
+removed_quiet : (b : Bool) → quiet (removed_tell b) ≡ false
+removed_quiet true = refl
+removed_quiet false = refl
+
+stands_by : (a : Act) (now : ℕ) (r : Row) (b : Bool) → removes a now r ≡ b → lent (stays_unless b (on a now r)).1 ≡ true → is_death (stays_unless b (on a now r)).1 ≡ false → (stays_unless b (on a now r)).0 ≡ Some r
+stands_by a now r false is h g = ap Some (there a now r (quiet_of (on a now r).1 h g))
+stands_by (DropIntent l) now r true is h g = let clash = sym (removed_quiet (is_old_row l now r)) ∙ quiet_of (on (DropIntent l) now r).1 h g in cc
+stands_by DropRow now r true is h g = let clash = sym (removed_quiet (is_left_row r)) ∙ quiet_of (on DropRow now r).1 h g in cc
+stands_by a now r true is h g = cc
 
 pub stands : LentStands
 stands a now None h g = none_there a now (quiet_of (off a now).1 h g)
-stands a now (Some r) h g = ap Some (there a now r (quiet_of (on a now r).1 h g))
+stands a now (Some r) h g = stands_by a now r (removes a now r) refl h g
 
 -- ---- only a transaction that asks for a lock dies
 abbrev Lives : {R : Type 0} → R × Tell → Type 0
@@ -241,6 +256,10 @@ kept_lives : (r : Row) → is_death (kept_tell (Some r)) ≡ false
 kept_lives (Row.ReadLog v) = refl
 kept_lives r = refl
 
+removed_lives : (b : Bool) → is_death (removed_tell b) ≡ false
+removed_lives true = refl
+removed_lives false = refl
+
 there_lives : (a : Act) (now : ℕ) (r : Row) → may_die a ≡ false → Lives (on a now r)
 there_lives Look now r h = refl
 there_lives Issue now r h = refl
@@ -263,6 +282,8 @@ there_lives (LockCell p (Owner.Intent a) s) now r h =
 there_lives (LockCell p (Owner.Tx t) s) now r h = cc
 there_lives (FreeCell p w v) now r h = on_cell_lives (free_at p w v) no_row (λ c. let z : Cell × Tell = (entered p Freed (given_or v c.value) None c, did) in owned_lives c p w (if_room c z) (room_lives c z refl)) refl r
 there_lives (LinkCell n) now r h = on_cell_lives (link_to n) no_row (λ c. linked_lives c n) refl r
+there_lives (DropIntent l) now r h = removed_lives (is_old_row l now r)
+there_lives DropRow now r h = removed_lives (is_left_row r)
 
 none_lives : (a : Act) (now : ℕ) → Lives (off a now)
 none_lives Look now = refl
@@ -271,7 +292,11 @@ none_lives a now = refl
 
 pub only_transactions_die : OnlyTransactionsDie
 only_transactions_die a now None h = none_lives a now
-only_transactions_die a now (Some r) h = there_lives a now r h
+only_transactions_die a now (Some r) h = by_stay (removes a now r)
+  where
+    by_stay : (b : Bool) → is_death (stays_unless b (on a now r)).1 ≡ false
+    by_stay true = there_lives a now r h
+    by_stay false = there_lives a now r h
 
 -- ---- a query
 -- one that lends leaves the rows, unless it tells a death ..

@@ -35,7 +35,7 @@ returns-then-not-note_if c =
 pub returns-else-not-note_if : goal.returns-else-not-note_if
 returns-else-not-note_if c =
     let row = c.apply-change.new.row in record {
-      tries = applied c.args.act c.args.now c.args.key.now c.args.self.now.room c.args.self.now.rows (c.get_mut.follows.lender row) c.in-Some.row.now row c.apply-change.result
+      tries = applied c.args.act c.args.now c.args.key.now c.args.self.now.room c.args.self.now.rows (c.get_mut.follows.lender row) c.in-Some.row.now row c.apply-change.result c.requires
           (sym c.get_mut.ensures.value ∙ ap option_copied_mut c.in-Some.is) ((c.get_mut.follows.holds row).3 (search rules)).0 c.apply-change.ensures;
       room = refl;
     }

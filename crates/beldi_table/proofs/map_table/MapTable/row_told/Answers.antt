@@ -2,5 +2,5 @@ use Rattle.std.proofs.Common.{sym, ◌∙◌, ap}
 use Rattle.beldi_row.{specs.Act.said_by, specs.KeyOrder.key_total, specs.KeyOrder.key_exact, proofs.Rows.get_rows}
 use Rattle.beldi_table.proofs.map_table.MapTable.row_told.Goals as goal
 
-pub returns-in-Row : goal.returns-in-Row
-returns-in-Row c = ap (said_by c.args.change) (c.get.ensures.value ∙ sym (get_rows key_total key_exact c.args.self.now.rows.entries c.args.key.now))
+pub returns-then-is_of_row : goal.returns-then-is_of_row
+returns-then-is_of_row c = ap (said_by c.args.change) (c.get.ensures.value ∙ sym (get_rows key_total key_exact c.args.self.now.rows.entries c.args.key.now))
