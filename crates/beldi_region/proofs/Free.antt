@@ -7,10 +7,10 @@ use Rattle.slab.specs.Slab.{Slab, get, slab_len, Updates, with_value}
 use Rattle.slab.proofs.SlabLemmas.{Updates-with_value}
 use Rattle.beldi_region.specs.declared.region.Slot.{Slot}
 use Rattle.beldi_region.specs.declared.region.SlotId.{SlotId}
-use Rattle.beldi_region.specs.Region.{SeenRegion, SeenSlot, slot_at, find, is_usable, is_free_at, lasts, with_value as lent_at, PutAt, Taken}
+use Rattle.beldi_region.specs.Region.{SeenRegion, SeenSlot, slot_at, find, is_usable, is_free_at, lasts, with_value as lent_at, PutAt, Taken, Released}
 use Rattle.beldi_region.specs.Slots.{seen, seen_of, IsFreeList, IsSound}
 use Rattle.beldi_region.proofs.Counts.{weight, seen_count}
-use Rattle.beldi_region.proofs.Seen.{OneSlot, moves, freed, puts, takes, seen_found}
+use Rattle.beldi_region.proofs.Seen.{OneSlot, moves, freed, puts, releases, takes, seen_found}
 
 module _ {V : Type 0} where
   free_is : (o : Option V) (g : ℕ) → is_free_at o g ≡ true → (o ≡ None) × (lasts g ≡ true)
@@ -57,6 +57,18 @@ module _ {V : Type 0} where
       takes _ _ id v (record {
         before = one.before ∙ ap₂ (λ g o. Some (record { generation = g; value = o })) same taken;
         after = one.after ∙ ap (λ g. Some (record { generation = g + 1; value = None })) same;
+        others = one.others;
+        room = refl;
+      })
+
+  -- .. and the slot keeps its generation
+  pub releases_from : (old : Slab (Slot V)) (room : ℕ) (id : SlotId) (next : Option ℕ) (s : Slot V) (v : V) → get old id.slot ≡ Some s → s.generation ≡ id.generation → s.value ≡ Some v → lasts s.generation ≡ true → Released (seen_in old room) (seen_in (with_value old id.slot (record { generation = s.generation; value = None; next = next })) room) id v
+  releases_from old room id next s v at same taken last =
+      let is : Slot V = record { generation = s.generation; value = None; next = next } in
+      let one = as_seen room old (with_value old id.slot is) id.slot (Some s) (Some is) at (Updates-with_value old id.slot is (ap is_some at)) in
+      releases _ _ id v (subst (λ g. lasts g ≡ true) same last) (record {
+        before = one.before ∙ ap₂ (λ g o. Some (record { generation = g; value = o })) same taken;
+        after = one.after ∙ ap (λ g. Some (record { generation = g; value = None })) same;
         others = one.others;
         room = refl;
       })

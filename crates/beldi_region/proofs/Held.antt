@@ -8,7 +8,7 @@ use Rattle.std.proofs.lemmas.Option.{slice_get-map, slice_get_within, get_or_fro
 use lib.ListN.{length-map}
 use Rattle.std.proofs.lemmas.List.Elements.{All-from_recursion, recursion_from_All}
 use Rattle.std.proofs.Common.{◌≡◌, ◌≢◌, ◌⊎◌, inl, inr, ℕ, ◌+◌, ◌-◌, ◌<◌, Bool, true, false, cond, List, [], ◌∷◌, length, map, Option, Some, None, Ok, is_some, IsTrue, IfSome, refl, subst, ap, sym, ◌∙◌, slice_index_or, slice_get, insert, option_map, arith, true≢false}
-use Rattle.beldi_row.{specs.Key.RowKey, specs.Key.key_cmp, specs.KeyOrder.key_total, specs.KeyOrder.key_exact, specs.Table.first_above, specs.Table.next_row, specs.Table.LeadsOn, specs.Act.Changes, specs.declared.row.Row.Row, specs.declared.act.Act.Act, specs.declared.act.Change.Change, proofs.Rows.get_rows, proofs.Rows.one_set, proofs.Rows.entries_rows, proofs.Rows.len_rows}
+use Rattle.beldi_row.{specs.Key.RowKey, specs.Key.key_cmp, specs.KeyOrder.key_total, specs.KeyOrder.key_exact, specs.Table.first_above, specs.Table.next_row, specs.Table.LeadsOn, specs.Act.Changes, specs.Act.drops, specs.declared.row.Row.Row, specs.declared.act.Act.Act, specs.declared.act.Change.Change, proofs.Rows.get_rows, proofs.Rows.one_set, proofs.Rows.entries_rows, proofs.Rows.len_rows}
 use Rattle.beldi_value.specs.declared.place.Place.{Place}
 use Rattle.beldi_table.{specs.MapTable.ChangedOn, proofs.Changes.there}
 use Rattle.beldi_region.specs.{Region.SeenRegion, Region.find, Region.spaces, Region.PutAt, Region.Changed, Order.pair_of, Order.pair_at, Order.pairs, Order.rows_in, Order.seat, Order.slot_of, Order.side, Order.IsPast, Order.IsGap, Order.IsOrdered, Order.IsHeld, Follows.Follows, declared.region.SlotId.SlotId, declared.order.Entry.Entry}
@@ -292,11 +292,11 @@ pub map_changed : (r s : SeenRegion Entry) (ids : List SlotId) (id : SlotId) (x 
 map_changed r s ids id x y h was c same = one_set key_total key_exact (pairs r ids) (pairs s ids) x.key y.row (rows_changed r s ids id x y h was c same)
 
 -- an act on the row of a slot
-pub changed_on : (a : Act) (now : ℕ) (k : RowKey) (room : ℕ) (r s : SeenRegion Entry) (ids : List SlotId) (id : SlotId) (x y : Entry) (c : Change) → IsHeld r ids → side k (find r id) ≡ Equal → find r id ≡ Some x → Changed r s id y → y.key ≡ x.key
+pub changed_on : (a : Act) (now : ℕ) (k : RowKey) (room : ℕ) (r s : SeenRegion Entry) (ids : List SlotId) (id : SlotId) (x y : Entry) (c : Change) → IsHeld r ids → drops a ≡ false → side k (find r id) ≡ Equal → find r id ≡ Some x → Changed r s id y → y.key ≡ x.key
     → Changes a now x.row y.row c → ChangedOn a now k room (rows_in r ids) (rows_in s ids) (fin.get (rows_in s ids) k) (Ok c)
-changed_on a now k room r s ids id x y c h at was change same done =
+changed_on a now k room r s ids id x y c h keeps at was change same done =
     let key : x.key ≡ k = sym (key_exact k x.key (ap (side k) (sym was) ∙ at)) in
-    there a now k room (rows_in r ids) (rows_in s ids) x.row y.row c (row_found r ids id k x h at was) (map_changed r s ids id x y h was change same ∙ ap (λ q. fin.insert (rows_in r ids) q y.row) key) done
+    there a now k room (rows_in r ids) (rows_in s ids) x.row y.row c keeps (row_found r ids id k x h at was) (map_changed r s ids id x y h was change same ∙ ap (λ q. fin.insert (rows_in r ids) q y.row) key) done
 
 -- the row that follows the one in a slot
 pub leads : (r : SeenRegion Entry) (ids : List SlotId) (id : SlotId) (k : RowKey) (x : Entry) (p : Option Place) (o : Option ℕ) → IsHeld r ids → side k (find r id) ≡ Equal → find r id ≡ Some x → IfSome o (Follows x.row p) → IfSome o (λ n. LeadsOn (rows_in r ids) k p n)

@@ -3,11 +3,13 @@ mod Along
 mod Counts
 mod Flat
 mod Free
+mod Gone
 mod Held
 mod Kept
 mod Listed
 mod Lists
 mod Moved
+mod Near
 mod Past
 mod Seen
 mod Spots

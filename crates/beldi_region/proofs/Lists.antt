@@ -45,6 +45,15 @@ map_removed f zero (x ∷ xs) = refl
 map_removed f (suc p) [] = refl
 map_removed f (suc p) (x ∷ xs) = ap (λ ys. f x ∷ ys) (map_removed f p xs)
 
+pub length_removed : {A : Type 0} (p : ℕ) (xs : List A) → p < length xs → length (remove xs p) + 1 ≡ length xs
+length_removed p [] l = absurd (omega (arith, l))
+length_removed zero (x ∷ xs) l = omega arith
+length_removed (suc p) (x ∷ xs) l = let h = length_removed p xs (omega (arith, l)) in omega (arith, h)
+
+pub all_both : {A : Type 0} (P Q : A → Type 0) (xs : List A) → AllByRecursion P xs → AllByRecursion Q xs → AllByRecursion (λ x. P x × Q x) xs
+all_both P Q [] a b = tt
+all_both P Q (x ∷ xs) a b = ((a.0, b.0), all_both P Q xs a.1 b.1)
+
 pub all_removed : {A : Type 0} (P : A → Type 0) (p : ℕ) (xs : List A) → AllByRecursion P xs → AllByRecursion P (remove xs p)
 all_removed P zero [] a = tt
 all_removed P zero (x ∷ xs) a = a.1
@@ -57,7 +66,7 @@ swapped true false u v w h = refl
 swapped false true u v w h = refl
 swapped false false u v w h = refl
 
-unpassed : {A : Type 0} (b : Bool) (v : A) (r : Option A) → cond b (Some v) r ≡ None → (b ≡ false) × (r ≡ None)
+pub unpassed : {A : Type 0} (b : Bool) (v : A) (r : Option A) → cond b (Some v) r ≡ None → (b ≡ false) × (r ≡ None)
 unpassed true v r h = cc
 unpassed false v r h = (refl, h)
 
@@ -121,6 +130,20 @@ module _ {K : Type 0} {R : K → K → Ordering} (o : IsTotalOrder R) where
     lookup_removed q zero (e ∷ es) n = sym (ap (λ b. cond b (Some e.1) (lookup (is_at (R q)) es)) (n e.0 (omega arith)))
     lookup_removed q (suc p) [] n = refl
     lookup_removed q (suc p) (e ∷ es) n = ap (cond (is_at (R q) e.0) (Some e.1)) (lookup_removed q p es (λ d l. n d (omega (arith, l))))
+
+    none_past : (k : K) (es : List (K × X)) → AllByRecursion (λ x. R k x ≡ Less) (keys_of es) → lookup (is_at (R k)) es ≡ None
+    none_past k [] a = refl
+    none_past k (e ∷ es) a = ap (λ c. cond (is_eq c) (Some e.1) (lookup (is_at (R k)) es)) a.0 ∙ none_past k es a.1
+
+    -- the key at a place is not found once it is taken away
+    pub lookup_gone : (p : ℕ) (es : List (K × X)) (d : K) → IsStrictlySortedBy R (keys_of es) → p < length (keys_of es) → lookup (is_at (R (slice_index_or (keys_of es) p d))) (remove es p) ≡ None
+    lookup_gone p [] d s l = absurd (omega (arith, l))
+    lookup_gone zero (e ∷ es) d s l = none_past e.0 es (sorted_head R e.0 (keys_of es) s)
+    lookup_gone (suc p) (e ∷ es) d s l =
+        let z = slice_index_or (keys_of es) p d in
+        let less : p < length (keys_of es) = omega (arith, l) in
+        let past = at_each (λ x. R e.0 x ≡ Less) (keys_of es) p d less (sorted_head R e.0 (keys_of es) s) in
+        ap (λ c. cond (is_eq c) (Some e.1) (lookup (is_at (R z)) (remove es p))) (greater_of e.0 z past) ∙ lookup_gone p es d (sorted_tail R e.0 (keys_of es) s) less
 
     -- the value at a place is found by the key there
     pub lookup_here : (p : ℕ) (es : List (K × X)) (d : K × X) → IsStrictlySortedBy R (keys_of es) → p < length es → lookup (is_at (R (slice_index_or es p d).0)) es ≡ Some (slice_index_or es p d).1

@@ -3,7 +3,7 @@ use Rattle.std.proofs.Common.{◌≡◌, ◌≢◌, ℕ, ◌+◌, ◌<◌, Bool,
 use Rattle.std.proofs.lemmas.Bool.{cases_eq, cases_lt, ne_eqb, eq-eqb}
 use Rattle.std.proofs.lemmas.List.{get_or_past, get_or-set_same, get_or-set_other}
 use Rattle.std.proofs.lemmas.Bool.Decides.{eqb_tells}
-use Rattle.beldi_region.specs.Region.{SeenSlot, SeenRegion, slot_at, value_of, find, is_usable, spaces, with_value, Beside, PutAt, Taken, Changed}
+use Rattle.beldi_region.specs.Region.{SeenSlot, SeenRegion, slot_at, value_of, find, is_usable, spaces, with_value, lasts, Beside, PutAt, Taken, Released, Changed}
 use Rattle.beldi_region.specs.declared.region.SlotId.{SlotId}
 use Rattle.beldi_region.proofs.Counts.{weight, one_moves}
 
@@ -104,6 +104,21 @@ module _ {V : Type 0} where
         stale = subst (Later id.generation) (sym one.after) (omega arith);
         beside = beside old new id (Some was) (Some is) one (record { values = λ g n. freed g is refl ∙ sym (other_value was g n); stale = λ g s. omega (arith, s) });
         spaces = omega (arith, written, usable, one.room);
+      }
+
+  -- .. and the slot may be used again
+  pub releases : (old new : SeenRegion V) (id : SlotId) (v : V) → lasts id.generation ≡ true → OneSlot old new id.slot (Some (record { generation = id.generation; value = Some v })) (Some (record { generation = id.generation; value = None })) → Released old new id v
+  releases old new id v last one =
+      let was : SeenSlot V = record { generation = id.generation; value = Some v } in
+      let is : SeenSlot V = record { generation = id.generation; value = None } in
+      let written = moves is_some refl old new id.slot (Some was) (Some is) one in
+      let usable = moves is_usable refl old new id.slot (Some was) (Some is) one in
+      let free = ap weight last in
+      record {
+        was = ap (λ o. value_of o id.generation) one.before ∙ own_value was;
+        gone = ap (λ o. value_of o id.generation) one.after ∙ freed id.generation is refl;
+        beside = beside old new id (Some was) (Some is) one (record { values = λ g n. freed g is refl ∙ sym (other_value was g n); stale = λ g s. s });
+        spaces = omega (arith, written, usable, free, one.room);
       }
 
   slot_within : (xs : List (Option (SeenSlot V))) (k : ℕ) (s : SeenSlot V) → get_or xs k None ≡ Some s → k < length xs

@@ -1,8 +1,8 @@
 -- Slots in the order of the keys of their rows.
-use Rattle.std.specs.Prelude.{◌≡◌, ◌≢◌, ℕ, ◌+◌, ◌<◌, ◌≤◌, Bool, true, false, List, length, map, Option, Some, None, Result, Ok, Err, slice_get, slice_index_or, is_some, IsTrue, All}
+use Rattle.std.specs.Prelude.{◌≡◌, ◌≢◌, ℕ, ◌+◌, ◌<◌, ◌≤◌, Bool, true, false, List, length, map, if◌then◌else◌, Option, Some, None, Result, Ok, Err, slice_get, slice_index_or, is_some, IsTrue, All}
 use Rattle.std.specs.{FinMap.from_entries, List.Sorted.IsStrictlySortedBy, Map.lookup, Map.keys_of, BTreeMap.is_at, Ordering.is_lt, declared.cmp.Ordering.Ordering, declared.cmp.Ordering.TheVariants.Less, declared.cmp.Ordering.TheVariants.Equal, declared.cmp.Ordering.TheVariants.Greater}
 use Rattle.beldi_row.specs.{Key.RowKey, Key.key_cmp, Key.least_key, Table.Rows, Table.is_open, declared.row.Row.Row}
-use Rattle.beldi_region.specs.{Region.SeenRegion, Region.find, Region.spaces, Blocks.block_at, declared.region.SlotId.SlotId, declared.order.Entry.Entry}
+use Rattle.beldi_region.specs.{Region.SeenRegion, Region.find, Region.spaces, Blocks.block_at, Blocks.flat, Blocks.place_in, Blocks.IsSpot, declared.region.SlotId.SlotId, declared.blocks.Spot.Spot, declared.order.Entry.Entry}
 
 -- the key and the row in a slot; what stands for a slot that has none is of no account
 abbrev pub pair_of : Option Entry → RowKey × Row
@@ -57,6 +57,11 @@ pub record IsGap (r : SeenRegion Entry) (ids : List SlotId) (k : RowKey) (place 
   pub below : (j : ℕ) (d : SlotId) → j + 1 ≡ place → side k (find r (slice_index_or ids j d)) ≡ Greater
   pub above : (d : SlotId) → place < length ids → side k (find r (slice_index_or ids place d)) ≡ Less
 
+-- a place, before which no slot stands but one with a lesser key
+pub record IsBehind (r : SeenRegion Entry) (bs : List (List SlotId)) (k : RowKey) (p : Spot) : Type 0 where
+  pub spot : IsSpot bs p
+  pub below : (j : ℕ) (d : SlotId) → j + 1 ≡ place_in bs p → side k (find r (slice_index_or (flat bs) j d)) ≡ Greater
+
 -- the place of the slot with a key, or the one where it is to stand
 abbrev pub Places : SeenRegion Entry → List SlotId → RowKey → Result ℕ ℕ → Type 0
 Places r ids k (Ok place) = (place < length ids) × ((d : SlotId) → side k (find r (slice_index_or ids place d)) ≡ Equal)
@@ -72,7 +77,14 @@ pub record IsOrdered (r : SeenRegion Entry) (ids : List SlotId) : Type 0 where
   pub taken : All (λ id. IsTrue (is_some (find r id))) ids
   pub rising : IsStrictlySortedBy key_cmp (keys_of (pairs r ids))
 
--- .. and so are all that are taken
+-- they are those that were there, but for the one with this key
+pub record IsWithout (r : SeenRegion Entry) (k : RowKey) (ids less : List SlotId) : Type 0 where
+  pub ordered : IsOrdered r less
+  pub none : slot_of r less k ≡ None
+  pub others : (q : RowKey) → is_at (key_cmp q) k ≡ false → slot_of r less q ≡ slot_of r ids q
+  pub count : length ids ≡ length less + (if is_some (slot_of r ids k) then 1 else 0)
+
+-- the slots of a table are in order, and so are all that are taken
 pub record IsHeld (r : SeenRegion Entry) (ids : List SlotId) : Type 0 where
   pub ordered : IsOrdered r ids
   pub seated : (id : SlotId) (e : Entry) → find r id ≡ Some e → slot_of r ids e.key ≡ Some id

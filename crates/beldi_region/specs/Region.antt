@@ -97,6 +97,13 @@ module _ {V : Type 0} where
     pub beside : Beside old new id
     pub spaces : spaces new ≡ spaces old + (if lasts (id.generation + 1) then 1 else 0)
 
+  -- the value of an id was taken out, and the id may be given again
+  pub record Released (old new : SeenRegion V) (id : SlotId) (value : V) : Type 0 where
+    pub was : find old id ≡ Some value
+    pub gone : find new id ≡ None
+    pub beside : Beside old new id
+    pub spaces : spaces new ≡ spaces old + 1
+
   -- an id that had a value has this one
   pub record Changed (old new : SeenRegion V) (id : SlotId) (value : V) : Type 0 where
     pub found : find new id ≡ Some value

@@ -1,6 +1,7 @@
 // Where rows may be.
+use crate::blocks::Spot;
 use crate::region::SlotId;
-use beldi_row::RowKey;
+use beldi_row::{Kind, RowKey};
 use std::alloc::{AllocError, Global};
 
 // How many hints there are.
@@ -12,11 +13,19 @@ const NONE: SlotId = SlotId {
     generation: u32::MAX,
 };
 
+// How many places there are: for each of 16 homes one for each kind of key, and two spare.
+const SPOTS: usize = 128;
+
+// A place that is not behind any slot.
+const START: Spot = Spot { block: 0, at: 0 };
+
 /// Where the row with a key may be, by a number that equal keys have alike. A hint may be wrong: whoever takes one compares the
-/// key of the row that is there. So nothing is proved of hints.
+/// key of the row that is there. So nothing is proved of hints. Nor is it of the place where a row of a home and a kind was
+/// last missed: the next one is mostly missed there or a little behind, and the rows beside a place are compared.
 #[derive(Drop)]
 pub(crate) struct Hints {
     ids: Vec<SlotId>,
+    spots: Vec<Spot>,
 }
 
 impl Hints {
@@ -24,13 +33,17 @@ impl Hints {
     pub(crate) fn new(alloc: Global) -> Hints {
         Hints {
             ids: Vec::new(alloc),
+            spots: Vec::new(alloc),
         }
     }
 
     /// Takes the memory for all hints, where that was not done.
     pub(crate) fn fill(&mut self) -> Result<(), AllocError> {
         if self.ids.len() < HINTS {
-            return self.ids.resize(HINTS, NONE);
+            self.ids.resize(HINTS, NONE)?;
+        }
+        if self.spots.len() < SPOTS {
+            return self.spots.resize(SPOTS, START);
         }
         Ok(())
     }
@@ -53,5 +66,37 @@ impl Hints {
         if let Some(hint) = self.ids.get_mut(number) {
             *hint = id;
         }
+    }
+
+    /// Where a row of this key's home and kind was last missed.
+    pub(crate) fn spot(&self, key: &RowKey) -> Spot {
+        match self.spots.get(spot_number(key)) {
+            Some(spot) => *spot,
+            None => START,
+        }
+    }
+
+    /// A row with this key was missed here.
+    pub(crate) fn missed(&mut self, key: &RowKey, spot: Spot) {
+        if let Some(last) = self.spots.get_mut(spot_number(key)) {
+            *last = spot;
+        }
+    }
+}
+
+// The number of the place for a key's home and kind.
+fn spot_number(key: &RowKey) -> usize {
+    usize::from(key.home() & 15) << 3 | kind_number(key)
+}
+
+// The number of a key's kind.
+fn kind_number(key: &RowKey) -> usize {
+    match key.kind() {
+        Kind::Intent(_) => 0,
+        Kind::ReadLog(_) => 1,
+        Kind::Invoke(_) => 2,
+        Kind::Data { .. } => 3,
+        Kind::Shadow { .. } => 4,
+        Kind::Lockset { .. } => 5,
     }
 }

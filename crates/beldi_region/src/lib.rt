@@ -7,13 +7,15 @@
 //! Proved:
 //! - An id has the value that was put under it until that is taken, and no call changes what another id has (`Beside`).
 //! - A value is taken in exactly where there is space (`spaces`): a slot that was never used, or a free one below the last
-//!   generation. No call after `open` takes memory.
+//!   generation, or after a `release` of any. No call after `open` takes memory.
 //! - A `take` raises the generation of its slot, so the id is stale from then on, and what is stale stays so (`IsStale`).
+//! - A `release` leaves the generation, so the slot may always be used again, and the id be given again (`Released`).
 //! - `RegionTable` keeps the contract of the trait, and no act and no step is out of memory (`never`): all memory for rows is
 //!   taken by `ready`.
 //! - Its slots are those that are taken, in the order of their keys, and no two have one key (`IsHeld`). So a row is the one of
-//!   its key wherever a hint found it, and an act that adds a row puts its slot where the search ended. Where `ready` needs more
-//!   memory, the rows go to another region.
+//!   its key wherever a hint found it, and an act that adds a row puts its slot where the search ended, or at a place that was tried
+//!   before and has a lesser key before it and a greater one behind it. Where `ready` needs more memory, the rows go to another
+//!   region.
 //! - The slots of open intents are kept in order too (`IsListed`), so `opens` goes over no rows.
 //! - An order is a list in blocks of at most 128 slots, of which no two neighbours have few (`AreTight`): so there are at most as
 //!   many as were reserved, and a slot that is put or taken away moves those of a block or two alone.
@@ -23,9 +25,9 @@
 //! - Code (`src/`): `region`; `block` a few slots, `blocks` a list of slots in blocks, `order` slots by their keys, `hints` where
 //!   rows may be, `opened` which have open intents, `region_table`; `laws`.
 //! - Lemmas (`proofs/`): `Counts` one slot that changes; `Seen` what the calls do; `Free` the list of free slots; `Flat` lists in
-//!   blocks, `Kept` blocks that are split and joined, `Spots` places in them; `Lists` one more in a list in order; `Past` the first
-//!   one past a key; `Held` the slots of a table, `Listed` those of open intents, `Moved` those of its rows that go to another
-//!   region; `Along` a chain of rows; `Alike` the law.
+//!   blocks, `Kept` blocks that are split and joined, `Spots` places in them, `Near` one that is tried; `Lists` one more in a list in
+//!   order; `Past` the first one past a key; `Held` the slots of a table, `Gone` one of them that is taken away, `Listed` those of
+//!   open intents, `Moved` those of its rows that go to another region; `Along` a chain of rows; `Alike` the law.
 #![tactic(auto)]
 
 mod block;

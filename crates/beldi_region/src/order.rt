@@ -1,14 +1,17 @@
 // Slots in the order of the keys of their rows.
-ghost use Rattle.std.specs.Prelude.{◌≡◌, ◌+◌, ◌-◌, ◌*◌, ◌<◌, ◌≤◌, [], IfOk, IfErr, IfSome, length, insert, remove, slice_get, option_map};
+ghost use Rattle.std.specs.Prelude.{◌≡◌, ◌+◌, ◌-◌, ◌*◌, ◌<◌, ◌≤◌, true, [], IfOk, IfErr, IfSome, length, insert, remove, slice_get, option_map};
 ghost use Rattle.beldi_region.specs.Region.{find};
 ghost use Rattle.beldi_region.specs.Blocks.{AreTight, tight_prop, flat, half_room, IsAt, IsSpot};
-ghost use Rattle.beldi_region.specs.Order.{side, IsBlockPast, IsPast, Places, Finds};
+ghost use Rattle.beldi_region.specs.Order.{side, IsBehind, IsBlockPast, IsGap, IsOrdered, IsPast, IsWithout, Places, Finds};
 
 use crate::blocks::{Blocks, Spot};
 use crate::region::{Region, SlotId};
 use beldi_row::{Row, RowKey};
 use std::alloc::{AllocError, Global};
 use std::cmp::Ordering;
+
+// How many slots are compared behind a place that is tried.
+const NEAR: u32 = 4;
 
 /// A row of a table, with its key.
 #[derive(Drop)]
@@ -108,6 +111,49 @@ impl Order {
         }
     }
 
+    // Whether a slot with a lesser key stands before a place in its block.
+    fn is_behind(&self, region: &Region<Entry>, key: &RowKey, spot: Spot) -> bool
+        ensures { result ≡ true → IsBehind region.now self.now.blocks.lists key.now spot }
+    {
+        if spot.at == 0 {
+            return false;
+        }
+        let last = Spot {
+            block: spot.block,
+            at: spot.at - 1,
+        };
+        match self.blocks.slot(last) {
+            Some(id) => side(region, id, key).is_gt(),
+            None => false,
+        }
+    }
+
+    /// The place where a key without a row is to stand, where that is this one or a few behind it. It may be no place at all.
+    // Inline, it would cost whoever finds a row by its hint 11 instructions.
+    #[inline(never)]
+    pub(crate) fn gap_near(&self, region: &Region<Entry>, key: &RowKey, near: Spot) -> Option<Spot>
+        ensures spot { IfSome result (IsSpot self.now.blocks.lists) }
+        ensures gap { IfSome result (λ s. IsGap region.now (ids_of self.now) key.now (place_of self.now s)) }
+    {
+        if !self.is_behind(region, key, near) {
+            return None;
+        }
+        let mut spot = near;
+        let mut left = NEAR;
+        while left > 0 {
+            let Some((id, next)) = self.next(spot) else {
+                return Some(spot);
+            };
+            match side(region, id, key) {
+                Ordering::Less => return Some(spot),
+                Ordering::Equal => return None,
+                Ordering::Greater => spot = next,
+            }
+            left -= 1;
+        }
+        None
+    }
+
     /// The place of the slot with a key, or else the place where it is to stand.
     pub(crate) fn place_of(&self, region: &Region<Entry>, key: &RowKey) -> Result<Spot, Spot>
         ensures at { IfOk result (IsAt self.now.blocks.lists) }
@@ -187,6 +233,17 @@ impl Order {
         let spot = self.blocks.make_room(spot);
         self.blocks.insert(spot, id);
         self.len += 1;
+    }
+
+    /// Takes the slot of the row with a key away, where it is there.
+    pub(crate) fn forget(&mut self, region: &Region<Entry>, key: &RowKey)
+        requires { IsOrdered region.now (ids_of self.old) }
+        ensures less { IsWithout region.now key.now (ids_of self.old) (ids_of self.new) }
+        ensures room { self.new.room ≡ self.old.room }
+    {
+        if let Ok(spot) = self.place_of(region, key) {
+            self.remove(spot);
+        }
     }
 
     /// Takes the slot behind a place away.

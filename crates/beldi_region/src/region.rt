@@ -1,7 +1,7 @@
 // Slots with generations.
 ghost use Rattle.std.specs.Prelude.{◌≡◌, ◌≢◌, ◌<◌, ◌↔◌, ℕ, Some, None, IsOk, IfOk, IfErr, OnOk, OnErr, IsSome, IsErr, IsTrue, is_some, ◌+◌, if◌then◌else◌};
 ghost use Rattle.std.specs.Borrow.{Lends, sem};
-ghost use Rattle.beldi_region.specs.Region.{find, spaces, IsStale, PutAt, Taken, Changed, with_value, value_of, lasts};
+ghost use Rattle.beldi_region.specs.Region.{find, spaces, IsStale, PutAt, Taken, Released, Changed, with_value, value_of, lasts};
 ghost use Rattle.beldi_region.specs.declared.region.RegionErr.TheVariants.{NoSlot, Stale};
 
 use slab::Slab;
@@ -96,9 +96,24 @@ impl<V: Drop> Slot<V> {
             None => unreachable!(),
         }
     }
+
+    // Takes the value out of this slot, which has one and keeps its generation, and puts the slot before the free ones.
+    fn vacate(&mut self, slot: u32, free: &mut Option<u32>) -> V
+        requires { IsSome self.old.value }
+        ensures value { self.old.value ≡ Some result }
+        ensures emptied { self.new ≡ record { generation = self.old.generation; value = None; next = free.old } }
+        ensures listed { free.new ≡ Some slot }
+    {
+        self.next = *free;
+        *free = Some(slot);
+        match self.value.take() {
+            Some(value) => value,
+            None => unreachable!(),
+        }
+    }
 }
 
-/// Values in slots, each under an id that is never given twice. The memory of all slots is taken when it is opened; a slot is
+/// Values in slots, each under an id that is not given twice, but after `release`. The memory of all slots is taken when it is opened; a slot is
 /// written as it is first used.
 #[derive(Drop)]
 pub struct Region<V> {
@@ -227,6 +242,19 @@ impl<V: Drop> Region<V> {
             return Err(RegionErr::Stale(id));
         }
         Ok(self.slots[id.slot as usize].empty(id.slot, &mut self.free))
+    }
+
+    /// Takes the value of an id out. Its slot keeps the generation, so it may always be used again, and the id be given again.
+    pub fn release(&mut self, id: SlotId) -> Result<V, RegionErr>
+        ensures ok { IfOk result (λ v. Released self.old self.new id v) }
+        ensures none { OnErr result (find self.old id ≡ None) }
+        ensures stale { IfErr result (λ e. e ≡ Stale id) }
+        ensures kept { OnErr result (self.new ≡ self.old) }
+    {
+        if !self.has(id) {
+            return Err(RegionErr::Stale(id));
+        }
+        Ok(self.slots[id.slot as usize].vacate(id.slot, &mut self.free))
     }
 
     // Whether an id has a value.

@@ -1,16 +1,17 @@
 // A table over a region.
-ghost use Rattle.std.specs.Prelude.{◌≡◌, ◌<◌, ◌≤◌, [], length, insert, None, Ok, IfOk, IfErr, IfSome, IsErrOf, ⊤};
+ghost use Rattle.std.specs.Prelude.{◌≡◌, ◌<◌, ◌≤◌, ℕ, Option, [], length, insert, true, false, None, Ok, IfOk, IfErr, IfSome, IsErrOf, ⊤};
 ghost use Rattle.std.specs.Borrow.{sem, follows_so};
 ghost use Rattle.std.proofs.Props.{props};
 ghost use mathlib.Core.Option.{none};
 ghost use Rattle.std.specs.Option.{option_copied};
 ghost use Rattle.std.specs.FinMap as map;
 ghost use Rattle.std.specs.declared.cmp.Ordering.TheVariants.{Equal};
-ghost use Rattle.beldi_row.specs.Act.{said_by};
+ghost use Rattle.beldi_row.specs.Act.{drops, off, removes, said_by};
+ghost use Rattle.beldi_row.specs.declared.row.Row as row_data;
 ghost use Rattle.beldi_row.specs.Table.{entry_of, next_row, Acted, LeadsOn, Went};
 ghost use Rattle.beldi_row.specs.declared.table.TableErr.TheVariants.{OutOfMemory};
 ghost use Rattle.beldi_table.specs.MapTable.{ChangedOn};
-ghost use Rattle.beldi_region.specs.Region.{find};
+ghost use Rattle.beldi_region.specs.Region.{find, Released};
 ghost use Rattle.beldi_region.specs.Ids.{ids_of, place_of, found};
 ghost use Rattle.beldi_region.specs.Blocks.{IsSpot};
 ghost use Rattle.beldi_region.specs.Order.{pairs, rows_in, side, Finds, IsGap, IsHeld, IsListed};
@@ -22,7 +23,8 @@ use crate::opened::follow;
 use crate::order::{Entry, Order, side};
 use crate::region::{Region, SlotId};
 use beldi_row::{
-    Act, Change, Opens, Row, RowKey, Said, Table, TableErr, apply, made, missing, tell,
+    Act, Change, Opens, Row, RowKey, Said, Table, TableErr, apply, drops, is_of_row, made, missing,
+    removes, tell,
 };
 use beldi_table::{is_open, room_in, switches};
 use beldi_value::{Place, or_drop};
@@ -64,6 +66,23 @@ fn follows(row: &Row, place: Option<&Place>) -> Option<u32>
     }
 }
 
+// Whether an act is a look, which makes nothing.
+fn is_look(act: &Act) -> bool
+    ensures { (now : ℕ) → result ≡ true → (off act.now now).0 ≡ None }
+{
+    matches!(act, Act::Look)
+}
+
+// Takes the row out of a slot, if it has one.
+fn vacate(region: &mut Region<Entry>, id: SlotId)
+    ensures { IfSome (find region.old id) (λ e. Released region.old region.new id e) }
+{
+    match region.release(id) {
+        Ok(entry) => drop(entry),
+        Err(_) => {}
+    }
+}
+
 impl RegionTable {
     ghost use Rattle.beldi_region.specs.RegionTable.{rows_of};
 
@@ -91,12 +110,16 @@ impl RegionTable {
         if side(&self.region, id, key).is_eq() {
             return Ok(id);
         }
+        if let Some(spot) = self.index.gap_near(&self.region, key, self.hints.spot(key)) {
+            return Err(spot);
+        }
         self.index.find(&self.region, key)
     }
 
     // An act on the row with this key, which is in this slot.
     fn change(&mut self, id: SlotId, key: &RowKey, act: Act, now: u64) -> Change
-        requires { side key.now (find self.old.region id) ≡ Equal }
+        requires keeps { drops act ≡ false }
+        requires found { side key.now (find self.old.region id) ≡ Equal }
         ensures rows { ChangedOn act now key.now self.old.room (rows_of self.old) (rows_of self.new) (map.get (rows_of self.new) key.now) (Ok result) }
         ensures room { self.new.room ≡ self.old.room }
         ensures there { side key.now (find self.new.region id) ≡ Equal }
@@ -108,24 +131,54 @@ impl RegionTable {
         change
     }
 
+    // Whether an act removes the row in this slot.
+    fn is_removed(&self, id: SlotId, act: &Act, now: u64) -> bool
+        ensures { IfSome (find self.now.region id) (λ e. result ≡ removes act.now now e.row) }
+    {
+        match self.region.get(id) {
+            Ok(entry) => removes(act, &entry.row, now),
+            Err(_) => false,
+        }
+    }
+
+    // Takes the row with this key away, which is in this slot.
+    fn forget(&mut self, id: SlotId, key: &RowKey)
+        requires { side key.now (find self.old.region id) ≡ Equal }
+        ensures rows { rows_of self.new ≡ map.remove (rows_of self.old) key.now }
+        ensures room { self.new.room ≡ self.old.room }
+    {
+        self.opened.forget(&self.region, key);
+        self.index.forget(&self.region, key);
+        vacate(&mut self.region, id);
+    }
+
+    // An act that may remove the row with this key, which is in this slot. What it says lends nothing.
+    fn drop_row(&mut self, id: SlotId, key: &RowKey, act: Act, now: u64) -> Change
+        requires may { drops act ≡ true }
+        requires found { side key.now (find self.old.region id) ≡ Equal }
+        ensures rows { ChangedOn act now key.now self.old.room (rows_of self.old) (rows_of self.new) None (Ok result) }
+        ensures room { self.new.room ≡ self.old.room }
+    {
+        let is_removed = self.is_removed(id, &act, now);
+        drop(act);
+        if !is_removed {
+            return Change::NotSo;
+        }
+        self.forget(id, key);
+        Change::Did
+    }
+
     // The row in this slot, where a change tells what lies in it.
     fn row_told(&self, id: SlotId, key: &RowKey, change: Change) -> Option<&Row>
         requires { side key.now (find self.now.region id) ≡ Equal }
         ensures { said_by change (option_copied result) ≡ said_by change (map.get (rows_of self.now) key.now) }
     {
-        match change {
-            Change::Row
-            | Change::Other
-            | Change::Ended
-            | Change::Kept
-            | Change::Noted(_)
-            | Change::Held
-            | Change::Died
-            | Change::Packed => match self.region.get(id) {
-                Ok(entry) => Some(&entry.row),
-                Err(_) => None,
-            },
-            _ => None,
+        if !is_of_row(change) {
+            return None;
+        }
+        match self.region.get(id) {
+            Ok(entry) => Some(&entry.row),
+            Err(_) => None,
         }
     }
 
@@ -138,6 +191,31 @@ impl RegionTable {
         ensures never { IsErrOf result OutOfMemory → ⊥ }
     {
         let said = missing(&act);
+        // A look is not handed on: what it would make has a row's size.
+        if is_look(&act) {
+            drop(act);
+            drop(key);
+            return Ok(said);
+        }
+        self.add_made(key, act, now, spot, said)
+    }
+
+    // .. which tells this, and may add a row.
+    fn add_made(
+        &mut self,
+        key: RowKey,
+        act: Act,
+        now: u64,
+        spot: Spot,
+        said: Change,
+    ) -> Result<Change, TableErr>
+        requires spot { IsSpot self.old.index.blocks.lists spot }
+        requires gap { IsGap self.old.region (ids_of self.old.index) key (place_of self.old.index spot) }
+        requires said { (row : Option row_data.Row) → said_by said row ≡ (off act now).1 }
+        ensures rows { ChangedOn act now key self.old.room (rows_of self.old) (rows_of self.new) None result }
+        ensures room { self.new.room ≡ self.old.room }
+        ensures never { IsErrOf result OutOfMemory → ⊥ }
+    {
         match made(act, now) {
             None => {
                 drop(key);
@@ -299,12 +377,18 @@ impl Table for RegionTable {
         match self.find(&key, hint) {
             Ok(id) => {
                 self.hints.set(hint, id);
+                if drops(&act) {
+                    let change = self.drop_row(id, &key, act, now);
+                    drop(key);
+                    return Ok(tell(None, change));
+                }
                 let change = self.change(id, &key, act, now);
                 let row = self.row_told(id, &key, change);
                 drop(key);
                 Ok(tell(row, change))
             }
             Err(spot) => {
+                self.hints.missed(&key, spot);
                 let added = self.add(key, act, now, spot)?;
                 Ok(tell(None, added))
             }

@@ -39,7 +39,7 @@ returns-clause-rows c =
     let t = c.args.self.now in
     let y : Entry = record { key = c.value_mut-entry.result.now.key; row = c.apply-change.new.row } in
     changed_on c.args.act c.args.now c.args.key.now t.room t.region (with_value t.region c.args.id y) (ids_of t.index) c.args.id c.value_mut-entry.result.now y c.apply-change.result
-    t.held c.requires c.value_mut-entry.ensures.value (c.value_mut-entry.ensures.changes y) refl c.apply-change.ensures
+    t.held c.requires.keeps c.requires.found c.value_mut-entry.ensures.value (c.value_mut-entry.ensures.changes y) refl c.apply-change.ensures
 
 pub value_mut-entry-requires : goal.value_mut-entry-requires
-value_mut-entry-requires c = ap is_some (by_side c.args.key.now (find c.args.self.now.region c.args.id) c.requires).1
+value_mut-entry-requires c = ap is_some (by_side c.args.key.now (find c.args.self.now.region c.args.id) c.requires.found).1

@@ -1,7 +1,8 @@
 use Rattle.std.specs.Option.{option_copied}
 use Rattle.std.proofs.Common.{ap, subst, ◌∙◌, unwrap_or, arith}
 use Rattle.beldi_row.specs.{Key.at_row, Key.row_of, Table.LeadsOn}
-use Rattle.beldi_region.{specs.RegionTable.rows_of, proofs.Along.along_more, proofs.Along.at_twice}
+use Rattle.beldi_row.proofs.Keys.{key_twice}
+use Rattle.beldi_region.{specs.RegionTable.rows_of, proofs.Along.along_more}
 use Rattle.beldi_region.proofs.region_table.RegionTableTable.passes.Goals as goal
 
 pub loop-passed-preserved : goal.loop-passed-preserved
@@ -14,5 +15,5 @@ loop-passed-preserved c =
     record {
       few = omega arith;
       along = along_more m c.args.key p c.loop-passed.passed first row c.in-Some.next kept.along (subst (λ k. LeadsOn m k p c.in-Some.next) kept.at c.in-Some.ensures);
-      at = c.at_row-key.ensures ∙ ap (λ k. at_row k c.in-Some.next) kept.at ∙ at_twice c.args.key row c.in-Some.next;
+      at = c.at_row-key.ensures ∙ ap (λ k. at_row k c.in-Some.next) kept.at ∙ key_twice c.args.key row c.in-Some.next;
     }
