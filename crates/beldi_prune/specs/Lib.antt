@@ -1,0 +1,4 @@
+pub mod Collectors
+pub mod Laws
+pub mod Prune
+pub mod Seat

@@ -1,0 +1,82 @@
+// What a log collector is to do with a row, and what a look at the row of an intent tells.
+ghost use Rattle.std.specs.Prelude.{◌≡◌, IfOk};
+ghost use Rattle.beldi_walk.specs.Query.{told_of};
+ghost use Rattle.beldi_prune.specs.Seat.{seat as seat_of_row};
+ghost use Rattle.beldi_prune.specs.Prune.{todo_of, is_newest as is_newest_of, is_past_row as is_past_row_of, is_recyclable as is_recyclable_of};
+
+use beldi_intent::intent_key;
+use beldi_row::{Kind, Row, RowKey, Said, is_old_row, is_past};
+use beldi_value::IntentId;
+use beldi_walk::Heard;
+use std::alloc::{AllocError, Global};
+
+/// What is to be done with a row.
+#[derive(Drop)]
+pub enum Todo {
+    /// It stays.
+    Pass,
+    /// It is the row of an intent, and is to go.
+    DropIt,
+    /// It is a row that an intent left, whose own row is to be looked at.
+    LookAt,
+}
+
+/// What is to be done with this row.
+pub(crate) fn judge(key: &RowKey, row: &Row, newest: u32, life: u64, now: u64) -> Todo
+    ensures { result ≡ todo_of newest life now key.now.kind row.now }
+{
+    match key.kind() {
+        Kind::Intent(id) => {
+            if !is_newest(id, newest) && is_old_row(row, life, now) {
+                Todo::DropIt
+            } else {
+                Todo::Pass
+            }
+        }
+        Kind::Data { .. } => Todo::Pass,
+        _ => Todo::LookAt,
+    }
+}
+
+// Whether it is the root of the newest ticket, or of one that was not issued.
+fn is_newest(id: &IntentId, newest: u32) -> bool
+    ensures { result ≡ is_newest_of newest id.now }
+{
+    id.hops.is_empty() && !(id.ticket < newest)
+}
+
+/// The key of the row of the intent that a row belongs to.
+pub(crate) fn seat(alloc: Global, key: &RowKey) -> Result<RowKey, AllocError>
+    ensures { IfOk result (λ k. k ≡ seat_of_row key.now) }
+{
+    match key.kind() {
+        Kind::Intent(id) | Kind::Lockset { intent: id, .. } => {
+            Ok(intent_key(id.copy(alloc)?, key.home()))
+        }
+        Kind::ReadLog(place) | Kind::Invoke(place) => {
+            Ok(intent_key(place.intent.copy(alloc)?, key.home()))
+        }
+        Kind::Shadow { tx, .. } => Ok(intent_key(tx.intent.copy(alloc)?, tx.func)),
+        Kind::Data { .. } => key.copy(alloc),
+    }
+}
+
+/// Whether the intent that was looked at is gone, or finished more than a life ago.
+pub(crate) fn is_recyclable(heard: &Heard<'_>, life: u64, now: u64) -> bool
+    ensures { result ≡ is_recyclable_of life now (told_of heard.entry.now) }
+{
+    match heard {
+        Heard::Said(Said::Absent) => true,
+        Heard::Said(Said::Row(row)) => is_past_row(row, life, now),
+        _ => false,
+    }
+}
+
+fn is_past_row(row: &Row, life: u64, now: u64) -> bool
+    ensures { result ≡ is_past_row_of life now row.now }
+{
+    match row {
+        Row::Intent(intent) => is_past(intent.finish, life, now),
+        _ => false,
+    }
+}
