@@ -15,7 +15,7 @@ use Rattle.beldi_core.specs.{declared.host_core.HostCore.HostCore, declared.even
 
 -- the host without its table, as events speak of it
 abbrev pub core_in : HostCore → Core
-core_in h = record { newest = h.newest; runs = h.runs.runs; last_run = h.runs.given; book = h.book.entries; now = h.now; cursor = h.cursor; taken = h.taken; shut = h.shut }
+core_in h = record { newest = h.newest; runs = h.runs.runs; last_run = h.runs.given; book = h.book.entries; now = h.now; cursor = h.cursor; taken = h.taken; shut = h.shut; collectors = h.collectors }
 
 abbrev pub runs_of : Core → Numbered
 runs_of c = record { runs = c.runs; given = c.last_run }

@@ -17,12 +17,14 @@ use beldi_book::{Book, Entry};
 use beldi_collect::{Found, collect_query, collect_told};
 use beldi_intent::{Binding, bind_query, bind_told, issue_query, issue_told};
 use beldi_lang::Deployment;
+use beldi_prune::Collectors;
 use beldi_row::{RowKey, TableErr};
 use beldi_step::{Event, Mark, Run, RunAt, Seen, TurnSays, Wait, Walking};
-use beldi_turn::walking;
+use beldi_turn::{may_stride, walking};
 use beldi_value::{Apart, IntentId, Outcome, Value, or_drop};
 use beldi_walk::{Heard, Query};
 use std::alloc::{AllocError, Global};
+use std::mem::replace;
 
 /// How many events a host takes.
 pub const MOST_EVENTS: u64 = 1 << 62;
@@ -208,11 +210,11 @@ fn acted_if(
     ensures { result ≡ acted_unless id says.mark says.over says.reply started }
 {
     match started {
-        Ok(started) => Ok(acted(id, says, started)),
+        Ok(started) => return Ok(acted(id, says, started)),
         Err(why) => {
             drop(id);
             drop(says);
-            Err(why)
+            return Err(why);
         }
     }
 }
@@ -264,15 +266,17 @@ impl HostCore {
         ensures { PlannedOf code.now event (core_in self.old) (core_in self.new) self.new.book.spare result }
     {
         match event {
-            Event::Ticket => self.plan_ticket(),
-            Event::Request { ticket, func, args } => self.plan_request(code, ticket, func, args),
-            Event::Turn(run) => self.plan_turn(run, false),
-            Event::Lost(run) => self.plan_turn(run, true),
-            Event::Crash(run) => Ok(Planned::Now(self.crash(run))),
-            Event::Restart { id, func } => self.restart(code, id, func),
-            Event::Tick(ticks) => Ok(Planned::Now(self.tick(ticks))),
-            Event::Ic => self.plan_ic(),
-            Event::Halt => Ok(Planned::ReadsAll),
+            Event::Ticket => return self.plan_ticket(),
+            Event::Request { ticket, func, args } => {
+                return self.plan_request(code, ticket, func, args);
+            }
+            Event::Turn(run) => return self.plan_turn(run, false),
+            Event::Lost(run) => return self.plan_turn(run, true),
+            Event::Crash(run) => return Ok(Planned::Now(self.crash(run))),
+            Event::Restart { id, func } => return self.restart(code, id, func),
+            Event::Tick(ticks) => return Ok(Planned::Now(self.tick(ticks))),
+            Event::Ic => return self.plan_ic(),
+            Event::Halt => return Ok(Planned::ReadsAll),
         }
     }
 
@@ -323,6 +327,14 @@ impl HostCore {
         match walking(self.alloc, found) {
             Ok(walk) => walk,
             Err(_) => None,
+        }
+    }
+
+    /// Whether `walking` may tell a row for the run of this number. It is asked first, as it hands on nothing.
+    pub fn may_walk(&self, run: u64) -> bool {
+        match self.runs.get(run) {
+            Some(found) => may_stride(found),
+            None => false,
         }
     }
 
@@ -459,12 +471,13 @@ impl HostCore {
         requires { Ready code.now pending (core_in self.old) self.old.book.spare }
         ensures { Followed code.now (event_of pending) (base (event_of pending) (core_in self.old)) (Ok (told_of heard.entry)) (core_in self.new) result }
     {
+        // An answer that is returned is written once, and as the value of an arm twice.
         match pending {
-            Pending::Ticket => Ok(self.issued(issue_told(heard))),
-            Pending::Request { ticket, func, args } => self.bound(ticket, func, args, heard),
-            Pending::Turn(run, copies) => self.turned(code, run, copies, heard),
-            Pending::Lost(run, copies) => Ok(self.unheard(code, run, copies, heard)),
-            Pending::Ic => self.collected(code, heard),
+            Pending::Ticket => return Ok(self.issued(issue_told(heard))),
+            Pending::Request { ticket, func, args } => return self.bound(ticket, func, args, heard),
+            Pending::Turn(run, copies) => return self.turned(code, run, copies, heard),
+            Pending::Lost(run, copies) => return Ok(self.unheard(code, run, copies, heard)),
+            Pending::Ic => return self.collected(code, heard),
         }
     }
 
@@ -504,7 +517,8 @@ impl HostCore {
         ensures { (core_in self.new, result) ≡ halt_next (core_in self.old) read }
     {
         self.runs.clear(self.alloc);
-        self.cursor = RowKey::least(self.alloc);
+        drop(replace(&mut self.cursor, RowKey::least(self.alloc)));
+        drop(replace(&mut self.collectors, Collectors::new(self.alloc)));
         match read {
             Ok(newest) => {
                 self.newest = newest;
@@ -593,10 +607,10 @@ impl HostCore {
     {
         let changes = self.book.changes();
         match self.runs.told(run, self.alloc, code, changes, heard) {
-            Ok(says) => self.tell(run, copies, says),
+            Ok(says) => return self.tell(run, copies, says),
             Err(mark) => {
                 write(&mut self.book, entry_if(copies.id, mark));
-                Err(AllocError)
+                return Err(AllocError);
             }
         }
     }
@@ -615,13 +629,13 @@ impl HostCore {
                 if seen.is_err() {
                     self.runs.remove(run);
                 }
-                seen
+                return seen;
             }
             Err(why) => {
                 drop(callee);
                 self.runs.remove(run);
                 write(&mut self.book, entry_if(id, told_mark(Ok(says))));
-                Err(why)
+                return Err(why);
             }
         }
     }
@@ -641,21 +655,21 @@ impl HostCore {
         match says.wait.take() {
             None => {
                 let started = self.may_start(says.starts, callee);
-                acted_if(id, says, started)
+                return acted_if(id, says, started);
             }
             Some(Wait::Held(owner)) => {
                 drop(callee);
                 drop(id);
                 drop(says);
-                Ok(Seen::Held(owner))
+                return Ok(Seen::Held(owner));
             }
             Some(Wait::Worn) => {
                 drop(callee);
                 drop(id);
                 drop(says);
-                Ok(Seen::Worn)
+                return Ok(Seen::Worn);
             }
-            Some(Wait::Result(awaited)) => self.after_call(awaited, callee, id, says),
+            Some(Wait::Result(awaited)) => return self.after_call(awaited, callee, id, says),
         }
     }
 

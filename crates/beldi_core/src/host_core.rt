@@ -3,12 +3,13 @@ ghost use Rattle.std.specs.Prelude.{◌≤◌, ◌^◌};
 
 use crate::runs::Runs;
 use beldi_book::Book;
+use beldi_prune::Collectors;
 use beldi_row::RowKey;
 use std::alloc::Global;
 
 /// What a host knows beside its deployment and its table: the newest ticket, the live runs, the book of what was done, the
-/// moment in ticks, where the intent collector stands, how many events it took, and whether the reading of the last halt failed; each
-/// event gives at most one number to a run.
+/// moment in ticks, where the intent collector stands, how many events it took, whether the reading of the last halt failed, and where
+/// the log collectors stand; each event gives at most one number to a run.
 #[derive(Drop)]
 pub struct HostCore {
     pub alloc: Global,
@@ -19,6 +20,7 @@ pub struct HostCore {
     pub cursor: RowKey,
     pub taken: u64,
     pub shut: bool,
+    pub collectors: Collectors,
     ghost few: { runs.given ≤ taken },
     ghost events: { taken ≤ 2 ^ 62 },
     ghost early: { now ≤ 2 ^ 62 },

@@ -27,5 +27,5 @@ mod tx_stage;
 
 pub use call_stage::callee_body;
 pub use stage::{first_stage, hear, look, place_of, stage_query};
-pub use stride::{set_row, stage_walk};
+pub use stride::{may_walk, set_row, stage_walk};
 pub use tx_stage::tx_at;

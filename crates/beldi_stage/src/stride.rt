@@ -36,6 +36,28 @@ pub fn stage_walk(
     }
 }
 
+// Whether an operation is past the first row of its item.
+fn is_past(at: &WriteAt) -> bool {
+    match at {
+        WriteAt::Try(row) => *row > 0,
+        _ => false,
+    }
+}
+
+/// Whether a stage may be past the first row of an item: where it is not, it makes no walk that `stage_walk` tells. It is asked first, as it
+/// hands on nothing.
+pub fn may_walk(stage: &Stage) -> bool {
+    match stage {
+        Stage::Walk(row) | Stage::Tx(TxAt::Item(row)) => *row > 0,
+        Stage::Write(at) | Stage::Tx(TxAt::Lock(LockAt::Item(at))) => is_past(at),
+        Stage::End(visit) => match &visit.get().at {
+            EndAt::Free(at) => is_past(at),
+            _ => false,
+        },
+        _ => false,
+    }
+}
+
 // A read at this row of an item.
 fn read_at(
     alloc: Global,

@@ -4,8 +4,10 @@ pub mod Given
 mod Inside
 pub mod Late
 pub mod Plans
+pub mod Prunes
 pub mod PutRun
 pub mod Runs
 pub mod Shut
+pub mod Spares
 pub mod Steps
 pub mod Stride

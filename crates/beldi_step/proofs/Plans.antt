@@ -1,8 +1,8 @@
 -- What plans and answers say of a halt and of a host that is shut: only a halt reads all rows, only a host that is shut answers so at once,
--- and no event but a halt changes whether it is.
+-- and no event but a halt changes whether it is, nor where the log collectors stand.
 use Rattle.std.specs.declared.alloc.AllocError.{AllocError}
 use Rattle.std.specs.FinMap as map
-use Rattle.std.proofs.Common.{◌≡◌, ◌+◌, ◌-◌, ◌^◌, ◌==◌, ◌||◌, nat_lt, ℕ, Bool, true, false, Option, Some, None, if◌then◌else◌, Result, Ok, refl, ap, sym, ◌∙◌, subst}
+use Rattle.std.proofs.Common.{◌≡◌, ◌+◌, ◌-◌, ◌^◌, ◌==◌, ◌||◌, nat_lt, ℕ, Bool, true, false, List, Option, Some, None, if◌then◌else◌, Result, Ok, refl, ap, sym, ◌∙◌, subst}
 use Rattle.beldi_value.specs.declared.{id.IntentId.IntentId, value.Value.Value}
 use Rattle.beldi_tree.specs.declared.deployment.Deployment.{Deployment}
 use Rattle.beldi_book.specs.Order.{count_changes}
@@ -10,6 +10,7 @@ use Rattle.beldi_row.specs.declared.table.TableErr.{TableErr}
 use Rattle.beldi_walk.specs.Query.{Told, lends}
 use Rattle.beldi_intent.specs.{declared.intent.Binding.Binding, Intent.binding_of, Intent.is_added}
 use Rattle.beldi_collect.specs.{declared.cursor.Found.Found, Collect.collect_says}
+use Rattle.beldi_prune.specs.declared.collector.LogCollector.{LogCollector}
 use Rattle.beldi_step.proofs.Runs.{either, of_plan, same_some}
 use Rattle.beldi_step.specs.Host.{Core, Plan, after_turn, asks, at_once, collect_next, counted, crash_plan, ended_run, has_run, heard, if_lent, is_crowded, is_halt, last_moment, made, may_start, no_memory, no_run, plan, plan_of, reads_all, refused, refused_by, request_next, run_next, run_plan, started, ticket_next, turned_core, unheard_next}
 use Rattle.beldi_step.specs.{declared.event.Event.Event, declared.event.Seen.Seen, declared.run.Run.Run, declared.run.TurnSays.TurnSays, declared.run.Wait.Wait, Run.callee_of, Run.run_told, Run.says_of}
@@ -20,10 +21,14 @@ is_of_halt Seen.Halted = true
 is_of_halt Seen.Shut = true
 is_of_halt x = false
 
+-- what no event but a halt changes
+abbrev pub fixed : Core → Bool × List LogCollector
+fixed c = (c.shut, c.collectors)
+
 -- ---- plans
 -- of a host that is not shut, or of a halt
 abbrev pub PlanSays : Event → Core → Plan → Type 0
-PlanSays e c (at_once b y) = (b.shut ≡ c.shut) × (is_of_halt y ≡ false)
+PlanSays e c (at_once b y) = (fixed b ≡ fixed c) × (is_of_halt y ≡ false)
 PlanSays e c (asks q) = is_halt e ≡ false
 PlanSays e c reads_all = is_halt e ≡ true
 
@@ -64,7 +69,7 @@ halts_read d e c is = subst (OfHalt e) is (of_plan d e c (OfHalt e) (λ few. of_
 
 -- ---- what follows
 abbrev pub Quiet : Core → Core × Seen → Type 0
-Quiet c y = (y.0.shut ≡ c.shut) × (is_of_halt y.1 ≡ false)
+Quiet c y = (fixed y.0 ≡ fixed c) × (is_of_halt y.1 ≡ false)
 
 module _ (c : Core) (o : Option Run) (id : IntentId) (x : TurnSays) where
   started_quiet : (o : Option Run) → Quiet c (made id x (started c o))
@@ -97,7 +102,7 @@ module _ (d : Deployment) (c : Core) where
   run_quiet i t None = (refl, no_run_says i c)
   run_quiet i t (Some r) = let s = run_told d (count_changes c.book) r t in let q = turn_quiet (turned_core c i r.id s) (callee_of r) r.id (says_of s) s.wait in (q.0, q.1)
 
-  unheard_quiet : (i : ℕ) (t : Told) (o : Option Run) → (unheard_next d c i t o).shut ≡ c.shut
+  unheard_quiet : (i : ℕ) (t : Told) (o : Option Run) → fixed (unheard_next d c i t o) ≡ fixed c
   unheard_quiet i t None = refl
   unheard_quiet i t (Some r) = refl
 
@@ -117,23 +122,23 @@ module _ (d : Deployment) (c : Core) where
   heard_quiet Event.Ic t = collect_quiet (collect_says t)
   heard_quiet Event.Halt t = (refl, refl)
 
-  lent_quiet : (l : Bool) (b : Core) → if_lent l c ≡ Some b → b.shut ≡ c.shut
-  lent_quiet true b is = ap (λ (z : Core). z.shut) (sym (same_some is))
+  lent_quiet : (l : Bool) (b : Core) → if_lent l c ≡ Some b → fixed b ≡ fixed c
+  lent_quiet true b is = ap fixed (sym (same_some is))
   lent_quiet false b is = cc
 
-  pub no_memory_quiet : (e : Event) (t : Told) (b : Core) → no_memory d e c t ≡ Some b → b.shut ≡ c.shut
+  pub no_memory_quiet : (e : Event) (t : Told) (b : Core) → no_memory d e c t ≡ Some b → fixed b ≡ fixed c
   no_memory_quiet (Event.Request u f a) t b is = lent_quiet (lends t) b is
-  no_memory_quiet (Event.Turn i) t b is = ap (λ (z : Core). z.shut) (sym (same_some is)) ∙ unheard_quiet i t (map.get c.runs i)
+  no_memory_quiet (Event.Turn i) t b is = ap fixed (sym (same_some is)) ∙ unheard_quiet i t (map.get c.runs i)
   no_memory_quiet Event.Ic t b is = lent_quiet (lends t) b is
   no_memory_quiet e t b is = cc
 
   abbrev pub IsQuiet : Core × Result Seen AllocError → Type 0
-  IsQuiet y = (y.0.shut ≡ c.shut) × ((x : Seen) → y.1 ≡ Ok x → is_of_halt x ≡ false)
+  IsQuiet y = (fixed y.0 ≡ fixed c) × ((x : Seen) → y.1 ≡ Ok x → is_of_halt x ≡ false)
 
   tells_one : (y : Seen) → is_of_halt y ≡ false → (x : Seen) → ◌≡◌ {A = Result Seen AllocError} (Ok y) (Ok x) → is_of_halt x ≡ false
   tells_one y apart x is = let same : y ≡ x = cc in sym (ap is_of_halt same) ∙ apart
 
-  error_quiet : (b : Core) (v : TableErr) → b.shut ≡ c.shut → IsQuiet (b, refused_by v)
+  error_quiet : (b : Core) (v : TableErr) → fixed b ≡ fixed c → IsQuiet (b, refused_by v)
   error_quiet b TableErr.OutOfMemory same = (same, λ x is. cc)
   error_quiet b TableErr.Failed same = (same, tells_one Seen.Dropped refl)
   error_quiet b (TableErr.Full live room) same = (same, tells_one (Seen.Full live room) refl)

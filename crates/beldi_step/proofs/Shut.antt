@@ -2,13 +2,17 @@
 use Rattle.std.specs.declared.alloc.AllocError.{AllocError}
 use Rattle.std.specs.FinMap as map
 use Rattle.std.proofs.{Math.Bool.and-false, lemmas.Bool.lt-ltb}
-use Rattle.std.proofs.Common.{◌≡◌, ◌<◌, ◌+◌, ◌&&◌, not, nat_lt, ℕ, Bool, true, false, if◌then◌else◌, Result, Ok, Err, refl, ap, sym, ◌∙◌, subst}
+use Rattle.std.proofs.Common.{◌≡◌, ◌<◌, ◌+◌, ◌&&◌, not, nat_lt, ℕ, Bool, true, false, List, ◌⊎◌, inl, inr, if◌then◌else◌, Result, Ok, Err, refl, ap, sym, ◌∙◌, subst}
 use Rattle.beldi_tree.specs.declared.deployment.Deployment.{Deployment}
 use Rattle.beldi_row.{specs.Table.Rose, specs.Table.Rows, specs.Table.TableState, specs.Table.Tells, specs.declared.table.TableErr.TableErr, proofs.Tells.tells_map}
 use Rattle.beldi_walk.specs.Query.{Told}
-use Rattle.beldi_step.proofs.{Late.over_by, Plans.PlanSays, Plans.heard_quiet, Plans.no_memory_quiet, Plans.plan_says, Plans.refused_quiet, Plans.is_of_halt, Runs.either, Runs.of_plan}
+use Rattle.beldi_prune.specs.{Collectors.first_collectors, declared.collector.LogCollector.LogCollector}
+use Rattle.beldi_step.proofs.{Late.over_by, Plans.PlanSays, Plans.fixed, Plans.heard_quiet, Plans.no_memory_quiet, Plans.plan_says, Plans.refused_quiet, Plans.is_of_halt, Runs.either, Runs.of_plan}
 use Rattle.beldi_step.specs.Host.{Core, EventBy, EventOn, Followed, HaltCame, HaltOn, Plan, StepBy, asks, at_once, counted, first_core, halt_next, halted, is_halt, most_events, newest_of, open_plan, plan, plan_of, reads_all}
-use Rattle.beldi_step.specs.{declared.event.Event.Event, declared.event.Seen.Seen, Deadlines.after_step, Deadlines.at_first, Shut.HaltsAsOpened, Shut.HaltsEndRuns, Shut.OnlyShutAnswersShut, Shut.ShutAnswersShut, Shut.ShutHasNoRuns, Shut.ShutsAtAFailedHalt, Shut.StaysShut}
+use Rattle.beldi_step.specs.{declared.event.Event.Event, declared.event.Seen.Seen, Prunes.CollectorsStay, Deadlines.after_step, Deadlines.at_first, Shut.HaltsAsOpened, Shut.HaltsEndRuns, Shut.OnlyShutAnswersShut, Shut.ShutAnswersShut, Shut.ShutHasNoRuns, Shut.ShutsAtAFailedHalt, Shut.StaysShut}
+
+abbrev is_shut : Bool × List LogCollector → Bool
+is_shut f = f.0
 
 -- the plan of an event that is not the last one
 few_plan : (d : Deployment) (e : Event) (c : Core) → c.taken < most_events → plan d e c ≡ open_plan d e (counted c)
@@ -24,6 +28,12 @@ module _ (d : Deployment) (e : Event) (c b : Core) where
   heard_apart : (w : Result Told TableErr) (x : Seen) → Followed d e (counted c) w b (Ok x) → is_of_halt x ≡ false
   heard_apart (Ok t) x is = ap (λ (y : Core × Seen). is_of_halt y.1) is ∙ (heard_quiet d (counted c) e t).1
   heard_apart (Err v) x is = (refused_quiet d (counted c) e v).1 x (sym (ap (λ (y : Core × Result Seen AllocError). y.1) is))
+
+  -- an event that was followed leaves what only a halt changes
+  followed : (w : Result Told TableErr) (x : Result Seen AllocError) → Followed d e (counted c) w b x → fixed b ≡ fixed c
+  followed (Ok t) (Ok x) is = ap (λ (y : Core × Seen). fixed y.0) is ∙ (heard_quiet d (counted c) e t).0
+  followed (Ok t) (Err w) is = no_memory_quiet d (counted c) e t b is
+  followed (Err v) x is = ap (λ (y : Core × Result Seen AllocError). fixed y.0) is ∙ (refused_quiet d (counted c) e v).0
 
   halt_apart : (w : Result ℕ TableErr) → (b, Ok Seen.Shut) ≡ halt_next (counted c) w → ⊥
   halt_apart (Ok t) is = let clash = ap (λ (y : Core × Result Seen AllocError). y.1) is in cc
@@ -51,34 +61,29 @@ module _ (d : Deployment) (e : Event) (c b : Core) (old new : TableState) where
       came : HaltCame w old new
 
     data Moves : Type 0 where
-      same : b.shut ≡ c.shut → Moves
+      same : fixed b ≡ fixed c → Moves
       halts : (w : Result ℕ TableErr) → Shuts w → Moves
-
-    followed : (w : Result Told TableErr) (x : Result Seen AllocError) → Followed d e (counted c) w b x → b.shut ≡ c.shut
-    followed (Ok t) (Ok x) is = ap (λ (y : Core × Seen). y.0.shut) is ∙ (heard_quiet d (counted c) e t).0
-    followed (Ok t) (Err w) is = no_memory_quiet d (counted c) e t b is
-    followed (Err v) x is = ap (λ (y : Core × Result Seen AllocError). y.0.shut) is ∙ (refused_quiet d (counted c) e v).0
 
     abbrev OfPlan : Plan → Type 0
     OfPlan p = StepBy d e (counted c) p b old new r → Moves
 
-    at_once_moves : (z : Core) (y : Seen) → z.shut ≡ c.shut → OfPlan (at_once z y)
+    at_once_moves : (z : Core) (y : Seen) → fixed z ≡ fixed c → OfPlan (at_once z y)
     at_once_moves z y kept = by_answer r
       where
         by_answer : (x : Result Seen AllocError) → StepBy d e (counted c) (at_once z y) b old new x → Moves
-        by_answer (Ok x) s = same (ap (λ (k : Core). k.shut) s.0.0 ∙ kept)
-        by_answer (Err w) s = same (ap (λ (k : Core). k.shut) s.0.0)
+        by_answer (Ok x) s = same (ap fixed s.0.0 ∙ kept)
+        by_answer (Err w) s = same (ap fixed s.0.0)
 
     open_moves : (p : Plan) → PlanSays e (counted c) p → OfPlan p
     open_moves (at_once z y) h s = at_once_moves z y h.0 s
-    open_moves (asks q) h s = same (followed s.0 r s.1)
+    open_moves (asks q) h s = same (followed d e c b s.0 r s.1)
     open_moves reads_all h s = halts s.0 (record { halt = h; is = s.1; came = s.2 })
 
     moves : OfPlan (plan d e c)
     moves = of_plan d e c OfPlan (λ few. open_moves (plan_of d e (counted c)) (plan_says d e (counted c))) (λ shut. at_once_moves (counted c) Seen.Shut refl) (at_once_moves c Seen.Spent refl)
 
     shuts : c.shut ≡ false → b.shut ≡ true → Moves → (is_halt e ≡ true) × (r ≡ Ok Seen.Dropped) × Rose old.faults new.faults
-    shuts unshut shut (same kept) = let clash = sym shut ∙ kept ∙ unshut in cc
+    shuts unshut shut (same kept) = let clash = sym shut ∙ ap is_shut kept ∙ unshut in cc
     shuts unshut shut (halts w h) = let k = by_cause w h.is h.came in (h.halt, k.0, k.1)
       where
         by_cause : (w : Result ℕ TableErr) → (b, r) ≡ halt_next (counted c) w → HaltCame w old new → (r ≡ Ok Seen.Dropped) × Rose old.faults new.faults
@@ -88,7 +93,7 @@ module _ (d : Deployment) (e : Event) (c b : Core) (old new : TableState) where
         by_cause (Err (TableErr.Full live room)) is came = absurd came.fits
 
     opens : c.shut ≡ true → b.shut ≡ false → Moves → (is_halt e ≡ true) × (r ≡ Ok Seen.Halted)
-    opens shut unshut (same kept) = let clash = sym unshut ∙ kept ∙ shut in cc
+    opens shut unshut (same kept) = let clash = sym unshut ∙ ap is_shut kept ∙ shut in cc
     opens shut unshut (halts w h) = (h.halt, by_cause w h.is)
       where
         by_cause : (w : Result ℕ TableErr) → (b, r) ≡ halt_next (counted c) w → r ≡ Ok Seen.Halted
@@ -136,7 +141,7 @@ module _ (d : Deployment) (e : Event) (c b : Core) (old new : TableState) where
 
     pub shut_ends : b.shut ≡ true → (c.shut ≡ true → c.runs ≡ map.empty) → StepBy d e (counted c) (plan d e c) b old new r → b.runs ≡ map.empty
     shut_ends shut none s = (elim (moves s) [
-      | same kept ↦ let before = sym kept ∙ shut in idles before (none before) s
+      | same kept ↦ let before = sym (ap is_shut kept) ∙ shut in idles before (none before) s
       | halts w h ↦ ap (λ (y : Core × Result Seen AllocError). y.0.runs) h.is ∙ halt_runs w
     ])
 
@@ -192,3 +197,37 @@ no_runs d c (after_step e a b old new x before s) shut = shut_ends d e a b old n
 
 pub as_opened : HaltsAsOpened
 as_opened d e c b old new s = opened d e c b old new s
+
+-- ---- the log collectors
+collectors_begin : (c : Core) (w : Result ℕ TableErr) → (halt_next c w).0.collectors ≡ first_collectors
+collectors_begin c (Ok t) = refl
+collectors_begin c (Err TableErr.OutOfMemory) = refl
+collectors_begin c (Err v) = refl
+
+module _ (d : Deployment) (room old new : ℕ) (e : Event) (c b : Core) (m n : Rows) (r : Result Seen AllocError) where
+  abbrev Stay : Type 0
+  Stay = (b.collectors ≡ c.collectors) ⊎ (b.collectors ≡ first_collectors)
+
+  abbrev OnPlan : Plan → Type 0
+  OnPlan p = EventBy d room old new e (counted c) p m b n r → Stay
+
+  by_fixed : fixed b ≡ fixed c → Stay
+  by_fixed kept = inl (ap (λ (f : Bool × List LogCollector). f.1) kept)
+
+  at_once_stay : (z : Core) (y : Seen) → fixed z ≡ fixed c → OnPlan (at_once z y)
+  at_once_stay z y kept = by_answer r
+    where
+      by_answer : (x : Result Seen AllocError) → EventBy d room old new e (counted c) (at_once z y) m b n x → Stay
+      by_answer (Ok x) s = by_fixed (ap fixed s.0.0 ∙ kept)
+      by_answer (Err w) s = by_fixed (ap fixed s.0.0)
+
+  plan_stay : (p : Plan) → PlanSays e (counted c) p → OnPlan p
+  plan_stay (at_once z y) h s = at_once_stay z y h.0 s
+  plan_stay (asks q) h s = by_fixed (followed d e c b s.0 r s.1)
+  plan_stay reads_all h s = inr (ap (λ (y : Core × Result Seen AllocError). y.0.collectors) s.1 ∙ collectors_begin (counted c) s.0)
+
+  stay : OnPlan (plan d e c)
+  stay = of_plan d e c OnPlan (λ few. plan_stay (plan_of d e (counted c)) (plan_says d e (counted c))) (λ shut. at_once_stay (counted c) Seen.Shut refl) (at_once_stay c Seen.Spent refl)
+
+pub collectors_stay : CollectorsStay
+collectors_stay d room old new e c b m n r s = stay d room old new e c b m n r s

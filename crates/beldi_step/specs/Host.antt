@@ -9,11 +9,12 @@ use Rattle.beldi_row.specs.{declared.table.TableErr.TableErr, Table.Rows, Table.
 use Rattle.beldi_walk.specs.{declared.query.Query.Query, Query.Told, Query.lends, Query.Came, Query.CameOn}
 use Rattle.beldi_intent.specs.{declared.intent.Binding.Binding, Intent.issue_asks, Intent.bind_asks, Intent.is_added, Intent.binding_of}
 use Rattle.beldi_collect.specs.{declared.cursor.Found.Found, Collect.collect_asks, Collect.collect_says}
+use Rattle.beldi_prune.specs.{Collectors.first_collectors, declared.collector.LogCollector.LogCollector}
 use Rattle.beldi_step.specs.declared.event.Event.TheVariants.{Ticket, Request, Turn, Lost, Crash, Restart, Tick, Ic, Halt}
 use Rattle.beldi_step.specs.{declared.event.Event.Event, declared.event.Seen.Seen, declared.run.Mark.Mark, declared.run.Run.Run, declared.run.RunAt.TheVariants.Looks, declared.run.Wait.Wait, declared.run.TurnSays.TurnSays, Run.Turned, Run.says_of, Run.run_asks, Run.run_told, Run.callee_of}
 
 -- the newest ticket, the live runs by number, how many runs were ever started, the book, the moment, where the intent collector
--- stands, how many events were taken, and whether the reading of the last halt failed
+-- stands, how many events were taken, whether the reading of the last halt failed, and where the log collectors stand
 pub record Core : Type 0 where
   pub newest : ℕ
   pub runs : FinMap nat_cmp Run
@@ -23,6 +24,7 @@ pub record Core : Type 0 where
   pub cursor : RowKey
   pub taken : ℕ
   pub shut : Bool
+  pub collectors : List LogCollector
 
 -- the greatest ticket that a key names, 0 where there is none
 abbrev pub greatest : List (RowKey × Row) → ℕ
@@ -34,7 +36,7 @@ newest_of m = greatest (map.entries m)
 
 -- a host that nothing has happened to, over rows whose newest ticket is this one
 abbrev pub first_core : ℕ → ℕ → Core
-first_core newest now = record { newest = newest; runs = map.empty; last_run = 0; book = []; now = now; cursor = least_key; taken = 0; shut = false }
+first_core newest now = record { newest = newest; runs = map.empty; last_run = 0; book = []; now = now; cursor = least_key; taken = 0; shut = false; collectors = first_collectors }
 
 abbrev pub most_runs : ℕ
 most_runs = 1024
@@ -284,7 +286,7 @@ refused Halt c e = (c, refused_by e)
 
 -- ---- a halt: what is volatile is gone; the book, the moment and the counts stay
 abbrev pub halted : ℕ → Bool → Core → Core
-halted newest shut c = record c { newest = newest; runs = map.empty; cursor = least_key; shut = shut }
+halted newest shut c = record c { newest = newest; runs = map.empty; cursor = least_key; shut = shut; collectors = first_collectors }
 
 -- .. by the newest ticket that was read, or what the reading met
 abbrev pub halt_next : Core → Result ℕ TableErr → Core × Result Seen AllocError

@@ -5,6 +5,7 @@ pub mod Inside
 pub mod Laws
 pub mod Next
 pub mod Noted
+pub mod Prunes
 pub mod Run
 pub mod Shut
 pub mod Stride

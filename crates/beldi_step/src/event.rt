@@ -1,4 +1,4 @@
-// Events, and how they are answered.
+// Events and turns of log collectors, and how they are answered.
 use beldi_book::Entry;
 use beldi_value::{Apart, IntentId, Outcome, Owner, Value};
 
@@ -108,5 +108,22 @@ pub enum Seen {
     /// The table failed when the rows were read for the last halt that was not out of memory, and this event is no halt: it did nothing.
     Shut,
     /// 2^62 events were taken before.
+    Spent,
+}
+
+/// The answers to a turn of a log collector.
+#[derive(Clone, Copy, Debug, PartialEq, Eq)]
+pub enum Pruned {
+    /// It goes on, and removed nothing.
+    Going,
+    /// It removed a row.
+    Removed,
+    /// No row followed: it begins anew.
+    Round,
+    /// The table failed: a row that it had begun it begins anew.
+    Dropped,
+    /// The table failed when the rows were read for the last halt that was not out of memory: it did nothing.
+    Shut,
+    /// 2^62 events were taken before: it did nothing.
     Spent,
 }

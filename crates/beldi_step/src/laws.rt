@@ -4,6 +4,7 @@ ghost use Rattle.beldi_step.specs.Deadlines.{CalledRunsHaveTheirCallersDeadline,
 ghost use Rattle.beldi_step.specs.Failures.{FailuresMakeNothing};
 ghost use Rattle.beldi_step.specs.Inside.{StaysInherited, BeginsInside, MakesNoEntry};
 ghost use Rattle.beldi_step.specs.Laws.{StepsOverRows, StepsOverAnyTable, ExpiresPastDeadline};
+ghost use Rattle.beldi_step.specs.Prunes.{CollectorsStay, PruningsOverAnyTable, PruningsOverRows};
 ghost use Rattle.beldi_step.specs.Shut.{HaltsAsOpened, HaltsEndRuns, OnlyShutAnswersShut, ShutAnswersShut, ShutHasNoRuns, ShutsAtAFailedHalt, StaysShut};
 ghost use Rattle.beldi_step.specs.Stride.{WalksOn};
 
@@ -106,4 +107,19 @@ pub fn a_halted_host_is_as_opened()
 /// for, if any is, leaves the rows and goes on to that one: it makes no entry, starts no run, and does not wait.
 pub fn a_walk_goes_on()
     ensures { WalksOn }
+{}
+
+/// Over rows that are told, a turn of a log collector is a relation between the host and the rows before and after.
+pub fn a_pruning_over_rows()
+    ensures { PruningsOverRows }
+{}
+
+/// Over any table, also one that tells no rows, such a turn makes at most one call.
+pub fn a_pruning_over_any_table()
+    ensures { PruningsOverAnyTable }
+{}
+
+/// An event leaves the log collectors where they stand; after a halt they stand before all rows.
+pub fn an_event_leaves_the_collectors()
+    ensures { CollectorsStay }
 {}

@@ -17,4 +17,4 @@
 mod begun;
 mod turn;
 
-pub use turn::{ask, callee, told, walk_to, walking};
+pub use turn::{ask, callee, may_stride, told, walk_to, walking};

@@ -3,21 +3,22 @@ ghost use Rattle.std.specs.Prelude.{◌≡◌, true, false, Option, Some, None, 
 ghost use Rattle.beldi_tree.specs.Names.{func_at};
 ghost use Rattle.beldi_walk.specs.Query.{told_of};
 ghost use Rattle.beldi_intent.specs.Intent.{body_in, body_told, open_body as open_body_of, register_asks};
-ghost use Rattle.beldi_step.specs.Run.{run_asks, run_told, followed, plain_says, begin_in, goes_to, takes, at_stage, body_found, body_added, turned_by, Turns, callee_of, callee_run as callee_run_of};
+ghost use Rattle.beldi_step.specs.Run.{run_asks, run_told, followed, plain_says, begin_in, goes_to, takes, at_stage, body_found, body_added, turned_by, Turns, callee_by, callee_of, callee_run as callee_run_of};
 ghost use Rattle.beldi_step.specs.Stride.{walking as walking_of, past_first, walked};
 ghost use Rattle.beldi_step.specs.declared.run.Begun.{Begun};
 ghost use Rattle.beldi_step.specs.declared.run.Mark.{Mark};
 ghost use Rattle.beldi_step.specs.declared.run.RunAt.{RunAt};
 ghost use Rattle.beldi_step.specs.declared.run.RunAt.TheVariants as at;
+ghost use Rattle.beldi_lang.specs.declared.effect.Effect.TheVariants as effects;
 
 use crate::begun::{begun_with, go_to, stand, take};
 use beldi_call::CallAt;
 use beldi_intent::{open_body, register_query};
 use beldi_lang::{Answer, Deployment, Effect};
 use beldi_row::{Body, IntentRow, Row, Said};
-use beldi_stage::{callee_body, hear, look, set_row, stage_query, stage_walk, tx_at};
-use beldi_step::{Begun, Mark, Run, RunAt, Says, Stage, TurnSays, Walking};
-use beldi_value::{Apart, IntentId, or_drop};
+use beldi_stage::{callee_body, hear, look, may_walk, set_row, stage_query, stage_walk, tx_at};
+use beldi_step::{Begun, Mark, Run, RunAt, RunTx, Says, Stage, TurnSays, Walking};
+use beldi_value::{Apart, IntentId, Value, or_drop};
 use beldi_walk::{Heard, Query};
 use std::alloc::{AllocError, Global};
 use std::mem::replace;
@@ -110,14 +111,38 @@ pub fn callee(alloc: Global, run: &Run) -> Result<Option<Apart<Run>>, AllocError
     };
     let step = begun.machine.steps();
     match begun.machine.wants() {
-        Effect::Call { func, args } => {
-            let tx = tx_at(alloc, &run.id, run.func, &begun.tx)?;
-            let body = callee_body(alloc, &run.id, run.func, step, *func, args, tx, true)?;
-            callee_run(alloc, run, step, *func, RunAt::Registers(body))
-        }
-        Effect::Async { func, args: _ } => callee_run(alloc, run, step, *func, RunAt::Looks),
+        Effect::Call { func, args } => awaited_run(alloc, run, &begun.tx, step, *func, args),
+        Effect::Async { func, args: _ } => left_run(alloc, run, step, *func),
         _ => Ok(None),
     }
+}
+
+// A run of what is called and waited for.
+fn awaited_run(
+    alloc: Global,
+    run: &Run,
+    tx: &Option<RunTx>,
+    step: u32,
+    func: u16,
+    args: &Value,
+) -> Result<Option<Apart<Run>>, AllocError>
+    ensures { IfOk result (λ r. r ≡ callee_by run.now tx.now step (effects.Call func args.now)) }
+{
+    let tx = tx_at(alloc, &run.id, run.func, tx)?;
+    let body = callee_body(alloc, &run.id, run.func, step, func, args, tx, true)?;
+    callee_run(alloc, run, step, func, RunAt::Registers(body))
+}
+
+// A run of what is called and left to itself.
+fn left_run(
+    alloc: Global,
+    run: &Run,
+    step: u32,
+    func: u16,
+) -> Result<Option<Apart<Run>>, AllocError>
+    ensures { IfOk result (λ r. r ≡ callee_run_of run.now step func at.Looks) }
+{
+    callee_run(alloc, run, step, func, RunAt::Looks)
 }
 
 fn callee_run(
@@ -335,6 +360,14 @@ pub fn walking(alloc: Global, run: &Run) -> Result<Option<Walking>, AllocError>
     match &run.at {
         RunAt::Begins(begun) => stage_walk(alloc, &run.id, run.func, begun),
         _ => Ok(None),
+    }
+}
+
+/// Whether the run's walk may be past the first row of an item: where it is not, `walking` is none.
+pub fn may_stride(run: &Run) -> bool {
+    match &run.at {
+        RunAt::Begins(begun) => may_walk(&begun.stage),
+        _ => false,
     }
 }
 

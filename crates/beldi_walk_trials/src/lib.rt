@@ -2,6 +2,8 @@
 #![tactic(auto)]
 
 #[cfg(test)]
+mod prunes;
+#[cfg(test)]
 mod regions;
 #[cfg(test)]
 mod transactions;

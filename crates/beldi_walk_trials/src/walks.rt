@@ -302,7 +302,7 @@ fn a_shadow_is_written_and_read(rt: HostRuntime) -> Result<(), Fail> {
     Ok(())
 }
 
-fn keeps_a_read(alloc: Global, table: &mut MapTable) -> Result<bool, Fail> {
+pub fn keeps_a_read(alloc: Global, table: &mut MapTable) -> Result<bool, Fail> {
     let at = place(alloc);
     let kept = or_drop!(put_once(alloc, table, 1, &at, Value::Int(7), 5); at);
     drop(at);
