@@ -9,6 +9,8 @@ use Rattle.beldi_tree.specs.declared.deployment.Deployment.{Deployment}
 use Rattle.beldi_lang.specs.declared.effect.Effect.{Effect}
 use Rattle.beldi_row.specs.{Act.act, Act.register_to, Key.RowKey, Table.Rows, declared.act.Act.Act, declared.key.Kind.Kind, declared.row.InvokeRow.InvokeRow, declared.row.Row.Row, declared.table.TableErr.TableErr}
 use Rattle.beldi_walk.{proofs.Lent.refused_stand, specs.declared.query.Query.Query, specs.Query.CameOn, specs.Query.Told, specs.Query.rows_after}
+use Rattle.beldi_walk.specs.Query.{may_remove}
+use Rattle.beldi_step.proofs.Spares.{plan_removes, plan_spares}
 use Rattle.beldi_invokelog.{proofs.Calls.calls_stay, specs.InvokeLog.call_at, specs.InvokeLog.call_in, specs.InvokeLog.invoke_key}
 use Rattle.beldi_known.{proofs.Cases.by_cases, proofs.Rows.keys_set, specs.Owed.called_by, specs.Owed.result_of, specs.Rows.CallMatches, specs.Stands.key_in}
 use Rattle.beldi_step.proofs.Runs.{of_plan}
@@ -31,6 +33,8 @@ stays_result Act.NoteRegistered now y x h is = by_mark y.registered (same_call i
     by_mark : (b : Bool) → (register_to y b).0 ≡ x → y.result ≡ x.result
     by_mark true is = ap (λ (z : InvokeRow). z.result) is
     by_mark false is = ap (λ (z : InvokeRow). z.result) is
+stays_result (Act.DropIntent l) now y x h is = ap (λ (z : InvokeRow). z.result) (same_call is)
+stays_result Act.DropRow now y x h is = cc
 stays_result a now y x h is = ap (λ (z : InvokeRow). z.result) (same_call is)
 
 apart : (o u : Option Outcome) → o ≡ u → o ≡ None → is_some u ≡ true → ⊥
@@ -62,10 +66,10 @@ module _ (now : ℕ) (m : Rows) where
   query_comes (Query.Act k a) backs = keys_set m k (act a now (map.get m k)).0 Comes (act_comes k a backs) (λ l other f i s key y x at none at2 some. absurd (apart y.result x.result (ap (λ (z : InvokeRow). z.result) (same_call (sym at ∙ at2))) none some))
   query_comes (Query.After k) backs = λ l f i s key y x at none at2 some. absurd (apart y.result x.result (ap (λ (z : InvokeRow). z.result) (same_call (sym at ∙ at2))) none some)
 
-  query_brings : (q : Query) → Backs q m → ResultsCome m (rows_after q now m)
-  query_brings q backs = let g = query_goes_on q now m in record {
+  query_brings : (q : Query) → may_remove q ≡ false → Backs q m → ResultsCome m (rows_after q now m)
+  query_brings q keeps backs = let g = query_goes_on q keeps now m in record {
     keys = g.keys;
-    calls = calls_stay q now m;
+    calls = calls_stay q keeps now m;
     come = λ f i s y x at none at2 some. g.keys (key_in y.func (child_of i s)) (query_comes q backs (invoke_key f (place_of i s)) f i s refl y x at none at2 some);
   }
 
@@ -159,14 +163,14 @@ module _ (d : Deployment) (c : Core) (m : Rows) (h : Right d c m) where
   plan_backs Event.Ic = tt
   plan_backs Event.Halt = tt
 
-  plan_brings : (room old new : ℕ) (e : Event) (b : Core) (n : Rows) (r : Result Seen AllocError) (p : Plan) → PlanBacks p → EventBy d room old new e (counted c) p m b n r → ResultsCome m n
-  plan_brings room old new e b n r (at_once k y) backs s = subst (ResultsCome m) (sym s.1) (results_same m)
-  plan_brings room old new e b n r reads_all backs s = subst (ResultsCome m) (sym s.2.0) (results_same m)
-  plan_brings room old new e b n r (asks q) backs s = by_came s.0 s.2
+  plan_brings : (room old new : ℕ) (e : Event) (b : Core) (n : Rows) (r : Result Seen AllocError) (p : Plan) → plan_removes p ≡ false → PlanBacks p → EventBy d room old new e (counted c) p m b n r → ResultsCome m n
+  plan_brings room old new e b n r (at_once k y) keeps backs s = subst (ResultsCome m) (sym s.1) (results_same m)
+  plan_brings room old new e b n r reads_all keeps backs s = subst (ResultsCome m) (sym s.2.0) (results_same m)
+  plan_brings room old new e b n r (asks q) keeps backs s = by_came s.0 s.2
     where
       by_came : (w : Result Told TableErr) → CameOn q c.now room w m n → ResultsCome m n
-      by_came (Ok t) s = subst (ResultsCome m) (sym s.0) (query_brings c.now m q backs)
+      by_came (Ok t) s = subst (ResultsCome m) (sym s.0) (query_brings c.now m q keeps backs)
       by_came (Err v) s = subst (ResultsCome m) (sym (refused_stand q c.now room v m n s)) (results_same m)
 
 pub events_bring_results : EventsBringResults
-events_bring_results d room old new e c b m n r h s = plan_brings d c m h room old new e b n r (plan d e c) (of_plan d e c (PlanBacks d c m h) (λ t. plan_backs d c m h e) (λ t. tt) tt) s
+events_bring_results d room old new e c b m n r h s = plan_brings d c m h room old new e b n r (plan d e c) (plan_spares d e c) (of_plan d e c (PlanBacks d c m h) (λ t. plan_backs d c m h e) (λ t. tt) tt) s

@@ -10,7 +10,8 @@ use Rattle.beldi_tree.specs.{Names.func_at, declared.deployment.Deployment.Deplo
 use Rattle.beldi_lang.specs.{declared.effect.Effect.Effect, declared.machine.Machine.Machine, Machine.begun as machine_begun}
 use Rattle.beldi_book.specs.Order.{count_changes}
 use Rattle.beldi_row.{proofs.Unchanged.left, proofs.Unchanged.looked, specs.Act.Tell, specs.Act.act, specs.Act.held, specs.Act.packed, specs.Act.off, specs.Key.RowKey, specs.KeyOrder.key_total, specs.Table.Rows, specs.Table.set_row, specs.declared.act.Act.Act, specs.declared.act.Act.TheVariants.Look, specs.declared.row.Body.Body, specs.declared.row.IntentRow.IntentRow, specs.declared.row.Row.Row, specs.declared.table.TableErr.TableErr}
-use Rattle.beldi_walk.{proofs.Lent.refused_stand, proofs.Lent.stands, proofs.Promises.at_each, specs.declared.query.Query.Query, specs.Query.CameOn, specs.Query.Told, specs.Query.is_death, specs.Query.lent, specs.Query.query_adds, specs.Query.rows_after, specs.Query.said, specs.Query.told_by}
+use Rattle.beldi_step.proofs.Spares.{plan_removes, plan_spares}
+use Rattle.beldi_walk.{proofs.Lent.refused_stand, proofs.Lent.stands, proofs.Promises.row_there, proofs.Promises.rows_there, specs.Query.may_remove, specs.declared.query.Query.Query, specs.Query.CameOn, specs.Query.Told, specs.Query.is_death, specs.Query.lent, specs.Query.query_adds, specs.Query.rows_after, specs.Query.said, specs.Query.told_by}
 use Rattle.beldi_intent.{proofs.Intents.intents_stay, specs.Intent.GoesOn as IntentStays, specs.Intent.IntentGoesOn, specs.Intent.body_told, specs.Intent.intent_in, specs.Intent.is_ended}
 use Rattle.beldi_step.specs.{declared.event.Event.Event, declared.event.Seen.Seen, declared.run.Begun.Begun, declared.run.Mark.Mark, declared.run.Run.Run, declared.run.RunAt.RunAt, declared.run.RunTx.RunTx, declared.run.Says.Says, declared.run.Stage.Stage, declared.run.Wait.Wait, Host.Core, Host.EventBy, Host.EventOn, Host.Plan, Host.at_once as answered, Host.asks, Host.counted, Host.plan, Host.reads_all}
 use Rattle.beldi_step.specs.Run.{asks_at, at_once, begin_in, body_registered, first_stage, goes_from, goes_to, run_asks, stage_asks, stage_says, takes, told_at, turned_by, within}
@@ -38,19 +39,15 @@ goes_then g h = record {
 }
 
 -- ---- a query
-key_stays : (a : Act) (now : ℕ) (r : Option Row) → is_some r ≡ true → is_some (act a now r).0 ≡ true
-key_stays a now None there = cc
-key_stays a now (Some r) there = refl
+answers_stay : (q : Query) → may_remove q ≡ false → (now : ℕ) (m : Rows) → AnswersStay m (rows_after q now m)
+answers_stay (Query.Act k a) keeps now m = act_keeps a keeps now k m
+answers_stay (Query.After k) keeps now m = (goes_same m).answers
 
-answers_stay : (q : Query) (now : ℕ) (m : Rows) → AnswersStay m (rows_after q now m)
-answers_stay (Query.Act k a) now m = act_keeps a now k m
-answers_stay (Query.After k) now m = (goes_same m).answers
-
-pub query_goes_on : (q : Query) (now : ℕ) (m : Rows) → GoesOn m (rows_after q now m)
-query_goes_on q now m = record {
-  keys = at_each (λ r s. is_some r ≡ true → is_some s ≡ true) (λ r there. there) key_stays q now m;
-  intents = intents_stay q now m;
-  answers = answers_stay q now m;
+pub query_goes_on : (q : Query) → may_remove q ≡ false → (now : ℕ) (m : Rows) → GoesOn m (rows_after q now m)
+query_goes_on q keeps now m = record {
+  keys = rows_there q keeps now m;
+  intents = intents_stay q keeps now m;
+  answers = answers_stay q keeps now m;
 }
 
 -- .. takes no row away, and adds one only where it says so
@@ -66,9 +63,9 @@ set_len m k (Some r) stays = subst (λ n. map.len m ≤ n) (sym (len-insert key_
     by_test true = omega arith
     by_test false = omega arith
 
-pub query_len : (q : Query) (now : ℕ) (m : Rows) → map.len m ≤ map.len (rows_after q now m)
-query_len (Query.Act k a) now m = set_len m k (act a now (map.get m k)).0 (key_stays a now (map.get m k))
-query_len (Query.After k) now m = omega arith
+pub query_len : (q : Query) → may_remove q ≡ false → (now : ℕ) (m : Rows) → map.len m ≤ map.len (rows_after q now m)
+query_len (Query.Act k a) keeps now m = set_len m k (act a now (map.get m k)).0 (row_there a now (map.get m k) keeps)
+query_len (Query.After k) keeps now m = omega arith
 
 not_added : (a : Act) (now : ℕ) (r : Option Row) → r ≡ None → (IsTrue (not (is_some r) && is_some (off a now).0) → ⊥) → (act a now r).0 ≡ None
 not_added a now (Some r) none h = cc
@@ -83,29 +80,29 @@ query_full (Query.Act k a) now m h = keys_set m k (act a now (map.get m k)).0 (�
 query_full (Query.After k) now m h = λ l none. none
 
 -- ---- an event: what is so of each query that may be made, and of rows that are as before
-module _ (room : ℕ) (P : Rows → Rows → Type 0) (same : (m : Rows) → P m m) (made : (q : Query) (now : ℕ) (m : Rows) → (IsTrue (query_adds q now m) → map.len m < room) → P m (rows_after q now m)) where
-  came : (q : Query) (now : ℕ) (w : Result Told TableErr) (m n : Rows) → CameOn q now room w m n → P m n
-  came q now (Ok t) m n s = subst (P m) (sym s.0) (made q now m s.2)
-  came q now (Err v) m n s = subst (P m) (sym (refused_stand q now room v m n s)) (same m)
+module _ (room : ℕ) (P : Rows → Rows → Type 0) (same : (m : Rows) → P m m) (made : (q : Query) → may_remove q ≡ false → (now : ℕ) (m : Rows) → (IsTrue (query_adds q now m) → map.len m < room) → P m (rows_after q now m)) where
+  came : (q : Query) → may_remove q ≡ false → (now : ℕ) (w : Result Told TableErr) (m n : Rows) → CameOn q now room w m n → P m n
+  came q keeps now (Ok t) m n s = subst (P m) (sym s.0) (made q keeps now m s.2)
+  came q keeps now (Err v) m n s = subst (P m) (sym (refused_stand q now room v m n s)) (same m)
 
-  by_plan : (d : Deployment) (old new : ℕ) (e : Event) (c b : Core) (m n : Rows) (r : Result Seen AllocError) (p : Plan) → EventBy d room old new e c p m b n r → P m n
-  by_plan d old new e c b m n r (answered k y) s = subst (P m) (sym s.1) (same m)
-  by_plan d old new e c b m n r (asks q) s = came q c.now s.0 m n s.2
-  by_plan d old new e c b m n r reads_all s = subst (P m) (sym s.2.0) (same m)
+  by_plan : (d : Deployment) (old new : ℕ) (e : Event) (c b : Core) (m n : Rows) (r : Result Seen AllocError) (p : Plan) → plan_removes p ≡ false → EventBy d room old new e c p m b n r → P m n
+  by_plan d old new e c b m n r (answered k y) keeps s = subst (P m) (sym s.1) (same m)
+  by_plan d old new e c b m n r (asks q) keeps s = came q keeps c.now s.0 m n s.2
+  by_plan d old new e c b m n r reads_all keeps s = subst (P m) (sym s.2.0) (same m)
 
   by_event : (d : Deployment) (old new : ℕ) (e : Event) (c b : Core) (m n : Rows) (r : Result Seen AllocError) → EventOn d room old new e c m b n r → P m n
-  by_event d old new e c b m n r s = by_plan d old new e (counted c) b m n r (plan d e c) s
+  by_event d old new e c b m n r s = by_plan d old new e (counted c) b m n r (plan d e c) (plan_spares d e c) s
 
 pub events_go_on : EventsGoOn
-events_go_on d room old new e c b m n r s = by_event room GoesOn goes_same (λ q now m fits. query_goes_on q now m) d old new e c b m n r s
+events_go_on d room old new e c b m n r s = by_event room GoesOn goes_same (λ q keeps now m fits. query_goes_on q keeps now m) d old new e c b m n r s
 
 module _ (d : Deployment) (room old new : ℕ) (e : Event) (c b : Core) (m n : Rows) (r : Result Seen AllocError) (s : EventOn d room old new e c m b n r) where
   pub full_stays : room ≤ map.len m → (k : RowKey) → map.get m k ≡ None → map.get n k ≡ None
   full_stays = by_event room (λ m n. room ≤ map.len m → (k : RowKey) → map.get m k ≡ None → map.get n k ≡ None) (λ m full k none. none)
-      (λ q now m fits full. query_full q now m (λ adds. let more : map.len m < room = fits adds in omega arith)) d old new e c b m n r s
+      (λ q keeps now m fits full. query_full q now m (λ adds. let more : map.len m < room = fits adds in omega arith)) d old new e c b m n r s
 
   pub rows_stay : map.len m ≤ map.len n
-  rows_stay = by_event room (λ m n. map.len m ≤ map.len n) (λ m. omega arith) (λ q now m fits. query_len q now m) d old new e c b m n r s
+  rows_stay = by_event room (λ m n. map.len m ≤ map.len n) (λ m. omega arith) (λ q keeps now m fits. query_len q keeps now m) d old new e c b m n r s
 
   pub room_stays : room ≤ map.len m → room ≤ map.len n
   room_stays full = let more = rows_stay in omega arith

@@ -4,7 +4,7 @@ use Rattle.std.proofs.Common.{arith, List, ◌≡◌, ℕ, suc, ◌+◌, ◌*◌
 use Rattle.beldi_value.specs.declared.{id.IntentId.IntentId, place.Owner.Owner, place.Place.Place, rel.Rel.Rel, value.Value.Value}
 use Rattle.beldi_lang.specs.declared.effect.Effect.{Effect}
 use Rattle.beldi_row.specs.{Act.act, Act.added, Act.kept, Act.other_owner, Key.RowKey, Log.blank, Log.note_at, Table.Rows, declared.act.Act.Act, declared.notes.Note.Note, declared.row.Row.Row}
-use Rattle.beldi_walk.specs.{Query.Told, Query.rows_after, Query.said, Query.told_by, declared.query.Query.Query}
+use Rattle.beldi_walk.specs.{Query.Told, Query.may_remove, Query.rows_after, Query.said, Query.told_by, declared.query.Query.Query}
 use Rattle.beldi_chain.specs.Chain.{chain, content}
 use Rattle.beldi_links.specs.Links.{IsLinked, SeesAt}
 use Rattle.beldi_daal.specs.{Cell.cell_key, Cell.done_note, Cell.read_goes, Cell.shadow_key, Cell.write_asks, Cell.write_goes, Logged.at_of, declared.cell.CellOp.CellOp, declared.cell.ReadGoes.ReadGoes, declared.cell.WriteAt.WriteAt, declared.cell.WriteAt.TheVariants.Try, declared.cell.WriteGoes.WriteGoes}
@@ -46,9 +46,9 @@ module _ (v : Visit → ℕ) (e m : Rows) (now : ℕ) (id : IntentId) (func : �
   Lower f q n x = SaysLower (stage_left c s (late q item) (late q side) v f) n x
 
   -- ---- the lock
-  past_falls : (q : Query) (f : Effect) → past_lock c s (late q side) f ≤ past_lock c s (there side) f
-  past_falls q (Effect.Write t k u) = put_falls s (there side) (late q side) (Try 0) (there_stays q now m side)
-  past_falls q f = omega arith
+  past_falls : (q : Query) → may_remove q ≡ false → (f : Effect) → past_lock c s (late q side) f ≤ past_lock c s (there side) f
+  past_falls q keeps (Effect.Write t k u) = put_falls s (there side) (late q side) (Try 0) (there_stays q keeps now m side)
+  past_falls q keeps f = omega arith
 
   had_lowers : (f : Effect) (q : Query) (n : ℕ) (l : LockAt) → is_operation f ≡ true → suc (past_lock c s (late q side) f) ≤ n → Lower f q n (tx_says (TxAt.Lock l) (locked_goes f))
   had_lowers (Effect.Read t k) q n l is h = omega (arith, h)
@@ -60,8 +60,8 @@ module _ (v : Visit → ℕ) (e m : Rows) (now : ℕ) (id : IntentId) (func : �
       → let q = asks_at func t k place who l in RowsStay (rows_after q now m) e → Lower f q (lock_left c (there item) l + past_lock c s (there side) f) (tx_says (TxAt.Lock l) (lock_leads place f (lock_goes l (told_by q now m))))
   lock_turn f (LockAt.Lockset b) is linked sees fits stay =
       let q = asks_at func t k place who (LockAt.Lockset b) in
-      let puts = put_falls c (there item) (late q item) (Try 0) (there_stays q now m item) in
-      let past = past_falls q f in
+      let puts = put_falls c (there item) (late q item) (Try 0) (there_stays q (grind arith) now m item) in
+      let past = past_falls q (grind arith) f in
       asked_tells (λ z. Lower f q (lock_left c (there item) (LockAt.Lockset b) + past_lock c s (there side) f) (tx_says (TxAt.Lock (LockAt.Lockset b)) (lock_leads place f (lock_goes (LockAt.Lockset b) (said z))))) now (map.get m (lockset_key func id b t k))
       (omega (arith, puts, past)) (omega (arith, puts, past))
   lock_turn f (LockAt.Item w) is linked sees fits stay =
@@ -71,7 +71,7 @@ module _ (v : Visit → ℕ) (e m : Rows) (now : ℕ) (id : IntentId) (func : �
       q = asks_at func t k place who (LockAt.Item w)
 
       past : past_lock c s (late q side) f ≤ past_lock c s (there side) f
-      past = past_falls q f
+      past = past_falls q (grind arith) f
 
       some : 1 ≤ put_left c (there item) w
       some = put_some c (there item) w (length_some e item)
@@ -166,7 +166,7 @@ module _ (v : Visit → ℕ) (e m : Rows) (now : ℕ) (id : IntentId) (func : �
   read_stage TxAt.Log h stay = logs (given_of (told_by (asks (Effect.Read t k) TxAt.Log) now m))
     where
       logs : (x : Option Value) → let f = Effect.Read t k in Lower f (asks f TxAt.Log) (2 + put_left c (there item) (Try 0) + past_lock c s (there side) f) (tx_says TxAt.Log (given_goes (begin_of o) x))
-      logs None = let q = asks (Effect.Read t k) TxAt.Log in let puts = put_falls c (there item) (late q item) (Try 0) (there_stays q now m item) in omega (arith, puts)
+      logs None = let q = asks (Effect.Read t k) TxAt.Log in let puts = put_falls c (there item) (late q item) (Try 0) (there_stays q (grind arith) now m item) in omega (arith, puts)
       logs (Some x) = omega arith
   read_stage (TxAt.Shadow r) h stay = finds (read_goes None (told_by q now m)) (read_turn e m now side None r h.shadow h.sees stay)
     where
@@ -216,7 +216,7 @@ module _ (v : Visit → ℕ) (e m : Rows) (now : ℕ) (id : IntentId) (func : �
       some = length_some e item
 
       there_late : (z : Row) → map.get m side ≡ Some z → late q side ≡ true
-      there_late z is = there_stays q now m side (ap is_some is)
+      there_late z is = there_stays q refl now m side (ap is_some is)
 
       finds : (z : Option Row) → map.get m side ≡ z → Lower (Effect.CondWrite t k r x u) q (c + 3 * s + 1) (tx_says TxAt.Seek (seek_goes (said (act Act.Look now z).1)))
       finds None is = omega (arith, some)

@@ -4,7 +4,8 @@ use Rattle.std.proofs.Common.{arith, ◌≡◌, ◌⊎◌, inl, inr, ℕ, suc, �
 use Rattle.beldi_value.specs.{Id.age_of, Passes.passes, declared.id.IntentId.IntentId, declared.place.Owner.Owner, declared.place.Place.Place, declared.value.Value.Value, declared.value.Value.TheVariants.Null}
 use Rattle.beldi_row.{proofs.Gets.got, proofs.Gets.key_self, specs.Key.RowKey, specs.Key.at_row, specs.Log.blank, specs.Log.most_entries, specs.Log.note_at, specs.Table.Rows, specs.declared.act.Act.Act, specs.declared.notes.Note.Note, specs.declared.row.Cell.Cell, specs.declared.row.Row.Row}
 use Rattle.beldi_row.specs.Act.{Tell, act, added, cond_to, did, died, entered, given_or, held, held_or, if_owned, if_room, is_full, next, next_or, no_row, not_full, not_owner, noted, noted_or, other_owner, owned_or, owns, packed, present, tested, unless_held, waits_for}
-use Rattle.beldi_walk.{proofs.Promises.at_each, specs.Query.rows_after, specs.Query.said, specs.Query.told_by, specs.declared.query.Query.Query}
+use Rattle.beldi_daal.proofs.Spares.{write_spares}
+use Rattle.beldi_walk.{proofs.Promises.rows_there, specs.Query.may_remove, specs.Query.rows_after, specs.Query.said, specs.Query.told_by, specs.declared.query.Query.Query}
 use Rattle.beldi_chain.specs.{Chain.Chain, Chain.chain, Chain.content, Chain.most_rows, Content.Content}
 use Rattle.beldi_links.specs.Links.{At, FitsAt, IsLinked, LeadsTo, Linked, Meets, Passed, ReadsAt, SeesAt, StandsAt}
 use Rattle.beldi_links.proofs.{Meets.last_is_last, Meets.next_is_read, Meets.none_noted, Meets.noted_is_noted, Meets.walks_end, Ways.content_is, Ways.few, Ways.one_cell, Ways.same_or}
@@ -99,12 +100,8 @@ module _ (P : Tell → Type 0) (now : ℕ) where
 abbrev pub Comes : Bool → Bool → Type 0
 Comes b c = b ≡ true → c ≡ true
 
-pub there_stays : (q : Query) (now : ℕ) (m : Rows) (k : RowKey) → Comes (is_some (map.get m k)) (is_some (map.get (rows_after q now m) k))
-there_stays = at_each (λ r s. Comes (is_some r) (is_some s)) (λ r h. h) stays_so
-  where
-    stays_so : (a : Act) (now : ℕ) (r : Option Row) → Comes (is_some r) (is_some (act a now r).0)
-    stays_so a now None h = cc
-    stays_so a now (Some r) h = refl
+pub there_stays : (q : Query) → may_remove q ≡ false → (now : ℕ) (m : Rows) (k : RowKey) → Comes (is_some (map.get m k)) (is_some (map.get (rows_after q now m) k))
+there_stays = rows_there
 
 -- a row that was made is there
 pub made_there : (now : ℕ) (m : Rows) (k : RowKey) (v : Value) (o : Option Owner) → is_some (map.get (rows_after (Query.Act k (Act.MakeCell v o blank)) now m) k) ≡ true
@@ -236,10 +233,10 @@ module _ (e m : Rows) (now : ℕ) (head : RowKey) (first : at_row head 0 ≡ hea
       l = linked_by f (f 0) r (Row.Cell x) linked is
 
       stays : RowsStay m e
-      stays k h = stay k (there_stays (asks (Try r)) now m k h)
+      stays k h = stay k (there_stays (asks (Try r)) (write_spares head p who op (Try r)) now m k h)
 
       still : there (late (Try r)) ≡ true
-      still = there_stays (asks (Try r)) now m head (first_row r (Row.Cell x) is)
+      still = there_stays (asks (Try r)) (write_spares head p who op (Try r)) now m head (first_row r (Row.Cell x) is)
 
       goes : (k : ℕ) → (k ≡ r + 1) × Meets f k × (y : Row) × (f k ≡ Some y) → suc (put_left c (there (late (Try r))) (Try k)) ≤ put_left c true (Try r)
       goes k (at, meets, y, row) =
@@ -272,7 +269,7 @@ module _ (e m : Rows) (now : ℕ) (head : RowKey) (first : at_row head 0 ≡ hea
       made = stay (at_row head n) (made_there now m (at_row head n) t.value t.owner)
 
       before_it : (i : ℕ) → i ≤ r → is_some (chain e head i) ≡ true
-      before_it i low = stay (at_row head i) (there_stays (asks (Append n t)) now m (at_row head i) (all_below f r (Row.Cell told.cell) linked told.there i low))
+      before_it i low = stay (at_row head i) (there_stays (asks (Append n t)) refl now m (at_row head i) (all_below f r (Row.Cell told.cell) linked told.there i low))
 
       below : (i : ℕ) → i ≤ n → is_some (chain e head i) ≡ true
       below i low = same_or i n (λ same. subst (λ j. is_some (chain e head j) ≡ true) (sym same) made)
@@ -289,7 +286,7 @@ module _ (e m : Rows) (now : ℕ) (head : RowKey) (first : at_row head 0 ≡ hea
   links n (r, after, meets, passed, row) stay = by_key (n - 1) (let next = after.next in omega (arith, next))
     where
       still : there (late (Link n)) ≡ true
-      still = there_stays (asks (Link n)) now m head (first_row r (Row.Cell row.cell) row.there)
+      still = there_stays (asks (Link n)) refl now m head (first_row r (Row.Cell row.cell) row.there)
 
       full : is_full row.cell ≡ true
       full = eq-eqb (length row.cell.log) most_entries row.full
@@ -331,7 +328,7 @@ module _ (e m : Rows) (now : ℕ) (head : RowKey) (who : Option Owner) (r : ℕ)
       by_next x (Some k) is to =
           let l = linked_by (chain m head) (chain m head 0) r (Row.Cell x) linked is in
           let there = next_stands (chain m head) l r x k is to in
-          (there.0, is_counted e m head k there.2 (λ k h. stay k (there_stays (Query.Act (at_row head r) Act.Look) now m k h)) linked there.3 (meets_few (chain m head) l k there.1))
+          (there.0, is_counted e m head k there.2 (λ k h. stay k (there_stays (Query.Act (at_row head r) Act.Look) refl now m k h)) linked there.3 (meets_few (chain m head) l k there.1))
 
       by_row : (o : Option Row) → chain m head r ≡ o → Reads (read_goes who (said (act Act.Look now (chain m head r)).1))
       by_row None none = subst (λ y. Reads (read_goes who (said (act Act.Look now y).1))) (sym none) tt

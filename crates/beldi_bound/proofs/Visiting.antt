@@ -359,7 +359,7 @@ module _ (t : TxId) (end : ℕ) (commit : Bool) (e : Rows) where
         p = visited_by t cs
 
         puts : put_left (chain_length e item_key) (freed_there (rows_after q now m) p (Some j)) (Try 0) ≤ put_left (chain_length e item_key) (freed_there m p (Some j)) (Try 0)
-        puts = put_falls (chain_length e item_key) (freed_there m p (Some j)) (freed_there (rows_after q now m) p (Some j)) (Try 0) (there_stays q now m item_key)
+        puts = put_falls (chain_length e item_key) (freed_there m p (Some j)) (freed_there (rows_after q now m) p (Some j)) (Try 0) (there_stays q refl now m item_key)
 
         goes : (g : ReadGoes) → ReadOn (chain_length e aside_key) r None (chain m aside_key) g → Falls m (rows_after q now m) (at cs af (Some j) u (EndAt.Shadow r)) (value_goes g)
         goes (ReadGoes.On n) h = let next = h.0 in let less = h.1 in omega (arith, puts, next, less)

@@ -1,23 +1,27 @@
--- Whose rows the table has as they were kept: items, who has a row whose finish is not old, and the owner of a transaction that is not finished.
+-- Whose rows the table has as they were kept: items, who has a row whose finish is not old, the owner of a transaction that is not finished,
+-- and who holds a lock.
 use Rattle.std.specs.FinMap as map
 use Rattle.std.proofs.Common.{◌≡◌, ◌⊎◌, inl, inr, ℕ, ◌==◌, Bool, true, false, Option, Some, None, is_some, if◌then◌else◌, refl, ap, sym, ◌∙◌, subst}
 use Rattle.std.specs.Option.{option_map}
-use Rattle.std.specs.Prelude.{option_and_then}
-use Rattle.beldi_value.specs.{Id.has_no_hops, declared.id.IntentId.IntentId, declared.place.Owner.Owner, declared.place.Owner.TheVariants.Tx, declared.place.Place.Place, declared.place.TxId.TxId, declared.value.Value.Value}
+use Rattle.std.specs.Prelude.{length, option_and_then}
+use Rattle.beldi_value.specs.{Id.has_no_hops, declared.id.IntentId.IntentId, declared.place.Owner.Owner, declared.place.Owner.TheVariants.Intent, declared.place.Owner.TheVariants.Tx, declared.place.Place.Place, declared.place.TxId.TxId, declared.value.Value.Value}
 use Rattle.beldi_tree.specs.declared.deployment.Deployment.{Deployment}
 use Rattle.beldi_lang.specs.{Callee.answer_of, declared.effect.Answer.Answer, declared.effect.Effect.Effect}
-use Rattle.beldi_plain.specs.{Item.Item, Operation.OnItem, Operation.item_in, Operation.op_of, Plain.Instance}
+use Rattle.beldi_plain.specs.{Holds.holds, Item.Item, Operation.OnItem, Operation.item_in, Operation.op_of, Plain.Instance}
+use Rattle.beldi_order.specs.Txs.{effect_after, or_own, tx_by, tx_now, txs_after}
 use Rattle.beldi_row.specs.{Key.RowKey, Key.at_row, Log.note_at, Table.Rows, declared.row.IntentRow.IntentRow, declared.row.Row.Row}
 use Rattle.beldi_chain.specs.Chain.{chain, content, tail}
 use Rattle.beldi_readlog.specs.ReadLog.{given_in, log_key}
 use Rattle.beldi_intent.specs.Intent.{intent_key}
 use Rattle.beldi_invokelog.specs.InvokeLog.{call_in, invoke_key, result_in}
 use Rattle.beldi_step.specs.{Host.Core, Noted.noted_answer, Tables.decision_key, Tables.is_committed, Tables.value_in}
-use Rattle.beldi_known.specs.{Contents.content_of, Contents.head_key, Contents.shadow_chain, Contents.shadow_key, Listed.listed, Listed.listed_under, Matches.has_ended, Rows.BodyMatches, Rows.IntentMatches, Rows.RootMatches, Stands.answer_aside, Stands.decides, Stands.held_answer, Stands.held_inside, Stands.held_note, Stands.held_outside, Stands.key_in, Stands.note_of_lock, Stands.told_by}
+use Rattle.beldi_row.proofs.Logs.{id_self}
+use Rattle.beldi_known.proofs.{Cases.by_option, Phases.inside_holds_none}
+use Rattle.beldi_known.specs.{Contents.content_of, Contents.head_key, Contents.is_owner, Contents.shadow_chain, Contents.shadow_key, Listed.listed, Listed.listed_under, Matches.has_ended, Rows.BodyMatches, Rows.IntentMatches, Rows.RootMatches, Stands.answer_aside, Stands.decides, Stands.held_answer, Stands.held_inside, Stands.held_note, Stands.held_outside, Stands.key_in, Stands.note_of_lock, Stands.told_by}
 use Rattle.beldi_laws.specs.Inside.{has_finish}
 use Rattle.beldi_laws.proofs.Cases.{false_by}
 use Rattle.beldi_upkeep.specs.{Callees.belongs_to, Callees.owner_key, Work.finish_in}
-use Rattle.beldi_upkeep.proofs.PastOwn.{WasOwner, got_owner}
+use Rattle.beldi_upkeep.proofs.{Frees.returns_hold_none, FromRight.finished_over, PastOwn.WasOwner, PastOwn.got_owner}
 use Rattle.beldi_kept.specs.{Kept.HasKept, Kept.IsOld, Kept.IsUnbound, Less.IsGone}
 use Rattle.beldi_kept.proofs.{Gone.done_there, Gone.known_home, Gone.old_finished, Gone.one_row, Gone.unbound_bare, Gone.unbound_none, Gone.unbound_root, Less.IsBare, Less.there_kept}
 
@@ -77,8 +81,29 @@ module _ (d : Deployment) (c : Core) (m : Rows) (h : HasKept d c m) where
   pub holder_alive : (t : TxId) (x : Item) → (content_of h.kept x).owner ≡ Some (Tx t) → h.gone t.intent ≡ false
   holder_alive t x owned = owner_alive t (got_owner d h.upkeep.right.known h.upkeep.right.sane t h.upkeep.right.locked x ((h.upkeep.right.rows.txs x).owned_is_got t owned)) (λ fin. h.upkeep.seats.owns_none t x fin owned)
 
+  -- .. and so who holds a lock: it has not ended
+  holds_open : (j : IntentId) (q : Instance) (x : Item) → map.get h.upkeep.right.known j ≡ Some q → holds d x (Some q) ≡ true → has_finish (map.get h.kept (intent_key j q.func)) ≡ true → ⊥
+  holds_open j q x made held fin =
+      let its = h.upkeep.right.sane.each j q made in
+      by_option q.within
+      (λ out. by_option q.outcome
+      (λ none. let clash = sym (ap is_some none) ∙ finished_over d c h.kept h.upkeep.right (intent_key j q.func).home j q made out fin in cc)
+      (λ o over. let clash = sym held ∙ returns_hold_none d q o (its.over o over) x in cc))
+      (λ t inner. let clash = sym held ∙ inside_holds_none d j q its (within t inner) x in cc)
+    where
+      within : (t : TxId) → q.within ≡ Some t → is_some (tx_now d j q) ≡ true
+      within t inner = ap (λ w. is_some (or_own w (tx_by j q.func (length q.answers) (effect_after d q q.answers) (txs_after d q q.answers).begun))) inner
+
+  pub lock_alive : (j : IntentId) (x : Item) → (content_of h.kept x).owner ≡ Some (Intent j) → h.gone j ≡ false
+  lock_alive j x owned = by_option (map.get h.upkeep.right.known j)
+      (λ none. let clash = sym held ∙ ap (holds d x) none in cc)
+      (λ q made. known_alive j q made (holds_open j q x made (sym (ap (holds d x) made) ∙ held)))
+    where
+      held : holds d x (map.get h.upkeep.right.known j) ≡ true
+      held = sym ((h.upkeep.right.rows.items x).owner j) ∙ ap (λ o. is_owner o (Intent j)) owned ∙ id_self j
+
   -- ---- the rows of items, and those of a transaction and of an intent that are not gone
-  alive_key : (i : IntentId) → h.gone i ≡ false → h.gone i ≡ true → ⊥
+  pub alive_key : (i : IntentId) → h.gone i ≡ false → h.gone i ≡ true → ⊥
   alive_key i alive off = let clash = sym off ∙ alive in cc
 
   pub same_item : (x : Item) → chain m (head_key x) ≡ chain h.kept (head_key x)

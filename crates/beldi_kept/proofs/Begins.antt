@@ -5,6 +5,7 @@ use Rattle.std.specs.FinMap.{same_map}
 use Rattle.std.specs.Prelude.{nat_le, nat_lt, ◌&&◌}
 use Rattle.std.proofs.lemmas.Bool.{lt-ltb}
 use Rattle.beldi_value.specs.declared.id.IntentId.{IntentId}
+use Rattle.beldi_tree.specs.declared.deployment.Deployment.{Deployment}
 use Rattle.beldi_row.specs.KeyOrder.{key_exact, key_total}
 use Rattle.beldi_intent.specs.Intent.{root_key}
 use Rattle.beldi_upkeep.specs.Upkeep.{Upkeep}
@@ -16,6 +17,11 @@ use Rattle.beldi_kept.specs.{Less.IsGone, Kept.IsOld, Laws.AllAreKept, Laws.Begi
 
 pub begins_kept : BeginsKept
 begins_kept d now = record { kept = map.empty; upkeep = begins_upkept d now; gone = λ i. false; latest = 0; less = record { rows = λ k. inl refl }; over = λ i off. cc; spared = λ n r i live in_time works. refl; newest = inl refl }
+
+-- nobody was old then
+pub begins_early : (d : Deployment) (now : ℕ) → (begins_kept d now).latest ≡ 0
+unfolding begins_kept
+begins_early d now = refl
 
 -- ---- all rows are there
 issued_newest : (n : ℕ) (o : Bool) → o ≡ (nat_lt 0 n && nat_le n n) → (n ≡ 0) ⊎ (o ≡ true)

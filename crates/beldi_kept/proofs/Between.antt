@@ -1,18 +1,15 @@
 -- the next call of an intent that is not gone, and the next lock that it asked for, are the same over less rows.
-use Rattle.std.specs.declared.cmp.Ordering.{Ordering}
-use Rattle.std.specs.declared.cmp.Ordering.TheVariants.{Less as Before, Equal, Greater}
-use Rattle.std.specs.Cmp.Lexicographic.{slice_cmp}
+use Rattle.std.specs.declared.cmp.Ordering.TheVariants.{Less as Before}
 use Rattle.std.specs.Ordering.{nat_cmp, ordering_then, ordering_reverse}
-use Rattle.std.proofs.Common.{◌≡◌, ℕ, ◌==◌, ◌&&◌, Bool, true, false, List, [], Option, Some, None, if◌then◌else◌, eq-eqb, eqb-true, refl, ap, sym, ◌∙◌}
+use Rattle.std.proofs.Common.{◌≡◌, ℕ, ◌==◌, ◌&&◌, Bool, true, false, List, [], Option, Some, None, if◌then◌else◌, eq-eqb, refl, ap, sym, ◌∙◌, subst}
 use Rattle.beldi_value.specs.{Id.id_cmp, Id.id_exact, declared.id.IntentId.IntentId}
-use Rattle.beldi_row.specs.{Key.RowKey, Key.key_cmp, KeyOrder.key_total, Table.IsNext, Table.Rows, declared.key.Kind.Kind, declared.row.Row.Row}
-use Rattle.beldi_row.proofs.Logs.{id_same, id_self}
-use Rattle.beldi_row.specs.Log.{id_eq}
+use Rattle.beldi_row.specs.{Key.RowKey, Key.key_cmp, KeyOrder.key_total, Log.id_eq, Table.IsNext, Table.Rows, declared.key.Kind.Kind, declared.row.Row.Row}
+use Rattle.beldi_row.proofs.Logs.{id_self}
 use Rattle.beldi_walk.specs.Query.{told_by}
 use Rattle.beldi_lock.specs.{Lock.lockset_key, Lockset.IsFirstFrom, Lockset.item_after, Lockset.item_of, Lockset.lockset_after, Lockset.lockset_asks, Lockset.lockset_found}
 use Rattle.beldi_lock.proofs.Firsts.{by_parts, items, level, parts, rest}
 use Rattle.beldi_txn.specs.{declared.way.Called.Called, Invokes.call_after, Invokes.call_key, Invokes.call_of, Invokes.func_called, Invokes.invokes_after, Invokes.invokes_asks, Invokes.invokes_found}
-use Rattle.beldi_step.proofs.Runs.{same_some}
+use Rattle.beldi_txn.proofs.{Calls.by_steps, Calls.is_call, Calls.steps, Locks.is_item}
 use Rattle.beldi_upkeep.specs.Callees.{belongs_to}
 use Rattle.beldi_kept.specs.Less.{IsGone, Less}
 use Rattle.beldi_kept.proofs.NextAlike.{next_alike}
@@ -51,59 +48,18 @@ module _ (home : ℕ) (id : IntentId) (begin : ℕ) where
       by_kind room (Kind.Data v n r) low up off = low up
       by_kind room (Kind.Shadow x v n r) low up off = low up
 
-  -- the key of a row of which an item is read
-  pub lock_key : (e : RowKey × Row) (x : ℕ × List ℕ) → item_after home id begin (Some e) ≡ Some x → e.0 ≡ lk x.0 x.1
-  lock_key e x is = by_kind e.0.home e.0.kind is
-    where
-      by_kind : (room : ℕ) (kind : Kind) → item_of home id begin (record { home = room; kind = kind }) kind ≡ Some x → record { home = room; kind = kind } ≡ lk x.0 x.1
-      by_kind room (Kind.Lockset i b t n) is = by_test (id_eq i id) (b == begin) (room == home) refl refl refl is
-        where
-          by_test : (a c f : Bool) → id_eq i id ≡ a → (b == begin) ≡ c → (room == home) ≡ f → (if (a && c) && f then Some (t, n) else None) ≡ Some x → record { home = room; kind = Kind.Lockset i b t n } ≡ lk x.0 x.1
-          by_test true true true same at one is = let u = id_same i id same in let v = eqb-true b begin at in let w = eqb-true room home one in let y = same_some is in λ j. record { home = w j; kind = Kind.Lockset (u j) (v j) (y j).0 (y j).1 }
-          by_test true true false same at one is = cc
-          by_test true false f same at one is = cc
-          by_test false c f same at one is = cc
-      by_kind room (Kind.Intent i) is = cc
-      by_kind room (Kind.ReadLog p) is = cc
-      by_kind room (Kind.Invoke p) is = cc
-      by_kind room (Kind.Data v n r) is = cc
-      by_kind room (Kind.Shadow y v n r) is = cc
-
   module _ (gone : IntentId → Bool) (m kept : Rows) (less : Less gone m kept) (first : (e : Option (RowKey × Row)) → IsNext kept (lockset_after home id begin None) e → IsFirstFrom kept (lk 0 []) e) (alive : gone id ≡ false) where
     -- what is read off a row of this intent is read off one that is not gone
     lock_alive : (e : RowKey × Row) (x : ℕ × List ℕ) → item_after home id begin (Some e) ≡ Some x → IsGone gone (belongs_to e.0.kind) → ⊥
-    lock_alive e x is off = by_kind e.0 e.0.kind is off
-      where
-        by_kind : (q : RowKey) (kind : Kind) → item_of home id begin q kind ≡ Some x → IsGone gone (belongs_to kind) → ⊥
-        by_kind q (Kind.Lockset i b t n) is off = by_test (id_eq i id) (b == begin) (q.home == home) refl is
-          where
-            by_test : (a c f : Bool) → id_eq i id ≡ a → (if (a && c) && f then Some (t, n) else None) ≡ Some x → ⊥
-            by_test true c f same is = let clash = sym off ∙ ap gone (id_same i id same) ∙ alive in cc
-            by_test false c f same is = cc
-        by_kind q (Kind.Intent i) is off = cc
-        by_kind q (Kind.ReadLog p) is off = cc
-        by_kind q (Kind.Invoke p) is off = cc
-        by_kind q (Kind.Data v n r) is off = cc
-        by_kind q (Kind.Shadow y v n r) is off = cc
+    lock_alive e x is off = let clash = sym (subst (λ (z : RowKey). IsGone gone (belongs_to z.kind)) (is_item home id begin e.0.home e.0.kind x is) off) ∙ alive in cc
 
     pub same_lock : (after : Option (ℕ × List ℕ)) → lockset_found home id begin (told_by (lockset_asks home id begin after) 0 m) ≡ lockset_found home id begin (told_by (lockset_asks home id begin after) 0 kept)
     same_lock (Some at) = next_alike gone m kept less (lk at.0 at.1) (item_after home id begin) refl lock_alive
-        (λ e x is q s next up off. locks_between at.0 x.0 at.1 x.1 q (not_below (lk at.0 at.1) q next.0) (ap (key_cmp q) (sym (lock_key e x is)) ∙ up) off)
+        (λ e x is q s next up off. locks_between at.0 x.0 at.1 x.1 q (not_below (lk at.0 at.1) q next.0) (ap (key_cmp q) (sym (is_item home id begin e.0.home e.0.kind x is)) ∙ up) off)
     same_lock None = next_alike gone m kept less (lockset_after home id begin None) (item_after home id begin) refl lock_alive
-        (λ e x is q s next up off. locks_between 0 x.0 [] x.1 q (first (Some (q, s)) next).0 (ap (key_cmp q) (sym (lock_key e x is)) ∙ up) off)
+        (λ e x is q s next up off. locks_between 0 x.0 [] x.1 q (first (Some (q, s)) next).0 (ap (key_cmp q) (sym (is_item home id begin e.0.home e.0.kind x is)) ∙ up) off)
 
 -- ---- calls
-assoc : (o p r : Ordering) → ordering_then o (ordering_then p r) ≡ ordering_then (ordering_then o p) r
-assoc Before p r = refl
-assoc Equal p r = refl
-assoc Greater p r = refl
-
-abbrev steps : ℕ → ℕ → Ordering
-steps n k = ordering_then (nat_cmp n k) Equal
-
-by_steps : (home room : ℕ) (a i : IntentId) (n k : ℕ) → key_cmp (call_key home a n) (call_key room i k) ≡ ordering_then (nat_cmp home room) (ordering_then (id_cmp a i) (steps n k))
-by_steps home room a i n k = ap (ordering_then (nat_cmp home room)) (assoc (nat_cmp a.ticket i.ticket) (slice_cmp nat_cmp a.hops i.hops) (steps n k))
-
 module _ (home : ℕ) (id : IntentId) where
   abbrev ck : ℕ → RowKey
   ck n = call_key home id n
@@ -127,41 +83,12 @@ module _ (home : ℕ) (id : IntentId) where
       by_kind room (Kind.Shadow x v n r) low up off = low up
       by_kind room (Kind.Lockset i b v n) low up off = low up
 
-  -- the key of a row of which a call is read
-  pub call_key_is : (e : RowKey × Row) (x : Called) → call_after home id (Some e) ≡ Some x → (e.0 ≡ ck x.step) × (func_called e.1 ≡ x.func)
-  call_key_is e x is = by_kind e.0.home e.0.kind is
-    where
-      by_kind : (room : ℕ) (kind : Kind) → call_of home id (record { home = room; kind = kind }) kind e.1 ≡ Some x → (record { home = room; kind = kind } ≡ ck x.step) × (func_called e.1 ≡ x.func)
-      by_kind room (Kind.Invoke p) is = by_test (id_eq p.intent id) (room == home) refl refl is
-        where
-          by_test : (a f : Bool) → id_eq p.intent id ≡ a → (room == home) ≡ f → (if a && f then Some (record { step = p.step; func = func_called e.1 }) else None) ≡ Some x → (record { home = room; kind = Kind.Invoke p } ≡ ck x.step) × (func_called e.1 ≡ x.func)
-          by_test true true same one is = let u = id_same p.intent id same in let w = eqb-true room home one in let y = same_some is in (λ j. record { home = w j; kind = Kind.Invoke (record { intent = u j; step = (y j).step }) }, ap (λ (z : Called). z.func) y)
-          by_test true false same one is = cc
-          by_test false f same one is = cc
-      by_kind room (Kind.Intent i) is = cc
-      by_kind room (Kind.ReadLog p) is = cc
-      by_kind room (Kind.Data v n r) is = cc
-      by_kind room (Kind.Shadow y v n r) is = cc
-      by_kind room (Kind.Lockset i b v n) is = cc
-
   module _ (gone : IntentId → Bool) (m kept : Rows) (less : Less gone m kept) (first : (e : Option (RowKey × Row)) → IsNext kept (invokes_after home id None) e → IsFirstFrom kept (ck 0) e) (alive : gone id ≡ false) where
     call_alive : (e : RowKey × Row) (x : Called) → call_after home id (Some e) ≡ Some x → IsGone gone (belongs_to e.0.kind) → ⊥
-    call_alive e x is off = by_kind e.0 e.0.kind is off
-      where
-        by_kind : (q : RowKey) (kind : Kind) → call_of home id q kind e.1 ≡ Some x → IsGone gone (belongs_to kind) → ⊥
-        by_kind q (Kind.Invoke p) is off = by_test (id_eq p.intent id) (q.home == home) refl is
-          where
-            by_test : (a f : Bool) → id_eq p.intent id ≡ a → (if a && f then Some (record { step = p.step; func = func_called e.1 }) else None) ≡ Some x → ⊥
-            by_test true f same is = let clash = sym off ∙ ap gone (id_same p.intent id same) ∙ alive in cc
-            by_test false f same is = cc
-        by_kind q (Kind.Intent i) is off = cc
-        by_kind q (Kind.ReadLog p) is off = cc
-        by_kind q (Kind.Data v n r) is off = cc
-        by_kind q (Kind.Shadow y v n r) is off = cc
-        by_kind q (Kind.Lockset i b v n) is off = cc
+    call_alive e x is off = let clash = sym (subst (λ (z : RowKey). IsGone gone (belongs_to z.kind)) (is_call home id e.0.home e.0.kind e.1 x is).0 off) ∙ alive in cc
 
     pub same_call : (after : Option ℕ) → invokes_found home id (told_by (invokes_asks home id after) 0 m) ≡ invokes_found home id (told_by (invokes_asks home id after) 0 kept)
     same_call (Some a) = next_alike gone m kept less (ck a) (call_after home id) refl call_alive
-        (λ e x is q s next up off. calls_between a x.step q s (not_below (ck a) q next.0) (ap (key_cmp q) (sym (call_key_is e x is).0) ∙ up) off)
+        (λ e x is q s next up off. calls_between a x.step q s (not_below (ck a) q next.0) (ap (key_cmp q) (sym (is_call home id e.0.home e.0.kind e.1 x is).0) ∙ up) off)
     same_call None = next_alike gone m kept less (invokes_after home id None) (call_after home id) refl call_alive
-        (λ e x is q s next up off. calls_between 0 x.step q s (first (Some (q, s)) next).0 (ap (key_cmp q) (sym (call_key_is e x is).0) ∙ up) off)
+        (λ e x is q s next up off. calls_between 0 x.step q s (first (Some (q, s)) next).0 (ap (key_cmp q) (sym (is_call home id e.0.home e.0.kind e.1 x is).0) ∙ up) off)

@@ -1,6 +1,7 @@
 -- Who is gone, by the kept rows: its rows stand in one home, where it has its finish, or no body.
 use Rattle.std.specs.FinMap as map
-use Rattle.std.proofs.Common.{◌≡◌, ◌⊎◌, inl, inr, ℕ, ◌≤◌, ◌==◌, Bool, true, false, Option, Some, None, is_some, if◌then◌else◌, eqb-true, refl, ap, sym, ◌∙◌, subst, arith}
+use Rattle.std.proofs.lemmas.Bool.{lt-ltb}
+use Rattle.std.proofs.Common.{◌≡◌, ◌⊎◌, inl, inr, ℕ, ◌+◌, ◌<◌, ◌≤◌, ◌==◌, Bool, true, false, ltb-true, Option, Some, None, is_some, if◌then◌else◌, eqb-true, refl, ap, sym, ◌∙◌, subst, arith}
 use Rattle.beldi_value.specs.{Id.has_no_hops, declared.id.IntentId.IntentId}
 use Rattle.beldi_tree.specs.declared.deployment.Deployment.{Deployment}
 use Rattle.beldi_plain.specs.Plain.{Instance}
@@ -69,17 +70,17 @@ unbound_root newest i (Some s) r u = absurd u
 
 -- ---- finishes that are old
 pub old_finished : (life now : ℕ) (r : Option Row) → IsOld life now (finish_in r) → has_finish r ≡ true
-old_finished life now None old = absurd old
+old_finished life now None old = cc
 old_finished life now (Some (Row.Intent i)) old = by_finish i.finish old
   where
     by_finish : (f : Option ℕ) → IsOld life now f → is_some f ≡ true
-    by_finish None o = absurd o
+    by_finish None o = cc
     by_finish (Some f) o = refl
-old_finished life now (Some r) old = absurd old
+old_finished life now (Some r) old = cc
 
 pub old_still : (life now after : ℕ) (o p : Option ℕ) → now ≤ after → ((f : ℕ) → o ≡ Some f → p ≡ Some f) → IsOld life now o → IsOld life after p
-old_still life now after None p later same old = absurd old
-old_still life now after (Some f) p later same old = subst (IsOld life after) (sym (same f refl)) (omega (arith, later, old))
+old_still life now after None p later same old = cc
+old_still life now after (Some f) p later same old = let was = ltb-true (f + life) now old in subst (IsOld life after) (sym (same f refl)) (lt-ltb (f + life) after (omega (arith, later, was)))
 
 pub is_done : (life newest latest : ℕ) (m kept : Rows) (i : IntentId) → IsOver life newest latest m kept i → IsDone kept i
 is_done life newest latest m kept i o = record { home = o.home; over = by_over o.over }

@@ -10,7 +10,7 @@ use Rattle.beldi_step.specs.declared.run.RunAt as standing
 use Rattle.beldi_txn.specs.Closed.{ClosedArePassed}
 use Rattle.beldi_upkeep.specs.{Checked.is_visit, Work.is_visiting}
 use Rattle.beldi_kept.specs.{Kept.HasKept, Laws.AnswersAreOfKept, Laws.CursorIsFree, Laws.EventsKeep, Laws.NoRowComesBack}
-use Rattle.beldi_kept.proofs.{Events.Goal, Events.answer, Events.step, Events.turns_alike, Gone.is_done, Less.stays_on, Step.by_rest, Step.elsewhere, Step.has_kept, Step.is_later, Step.moment_rises, Step.rows_stay, Turn.same_turn, Visits.visit_turns}
+use Rattle.beldi_kept.proofs.{Events.Goal, Events.answer, Events.step, Events.turns_alike, Gone.is_done, Less.stays_on, Step.by_rest, Step.elsewhere, Step.has_kept, Step.is_later, Step.moment_rises, Step.rows_stay, Step.same_latest, Turn.same_turn, Visits.visit_turns}
 
 module _ (may_pass : ClosedArePassed) (d : Deployment) (c : Core) (m : Rows) (h : HasKept d c m) (room old new : ℕ) (b : Core) (n : Rows) (x : Result Seen AllocError) (i : ℕ) (r : Run) (live : map.get c.runs i ≡ Some r) (in_time : c.now ≤ r.deadline) where
   abbrev Turns : Type 0
@@ -34,7 +34,7 @@ events_keep may_pass d room old new e c b m n x h s =
     let after = step d c m h room old new b n x e (λ i r live in_time. turns may_pass d c m h room old new b n x i r live in_time r.at refl) s in
     let rises = moment_rises d room old new e c b m n x s in
     let stay = rows_stay d room old new e c b m n x s in
-    (has_kept d c b m n h after rises stay, is_later d c b m n h after rises stay)
+    (has_kept d c b m n h after rises stay, is_later d c b m n h after rises stay, same_latest d c b m n h after rises stay)
 
 pub cursor_is_free : CursorIsFree
 cursor_is_free d c m h k =

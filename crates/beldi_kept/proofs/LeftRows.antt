@@ -1,13 +1,13 @@
 -- What the table's rows tell of the run of the book.
 use Rattle.std.specs.FinMap as map
 use Rattle.std.specs.Prelude.{slice_get, take, ◌||◌}
-use Rattle.std.proofs.Common.{◌≡◌, ◌⊎◌, inl, inr, ℕ, true, false, Option, Some, None, is_some, refl, ap, sym, ◌∙◌, subst, arith}
+use Rattle.std.proofs.Common.{◌≡◌, ◌⊎◌, inl, inr, ℕ, ◌≤◌, true, false, Option, Some, None, is_some, refl, ap, sym, ◌∙◌, subst, arith}
 use Rattle.beldi_value.specs.{Id.root_of, declared.id.IntentId.IntentId, declared.outcome.Outcome.Outcome, declared.place.Owner.TheVariants.Intent, declared.place.Owner.TheVariants.Tx, declared.place.TxId.TxId}
 use Rattle.beldi_tree.specs.declared.deployment.Deployment.{Deployment}
 use Rattle.beldi_lang.specs.{declared.effect.Answer.Answer, declared.effect.Effect.Effect, Wants.wants}
 use Rattle.beldi_plain.specs.{Item.Item, Plain.Instance, Plain.PlainState, Plain.effect_before}
 use Rattle.beldi_order.specs.Txs.{or_own, tx_at, tx_by}
-use Rattle.beldi_row.specs.{Table.Rows, declared.row.Body.Body, declared.row.IntentRow.IntentRow, declared.row.Row.Row}
+use Rattle.beldi_row.specs.{Key.RowKey, Table.Rows, declared.row.Body.Body, declared.row.IntentRow.IntentRow, declared.row.Row.Row}
 use Rattle.beldi_links.specs.Links.{IsLinked}
 use Rattle.beldi_intent.specs.Intent.{intent_key, is_ended, root_key}
 use Rattle.beldi_step.specs.{Host.Core, Tables.decision_key, Tables.is_committed}
@@ -17,8 +17,8 @@ use Rattle.beldi_laws.specs.{Inside.has_finish, OneAnswer.AnswersOf, OneAnswer.H
 use Rattle.beldi_laws.proofs.{Listing.listing_by, Outside.known_of, OneAnswer.answers_of, Standing.right_stands, Standing.same_run}
 use Rattle.beldi_upkeep.specs.Callees.{HasBody}
 use Rattle.beldi_upkeep.proofs.{FromRight.body_known, PastOwn.called_owner}
-use Rattle.beldi_kept.specs.{Kept.HasKept, Kept.IsOld, Stands.AnswersLess, Stands.IsFresh, Stands.KeptAnswers, Stands.KeptListing, Stands.KeptStand, Stands.OneAnswerLess, Stands.StandsLess, Stands.TellsDecision}
-use Rattle.beldi_kept.proofs.Less.{there_kept}
+use Rattle.beldi_kept.specs.{Kept.HasKept, Kept.IsOld, Stands.AnswersLess, Stands.IsFresh, Stands.KeptAnswers, Stands.KeptListing, Stands.KeptStand, Stands.OneAnswerLess, Stands.StandsLater, Stands.StandsLess, Stands.TellsDecision}
+use Rattle.beldi_kept.proofs.{Gone.old_still, Less.there_kept}
 use Rattle.beldi_kept.proofs.Alive.{alive_there, holder_alive, known_alive, owner_alive, same_content, same_decision, same_held, same_item, same_listed, same_row, same_shadow}
 
 -- who has not ended has no finish
@@ -76,7 +76,7 @@ module _ (d : Deployment) (c : Core) (m : Rows) (h : HasKept d c m) where
         (λ fin. let clash = sym (ap is_some (no_finish i open_still)) ∙ h.upkeep.seats.ends_last u home id i b fin has inner in cc)
 
     alive_id : h.gone id ≡ false
-    alive_id = alive_there d c m h home id i there (λ old. subst (IsOld d.life h.latest) (no_finish i open_still) old)
+    alive_id = alive_there d c m h home id i there (λ old. let clash : false ≡ true = subst (IsOld d.life h.latest) (no_finish i open_still) old in cc)
 
     held_there : (q : Instance) → map.get p.made id ≡ Some q → (n : ℕ) (a : Answer) → slice_get q.answers n ≡ Some a → held_answer m id q.func n (tx_at d id q n) (effect_before d q n) ≡ Some a
     held_there q made n a at = same_held d c m h id q.func n (tx_at d id q n) (effect_before d q n) alive_id in_tx ∙ stood.held home id i b own body (place_kept b.tx place) open_still q made n a at
@@ -158,3 +158,25 @@ kept_stand d c m p h is = subst (StandsLess d h.latest m) (same_run d c h.kept p
 
 pub kept_listing : KeptListing
 kept_listing d c m p h is = listing_by d c.book m p is (kept_stand d c m p h is).items
+
+-- ---- by a later moment
+module _ (d : Deployment) (early late : ℕ) (later : early ≤ late) (m : Rows) where
+  fresh_then : (k : RowKey) → IsFresh d.life late m k → IsFresh d.life early m k
+  fresh_then k w = record { row = w.row; there = w.there; fresh = λ old. w.fresh (old_still d.life early late w.row.finish w.row.finish later (λ f is. is) old) }
+
+  tells_then : (t : TxId) → TellsDecision d.life late m t → TellsDecision d.life early m t
+  tells_then t (inl there) = inl there
+  tells_then t (inr w) = inr (fresh_then (intent_key t.intent t.func) w)
+
+pub stands_later : StandsLater
+stands_later d early late m p later h = record {
+  items = h.items;
+  made = h.made;
+  unmade = λ home id i b t there body inner tells none. h.unmade home id i b t there body inner (tells_then d early late later m t tells) none;
+  held = h.held;
+  open_roots = h.open_roots;
+  locks = h.locks;
+  owned = h.owned;
+  linked = h.linked;
+  shadows = λ t x w. h.shadows t x (fresh_then d early late later m (intent_key t.intent t.func) w);
+}

@@ -3,7 +3,7 @@ use Rattle.std.specs.FinMap as map
 use Rattle.std.specs.Ordering.{is_eq}
 use Rattle.std.proofs.Common.{◌≡◌, ◌⊎◌, inl, inr, ℕ, Bool, true, false, cond, Option, Some, None, is_some, refl, ap, sym, ◌∙◌, subst}
 use Rattle.beldi_value.specs.{Id.id_cmp, declared.id.IntentId.IntentId, declared.outcome.Outcome.Outcome}
-use Rattle.beldi_row.specs.{Act.act, Act.bind_to, Act.end_with, Act.finish_at, Act.stamp_with, Key.RowKey, Key.key_cmp, Table.Rows, Table.set_row, declared.act.Act.Act, declared.row.Body.Body, declared.row.Row.Row}
+use Rattle.beldi_row.specs.{Act.act, Act.bind_to, Act.drops, Act.end_with, Act.finish_at, Act.stamp_with, Key.RowKey, Key.key_cmp, Table.Rows, Table.set_row, declared.act.Act.Act, declared.row.Body.Body, declared.row.Row.Row}
 use Rattle.beldi_row.proofs.Gets.{got, key_same}
 use Rattle.beldi_walk.specs.{declared.query.Query.Query, Query.said, Query.told_by, Query.rows_after}
 use Rattle.beldi_laws.proofs.Names.{tied_itself, id_total}
@@ -34,30 +34,34 @@ abbrev pub binds : Act → Bool
 binds (Act.Bind f v) = true
 binds a = false
 
-pub bare_stays : (a : Act) (now : ℕ) (w : Option Row) → binds a ≡ false → IsBare w → IsBare (act a now w).0
-bare_stays (Act.Bind f v) now w off bare = cc
-bare_stays (Act.End o stamp) now (Some (Row.Intent i)) off bare = by_outcome i.outcome
+pub bare_stays : (a : Act) (now : ℕ) (w : Option Row) → drops a ≡ false → binds a ≡ false → IsBare w → IsBare (act a now w).0
+bare_stays (Act.Bind f v) now w keeps off bare = cc
+bare_stays (Act.DropIntent l) now w keeps off bare = cc
+bare_stays Act.DropRow now w keeps off bare = cc
+bare_stays (Act.End o stamp) now (Some (Row.Intent i)) keeps off bare = by_outcome i.outcome
   where
     by_outcome : (p : Option Outcome) → (end_with o stamp now i p).0.body ≡ None
     by_outcome None = bare
     by_outcome (Some p) = bare
-bare_stays Act.Stamp now (Some (Row.Intent i)) off bare = by_finish i.finish
+bare_stays Act.Stamp now (Some (Row.Intent i)) keeps off bare = by_finish i.finish
   where
     by_finish : (f : Option ℕ) → (stamp_with now i f).0.body ≡ None
     by_finish None = bare
     by_finish (Some f) = bare
-bare_stays a now (Some (Row.Intent i)) off bare = bare
-bare_stays a now None off bare = absurd bare
-bare_stays a now (Some w) off bare = absurd bare
+bare_stays a now (Some (Row.Intent i)) keeps off bare = bare
+bare_stays a now None keeps off bare = absurd bare
+bare_stays a now (Some w) keeps off bare = absurd bare
 
--- no act takes a finish away, or changes it
-pub dates_stay : (a : Act) (now : ℕ) (w : Option Row) (f : ℕ) → finish_in w ≡ Some f → finish_in (act a now w).0 ≡ Some f
-dates_stay (Act.Bind g v) now (Some (Row.Intent i)) f is = by_body i.body
+-- no act that removes no row takes a finish away, or changes it
+pub dates_stay : (a : Act) (now : ℕ) (w : Option Row) (f : ℕ) → drops a ≡ false → finish_in w ≡ Some f → finish_in (act a now w).0 ≡ Some f
+dates_stay (Act.DropIntent l) now w f keeps is = cc
+dates_stay Act.DropRow now w f keeps is = cc
+dates_stay (Act.Bind g v) now (Some (Row.Intent i)) f keeps is = by_body i.body
   where
     by_body : (b : Option Body) → (bind_to g v i b).0.finish ≡ Some f
     by_body None = is
     by_body (Some b) = is
-dates_stay (Act.End o stamp) now (Some (Row.Intent i)) f is = by_outcome i.outcome
+dates_stay (Act.End o stamp) now (Some (Row.Intent i)) f keeps is = by_outcome i.outcome
   where
     by_stamp : (y : Bool) (z : Option ℕ) → z ≡ Some f → finish_at y now z ≡ Some f
     by_stamp false z is = is
@@ -67,14 +71,14 @@ dates_stay (Act.End o stamp) now (Some (Row.Intent i)) f is = by_outcome i.outco
     by_outcome : (p : Option Outcome) → (end_with o stamp now i p).0.finish ≡ Some f
     by_outcome None = by_stamp stamp i.finish is
     by_outcome (Some p) = is
-dates_stay Act.Stamp now (Some (Row.Intent i)) f is = by_finish i.finish is
+dates_stay Act.Stamp now (Some (Row.Intent i)) f keeps is = by_finish i.finish is
   where
     by_finish : (z : Option ℕ) → z ≡ Some f → (stamp_with now i z).0.finish ≡ Some f
     by_finish None is = cc
     by_finish (Some z) was = is
-dates_stay a now (Some (Row.Intent i)) f is = is
-dates_stay a now None f is = cc
-dates_stay a now (Some w) f is = cc
+dates_stay a now (Some (Row.Intent i)) f keeps is = is
+dates_stay a now None f keeps is = cc
+dates_stay a now (Some w) f keeps is = cc
 
 -- ---- the rows after an event, over the two
 pub record GoesOn (gone : IntentId → Bool) (m kept n after : Rows) : Type 0 where
@@ -109,11 +113,11 @@ module _ (gone : IntentId → Bool) (m kept : Rows) (less : Less gone m kept) wh
   pub told_both : (k : RowKey) (a : Act) (now : ℕ) → map.get m k ≡ map.get kept k → told_by (Query.Act k a) now m ≡ told_by (Query.Act k a) now kept
   told_both k a now same = ap (λ r. said (act a now r).1) same
 
-  -- an act that adds nothing and binds nobody, at a key of who is gone
-  pub act_gone : (k : RowKey) (a : Act) (now : ℕ) → map.get m k ≡ None → IsGone gone (belongs_to k.kind) → (act a now None).0 ≡ None → binds a ≡ false → GoesOn gone m kept (rows_after (Query.Act k a) now m) (rows_after (Query.Act k a) now kept)
-  act_gone k a now none of adds off =
+  -- an act that adds and removes nothing, and binds nobody, at a key of who is gone
+  pub act_gone : (k : RowKey) (a : Act) (now : ℕ) → map.get m k ≡ None → IsGone gone (belongs_to k.kind) → (act a now None).0 ≡ None → drops a ≡ false → binds a ≡ false → GoesOn gone m kept (rows_after (Query.Act k a) now m) (rows_after (Query.Act k a) now kept)
+  act_gone k a now none of adds keeps off =
       let stays : (act a now (map.get m k)).0 ≡ None = ap (λ r. (act a now r).0) none ∙ adds in
-      set_both k (act a now (map.get m k)).0 (act a now (map.get kept k)).0 (inr (stays, of)) (λ e there. stays) (λ e bare. bare_stays a now (map.get kept k) off bare)
+      set_both k (act a now (map.get m k)).0 (act a now (map.get kept k)).0 (inr (stays, of)) (λ e there. stays) (λ e bare. bare_stays a now (map.get kept k) keeps off bare)
 
   -- ---- a removal
   gone_itself : (i : IntentId) → and_gone gone i i ≡ true

@@ -1,17 +1,20 @@
 mod Alive
-mod Begins
+pub mod Begins
 mod Between
+pub mod Collecting
+mod Drops
 mod Elsewhere
 mod Events
 mod Gone
 mod Keeps
-mod LeftRows
-mod Less
-mod Newest
+pub mod LeftRows
+pub mod Less
+pub mod Newest
 mod NextAlike
+mod Owned
 mod Removals
 mod Step
-mod Telling
+pub mod Telling
 mod Turn
 mod VisitAlike
 mod Visits

@@ -1,7 +1,6 @@
 -- what is read off the next row is the same over less rows, where it is read off rows that both have and rows between them.
 use Rattle.std.specs.FinMap as map
-use Rattle.std.specs.declared.cmp.Ordering.{Ordering}
-use Rattle.std.specs.declared.cmp.Ordering.TheVariants.{Less as Before, Equal, Greater}
+use Rattle.std.specs.declared.cmp.Ordering.TheVariants.{Less as Before, Greater}
 use Rattle.std.specs.Ordering.{ordering_reverse}
 use Rattle.std.proofs.Common.{◌≡◌, inl, inr, Bool, Option, Some, None, refl, ap, sym, ◌∙◌}
 use Rattle.beldi_value.specs.declared.id.IntentId.{IntentId}
@@ -9,14 +8,10 @@ use Rattle.beldi_row.specs.{Key.RowKey, Key.key_cmp, KeyOrder.key_exact, KeyOrde
 use Rattle.beldi_row.proofs.Least.{next_row_least}
 use Rattle.beldi_known.proofs.Cases.{by_option}
 use Rattle.beldi_step.proofs.Runs.{same_some}
+use Rattle.beldi_txn.proofs.Calls.{by_order}
 use Rattle.beldi_upkeep.specs.Callees.{belongs_to}
 use Rattle.beldi_kept.specs.Less.{IsGone, Less}
 use Rattle.beldi_kept.proofs.Less.{there_kept}
-
-by_order : (o : Ordering) (P : Type 0) → (o ≡ Before → P) → (o ≡ Equal → P) → (o ≡ Greater → P) → P
-by_order Before P less equal greater = less refl
-by_order Equal P less equal greater = equal refl
-by_order Greater P less equal greater = greater refl
 
 module _ (gone : IntentId → Bool) (m kept : Rows) (less : Less gone m kept) (k : RowKey) {X : Type 0} (g : Option (RowKey × Row) → Option X) (none : g None ≡ None)
     (alive : (e : RowKey × Row) (x : X) → g (Some e) ≡ Some x → IsGone gone (belongs_to e.0.kind) → ⊥)

@@ -2,7 +2,7 @@
 use Rattle.std.specs.FinMap as map
 use Rattle.std.specs.Prelude.{max}
 use Rattle.std.specs.Ordering.{is_eq}
-use Rattle.std.proofs.Common.{◌≡◌, ◌⊎◌, inl, inr, ℕ, ◌<◌, ◌≤◌, Bool, true, false, cond, Option, Some, None, is_some, refl, ap, sym, ◌∙◌, subst, arith}
+use Rattle.std.proofs.Common.{◌≡◌, ◌⊎◌, inl, inr, ℕ, ◌+◌, ◌<◌, ◌≤◌, Bool, true, false, ltb-true, cond, Option, Some, None, is_some, refl, ap, sym, ◌∙◌, subst, arith}
 use Rattle.beldi_value.specs.{Id.id_cmp, Id.root_of, declared.id.IntentId.IntentId}
 use Rattle.beldi_tree.specs.declared.deployment.Deployment.{Deployment}
 use Rattle.beldi_row.specs.{Key.RowKey, Key.key_cmp, Key.key_ticket, Table.Rows, Table.set_row, declared.row.IntentRow.IntentRow, declared.row.Row.Row}
@@ -18,8 +18,8 @@ use Rattle.beldi_kept.proofs.{Gone.old_still, Gone.unbound_none, Less.goes, Less
 
 -- no deadline that is near a finish is in time once that is old
 too_late : (life now deadline : ℕ) (f : Option ℕ) → IsNear life deadline f → IsOld life now f → now ≤ deadline → ⊥
-too_late life now deadline None near old in_time = absurd old
-too_late life now deadline (Some f) near old in_time = omega (arith, near, old, in_time)
+too_late life now deadline None near old in_time = cc
+too_late life now deadline (Some f) near old in_time = let was = ltb-true (f + life) now old in omega (arith, near, was, in_time)
 
 module _ (d : Deployment) (c : Core) (m : Rows) (h : HasKept d c m) (k : RowKey) (i : IntentId) (of : belongs_to k.kind ≡ Some i) where
   abbrev n : Rows

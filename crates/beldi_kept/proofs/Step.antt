@@ -7,14 +7,14 @@ use Rattle.std.proofs.Common.{◌≡◌, ◌⊎◌, inl, inr, ℕ, zero, suc, �
 use borrow.Author.Tests.{le-leb, leb-true}
 use Rattle.beldi_value.specs.{Id.has_no_hops, Id.root_of, declared.id.IntentId.IntentId}
 use Rattle.beldi_tree.specs.declared.deployment.Deployment.{Deployment}
-use Rattle.beldi_row.specs.{Act.act, Key.RowKey, Table.Rows, declared.act.Act.Act, declared.row.Row.Row}
-use Rattle.beldi_walk.specs.declared.query.Query.{Query}
+use Rattle.beldi_row.specs.{Act.act, Act.drops, Key.RowKey, Table.Rows, declared.act.Act.Act, declared.row.Row.Row}
+use Rattle.beldi_walk.{proofs.Promises.row_there, specs.declared.query.Query.Query}
 use Rattle.beldi_intent.specs.Intent.{root_key}
 use Rattle.beldi_step.specs.Host.{Core, EventOn, Plan, asks, at_once, counted, plan, reads_all}
 use Rattle.beldi_step.specs.declared.{event.Event.Event, event.Seen.Seen, run.Run.Run}
-use Rattle.beldi_step.proofs.Runs.{adds_by, after_event}
+use Rattle.beldi_step.proofs.{Runs.adds_by, Runs.after_event, Spares.plan_removes, Spares.plan_spares}
 use Rattle.beldi_known.specs.Stands.{key_in}
-use Rattle.beldi_laws.proofs.{Keeping.act_stays, Moves.with_runs}
+use Rattle.beldi_laws.proofs.Moves.{with_runs}
 use Rattle.beldi_upkeep.specs.{Upkeep.Upkeep, Work.IsUnfinished, Work.IsWorkedFor, Work.WorksFor, Work.finish_in}
 use Rattle.beldi_upkeep.proofs.{Kept.PlanKeeps, Kept.event_keeps, NewWork.new_work, NewWork.work_bound, Together.keeps_upkeep}
 use Rattle.beldi_kept.specs.{Kept.HasKept, Kept.IsLater, Kept.IsOld, Kept.IsOver, Kept.IsUnbound}
@@ -37,12 +37,12 @@ pub record Step (d : Deployment) (c b : Core) (gone : IntentId → Bool) (m kept
   pub dates : (k : RowKey) (f : ℕ) → finish_in (map.get kept k) ≡ Some f → finish_in (map.get after k) ≡ Some f
 
 -- ---- what every event keeps
--- what is so of a row stays so
-keeps_plan : (P : RowKey → Option Row → Type 0) → ((a : Act) (now : ℕ) (k : RowKey) (r : Option Row) → P k r → P k (act a now r).0) → (z : Core) (p : Plan) → PlanKeeps P z p
-keeps_plan P acts z (at_once y w) = tt
-keeps_plan P acts z (asks (Query.Act k a)) = λ r h. acts a z.now k r h
-keeps_plan P acts z (asks (Query.After k)) = tt
-keeps_plan P acts z reads_all = tt
+-- what is so of a row stays so, where no act removes it
+keeps_plan : (P : RowKey → Option Row → Type 0) → ((a : Act) → drops a ≡ false → (now : ℕ) (k : RowKey) (r : Option Row) → P k r → P k (act a now r).0) → (z : Core) (p : Plan) → plan_removes p ≡ false → PlanKeeps P z p
+keeps_plan P acts z (at_once y w) keeps = tt
+keeps_plan P acts z (asks (Query.Act k a)) keeps = λ r h. acts a keeps z.now k r h
+keeps_plan P acts z (asks (Query.After k)) keeps = tt
+keeps_plan P acts z reads_all keeps = tt
 
 abbrev Stays : Rows → RowKey → Option Row → Type 0
 Stays m k r = is_some (map.get m k) ≡ true → is_some r ≡ true
@@ -52,10 +52,10 @@ StaysDated m k r = (f : ℕ) → finish_in (map.get m k) ≡ Some f → finish_i
 
 module _ (d : Deployment) (room old new : ℕ) (e : Event) (c b : Core) (m n : Rows) (x : Result Seen AllocError) (s : EventOn d room old new e c m b n x) where
   pub rows_stay : (k : RowKey) → is_some (map.get m k) ≡ true → is_some (map.get n k) ≡ true
-  rows_stay = event_keeps (Stays m) d room old new e c b m n x (keeps_plan (Stays m) (λ a now k r h there. act_stays a now r (h there)) (counted c) (plan d e c)) (λ k there. there) s
+  rows_stay = event_keeps (Stays m) d room old new e c b m n x (keeps_plan (Stays m) (λ a keeps now k r h there. row_there a now r keeps (h there)) (counted c) (plan d e c) (plan_spares d e c)) (λ k there. there) s
 
   pub dates_on : (k : RowKey) (f : ℕ) → finish_in (map.get m k) ≡ Some f → finish_in (map.get n k) ≡ Some f
-  dates_on = event_keeps (StaysDated m) d room old new e c b m n x (keeps_plan (StaysDated m) (λ a now k r h f is. dates_stay a now r f (h f is)) (counted c) (plan d e c)) (λ k f is. is) s
+  dates_on = event_keeps (StaysDated m) d room old new e c b m n x (keeps_plan (StaysDated m) (λ a keeps now k r h f is. dates_stay a now r f keeps (h f is)) (counted c) (plan d e c) (plan_spares d e c)) (λ k f is. is) s
 
   pub moment_rises : c.now ≤ b.now
   moment_rises = (after_event (λ k r. Unit {0}) (λ q t. Unit {0}) d e c b (λ k r is. tt) (adds_by (λ k r. Unit {0}) (λ q t. Unit {0}) d e (counted c) (λ id f. tt) (λ i r live t told. record { goes = λ r is. tt; calls = λ starts r is. tt })) x room old new m n (λ q. tt) s).later
@@ -202,3 +202,7 @@ module _ (d : Deployment) (c b : Core) (m n : Rows) (h : HasKept d c m) (s : Ste
   pub is_later : IsLater h has_kept
   unfolding has_kept
   is_later = record { moment = later; ticket = newest_rises; rows = s.stay; finishes = s.dates; gone = λ i off. off; latest = omega arith }
+
+  pub same_latest : has_kept.latest ≡ h.latest
+  unfolding has_kept
+  same_latest = refl

@@ -7,7 +7,7 @@ use Rattle.beldi_tree.specs.Names.{func_at}
 use Rattle.beldi_lang.specs.declared.effect.Effect.{Effect}
 use Rattle.beldi_book.specs.Order.{count_changes}
 use Rattle.beldi_known.proofs.Cases.{by_option}
-use Rattle.beldi_row.specs.{Act.act, Act.call_back_to, Key.RowKey, Table.Rows, declared.act.Act.Act, declared.row.Row.Row}
+use Rattle.beldi_row.specs.{Act.act, Act.call_back_to, Act.drops, Key.RowKey, Table.Rows, declared.act.Act.Act, declared.row.Row.Row}
 use Rattle.beldi_walk.specs.{declared.query.Query.Query, Query.Told, Query.said, Query.told_by, Query.rows_after}
 use Rattle.beldi_invokelog.specs.InvokeLog.{call_at, call_in, invoke_key, result_in, back_of}
 use Rattle.beldi_invokelog.specs.declared.invoke_log.Back as back
@@ -67,11 +67,11 @@ module _ (d : Deployment) (c : Core) (gone : IntentId → Bool) (m kept : Rows) 
   ]
 
   -- an act that adds nothing, where whatever is told leads on alike
-  leads : (k : RowKey) (a : Act) (i : IntentId) → belongs_to k.kind ≡ Some i → map.get m k ≡ None → gone i ≡ true → (act a c.now None).0 ≡ None → binds a ≡ false
+  leads : (k : RowKey) (a : Act) (i : IntentId) → belongs_to k.kind ≡ Some i → map.get m k ≡ None → gone i ≡ true → (act a c.now None).0 ≡ None → drops a ≡ false → binds a ≡ false
       → run_told d (count_changes c.book) r (said (act a c.now None).1) ≡ run_told d (count_changes c.book) r (told_by (Query.Act k a) c.now kept) → SameTurn d c gone m kept r (Query.Act k a)
-  leads k a i of none off adds free same = record {
+  leads k a i of none off adds keeps free same = record {
     turned = ap (λ o. run_told d (count_changes c.book) r (said (act a c.now o).1)) none ∙ same;
-    rows = act_gone gone m kept less k a c.now none (subst (IsGone gone) (sym of) off) adds free;
+    rows = act_gone gone m kept less k a c.now none (subst (IsGone gone) (sym of) off) adds keeps free;
   }
 
   -- ---- its own row, before it has begun
@@ -83,7 +83,7 @@ module _ (d : Deployment) (c : Core) (gone : IntentId → Bool) (m kept : Rows) 
       (λ w e. no_body c.now r.func (map.get kept (key_in home r.id)) (over_at r.id off home (ap is_some e)))
 
   looks : r.at ≡ Looks → SameTurn d c gone m kept r (asks_at r Looks)
-  looks at = at_key (intent_key r.id r.func) Act.Look r.id refl (λ none off. leads (intent_key r.id r.func) Act.Look r.id refl none off refl refl
+  looks at = at_key (intent_key r.id r.func) Act.Look r.id refl (λ none off. leads (intent_key r.id r.func) Act.Look r.id refl none off refl refl refl
       (ap (λ x. told_at d (count_changes c.book) r x (said (act Act.Look c.now None).1)) at
       ∙ sym (ap (begin_in d r (func_at d r.func)) (none_told (intent_key r.id r.func).home off))
       ∙ sym (ap (λ x. told_at d (count_changes c.book) r x (told_by (asks_at r Looks) c.now kept)) at)))
@@ -122,7 +122,7 @@ module _ (d : Deployment) (c : Core) (gone : IntentId → Bool) (m kept : Rows) 
         by_row (Some x) is none = absurd none
 
     gives_back : g.stage ≡ Stage.Back → (b : Option Caller) (e : Effect) → g.caller ≡ b → SameTurn d c gone m kept r (back_to_asks r.id r.func b e)
-    gives_back stage (Some z) (Effect.Return u) from = at_key (invoke_key z.func z.place) (Act.CallBack u) z.place.intent refl (λ none off. leads (invoke_key z.func z.place) (Act.CallBack u) z.place.intent refl none off refl refl
+    gives_back stage (Some z) (Effect.Return u) from = at_key (invoke_key z.func z.place) (Act.CallBack u) z.place.intent refl (λ none off. leads (invoke_key z.func z.place) (Act.CallBack u) z.place.intent refl none off refl refl refl
         (turned_at Stage.Back stage (said (act (Act.CallBack u) c.now None).1)
         ∙ sym (ap (turned_by d r g) (given_told u (map.get kept (invoke_key z.func z.place)) (was_given z stage from off)))
         ∙ sym (turned_at Stage.Back stage (told_by (Query.Act (invoke_key z.func z.place) (Act.CallBack u)) c.now kept))))
@@ -130,7 +130,7 @@ module _ (d : Deployment) (c : Core) (gone : IntentId → Bool) (m kept : Rows) 
 
     tells : g.stage ≡ Stage.Tell → (b : Option Caller) → SameTurn d c gone m kept r (tell_asks r.id r.func b)
     tells stage None = own_row Act.Look
-    tells stage (Some z) = at_key (invoke_key z.func z.place) Act.NoteRegistered z.place.intent refl (λ none off. leads (invoke_key z.func z.place) Act.NoteRegistered z.place.intent refl none off refl refl
+    tells stage (Some z) = at_key (invoke_key z.func z.place) Act.NoteRegistered z.place.intent refl (λ none off. leads (invoke_key z.func z.place) Act.NoteRegistered z.place.intent refl none off refl refl refl
         (turned_at Stage.Tell stage (said (act Act.NoteRegistered c.now None).1) ∙ sym (turned_at Stage.Tell stage (told_by (Query.Act (invoke_key z.func z.place) Act.NoteRegistered) c.now kept))))
 
     abbrev At : Stage → Type 0

@@ -61,5 +61,5 @@ module _ (d : Deployment) (c : Core) (gone : IntentId → Bool) (m kept : Rows) 
   pub stamps : v.at ≡ EndAt.Stamp → SameTurn d c gone m kept r (q EndAt.Stamp)
   stamps is = elim (less.rows (intent_key p.0 p.1)) [
     | inl same ↦ record { turned = ap (run_told d (count_changes c.book) r) (told_both gone m kept less (intent_key p.0 p.1) Act.Stamp c.now same); rows = act_both gone m kept less (intent_key p.0 p.1) Act.Stamp c.now same }
-    | inr off ↦ record { turned = says_at EndAt.Stamp is _ ∙ sym (says_at EndAt.Stamp is _); rows = act_gone gone m kept less (intent_key p.0 p.1) Act.Stamp c.now off.0 off.1 refl refl }
+    | inr off ↦ record { turned = says_at EndAt.Stamp is _ ∙ sym (says_at EndAt.Stamp is _); rows = act_gone gone m kept less (intent_key p.0 p.1) Act.Stamp c.now off.0 off.1 refl refl refl }
   ]

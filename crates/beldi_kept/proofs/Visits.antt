@@ -17,7 +17,7 @@ use Rattle.beldi_daal.specs.{Cell.cell_key, Cell.shadow_key, declared.cell.CellO
 use Rattle.beldi_intent.specs.Intent.{intent_key}
 use Rattle.beldi_lock.specs.{Lock.lockset_key, Lockset.item_after, Lockset.lockset_after}
 use Rattle.beldi_txn.specs.{Closed.ClosedArePassed, Closed.Passes, End.call_goes, End.calls_goes, End.end_goes, End.free_asks, End.free_first, End.free_place, End.next_goes, End.shadow_asks, End.visit_asks, End.visited_by, Invokes.call_after, Invokes.func_called, Invokes.invokes_after, Visited.IsPassed, Visited.IsWithin, Visited.Levels, Visited.Visited, Visited.called_at, Visited.is_closed, Visited.row_closed, Way.Member, Way.callee_of, Way.member_at, declared.end.EndAt.EndAt, declared.end.Visit.Visit, declared.way.Called.Called}
-use Rattle.beldi_txn.proofs.Visited.{FindsFirstCall, FindsFirstLock}
+use Rattle.beldi_txn.proofs.{Calls.is_call, Locks.is_item, Visited.FindsFirstCall, Visited.FindsFirstLock}
 use Rattle.beldi_step.specs.Host.{Core, asks, counted, put_run, turn_next, turned_core}
 use Rattle.beldi_step.specs.Told.{entries_told, told_outcome}
 use Rattle.beldi_step.specs.Run.{Turned, asks_at, end_by_asks, end_here_asks, own_tx, run_asks, run_told, stage_asks, turned_by, visit_says}
@@ -28,7 +28,7 @@ use Rattle.beldi_laws.proofs.{Members.members_joined, Members.part_below, Member
 use Rattle.beldi_upkeep.specs.{Callees.belongs_to, Work.WorksFor}
 use Rattle.beldi_upkeep.proofs.EndRows.{tx_is_ended}
 use Rattle.beldi_kept.specs.{Kept.HasKept, Kept.IsOver, Less.IsGone}
-use Rattle.beldi_kept.proofs.{Between.call_key_is, Between.lock_key, Elsewhere.stands_elsewhere, Elsewhere.works_still, Events.Goal, Events.as_were, Events.core_of, Events.turns_alike, Events.turns_by, Gone.done_there, Gone.old_finished, Gone.one_row, Gone.unbound_root, Less.stays_on, Less.there_kept, Less.GoesOn, Step.Step, Step.upkeep_elsewhere, Turn.SameTurn}
+use Rattle.beldi_kept.proofs.{Elsewhere.stands_elsewhere, Elsewhere.works_still, Events.Goal, Events.as_were, Events.core_of, Events.turns_alike, Events.turns_by, Gone.done_there, Gone.old_finished, Gone.one_row, Gone.unbound_root, Less.stays_on, Less.there_kept, Less.GoesOn, Step.Step, Step.upkeep_elsewhere, Turn.SameTurn}
 use Rattle.beldi_kept.proofs.VisitAlike as alike
 
 -- ---- rows of who is visited
@@ -45,11 +45,11 @@ none_called m p At Past Then (c ∷ cs) off l = (l.0, none_called m (callee_of p
 module _ (d : Deployment) (c : Core) (m : Rows) (h : HasKept d c m) (p : Member) where
   found_call : (k : RowKey) (f : Option (RowKey × Row)) → IsNext m k f → (x : Called) → call_after p.1 p.0 f ≡ Some x → called_at h.kept p x.step ≡ Some x.func
   found_call k None next x is = cc
-  found_call k (Some e) next x is = let q = call_key_is p.1 p.0 e x is in ap (λ z. option_map func_called (map.get h.kept z)) (sym q.0) ∙ ap (option_map func_called) (there_kept h.gone m h.kept h.less e.0 e.1 next.1) ∙ ap Some q.1
+  found_call k (Some e) next x is = let q = is_call p.1 p.0 e.0.home e.0.kind e.1 x is in ap (λ z. option_map func_called (map.get h.kept z)) (sym q.0) ∙ ap (option_map func_called) (there_kept h.gone m h.kept h.less e.0 e.1 next.1) ∙ ap Some q.1
 
   found_lock : (begin : ℕ) (k : RowKey) (f : Option (RowKey × Row)) → IsNext m k f → (x : ℕ × List ℕ) → item_after p.1 p.0 begin f ≡ Some x → is_some (map.get h.kept (lockset_key p.1 p.0 begin x.0 x.1)) ≡ true
   found_lock begin k None next x is = cc
-  found_lock begin k (Some e) next x is = ap (λ z. is_some (map.get h.kept z)) (sym (lock_key p.1 p.0 begin e x is)) ∙ ap is_some (there_kept h.gone m h.kept h.less e.0 e.1 next.1)
+  found_lock begin k (Some e) next x is = ap (λ z. is_some (map.get h.kept z)) (sym (is_item p.1 p.0 begin e.0.home e.0.kind x is)) ∙ ap is_some (there_kept h.gone m h.kept h.less e.0 e.1 next.1)
 
   -- who is gone and has hops is closed
   gone_closed : has_no_hops p.0.hops ≡ false → h.gone p.0 ≡ true → is_closed h.kept p ≡ true

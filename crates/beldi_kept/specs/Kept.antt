@@ -1,9 +1,9 @@
 -- The invariant over rows of which some were removed: all that holds of rows that no one removed holds of the rows that were kept.
-use Rattle.std.specs.Prelude.{◌≡◌, ◌⊎◌, ℕ, ◌+◌, ◌<◌, ◌≤◌, Bool, true, false, Option, Some, None, is_some, max}
+use Rattle.std.specs.Prelude.{◌≡◌, ◌⊎◌, ℕ, ◌<◌, ◌≤◌, Bool, true, false, Option, Some, None, is_some, max}
 use Rattle.std.specs.FinMap as map
 use Rattle.beldi_value.specs.{Id.has_no_hops, declared.id.IntentId.IntentId}
 use Rattle.beldi_tree.specs.declared.deployment.Deployment.{Deployment}
-use Rattle.beldi_row.specs.{Key.RowKey, Table.Rows, declared.row.Row.Row}
+use Rattle.beldi_row.specs.{Act.is_past, Key.RowKey, Table.Rows, declared.row.Row.Row}
 use Rattle.beldi_intent.specs.Intent.{root_key}
 use Rattle.beldi_step.specs.{Host.Core, declared.run.Run.Run}
 use Rattle.beldi_known.specs.Stands.{key_in}
@@ -13,8 +13,7 @@ use Rattle.beldi_kept.specs.Less.{Less}
 -- ---- moments
 -- a finish more than a life ago
 abbrev pub IsOld : ℕ → ℕ → Option ℕ → Type 0
-IsOld life now None = ⊥
-IsOld life now (Some f) = f + life < now
+IsOld life now f = is_past life now f ≡ true
 
 -- ---- who is gone has an old finish; or is a root without body, which the table has no row of any more, and after which another ticket was issued
 abbrev pub IsUnbound : ℕ → IntentId → Option Row → Option Row → Type 0

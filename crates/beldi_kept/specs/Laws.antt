@@ -3,10 +3,11 @@ use Rattle.std.specs.Prelude.{◌≡◌, ◌⊎◌, ℕ, ◌<◌, true, false, [
 use Rattle.std.specs.declared.alloc.AllocError.{AllocError}
 use Rattle.std.specs.FinMap as map
 use Rattle.std.specs.Ordering.{is_eq}
-use Rattle.beldi_value.specs.declared.id.IntentId.{IntentId}
+use Rattle.beldi_value.specs.{Id.has_no_hops, declared.id.IntentId.IntentId}
 use Rattle.beldi_tree.specs.declared.deployment.Deployment.{Deployment}
-use Rattle.beldi_row.specs.{Key.RowKey, Key.key_cmp, Table.Rows, Table.set_row, declared.row.IntentRow.IntentRow, declared.row.Row.Row}
+use Rattle.beldi_row.specs.{Key.RowKey, Key.key_cmp, Table.Rows, Table.after_act, Table.set_row, declared.act.Act.Act, declared.row.IntentRow.IntentRow, declared.row.Row.Row}
 use Rattle.beldi_intent.specs.Intent.{root_key}
+use Rattle.beldi_known.specs.Stands.{key_in}
 use Rattle.beldi_step.specs.{Host.Core, Host.EventOn, Host.first_core, Host.newest_of, declared.event.Event.Event, Told.entries_told, Told.told_outcome, declared.event.Seen.Seen}
 use Rattle.beldi_upkeep.specs.{Callees.belongs_to, Callees.seat_of, Upkeep.Upkeep, Work.finish_in}
 use Rattle.beldi_kept.specs.Kept.{HasKept, IsLater, IsOld, IsRowOfOld}
@@ -40,9 +41,18 @@ RemovalsKeep = (d : Deployment) (c : Core) (m : Rows) (h : HasKept d c m) (k : R
 abbrev pub UnboundMayGo : Type 0
 UnboundMayGo = (d : Deployment) (c : Core) (m : Rows) (h : HasKept d c m) (t : ℕ) (w : IntentRow) → map.get m (root_key t) ≡ Some (Row.Intent w) → w.body ≡ None → t < c.newest → (g : HasKept d c (set_row m (root_key t) None)) × IsLater h g
 
--- every event that there is keeps it, whatever it came to, also out of memory
+-- ---- the acts that may remove a row: by what they leave of the rows, also where none is there, or it stays
+-- one that drops the row of an intent once it is old, but not that of the newest ticket ..
+abbrev pub IntentDropsKeep : Type 0
+IntentDropsKeep = (d : Deployment) (c : Core) (m : Rows) (h : HasKept d c m) (home : ℕ) (i : IntentId) → (has_no_hops i.hops ≡ true → i.ticket < c.newest) → (g : HasKept d c (after_act (Act.DropIntent d.life) c.now (key_in home i) m)) × IsLater h g
+
+-- .. and one that drops another row, of an intent that is gone or old
+abbrev pub RowDropsKeep : Type 0
+RowDropsKeep = (d : Deployment) (c : Core) (m : Rows) (h : HasKept d c m) (k : RowKey) → IsRowOfOld d.life c.now h.gone h.kept k → (g : HasKept d c (after_act Act.DropRow c.now k m)) × IsLater h g
+
+-- ---- every event that there is keeps it, whatever it came to, also out of memory, and nobody more is gone
 abbrev pub EventsKeep : Type 0
-EventsKeep = (d : Deployment) (room old new : ℕ) (e : Event) (c b : Core) (m n : Rows) (x : Result Seen AllocError) (h : HasKept d c m) → EventOn d room old new e c m b n x → (g : HasKept d b n) × IsLater h g
+EventsKeep = (d : Deployment) (room old new : ℕ) (e : Event) (c b : Core) (m n : Rows) (x : Result Seen AllocError) (h : HasKept d c m) → EventOn d room old new e c m b n x → (g : HasKept d b n) × IsLater h g × (g.latest ≡ h.latest)
 
 -- where the intent collector stands is nothing to it
 abbrev pub CursorIsFree : Type 0

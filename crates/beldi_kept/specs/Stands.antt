@@ -1,6 +1,6 @@
 -- What the table's rows tell of a plain state where rows of some intents are gone: as rows that stand for it, but that nothing is said of a
 -- transaction whose decision is absent, nor of its shadows, unless its owner's row is there and its finish is not old.
-use Rattle.std.specs.Prelude.{◌≡◌, ◌⊎◌, ℕ, true, false, slice_get, is_some, Option, Some, None}
+use Rattle.std.specs.Prelude.{◌≡◌, ◌⊎◌, ◌≤◌, ℕ, true, false, slice_get, is_some, Option, Some, None}
 use Rattle.std.specs.FinMap as map
 use Rattle.beldi_value.specs.{Id.root_of, declared.id.IntentId.IntentId, declared.place.Owner.TheVariants.Intent, declared.place.Owner.TheVariants.Tx, declared.place.TxId.TxId}
 use Rattle.beldi_tree.specs.declared.deployment.Deployment.{Deployment}
@@ -43,6 +43,10 @@ pub record StandsLess (d : Deployment) (latest : ℕ) (m : Rows) (p : PlainState
   pub owned : (x : Item) (t : TxId) → (content_of m x).owner ≡ Some (Tx t) → IsUndecided d m p t ⊎ IsGivingBack m t
   pub linked : (x : Item) → IsLinkedItem m x
   pub shadows : (t : TxId) (x : Item) → IsFresh d.life latest m (intent_key t.intent t.func) → IsLinked (shadow_chain m t x)
+
+-- where the moment is later, they tell no more
+abbrev pub StandsLater : Type 0
+StandsLater = (d : Deployment) (early late : ℕ) (m : Rows) (p : PlainState) → early ≤ late → StandsLess d early m p → StandsLess d late m p
 
 -- so the table's rows tell of the run of the book ..
 abbrev pub KeptStand : Type 0

@@ -1,5 +1,5 @@
 // The laws of rows that were kept.
-ghost use Rattle.beldi_kept.specs.Laws.{AllAreKept, AnswersAreOfKept, BeginsKept, CursorIsFree, EventsKeep, LooksFindOld, NewestIsRead, NobodyGone, NoRowComesBack, OldStays, RemovalsKeep, UnboundMayGo};
+ghost use Rattle.beldi_kept.specs.Laws.{AllAreKept, AnswersAreOfKept, BeginsKept, CursorIsFree, EventsKeep, IntentDropsKeep, LooksFindOld, NewestIsRead, NobodyGone, NoRowComesBack, OldStays, RemovalsKeep, RowDropsKeep, UnboundMayGo};
 
 use beldi_txn::the_closed_are_passed;
 
@@ -36,6 +36,16 @@ pub fn rows_of_the_old_may_go()
 /// The row of a root without body may go, where a later ticket was issued.
 pub fn unbound_roots_may_go()
     ensures { UnboundMayGo }
+{}
+
+/// An act that drops the row of an intent once it is old, but not that of the newest ticket, keeps it, also where no row goes.
+pub fn an_intent_may_be_dropped()
+    ensures { IntentDropsKeep }
+{}
+
+/// An act that drops another row, of an intent that is gone or old, keeps it, also where no row goes.
+pub fn a_row_may_be_dropped()
+    ensures { RowDropsKeep }
 {}
 
 /// Every event that there is keeps it, whatever it came to, also out of memory.

@@ -2,8 +2,8 @@
 use Rattle.std.proofs.Common.{◌≡◌, ℕ, Bool, true, false, List, [], ◌∷◌, ◌++◌, Option, None, Some, ap, if◌then◌else◌, refl, subst, sym, ◌∙◌}
 use Rattle.std.proofs.lemmas.Option.{same_Some}
 use Rattle.beldi_value.specs.{Id.age_of, Id.is_older, Passes.passes, declared.id.IntentId.IntentId, declared.place.Owner.Owner, declared.place.Place.Place, declared.place.TxId.TxId, declared.spare.Spare.Spare, declared.value.Value.Value}
-use Rattle.beldi_row.specs.declared.act.Act.TheVariants.{Look, Issue, Bind, Register, End, Stamp, PutRead, OpenInvoke, CallBack, NoteRegistered, PutLockset, MakeCell, WriteCell, CondCell, LockCell, FreeCell, LinkCell}
-use Rattle.beldi_row.specs.Act.{Tell, act, at_tail, bind_to, call_back_to, cond_at, did, died, end_with, entered, free_at, given_or, gone, held, held_or, if_owned, if_room, is_full, link_to, lock_at, next, next_or, no_row, not_full, not_owner, noted as said_noted, noted_or, off, on, on_cell, on_intent, on_invoke, other_owner, owned_or, owns, packed, register_to, stamp_with, tested, unless_held, write_at}
+use Rattle.beldi_row.specs.declared.act.Act.TheVariants.{Look, Issue, Bind, Register, End, Stamp, PutRead, OpenInvoke, CallBack, NoteRegistered, PutLockset, MakeCell, WriteCell, CondCell, LockCell, FreeCell, LinkCell, DropIntent, DropRow}
+use Rattle.beldi_row.specs.Act.{Tell, act, removes, stays_unless, at_tail, bind_to, call_back_to, cond_at, did, died, end_with, entered, free_at, given_or, gone, held, held_or, if_owned, if_room, is_full, link_to, lock_at, next, next_or, no_row, not_full, not_owner, noted as said_noted, noted_or, off, on, on_cell, on_intent, on_invoke, other_owner, owned_or, owns, packed, register_to, stamp_with, tested, unless_held, write_at}
 use Rattle.beldi_row.{proofs.Logs.place_same, specs.declared.act.Act.Act, specs.declared.notes.Note.Note, specs.declared.notes.Note.TheVariants.Wrote, specs.declared.notes.Note.TheVariants.Cond, specs.declared.notes.Note.TheVariants.Got, specs.declared.notes.Note.TheVariants.Died, specs.declared.notes.Note.TheVariants.Freed, specs.declared.row.Cell.Cell, specs.declared.row.IntentRow.IntentRow, specs.declared.row.InvokeRow.InvokeRow, specs.declared.row.Row.Row, specs.Log.note_at, specs.Log.owner_eq, specs.Log.place_eq}
 use Rattle.beldi_walk.{proofs.Lent.only_transactions_die, specs.Query.is_death, specs.Query.may_die}
 use Rattle.beldi_chain.specs.Content.{content_in}
@@ -179,6 +179,8 @@ row_lives (LockCell p (Owner.Intent i) s) now r h =
 row_lives (LockCell p (Owner.Tx t) s) now r h = cc
 row_lives (FreeCell p w v) now r h = on_cells (free_at p w v) no_row (λ c. let z : Cell × Tell = (entered p Freed (given_or v c.value) None c, did) in owned c p w (if_room c z) (room c z (enters c p Freed (given_or v c.value) None did (λ age e. cc)))) r
 row_lives (LinkCell n) now r h = on_cells (link_to n) no_row (λ c. linked c n) r
+row_lives (DropIntent l) now r h = row_stays (Some r)
+row_lives DropRow now r h = row_stays (Some r)
 
 none_lives : (a : Act) (now : ℕ) → LivesOn None (off a now).0
 none_lives Look now p age none is = cc
@@ -186,7 +188,11 @@ none_lives a now p age none is = cc
 
 lives : (a : Act) (now : ℕ) (r : Option Row) → may_die a ≡ false → LivesOn r (act a now r).0
 lives a now None h = none_lives a now
-lives a now (Some r) h = row_lives a now r h
+lives a now (Some r) h = by_stay (removes a now r)
+  where
+    by_stay : (b : Bool) → LivesOn (Some r) (stays_unless b (on a now r)).0
+    by_stay true = λ p age none is. cc
+    by_stay false = row_lives a now r h
 
 -- ---- all acts
 -- an act that no transaction may die of

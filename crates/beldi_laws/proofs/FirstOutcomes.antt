@@ -9,7 +9,7 @@ use Rattle.beldi_lang.specs.declared.effect.Effect.{Effect, TheVariants.Return}
 use Rattle.beldi_book.specs.Order.{count_changes}
 use Rattle.beldi_plain.specs.{Plain.outcome_of, Plain.reply_of}
 use Rattle.beldi_row.specs.declared.act.Act.TheVariants.{Look, Bind, End, Stamp}
-use Rattle.beldi_row.specs.Act.{act, bind_to, did, end_with, off, on, stamp_with}
+use Rattle.beldi_row.specs.Act.{removes, stays_unless, act, bind_to, did, end_with, off, on, stamp_with}
 use Rattle.beldi_row.{proofs.Gets.got, proofs.Gets.key_same, specs.Key.RowKey, specs.Key.key_cmp, specs.Table.Rows, specs.declared.act.Act.Act, specs.declared.key.Kind.Kind, specs.declared.row.Body.Body, specs.declared.row.Cell.Cell, specs.declared.row.IntentRow.IntentRow, specs.declared.row.InvokeRow.InvokeRow, specs.declared.row.Row.Row, specs.declared.table.TableErr.TableErr}
 use Rattle.beldi_walk.{proofs.Lent.refused_stand, specs.Query.CameOn, specs.Query.Told, specs.Query.rows_after, specs.Query.said, specs.Query.told_by, specs.declared.query.Query.Query}
 use Rattle.beldi_daal.specs.{Cell.cell_key, Cell.shadow_key, Cell.write_asks, declared.cell.CellOp.CellOp, declared.cell.WriteAt.WriteAt, declared.cell.WriteAt.TheVariants.Try, declared.cell.WriteAt.TheVariants.Make, declared.cell.WriteAt.TheVariants.Append, declared.cell.WriteAt.TheVariants.Link}
@@ -101,7 +101,11 @@ module _ (now : ℕ) (o : Outcome) where
 
   ends_row : (a : Act) (r : Option Row) → outcome_in r ≡ None → outcome_in (act a now r).0 ≡ Some o → EndsBy a now r o
   ends_row a None none is = absurd (let clash = sym (off_none a) ∙ is in cc)
-  ends_row a (Some r) none is = on_other a r none is
+  ends_row a (Some r) none is = by_stay (removes a now r) refl is
+    where
+      by_stay : (b : Bool) → removes a now r ≡ b → outcome_in (stays_unless b (on a now r)).0 ≡ Some o → EndsBy a now (Some r) o
+      by_stay true goes is = cc
+      by_stay false goes is = on_other a r none is
 
 -- .. and a query
 EndsAt : Query → ℕ → Rows → ℕ → Outcome → Type 0

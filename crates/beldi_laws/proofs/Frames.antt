@@ -1,5 +1,5 @@
 -- What an event keeps for the runs of others: a frame, of a row that is set.
-use Rattle.beldi_laws.proofs.Names.{AllGrow, Bool, ByTx, CellOp, ChangedAlone, Content, Deployment, DoneRows, Frame, Instance, IntentId, IsFreeFor, IsHead, IsLinked, IsOf, IsWriting, Item, Kind, Known, List, None, Note, Option, Place, PlainState, Query, Row, RowKey, Rows, RowsStay, SameShadows, Some, StillOwns, TookPart, TxId, Value, [], act, ap, arith, aside_head, at_row, by_item, chain_off, cond, content, content_of, ended, false, free_after, func_called, has_finish, head_key, if◌then◌else◌, invoke_key, is_data, is_eq, is_row_of, is_shadow, is_some, item_aside, item_cmp, item_head, item_same, key_cmp, key_in, key_same, key_self, kind_at, kind_off, kinds_apart, known_set, lockset_key, log_key, no_tx, note_after, note_at, note_pushed, notes_stay, option_map, or_null, or_old, other_aside, other_item, other_shadows, others_grow, place_eq, place_same, plain_set, refl, row_got, number_of, rows_after, same_data, same_grow, same_shadow, same_some, set_if, set_others, set_row, shadow_chain, shadow_key, shadow_row, shadow_same, subst, sym, true, tx_end, value_at, ℕ, ◌++◌, ◌∙◌, ◌∷◌, ◌≡◌}
+use Rattle.beldi_laws.proofs.Names.{may_remove, AllGrow, Bool, ByTx, CellOp, ChangedAlone, Content, Deployment, DoneRows, Frame, Instance, IntentId, IsFreeFor, IsHead, IsLinked, IsOf, IsWriting, Item, Kind, Known, List, None, Note, Option, Place, PlainState, Query, Row, RowKey, Rows, RowsStay, SameShadows, Some, StillOwns, TookPart, TxId, Value, [], act, ap, arith, aside_head, at_row, by_item, chain_off, cond, content, content_of, ended, false, free_after, func_called, has_finish, head_key, if◌then◌else◌, invoke_key, is_data, is_eq, is_row_of, is_shadow, is_some, item_aside, item_cmp, item_head, item_same, key_cmp, key_in, key_same, key_self, kind_at, kind_off, kinds_apart, known_set, lockset_key, log_key, no_tx, note_after, note_at, note_pushed, notes_stay, option_map, or_null, or_old, other_aside, other_item, other_shadows, others_grow, place_eq, place_same, plain_set, refl, row_got, number_of, rows_after, same_data, same_grow, same_shadow, same_some, set_if, set_others, set_row, shadow_chain, shadow_key, shadow_row, shadow_same, subst, sym, true, tx_end, value_at, ℕ, ◌++◌, ◌∙◌, ◌∷◌, ◌≡◌}
 use Rattle.beldi_links.proofs.Last.{tail_there}
 use Rattle.beldi_laws.proofs.Cases.{false_by}
 use Rattle.beldi_laws.proofs.Names.map
@@ -82,22 +82,10 @@ module _ (m n : Rows) (k : RowKey) (same : (l : RowKey) → is_eq (key_cmp l k) 
 pub aside_stays : (m n : Rows) (t : TxId) (x : Item) → IsLinked (shadow_chain m t x) → IsLinked (shadow_chain n t x) → RowsStay m n → is_some (shadow_row m t x) ≡ true → is_some (shadow_row n t x) ≡ true
 aside_stays m n t x was now stay there = tail_there (shadow_chain n t x) now ∙ stay (shadow_key t x) (sym (tail_there (shadow_chain m t x) was) ∙ there)
 
--- no query takes a row away
-pub query_keeps : (q : Query) (now : ℕ) (m : Rows) → RowsStay m (rows_after q now m)
-query_keeps (Query.After k) now m l there = there
-query_keeps (Query.Act k a) now m l there = ap is_some (row_got m k l (act a now (map.get m k)).0) ∙ by_key (is_eq (key_cmp l k)) refl
-  where
-    acted : (r : Option Row) → is_some r ≡ true → is_some (act a now r).0 ≡ true
-    acted r h = grind arith
-
-    by_key : (b : Bool) → is_eq (key_cmp l k) ≡ b → is_some (cond b (act a now (map.get m k)).0 (map.get m l)) ≡ true
-    by_key true e = acted (map.get m k) (subst (λ z. is_some (map.get m z) ≡ true) (key_same l k e) there)
-    by_key false e = there
-
--- .. nor a note of an item
-pub query_notes : (q : Query) (now : ℕ) (m : Rows) (x : Item) (p : Place) (w : Note) → note_at (content_of m x).notes p ≡ Some w → note_at (content_of (rows_after q now m) x).notes p ≡ Some w
-query_notes (Query.After k) now m x p w there = there
-query_notes (Query.Act k a) now m x p w there = notes_stay a now k (head_key x) m p w there
+-- a query that removes no row takes no note of an item away
+pub query_notes : (q : Query) → may_remove q ≡ false → (now : ℕ) (m : Rows) (x : Item) (p : Place) (w : Note) → note_at (content_of m x).notes p ≡ Some w → note_at (content_of (rows_after q now m) x).notes p ≡ Some w
+query_notes (Query.After k) keeps now m x p w there = there
+query_notes (Query.Act k a) keeps now m x p w there = notes_stay a keeps now k (head_key x) m p w there
 
 -- ---- finishes and calls, where one row changed
 abbrev pub is_intent : Kind → Bool

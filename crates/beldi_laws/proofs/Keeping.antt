@@ -11,10 +11,6 @@ as_it_was {d} {c} {m} h = kept_by d c m m h h.plain h.known h.locked (shown h) (
 pub set_shadows : (m : Rows) (k : RowKey) (v : Option Row) → is_shadow k.kind ≡ false → SameShadows m (set_row m k v)
 set_shadows m k v kind t x = aside_apart m k v t x (kind_off is_shadow same_shadow (shadow_key t x) k refl kind)
 
--- no act takes a row away
-pub act_stays : (a : Act) (now : ℕ) (o : Option Row) → is_some o ≡ true → is_some (act a now o).0 ≡ true
-act_stays a now o there = grind arith
-
 module _ {d : Deployment} {c : Core} {m : Rows} (h : Right d c m) (n : Rows) (same : SameShadows m n) where
   -- nothing more is known
   pub goes_still : Goes d n h.plain h.known h.locked

@@ -18,7 +18,7 @@ pub mod Frames
 mod GivingBack
 mod Grown
 pub mod InTx
-pub mod Keeping
+mod Keeping
 mod KeptSane
 pub mod Listing
 pub mod Lives

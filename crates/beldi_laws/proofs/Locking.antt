@@ -3,8 +3,8 @@
 use Rattle.beldi_daal.specs.{Walk.walk_at, declared.cell.WriteAt.TheVariants.Try}
 use Rattle.beldi_lock.specs.Locked.{SeesItem}
 use Rattle.beldi_known.{specs.Acts.Told, proofs.Lists.elsewhere}
-use Rattle.beldi_laws.proofs.Names.{AllGrow, Answer, AtItem, Begun, Bool, ByTx, Cause, ChangedAlone, Content, Core, Deployment, DidAs, DidOnce, Effect, Fits, Found, Frame, Goes, HasLock, InOperation, Inside, IntentId, IsAnswer, IsDeath, IsFreePlace, IsFront, IsLinkedItem, Item, Kind, Known, Knows, List, Lock, LockAt, LockTold, Lockset, Logs, Look, Matches, None, Note, OfBegin, Option, Owner, Place, Plain, PutLockset, Query, Released, Right, Row, RowKey, Rows, RowsStay, Run, RunTx, Sane, Says, SeesAt, SeesBoth, Some, Stage, TxAt, TxId, Value, Wait, WriteAt, WriteGoes, WriteWalk, [], act, age_of, ahead_by, ahead_front, ahead_set, ap, arith, aside_apart, asks_of, begin_of, behind_asks, behind_locks, behind_looks, behind_looks_dead, by_op, cell_at, chain, content_apart, content_of, death_answer, death_in, death_is_older, deaths_go, decision_key, did_lists, died, died_at, died_lists, dies, dies_inside, done_to, effect_after, effect_of, end_place, ended_by, false, given_goes, given_in, given_of, grows_self, has_asked, head_key, held, id_cmp, if◌then◌else◌, inl, inr, inserted, is_data, is_eq, is_item, is_shadow, is_some, item_asks, item_goes, item_of, kind_off, last_step, length, listed, lists_same, lock_answer, lock_did, lock_in, lock_is_there, lock_leads, lock_on, lock_or, locked_goes, lockset_ahead, lockset_key, lockset_put, log_key, looked, moved, no_row, none_out, note_at, note_goes, note_here, note_is_ahead, note_pushed, noted, noted_or, other_key, other_owner, other_shadows, owed_lockset, place_eq, place_of, place_same, put_goes, put_lockset, reads_begin, refl, root_key, rows_after, rows_go, said, same_data, same_shadow, same_some, sane_died, set_here, set_others, set_row, shadow_chain, shadow_key, shadow_row, subst, sym, told, told_by, touched, true, true_false, turn_next, turned_by, tx_after, tx_end, tx_here_asks, tx_here_says, tx_now, tx_of, tx_says, unchanged, undecided, value_at, walk_so, walks_begin, with_note, write_asks, write_goes, ℕ, ◌++◌, ◌<◌, ◌∙◌, ◌∷◌, ◌≡◌}
-use Rattle.beldi_laws.proofs.Frames.{NoFinish, frame_held, frame_item, frame_lockset, is_entry, items_stay, no_finish, nobody_new, nobody_set, none_finish, query_keeps, query_notes}
+use Rattle.beldi_laws.proofs.Names.{rows_there, write_spares, AllGrow, Answer, AtItem, Begun, Bool, ByTx, Cause, ChangedAlone, Content, Core, Deployment, DidAs, DidOnce, Effect, Fits, Found, Frame, Goes, HasLock, InOperation, Inside, IntentId, IsAnswer, IsDeath, IsFreePlace, IsFront, IsLinkedItem, Item, Kind, Known, Knows, List, Lock, LockAt, LockTold, Lockset, Logs, Look, Matches, None, Note, OfBegin, Option, Owner, Place, Plain, PutLockset, Query, Released, Right, Row, RowKey, Rows, RowsStay, Run, RunTx, Sane, Says, SeesAt, SeesBoth, Some, Stage, TxAt, TxId, Value, Wait, WriteAt, WriteGoes, WriteWalk, [], act, age_of, ahead_by, ahead_front, ahead_set, ap, arith, aside_apart, asks_of, begin_of, behind_asks, behind_locks, behind_looks, behind_looks_dead, by_op, cell_at, chain, content_apart, content_of, death_answer, death_in, death_is_older, deaths_go, decision_key, did_lists, died, died_at, died_lists, dies, dies_inside, done_to, effect_after, effect_of, end_place, ended_by, false, given_goes, given_in, given_of, grows_self, has_asked, head_key, held, id_cmp, if◌then◌else◌, inl, inr, inserted, is_data, is_eq, is_item, is_shadow, is_some, item_asks, item_goes, item_of, kind_off, last_step, length, listed, lists_same, lock_answer, lock_did, lock_in, lock_is_there, lock_leads, lock_on, lock_or, locked_goes, lockset_ahead, lockset_key, lockset_put, log_key, looked, moved, no_row, none_out, note_at, note_goes, note_here, note_is_ahead, note_pushed, noted, noted_or, other_key, other_owner, other_shadows, owed_lockset, place_eq, place_of, place_same, put_goes, put_lockset, reads_begin, refl, root_key, rows_after, rows_go, said, same_data, same_shadow, same_some, sane_died, set_here, set_others, set_row, shadow_chain, shadow_key, shadow_row, subst, sym, told, told_by, touched, true, true_false, turn_next, turned_by, tx_after, tx_end, tx_here_asks, tx_here_says, tx_now, tx_of, tx_says, unchanged, undecided, value_at, walk_so, walks_begin, with_note, write_asks, write_goes, ℕ, ◌++◌, ◌<◌, ◌∙◌, ◌∷◌, ◌≡◌}
+use Rattle.beldi_laws.proofs.Frames.{NoFinish, frame_held, frame_item, frame_lockset, is_entry, items_stay, no_finish, nobody_new, nobody_set, none_finish, query_notes}
 use Rattle.beldi_laws.proofs.{Ages.Holder, Ages.dies_so, Ages.free_of, Ages.holder_made, Ages.only_one, Settling.settled_operated, Grown.grown_moved, Grown.grows_moved, Grown.moved_more, Keeping.as_it_was, Keeping.set_shadows, Keeping.stays_by, Moves.AfterQuery, Moves.Kept, Moves.SameRoots, Moves.Stays, Others.kept_moving, Owed.content_kept, Owed.contents_kept, Owed.others_list, Ended.ended_at, Shown.holds_here, Shown.settled, Turns.Freed, Turns.Leaves, Cases.false_by}
 use Rattle.beldi_laws.proofs.Names.map
 use Rattle.beldi_laws.proofs.InTx as in_tx
@@ -469,7 +469,8 @@ module _ (d : Deployment) (c : Core) (m : Rows) (i : ℕ) (r : Run) (g : Begun) 
     by_walk =
         let q : Query = write_asks (head_key item) place (ByTx own) Lock w in
         let logged = by_op own_walk m (rows_after q c.now m) c.now (h.rows.chains item) sees refl in
-        by_goes w fits asked (rows_after q c.now m) logged.others logged.linked logged.grows (query_keeps q c.now m) (query_notes q c.now m item) (write_goes Note.Got w (told_by q c.now m)) logged.logs logged.sees
+        let keeps = write_spares (head_key item) place (ByTx own) Lock w in
+        by_goes w fits asked (rows_after q c.now m) logged.others logged.linked logged.grows (rows_there q keeps c.now m) (query_notes q keeps c.now m item) (write_goes Note.Got w (told_by q c.now m)) logged.logs logged.sees
 
   pub lock_turn : (l : LockAt) → Fits e (TxAt.Lock l) → InOperation d m h.plain h.known r.id r.func o g.machine.steps e (TxAt.Lock l) x → Turns (TxAt.Lock l)
   unfolding Comes

@@ -17,18 +17,18 @@ pub use Rattle.beldi_order.{proofs.Ends.at_of, proofs.Foreign.entries_touch, pro
 pub use Rattle.beldi_order.specs.Sane as plain
 pub use Rattle.beldi_order.proofs.Entries.{after_grows, enabled_step, free_at_operation, grown_answer, grown_end, grows_at, grows_new, grows_self, grows_through, opened_grows, run_grows, runs_on}
 pub use Rattle.beldi_order.proofs.Maps as maps
-pub use Rattle.beldi_row.specs.Act.{Tell, act, bind_to, call_back_to, end_with, finish_at, given_or, off, on, other, outcome_tell, register_to}
+pub use Rattle.beldi_row.specs.Act.{Tell, act, bind_to, call_back_to, drops, end_with, finish_at, given_or, off, on, other, outcome_tell, register_to}
 pub use Rattle.beldi_row.specs.declared.act.Act.TheVariants.{Bind, CallBack, Issue, Look, MakeCell, NoteRegistered, OpenInvoke, PutLockset, PutRead, Register}
 pub use Rattle.beldi_row.{proofs.Logs.note_here, proofs.Unchanged.looked, proofs.Unchanged.unchanged, specs.Key.at_row, specs.Key.kind_at, specs.Key.least_key, specs.Key.row_of as number_of, specs.KeyOrder.key_exact, specs.KeyOrder.key_total, specs.Log.blank, specs.Table.Rose, specs.Table.TableState, specs.Table.after_act, specs.declared.act.Act.Act, specs.declared.act.Act.Act as RowAct, specs.declared.notes.Note.TheVariants.Cond, specs.declared.notes.Note.TheVariants.Died, specs.declared.notes.Note.TheVariants.Got, specs.declared.notes.Note.TheVariants.Wrote, specs.declared.table.TableErr.TableErr, specs.declared.table.TableErr.TheVariants.Failed, specs.declared.table.TableErr.TheVariants.Full, specs.declared.table.TableErr.TheVariants.OutOfMemory}
-pub use Rattle.beldi_walk.specs.Query.{CameOn, Told, lends, query_adds, rows_after, said, told_by}
-pub use Rattle.beldi_walk.{proofs.Lent.refused_stand, proofs.Lent.rows_stand, proofs.Promises.at_each, specs.declared.query.Query.Query, specs.declared.query.Query.TheVariants.After}
+pub use Rattle.beldi_walk.specs.Query.{CameOn, Told, lends, may_remove, query_adds, rows_after, said, told_by}
+pub use Rattle.beldi_walk.{proofs.Lent.refused_stand, proofs.Lent.rows_stand, proofs.Promises.at_each, proofs.Promises.rows_there, specs.declared.query.Query.Query, specs.declared.query.Query.TheVariants.After}
 pub use Rattle.beldi_daal.specs.Cell.{cell_key, done_note, in_the_way, op_act, read_goes, write_asks, write_goes}
 pub use Rattle.beldi_daal.specs.Logged.{DidAs, DidOnce, LoggedTurn, Logs, ReadTurn, at_of as cell_at, died_at, died_of, dies, held_by, waited}
 pub use Rattle.beldi_chain.specs.{Chain.Chain, Chain.ChangedAlone, Chain.IsHead, Chain.chain, Chain.content, Chain.is_row_of, Chain.tail}
 pub use Rattle.beldi_chain.{proofs.Grows.notes_stay, proofs.Heads.chain_off, proofs.OneRow.no_content}
 pub use Rattle.beldi_links.specs.Links.{AllGrow, IsLinked, ReadsAt, RowsGrow, SeesAt}
 pub use Rattle.beldi_links.proofs.{Grows.others_grow, Grows.others_keep, Grows.readers_keep, Grows.same_grow, Meets.reads_begin, Meets.walks_begin}
-pub use Rattle.beldi_daal.{proofs.Logged.by_op, proofs.Logged.by_read, specs.ReadWalk.read_so, specs.Walk.walk_so, specs.declared.cell.CellOp.TheVariants.Free as FreeOp, specs.declared.cell.ReadGoes.ReadGoes, specs.declared.cell.WriteAt.WriteAt, specs.declared.cell.WriteGoes.WriteGoes, specs.declared.read_walk.ReadWalk.ReadWalk, specs.declared.walk.Item.TheVariants.Plain, specs.declared.walk.WriteWalk.WriteWalk}
+pub use Rattle.beldi_daal.{proofs.Logged.by_op, proofs.Logged.by_read, proofs.Spares.write_spares, specs.ReadWalk.read_so, specs.Walk.walk_so, specs.declared.cell.CellOp.TheVariants.Free as FreeOp, specs.declared.cell.ReadGoes.ReadGoes, specs.declared.cell.WriteAt.WriteAt, specs.declared.cell.WriteGoes.WriteGoes, specs.declared.read_walk.ReadWalk.ReadWalk, specs.declared.walk.Item.TheVariants.Plain, specs.declared.walk.WriteWalk.WriteWalk}
 pub use Rattle.beldi_lock.{proofs.Firsts.IsApart, proofs.Firsts.first_apart, specs.Lock.item_goes, specs.Lock.note_goes, specs.Lock.put_goes, specs.Lockset.AreHops, specs.Lockset.most, specs.declared.lock.LockAt.LockAt, specs.declared.lock.LockAt.TheVariants.Item as AtItem, specs.declared.lock.LockAt.TheVariants.Lockset}
 pub use Rattle.beldi_readlog.specs.ReadLog.{given, given_in, given_of, kept_of}
 pub use Rattle.beldi_invokelog.{proofs.Calls.calls_stay, specs.InvokeLog.CallGoesOn, specs.InvokeLog.GoesOn, specs.InvokeLog.back_asks, specs.InvokeLog.back_of, specs.InvokeLog.opened, specs.InvokeLog.registered_asks, specs.declared.invoke_log.Back.TheVariants.Absent, specs.declared.invoke_log.Back.TheVariants.AlreadySet, specs.declared.invoke_log.Back.TheVariants.Set}

@@ -1,6 +1,7 @@
 -- Where the host and its rows are right, each step of an instance has one answer; and it stays, whatever comes.
 use Rattle.beldi_known.specs.Stands.{told_by}
-use Rattle.beldi_laws.proofs.Names.{Abort, Act, Answer, AnswersOf, AnswersStay, Async, Begin, Begins, Begun, Call, CallGoesOn, CondWrite, Core, Deployment, Died, Done, Effect, End, GoesOn, Got, HeldAnswersStay, Instance, IntentId, InvokeRow, Item, Knows, KnowsAt, None, Note, OnItem, OneAnswerPerStep, OneRowChanged, Option, Outcome, Place, Read, Right, RightHasOneAnswer, Row, RowKey, Rows, Run, RunAt, Some, TxId, Value, WasGiven, Write, act, after_act, answer_aside, answer_of, ap, arith, at_each, call_in, calls_stay, chain, content, decides, given, given_in, head_key, held_answer, held_inside, held_note, held_outside, inl, inr, invoke_key, item_in, log_key, note_at, note_of_lock, noted_answer, notes_stay, on, op_of, option_and_then, option_map, refl, result_in, shadow_key, subst, sym, ℕ, ◌∙◌, ◌≡◌, Query}
+use Rattle.beldi_laws.proofs.Names.{drops, false, Abort, Act, Answer, AnswersOf, AnswersStay, Async, Begin, Begins, Begun, Call, CallGoesOn, CondWrite, Core, Deployment, Died, Done, Effect, End, GoesOn, Got, HeldAnswersStay, Instance, IntentId, InvokeRow, Item, Knows, KnowsAt, None, Note, OnItem, OneAnswerPerStep, OneRowChanged, Option, Outcome, Place, Read, Right, RightHasOneAnswer, Row, RowKey, Rows, Run, RunAt, Some, TxId, Value, WasGiven, Write, act, after_act, answer_aside, answer_of, ap, arith, at_each, call_in, calls_stay, chain, content, decides, given, given_in, head_key, held_answer, held_inside, held_note, held_outside, inl, inr, invoke_key, item_in, log_key, note_at, note_of_lock, noted_answer, notes_stay, on, op_of, option_and_then, option_map, refl, result_in, shadow_key, subst, sym, ℕ, ◌∙◌, ◌≡◌, Query}
+use Rattle.beldi_row.proofs.Removed.{act_stays}
 use Rattle.beldi_laws.proofs.{OneEvent.one_row, Standing.held_here, Standing.same_run}
 use Rattle.beldi_laws.proofs.Names.map
 
@@ -30,8 +31,9 @@ given_stays r a now = grind arith
 of_note : (o : Option Note) (x : Answer) → option_and_then noted_answer o ≡ Some x → (n : Note) × (o ≡ Some n)
 of_note o x is = grind arith
 
-value_stays : (f : Option Value → Option Answer) → f None ≡ None → (a : Act) (now : ℕ) (x : Answer) (o : Option Row) → f (option_map given_in o) ≡ Some x → f (option_map given_in (act a now o).0) ≡ Some x
-value_stays f none a now x o is = grind arith
+value_stays : (f : Option Value → Option Answer) → f None ≡ None → (a : Act) (now : ℕ) (x : Answer) (o : Option Row) → drops a ≡ false → f (option_map given_in o) ≡ Some x → f (option_map given_in (act a now o).0) ≡ Some x
+value_stays f none a now x None keeps is = let clash = sym none ∙ is in grind arith
+value_stays f none a now x (Some r) keeps is = ap (λ z. f (option_map given_in z.0)) (act_stays a now r keeps) ∙ ap (λ v. f (Some v)) (given_stays r a now) ∙ is
 
 -- what a call gave back
 back_stays : (x : Answer) (o u : Option Row) → CallGoesOn o u → option_map answer_of (result_in (call_in o)) ≡ Some x → option_map answer_of (result_in (call_in u)) ≡ Some x
@@ -47,14 +49,14 @@ back_stays x o u goes held = by_call (call_in o) refl held
 call_stays : (x : Answer) (o u : Option Row) → CallGoesOn o u → option_map (λ i. Done) (call_in o) ≡ Some x → option_map (λ i. Done) (call_in u) ≡ Some x
 call_stays x o u goes held = grind arith
 
-module _ (a : Act) (now : ℕ) (k : RowKey) (m : Rows) where
-  -- what every act keeps of a row
-  at_key : (P : Option Row → Type 0) → ((b : Act) (t : ℕ) (o : Option Row) → P o → P (act b t o).0) → (l : RowKey) → P (map.get m l) → P (map.get (after_act a now k m) l)
-  at_key P stays l = at_each (λ o u. P o → P u) (λ o held. held) stays (Query.Act k a) now m l
+module _ (a : Act) (keeps : drops a ≡ false) (now : ℕ) (k : RowKey) (m : Rows) where
+  -- what every act that removes none keeps of a row
+  at_key : (P : Option Row → Type 0) → ((b : Act) (t : ℕ) (o : Option Row) → drops b ≡ false → P o → P (act b t o).0) → (l : RowKey) → P (map.get m l) → P (map.get (after_act a now k m) l)
+  at_key P stays l = at_each (λ o u. P o → P u) (λ o held. held) stays (Query.Act k a) keeps now m l
 
   -- a note that is there stays, and so does what is told by one
   note_keeps : (at : Place) (l : RowKey) (w : Note) → note_at (content (chain m l)).notes at ≡ Some w → note_at (content (chain (after_act a now k m) l)).notes at ≡ Some w
-  note_keeps at l w there = notes_stay a now k l m at w there
+  note_keeps at l w there = notes_stay a keeps now k l m at w there
 
   answer_keeps : (at : Place) (l : RowKey) (x : Answer) → option_and_then noted_answer (note_at (content (chain m l)).notes at) ≡ Some x → option_and_then noted_answer (note_at (content (chain (after_act a now k m) l)).notes at) ≡ Some x
   answer_keeps at l x held = let w = of_note (note_at (content (chain m l)).notes at) x held in ap (option_and_then noted_answer) (note_keeps at l w.0 w.1 ∙ sym w.1) ∙ held
@@ -64,12 +66,12 @@ module _ (a : Act) (now : ℕ) (k : RowKey) (m : Rows) where
   notes_keep at func (Some o) x held = answer_keeps at (head_key (item_in func o)) x held
 
   value_keeps : (l : RowKey) (f : Option Value → Option Answer) → f None ≡ None → (x : Answer) → f (given m l) ≡ Some x → f (given (after_act a now k m) l) ≡ Some x
-  value_keeps l f none x held = at_key (λ o. f (option_map given_in o) ≡ Some x) (λ b t. value_stays f none b t x) l held
+  value_keeps l f none x held = at_key (λ o. f (option_map given_in o) ≡ Some x) (λ b t o. value_stays f none b t x o) l held
 
   outside_keeps : (p : Place) (func : ℕ) (e : Effect) (x : Answer) → held_outside m p func e ≡ Some x → held_outside (after_act a now k m) p func e ≡ Some x
   outside_keeps p func (Read t key) x held = value_keeps (log_key func p) (option_map Answer.Value) refl x held
-  outside_keeps p func (Call f v) x held = let l = invoke_key func p in back_stays x (map.get m l) (map.get (after_act a now k m) l) (calls_stay (Query.Act k a) now m l) held
-  outside_keeps p func (Async f v) x held = let l = invoke_key func p in call_stays x (map.get m l) (map.get (after_act a now k m) l) (calls_stay (Query.Act k a) now m l) held
+  outside_keeps p func (Call f v) x held = let l = invoke_key func p in back_stays x (map.get m l) (map.get (after_act a now k m) l) (calls_stay (Query.Act k a) keeps now m l) held
+  outside_keeps p func (Async f v) x held = let l = invoke_key func p in call_stays x (map.get m l) (map.get (after_act a now k m) l) (calls_stay (Query.Act k a) keeps now m l) held
   outside_keeps p func e x held = notes_keep p func (op_of e) x held
 
   told_keeps : (p : Place) (i : Item) (v w : Option Answer) (x : Answer) → (v ≡ Some x → w ≡ Some x) → told_by p (note_of_lock m p i) v ≡ Some x → told_by p (note_of_lock (after_act a now k m) p i) w ≡ Some x
@@ -100,7 +102,7 @@ module _ (a : Act) (now : ℕ) (k : RowKey) (m : Rows) where
 one_keeps : (c : Core) (m n : Rows) → OneRowChanged c m n → AnswersStay m n
 one_keeps c m n o = elim o.rows [
   | inl same ↦ λ id func step s e x held. subst (λ l. held_answer l id func step s e ≡ Some x) (sym same) held
-  | inr s ↦ subst (AnswersStay m) (sym s.1) (act_keeps s.0 c.now o.key m)
+  | inr s ↦ subst (AnswersStay m) (sym s.2) (act_keeps s.0 s.1 c.now o.key m)
 ]
 
 pub answers_stay : HeldAnswersStay

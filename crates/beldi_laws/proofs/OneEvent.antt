@@ -4,7 +4,9 @@ use Rattle.std.proofs.Common.{nat_lt}
 use Rattle.std.proofs.lemmas.List.{append-nil}
 use Rattle.beldi_walk.specs.declared.query.Query.TheVariants.{Act}
 use Rattle.beldi_collect.specs.declared.cursor.Found.{Found}
-use Rattle.beldi_step.proofs.Runs.{of_plan}
+use Rattle.beldi_row.specs.Act.{drops}
+use Rattle.beldi_walk.specs.Query.{may_remove}
+use Rattle.beldi_step.proofs.{Runs.of_plan, Spares.plan_removes, Spares.plan_spares}
 use Rattle.beldi_step.specs.{declared.run.RunAt.RunAt, Run.callee_of, Host.at_once}
 use Rattle.beldi_laws.proofs.Names.{After, AllocError, Begins, Begun, Binding, Body, BookGrew, Bool, Caller, CameOn, ChangesOneRow, Core, Crash, Deployment, DropsHaveCause, Err, Event, EventBy, Failed, Followed, Full, Func, Halt, HaltCame, Ic, IfOk, IntentId, IsTrue, KeepsRoom, Looks, Lost, Machine, Mark, None, Ok, OneRowChanged, Option, OutOfMemory, Plan, Query, Registers, Request, Restart, Result, Rose, Row, RowAct, RowKey, Rows, Run, RunTx, Says, Seen, Some, Stage, Start, StepBy, TableErr, TableState, Tick, Ticket, Told, Turn, Turned, Value, Wait, WritesWhatIsTold, [], act, after_act, after_turn, ap, arith, asks, at_once_of, begin_in, binding_of, body_registered, body_told, bound_by, bound_of, chain_off, collect_next, collect_says, collected, cond, content, content_of, count_changes, counted, crash_plan, ended_run, entries_told, entry_of, false, first_stage, func_at, goes_from, goes_to, halt_next, halted, has_run, head_key, heard, if_lent, if◌then◌else◌, inl, inr, is_added, is_crowded, is_dropped, is_lost, is_some, item_head, key_total, last_moment, launched, least_key, len-insert, len-remove, lends, made, marked, may_start, no_memory, no_run, not, off, option_map, option_to_list, passed, plan, plan_of, query_adds, reads_all, refl, refused, refused_by, refused_stand, request_next, rows_after, run_next, run_plan, run_told, same_some, says_of, set_others, set_row, stage_says, started, starts_of, subst, sym, ticket_next, told_at, true, turn_next, turned_by, turned_core, unbound, unheard_next, ℕ, ◌+◌, ◌-◌, ◌<◌, ◌==◌, ◌^◌, ◌||◌, ◌∙◌, ◌≡◌, ◌≤◌}
 use Rattle.beldi_laws.proofs.Moves.{if_plan}
@@ -14,24 +16,24 @@ use Rattle.beldi_laws.proofs.Names.map
 same_rows : (c : Core) (m n : Rows) → n ≡ m → OneRowChanged c m n
 same_rows c m n same = record { key = least_key; rows = inl same; others = λ x apart. ap (λ l. content_of l x) same }
 
-one_act : (c : Core) (m n : Rows) (k : RowKey) (a : RowAct) → n ≡ after_act a c.now k m → OneRowChanged c m n
-one_act c m n k a is = record { key = k; rows = inr (a, is); others = λ x apart. ap (λ l. content_of l x) is ∙ ap content (chain_off m (after_act a c.now k m) k (head_key x) (set_others m k (act a c.now (map.get m k)).0) (item_head x) apart) }
+one_act : (c : Core) (m n : Rows) (k : RowKey) (a : RowAct) → drops a ≡ false → n ≡ after_act a c.now k m → OneRowChanged c m n
+one_act c m n k a keeps is = record { key = k; rows = inr (a, keeps, is); others = λ x apart. ap (λ l. content_of l x) is ∙ ap content (chain_off m (after_act a c.now k m) k (head_key x) (set_others m k (act a c.now (map.get m k)).0) (item_head x) apart) }
 
-by_query : (c : Core) (q : Query) (m n : Rows) → n ≡ rows_after q c.now m → OneRowChanged c m n
-by_query c (Act k a) m n is = one_act c m n k a is
-by_query c (After k) m n is = same_rows c m n is
+by_query : (c : Core) (q : Query) (m n : Rows) → may_remove q ≡ false → n ≡ rows_after q c.now m → OneRowChanged c m n
+by_query c (Act k a) m n keeps is = one_act c m n k a keeps is
+by_query c (After k) m n keeps is = same_rows c m n is
 
-came_on_one : (c : Core) (room : ℕ) (q : Query) (w : Result Told TableErr) (m n : Rows) → CameOn q c.now room w m n → OneRowChanged c m n
-came_on_one c room q (Ok t) m n p = by_query c q m n p.0
-came_on_one c room q (Err v) m n p = same_rows c m n (refused_stand q c.now room v m n p)
+came_on_one : (c : Core) (room : ℕ) (q : Query) → may_remove q ≡ false → (w : Result Told TableErr) (m n : Rows) → CameOn q c.now room w m n → OneRowChanged c m n
+came_on_one c room q keeps (Ok t) m n p = by_query c q m n keeps p.0
+came_on_one c room q keeps (Err v) m n p = same_rows c m n (refused_stand q c.now room v m n p)
 
-by_plan : (d : Deployment) (room old new : ℕ) (e : Event) (c b : Core) (m n : Rows) (r : Result Seen AllocError) (p : Plan) → EventBy d room old new e c p m b n r → OneRowChanged c m n
-by_plan d room old new e c b m n r (at_once k y) s = same_rows c m n s.1
-by_plan d room old new e c b m n r (asks q) s = came_on_one c room q s.0 m n s.2
-by_plan d room old new e c b m n r reads_all s = same_rows c m n s.2.0
+by_plan : (d : Deployment) (room old new : ℕ) (e : Event) (c b : Core) (m n : Rows) (r : Result Seen AllocError) (p : Plan) → plan_removes p ≡ false → EventBy d room old new e c p m b n r → OneRowChanged c m n
+by_plan d room old new e c b m n r (at_once k y) keeps s = same_rows c m n s.1
+by_plan d room old new e c b m n r (asks q) keeps s = came_on_one c room q keeps s.0 m n s.2
+by_plan d room old new e c b m n r reads_all keeps s = same_rows c m n s.2.0
 
 pub one_row : ChangesOneRow
-one_row d room old new e c b m n r s = let o = by_plan d room old new e (counted c) b m n r (plan d e c) s in record { key = o.key; rows = o.rows; others = o.others }
+one_row d room old new e c b m n r s = let o = by_plan d room old new e (counted c) b m n r (plan d e c) (plan_spares d e c) s in record { key = o.key; rows = o.rows; others = o.others }
 
 -- ---- no event takes the rows past the room
 set_fits : (m : Rows) (k : RowKey) (room : ℕ) (v : Option Row) → map.len m ≤ room → (IsTrue (not (map.contains_key m k) && is_some v) → map.len m < room) → map.len (set_row m k v) ≤ room

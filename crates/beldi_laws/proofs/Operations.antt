@@ -3,9 +3,9 @@ use Rattle.beldi_plain.specs.declared.kind.Kind.{Kind}
 use Rattle.beldi_row.specs.declared.key.Kind.TheVariants as kinds
 use Rattle.beldi_daal.specs.Walk.{walk_at}
 use Rattle.beldi_known.specs.Owed.{noted}
-use Rattle.beldi_laws.proofs.Names.{AllGrow, Answer, Answers, Begun, CellOp, ChangedAlone, Core, Deployment, DidOnce, DoneRows, Effect, Frame, Grows, Inside, Instance, IntentId, IsAnswer, IsFree, IsLinkedItem, IsTrue, Item, Known, Knows, List, LoggedTurn, Logs, Matches, None, Note, OnItem, Place, Plain, PlainState, Query, Right, Rows, Run, SameShadows, Sane, Says, SeesAt, SeesPut, Some, Step, TxId, Value, WriteAt, WriteGoes, WriteWalk, [], ahead_set, answer_after, answer_noted, answers_it, ap, arith, by_op, cell_at, cell_key, cell_of, cell_op, chain, commit_in, content_of, does_so, done_note, done_says, effect_before, effect_of, enabled_step, false, free_at_operation, head_key, holds, if_answers, if◌then◌else◌, is_begin, is_eq, is_some, item_in, item_total, item_touched, kind_of, length, moved, moved_one, no_root, no_tx, nobody_else, none_out, note_after, note_at, note_done, note_here, note_of, note_of_op, noted_answer, op_of, operate, operation_answers, operation_done, operation_step, option_and_then, other_shadows, place_of, put_asks, put_says, refl, root_key, rows_after, same_some, set_agrees, sets, slice_get, subst, sym, tied_itself, told_by, touched_by, true, turn_next, turned_by, tx_after, tx_now, unbarred, value_at, walk_so, wants_answer, write_asks, write_goes, write_says, ℕ, ◌∙◌, ◌∷◌, ◌≡◌, Mark, Owner, Stage}
+use Rattle.beldi_laws.proofs.Names.{rows_there, write_spares, AllGrow, Answer, Answers, Begun, CellOp, ChangedAlone, Core, Deployment, DidOnce, DoneRows, Effect, Frame, Grows, Inside, Instance, IntentId, IsAnswer, IsFree, IsLinkedItem, IsTrue, Item, Known, Knows, List, LoggedTurn, Logs, Matches, None, Note, OnItem, Place, Plain, PlainState, Query, Right, Rows, Run, SameShadows, Sane, Says, SeesAt, SeesPut, Some, Step, TxId, Value, WriteAt, WriteGoes, WriteWalk, [], ahead_set, answer_after, answer_noted, answers_it, ap, arith, by_op, cell_at, cell_key, cell_of, cell_op, chain, commit_in, content_of, does_so, done_note, done_says, effect_before, effect_of, enabled_step, false, free_at_operation, head_key, holds, if_answers, if◌then◌else◌, is_begin, is_eq, is_some, item_in, item_total, item_touched, kind_of, length, moved, moved_one, no_root, no_tx, nobody_else, none_out, note_after, note_at, note_done, note_here, note_of, note_of_op, noted_answer, op_of, operate, operation_answers, operation_done, operation_step, option_and_then, other_shadows, place_of, put_asks, put_says, refl, root_key, rows_after, same_some, set_agrees, sets, slice_get, subst, sym, tied_itself, told_by, touched_by, true, turn_next, turned_by, tx_after, tx_now, unbarred, value_at, walk_so, wants_answer, write_asks, write_goes, write_says, ℕ, ◌∙◌, ◌∷◌, ◌≡◌, Mark, Owner, Stage}
 use Rattle.beldi_laws.proofs.Moves.{AfterTurn, AfterQuery, SameRoots, change_entered, Entered, Kept, Stays}
-use Rattle.beldi_laws.proofs.Frames.{frame_done, frame_held, item_stays, items_stay, nobody_new, nobody_set, none_finish, query_keeps}
+use Rattle.beldi_laws.proofs.Frames.{frame_done, frame_held, item_stays, items_stay, nobody_new, nobody_set, none_finish}
 use Rattle.beldi_laws.proofs.Turns.{effect_here, answer_here, step_here, effect_next, wants_it, fits, not_over, goes_on, held, worn, ends, stays_on, replays, steps_on, outside_here, tx_step, tx_next, plain_there, unlocked_there}
 use Rattle.beldi_laws.proofs.{Settling.settled_grown, Settling.settled_outside, Others.kept_moving, Keeping.goes_answered, Keeping.stays_by, Shown.value_here, Shown.holds_here, Shown.legal_sane, Shown.settled, Owed.note_if, Owed.note_there, Owed.content_kept, Owed.contents_kept, Owed.others_list, Owed.done_lists, KeptSane.answered_kept, Outside.is_call, Grown.grows_moved}
 use Rattle.beldi_laws.proofs.Names.map
@@ -85,7 +85,7 @@ module _ (d : Deployment) (c : Core) (m : Rows) (i : ℕ) (r : Run) (g : Begun) 
 
     kept : content_of n item ≡ content_of m item → Stays h n
     kept held = stays_by h n same_shadows (content_kept d m n item same h.known h.locked linked held h.rows) (λ x. others_list m n item same x (contents_kept d m n item same held x) ∙ h.values x)
-        (frame_held d m h.plain h.plain h.known h.known (items_stay d m h.plain h.plain h.known refl) (nobody_new d h.known) n item same rows_grow (query_keeps asks c.now m) held)
+        (frame_held d m h.plain h.plain h.known h.known (items_stay d m h.plain h.plain h.known refl) (nobody_new d h.known) n item same rows_grow (rows_there asks (write_spares (cell_key r.func o.table o.key) place (Owner.Intent r.id) op at) c.now m) held)
         (none_finish m n (head_key item) same d h.known refl)
 
     -- it was done now: it is the instance's next
@@ -155,7 +155,7 @@ module _ (d : Deployment) (c : Core) (m : Rows) (i : ℕ) (r : Run) (g : Begun) 
       unlocked = unlocked_there d c m i r g h live k finds out e is left
 
       frame : Frame d m n h.plain state h.known next
-      frame = frame_done d m h.plain state h.known next (item_stays d m h.plain state next y (sets o.does old) refl unowned) (nobody_set d h.known r.id (moved d r.id k.instance a) (ap is_some k.made)) n y (place_of r.id (length k.instance.answers)) op rows_grow (query_keeps asks c.now m) did_here
+      frame = frame_done d m h.plain state h.known next (item_stays d m h.plain state next y (sets o.does old) refl unowned) (nobody_set d h.known r.id (moved d r.id k.instance a) (ap is_some k.made)) n y (place_of r.id (length k.instance.answers)) op rows_grow (rows_there asks (write_spares (cell_key r.func o.table o.key) place (Owner.Intent r.id) op at) c.now m) did_here
 
       grows : Grows h.known next
       grows = grows_moved d h.known r.id k.instance a k.made

@@ -2,8 +2,8 @@
 -- it asked the locks of, and gives each back once; and gives each of them but its own instance a finish.
 use Rattle.beldi_txn.specs.End.{moved}
 use Rattle.beldi_known.proofs.Behind.{front}
-use Rattle.beldi_laws.proofs.Names.{AllGrow, AllReleased, Answer, AreReleased, Begun, Body, Bool, Called, CalleeBodyMatches, CalleeMatches, Callees, ChangedAlone, Content, Core, Decide, Deployment, Effect, EndAt, EndGoes, EndWalk, FinishMatches, Frame, Free, FreeOp, GetsFinish, Inherited, Inside, Instance, IntentId, IntentMatches, IntentRow, IsAnswer, IsCalleeRow, IsLinkedItem, IsMember, IsTrue, Item, Kind, Knows, Leads, List, Matches, Member, Next, None, OpenTx, Option, Own, ParticipantsAreReleased, ParticipantsHaveRows, Place, Query, ReadGoes, Right, Row, RowAct, RowKey, Rows, Run, RunTx, Says, Shadow, Some, Stage, Stamp, Told, TookPart, Tx, TxId, Value, Visit, Visited, WriteAt, WriteGoes, [], act, ap, arith, asked, back_from, call_goes, calls_goes, chain_off, commit_in, content_of, counts, decision_key, done_to, effect_after, end_by_asks, end_by_says, end_goes, end_walk, ended_at, ended_by, false, first_end, free_place, freed_goes, func_called, given_or, given_value, grows_self, has_callees, has_ended, has_finish, has_no_hops, head_key, if◌then◌else◌, inl, inr, intent_key, is_committed, is_decided, is_eq, is_mark, is_past, is_shadow, is_some, key_cmp, key_exact, key_in, key_same, key_total, keys_set, kind_off, kinds_apart, last_goes, last_step, length, listed, log_key, next_goes, no_decision, note_at, option_map, other_key, other_shadows, own_tx, place_of, refl, release_lists, released, root_key, row_put, rows_after, same_map, same_shadow, same_some, set_others, set_row, shadow_key, shadow_row, shadow_value, stepped, subst, sym, told_by, true, turn_next, turned_by, turns, tx_after, tx_end, tx_eq, tx_in, tx_same, tx_self, txs_after, unchanged, value_goes, value_in, visit_asks, visit_says, visited_by, wants_answer, was_answered, ℕ, ◌&&◌, ◌++◌, ◌==◌, ◌||◌, ◌∙◌, ◌∷◌, ◌≡◌}
-use Rattle.beldi_laws.proofs.Frames.{NoFinish, frame_held, frame_item, frame_row, items_stay, nobody_new, none_finish, query_keeps, query_notes}
+use Rattle.beldi_laws.proofs.Names.{cell_key, may_remove, rows_there, write_spares, AllGrow, AllReleased, Answer, AreReleased, Begun, Body, Bool, Called, CalleeBodyMatches, CalleeMatches, Callees, ChangedAlone, Content, Core, Decide, Deployment, Effect, EndAt, EndGoes, EndWalk, FinishMatches, Frame, Free, FreeOp, GetsFinish, Inherited, Inside, Instance, IntentId, IntentMatches, IntentRow, IsAnswer, IsCalleeRow, IsLinkedItem, IsMember, IsTrue, Item, Kind, Knows, Leads, List, Matches, Member, Next, None, OpenTx, Option, Own, ParticipantsAreReleased, ParticipantsHaveRows, Place, Query, ReadGoes, Right, Row, RowAct, RowKey, Rows, Run, RunTx, Says, Shadow, Some, Stage, Stamp, Told, TookPart, Tx, TxId, Value, Visit, Visited, WriteAt, WriteGoes, [], act, ap, arith, asked, back_from, call_goes, calls_goes, chain_off, commit_in, content_of, counts, decision_key, done_to, effect_after, end_by_asks, end_by_says, end_goes, end_walk, ended_at, ended_by, false, first_end, free_place, freed_goes, func_called, given_or, given_value, grows_self, has_callees, has_ended, has_finish, has_no_hops, head_key, if◌then◌else◌, inl, inr, intent_key, is_committed, is_decided, is_eq, is_mark, is_past, is_shadow, is_some, key_cmp, key_exact, key_in, key_same, key_total, keys_set, kind_off, kinds_apart, last_goes, last_step, length, listed, log_key, next_goes, no_decision, note_at, option_map, other_key, other_shadows, own_tx, place_of, refl, release_lists, released, root_key, row_put, rows_after, same_map, same_shadow, same_some, set_others, set_row, shadow_key, shadow_row, shadow_value, stepped, subst, sym, told_by, true, turn_next, turned_by, turns, tx_after, tx_end, tx_eq, tx_in, tx_same, tx_self, txs_after, unchanged, value_goes, value_in, visit_asks, visit_says, visited_by, wants_answer, was_answered, ℕ, ◌&&◌, ◌++◌, ◌==◌, ◌||◌, ◌∙◌, ◌∷◌, ◌≡◌}
+use Rattle.beldi_laws.proofs.Frames.{NoFinish, frame_held, frame_item, frame_row, items_stay, nobody_new, none_finish, query_notes}
 use Rattle.beldi_laws.proofs.Turns.{at_steps, known_prefix, wanted_here, Leaves, all_here, stands_on, answers_on, worn}
 use Rattle.beldi_laws.proofs.{Askers.owns_none, Closing.at_key, Closing.closed_rows_of, Closing.owner_is, Settling.settled_rows, Grown.grown_same, Keeping.as_it_was, Keeping.goes_still, Keeping.stays_by, Members.TakesPart, Members.members_joined, Members.part_below, Members.part_key, Members.took_part, Moves.AfterQuery, Moves.SameRoots, Moves.Stays, OpenOf.open_begun, OpenOf.own_begin, Others.decided_past, Others.end_here, Others.kept_by, Others.or_true, Owed.content_kept, Owed.contents_kept, Owed.others_list, Shown.log_values, Shown.settled, Widths.finds_first}
 use Rattle.beldi_laws.proofs.Names.map
@@ -79,7 +79,7 @@ module _ (d : Deployment) (c : Core) (m : Rows) (h : Right d c m) where
   as_before n same = (subst (Stays h) (sym same) (as_it_was h), λ t. ap (λ (y : Rows). is_some (map.get y (root_key t))) same)
 
   -- a row of one item is asked
-  module _ (q : Query) (y : Item) (others : ChangedAlone (head_key y) m (rows_after q c.now m)) (linked : IsLinkedItem (rows_after q c.now m) y) (rows_grow : AllGrow m (rows_after q c.now m)) where
+  module _ (q : Query) (keeps : may_remove q ≡ false) (y : Item) (others : ChangedAlone (head_key y) m (rows_after q c.now m)) (linked : IsLinkedItem (rows_after q c.now m) y) (rows_grow : AllGrow m (rows_after q c.now m)) where
     abbrev n : Rows
     n = rows_after q c.now m
 
@@ -96,7 +96,7 @@ module _ (d : Deployment) (c : Core) (m : Rows) (h : Right d c m) where
       stays_by h n (other_shadows m n y others)
           (content_kept d m n y others h.known h.locked linked held h.rows)
           (λ x. others_list m n y others x (contents_kept d m n y others held x) ∙ h.values x)
-          (frame_held d m h.plain h.plain h.known h.known (items_stay d m h.plain h.plain h.known refl) (nobody_new d h.known) n y others rows_grow (query_keeps q c.now m) held) unfinished,
+          (frame_held d m h.plain h.plain h.known h.known (items_stay d m h.plain h.plain h.known refl) (nobody_new d h.known) n y others rows_grow (rows_there q keeps c.now m) held) unfinished,
       roots,
     )
 
@@ -107,7 +107,7 @@ module _ (d : Deployment) (c : Core) (m : Rows) (h : Right d c m) where
         stays_by h n (other_shadows m n y others)
             (released d m h.known h.locked y s z p (given_or u (content_of m y).value) n owned ended mark none others linked is h.rows)
             (λ x. release_lists m n y s others owned free value x ∙ h.values x)
-            (frame_item d m h.plain h.plain h.known h.known (items_stay d m h.plain h.plain h.known refl) (nobody_new d h.known) n y others rows_grow (query_keeps q c.now m) (query_notes q c.now m y) (λ t e end own. let clash = sym free ∙ own in cc)) unfinished,
+            (frame_item d m h.plain h.plain h.known h.known (items_stay d m h.plain h.plain h.known refl) (nobody_new d h.known) n y others rows_grow (rows_there q keeps c.now m) (query_notes q keeps c.now m y) (λ t e end own. let clash = sym free ∙ own in cc)) unfinished,
         roots,
       )
         where
@@ -256,8 +256,8 @@ module _ (d : Deployment) (c : Core) (m : Rows) (r : Run) (g : Begun) (h : Right
     -- an item stands, or is given back
     frees : (af : Option ℕ) (y : ℕ × List ℕ) (u : Option Value) (f : WriteAt) (z : EndGoes) → let v = visit cs af (Some y) u (Free f) in Visited (walk v) m → Leads s end commit v (asks v) m (after v) z → Keeps d c m h (after v)
     frees af y u f z visited l = elim l.left [
-      | inl held ↦ stands d c m h q item others linked l.grows held
-      | inr was ↦ given_back d c m h q item others linked l.grows s (end, commit) e.ended visited.decided (free_place s end cs) (marked cs member) u visited.gives was.0 (owner_is s (content_of m item).owner was.1) was.2
+      | inl held ↦ stands d c m h q (write_spares (cell_key who.1 y.0 y.1) (free_place s end cs) (Tx s) (FreeOp u) f) item others linked l.grows held
+      | inr was ↦ given_back d c m h q (write_spares (cell_key who.1 y.0 y.1) (free_place s end cs) (Tx s) (FreeOp u) f) item others linked l.grows s (end, commit) e.ended visited.decided (free_place s end cs) (marked cs member) u visited.gives was.0 (owner_is s (content_of m item).owner was.1) was.2
     ]
       where
         item : Item

@@ -7,8 +7,8 @@ use Rattle.beldi_txn.specs.{TxTurn.AsideMoves, TxTurn.HasLock, TxTurn.ShadowMove
 use Rattle.beldi_txn.proofs.TxTurn.{Leads as Turned, turns}
 use Rattle.beldi_daal.specs.{declared.cell.WriteAt.TheVariants.Try}
 use Rattle.beldi_txn.specs.Tx.{item_goes, note_goes, tx_goes}
-use Rattle.beldi_laws.proofs.Names.{AllGrow, Answer, Begun, Bool, ByTx, Cause, CellOp, ChangedAlone, Content, Core, Deployment, Effect, Fits, Found, Frame, Goes, InItem, InOperation, Inside, IntentId, IsAnswer, IsFront, IsLinked, IsOpen, Item, Kind, Known, Knows, List, LockedOut, Look, MakeCell, Matches, None, Note, Option, Owner, Place, PutRead, Query, ReadGoes, ReadsAt, Rel, Right, Row, RowKey, Rows, RowsStay, Run, RunTx, Sane, Says, SeesAt, SeesBoth, Some, Stage, Told, TxAt, TxId, Value, Wait, WriteAt, WriteGoes, [], act, ahead_set, ap, arith, aside_key, asked, at_row, begin_of, begun_lists, behind_locks, behind_looks, behind_tests, behind_writes, cell_at, chain, content, content_of, death_in, decision_key, did, done_to, effect_of, false, first_rows_go, got_begun, grows_self, if◌then◌else◌, head_key, head_made, held_or, id_cmp, id_total, inl, inr, is_begin, is_eq, is_some, item_asks, item_leads, keep_goes, length, listed, listed_open, listed_under, lock_answer, lock_or, lockset_key, log_key, looked, moved, no_log, no_shadow_note, note_after, note_at, note_here, noted, noted_or, other_owner, passes, place_of, read_goes, read_inside, reads_go, refl, root_key, rows_after, said, sane_read, sane_tested, sane_wrote, seek_goes, set_others, set_row, shadow_chain, shadow_key, shadow_lists, shadow_made, shadow_of, shadow_read, shadow_row, shadow_value, subst, sym, test_inside, test_on, tested, tests_go, tied_itself, told_by, touched, true, turn_next, turned_by, tx_after, tx_here_asks, tx_here_says, tx_now, tx_of, tx_says, unchanged, undecided, value_at, value_in, write_asks, write_goes, write_inside, write_leads, write_on, writes_go, writes_on, ℕ, ◌++◌, ◌∙◌, ◌∷◌, ◌≡◌, ◌⊎◌}
-use Rattle.beldi_laws.proofs.Frames.{NoFinish, NobodyJoins, aside_stays, frame_log, frame_shadow, items_stay, no_finish, nobody_new, nobody_set, none_finish, query_keeps}
+use Rattle.beldi_laws.proofs.Names.{may_remove, rows_there, write_spares, AllGrow, Answer, Begun, Bool, ByTx, Cause, CellOp, ChangedAlone, Content, Core, Deployment, Effect, Fits, Found, Frame, Goes, InItem, InOperation, Inside, IntentId, IsAnswer, IsFront, IsLinked, IsOpen, Item, Kind, Known, Knows, List, LockedOut, Look, MakeCell, Matches, None, Note, Option, Owner, Place, PutRead, Query, ReadGoes, ReadsAt, Rel, Right, Row, RowKey, Rows, RowsStay, Run, RunTx, Sane, Says, SeesAt, SeesBoth, Some, Stage, Told, TxAt, TxId, Value, Wait, WriteAt, WriteGoes, [], act, ahead_set, ap, arith, aside_key, asked, at_row, begin_of, begun_lists, behind_locks, behind_looks, behind_tests, behind_writes, cell_at, chain, content, content_of, death_in, decision_key, did, done_to, effect_of, false, first_rows_go, got_begun, grows_self, if◌then◌else◌, head_key, head_made, held_or, id_cmp, id_total, inl, inr, is_begin, is_eq, is_some, item_asks, item_leads, keep_goes, length, listed, listed_open, listed_under, lock_answer, lock_or, lockset_key, log_key, looked, moved, no_log, no_shadow_note, note_after, note_at, note_here, noted, noted_or, other_owner, passes, place_of, read_goes, read_inside, reads_go, refl, root_key, rows_after, said, sane_read, sane_tested, sane_wrote, seek_goes, set_others, set_row, shadow_chain, shadow_key, shadow_lists, shadow_made, shadow_of, shadow_read, shadow_row, shadow_value, subst, sym, test_inside, test_on, tested, tests_go, tied_itself, told_by, touched, true, turn_next, turned_by, tx_after, tx_here_asks, tx_here_says, tx_now, tx_of, tx_says, unchanged, undecided, value_at, value_in, write_asks, write_goes, write_inside, write_leads, write_on, writes_go, writes_on, ℕ, ◌++◌, ◌∙◌, ◌∷◌, ◌≡◌, ◌⊎◌}
+use Rattle.beldi_laws.proofs.Frames.{NoFinish, NobodyJoins, aside_stays, frame_log, frame_shadow, items_stay, no_finish, nobody_new, nobody_set, none_finish}
 use Rattle.beldi_laws.proofs.InTx.{frees_none, open_still, item_self, goes_at, replays, set_roots, same_item, effect_so, wants_here, short, known_answers, answers_so, at_front, now, tx_is, front, apart, opened as opened_here, owned as owned_here, was_locked}
 use Rattle.beldi_laws.proofs.{Settling.settled_operated, Grown.grown_moved, Grown.grows_moved, Grown.moved_more, Keeping.as_it_was, Moves.AfterQuery, Moves.AfterTurn, Moves.SameRoots, Moves.Kept, Moves.Stays, Others.kept_moving, Shown.settled, Turns.at_steps, Turns.by_answer, Turns.sane_instance, Turns.all_here, Turns.step_here, Turns.answers_on, Turns.stays_on, Turns.worn}
 use Rattle.beldi_laws.proofs.Names.map
@@ -360,12 +360,12 @@ module _ (d : Deployment) (c : Core) (m : Rows) (i : ℕ) (r : Run) (g : Begun) 
     none_yet left = as_ran e is x touch l left (λ y p. note_at (shadow_of m own y).notes p ≡ None) (no_shadow_note d m h.known h.locked h.rows r.id k.instance k.made own (record { func = k.instance.func; table = x.0; key = x.1 }))
 
     -- a turn that asks its shadow, and changes it
-    module _ (a : TxAt) (q : Query) (asks : head_asked q ≡ shadow_key own aside_of) (s : TxGoes) (t : Led e is x touch l a q (rows_after q c.now m) s) where
+    module _ (a : TxAt) (q : Query) (asks : (head_asked q ≡ shadow_key own aside_of) × (may_remove q ≡ false)) (s : TxGoes) (t : Led e is x touch l a q (rows_after q c.now m) s) where
       abbrev left_rows : Rows
       left_rows = rows_after q c.now m
 
       alone : ChangedAlone (shadow_key own aside_of) m left_rows
-      alone = subst (λ y. ChangedAlone y m left_rows) asks t.others
+      alone = subst (λ y. ChangedAlone y m left_rows) asks.0 t.others
 
       aside : IsAside (shadow_chain left_rows own aside_of)
       aside = record { linked = t.stands.shadow; unowned = t.stands.unowned }
@@ -382,7 +382,7 @@ module _ (d : Deployment) (c : Core) (m : Rows) (i : ℕ) (r : Run) (g : Begun) 
 
       -- .. or its shadow has the notes that it had
       stays_moved : note_at (shadow_of m own aside_of).notes place ≡ None → Matches d left_rows h.known h.locked → (k.later ≡ [] → Changes e is x touch l left_rows) → Stays h left_rows
-      stays_moved none matches by = at_front_by none (λ left. unanswered e is x touch l left left_rows (as_its e is x touch l left (λ y p. ChangedAlone (shadow_key own y) m left_rows) alone) t.grows (query_keeps q c.now m) (ap is_some writes) (by left) matches)
+      stays_moved none matches by = at_front_by none (λ left. unanswered e is x touch l left left_rows (as_its e is x touch l left (λ y p. ChangedAlone (shadow_key own y) m left_rows) alone) t.grows (rows_there q asks.1 c.now m) (ap is_some writes) (by left) matches)
 
       -- how the shadow changed, as the law of the turn says it
       abbrev Moves : Type 0
@@ -425,7 +425,7 @@ module _ (d : Deployment) (c : Core) (m : Rows) (i : ℕ) (r : Run) (g : Begun) 
           let z : Content = shadow_of m own aside_of in
           let note : u ≡ note_after op z.value = maps.same_some (sym has ∙ ap (λ (y : Content). note_at y.notes place) wrote.0 ∙ note_here z.notes place (note_after op z.value) none) in
           subst (λ y. Leaves (tx_says (TxAt.Write w) (note_goes e y)) left_rows) (sym (as_its e is x touch l left (λ y p. u ≡ note_after op (shadow_of m own y).value) note))
-          (done left t.grows (query_keeps q c.now m) (as_its e is x touch l left (λ y p. Wrote m left_rows own y p op) (record { alone = alone; linked = aside.linked; none = none; so = wrote.0 }))))
+          (done left t.grows (rows_there q asks.1 c.now m) (as_its e is x touch l left (λ y p. Wrote m left_rows own y p op) (record { alone = alone; linked = aside.linked; none = none; so = wrote.0 }))))
 
   -- ---- a write
   module _ (t : ℕ) (key : List ℕ) (v : Value) (is : g.machine.effect ≡ Effect.Write t key v) (l : HasLocked m r o g.machine.steps (t, key)) where
@@ -467,8 +467,8 @@ module _ (d : Deployment) (c : Core) (m : Rows) (i : ℕ) (r : Run) (g : Begun) 
     unfolding Leaves
     write_turn w sees = by (write_goes Note.Wrote w (told_by (write_query w) c.now m)) (led write is (t, key) refl l (TxAt.Write w) tt l.got sees)
       where
-        its : head_asked (write_query w) ≡ write_row
-        its = asked write_row (λ n. refl) refl place (ByTx own) (CellOp.Write v) w
+        its : (head_asked (write_query w) ≡ write_row) × (may_remove (write_query w) ≡ false)
+        its = (asked write_row (λ n. refl) refl place (ByTx own) (CellOp.Write v) w, write_spares write_row place (ByTx own) (CellOp.Write v) w)
 
         kept : (s : TxGoes) (a : WriteLed w s) → is_going (said_of (TxAt.Write w) s) ≡ true → Stays h (rows_after (write_query w) c.now m)
         kept s a on = stays_by write is (t, key) refl l (CellOp.Write v) refl write_note (TxAt.Write w) (write_query w) its s a on (λ left same. inl (item_self r.func t key)) a.shadow
@@ -539,18 +539,18 @@ module _ (d : Deployment) (c : Core) (m : Rows) (i : ℕ) (r : Run) (g : Begun) 
     head_turn w saw = by (told_by (head_query w) c.now m) (led test is (t, key) refl l (TxAt.Head w) tt l.got tt)
       where
         kept : (s : TxGoes) (a : HeadLed w s) → ShadowMoves test (TxAt.Head w) place (ByTx own) (said_of (TxAt.Head w) s) (shadow_chain m own test_item) (shadow_chain (rows_after (head_query w) c.now m) own test_item) → Stays h (rows_after (head_query w) c.now m)
-        kept s a (inl same) = stays_unmoved test is (t, key) refl l (CellOp.Cond u y v) refl test_note (TxAt.Head w) (head_query w) refl s a same
-        kept s a (inr made) = stays_moved test is (t, key) refl l (CellOp.Cond u y v) refl test_note (TxAt.Head w) (head_query w) refl s a made.0
+        kept s a (inl same) = stays_unmoved test is (t, key) refl l (CellOp.Cond u y v) refl test_note (TxAt.Head w) (head_query w) (refl, refl) s a same
+        kept s a (inr made) = stays_moved test is (t, key) refl l (CellOp.Cond u y v) refl test_note (TxAt.Head w) (head_query w) (refl, refl) s a made.0
             (shadow_made d h.known h.locked m h.rows own test_item (rows_after (head_query w) c.now m) a.others (record { linked = a.stands.shadow; unowned = a.stands.unowned }) made.1 (ap (λ (z : Content). z.notes) made.2))
             (λ left. inr (inl (made.1, ap (λ (z : Content). z.value) made.2 ∙ sym (saw left made.1))))
 
         goes : HeadLed w (TxGoes.On (TxAt.Write (Try 0))) → Leaves (Says.On (Stage.Tx (TxAt.Write (Try 0))) None) (rows_after (head_query w) c.now m)
-        goes a = goes_to test is (t, key) refl l (CellOp.Cond u y v) refl test_note (TxAt.Head w) (head_query w) refl (TxGoes.On (TxAt.Write (Try 0))) a (Try 0) (kept (TxGoes.On (TxAt.Write (Try 0))) a a.shadow) tt a.stands.sees a.stands.locked (λ left. a.finds)
+        goes a = goes_to test is (t, key) refl l (CellOp.Cond u y v) refl test_note (TxAt.Head w) (head_query w) (refl, refl) (TxGoes.On (TxAt.Write (Try 0))) a (Try 0) (kept (TxGoes.On (TxAt.Write (Try 0))) a a.shadow) tt a.stands.sees a.stands.locked (λ left. a.finds)
 
         by : (z : Told) → HeadLed w (head_made z) → Leaves (tx_says (TxAt.Head w) (head_made z)) (rows_after (head_query w) c.now m)
         by (said added) a = goes a
         by (said present) a = goes a
-        by z a = stays_so test is (t, key) refl l (CellOp.Cond u y v) refl test_note (TxAt.Head w) (head_query w) refl TxGoes.Stays a (kept TxGoes.Stays a a.shadow)
+        by z a = stays_so test is (t, key) refl l (CellOp.Cond u y v) refl test_note (TxAt.Head w) (head_query w) (refl, refl) TxGoes.Stays a (kept TxGoes.Stays a a.shadow)
 
     module _ (has : k.later ≡ [] → is_some (shadow_row m own test_item) ≡ true) where
       test_done : (w : WriteAt) (n : Rows) (left : k.later ≡ []) → DoneAt test (t, key) (CellOp.Cond u y v) w n
@@ -575,15 +575,15 @@ module _ (d : Deployment) (c : Core) (m : Rows) (i : ℕ) (r : Run) (g : Begun) 
       unfolding Leaves
       test_turn w sees = by (write_goes (Note.Cond true) w (told_by (test_query w) c.now m)) (led test is (t, key) refl l (TxAt.Write w) tt l.got sees)
         where
-          its : head_asked (test_query w) ≡ test_row
-          its = asked test_row (λ n. refl) refl place (ByTx own) (CellOp.Cond u y v) w
+          its : (head_asked (test_query w) ≡ test_row) × (may_remove (test_query w) ≡ false)
+          its = (asked test_row (λ n. refl) refl place (ByTx own) (CellOp.Cond u y v) w, write_spares test_row place (ByTx own) (CellOp.Cond u y v) w)
 
           kept : (s : TxGoes) (a : TestLed w s) → is_going (said_of (TxAt.Write w) s) ≡ true → Stays h (rows_after (test_query w) c.now m)
           kept s a on = stays_by test is (t, key) refl l (CellOp.Cond u y v) refl test_note (TxAt.Write w) (test_query w) its s a on (λ left same. inr (inr (has left, same))) a.shadow
 
           by : (z : WriteGoes) → TestLed w (write_leads test z) → Leaves (tx_says (TxAt.Write w) (write_leads test z)) (rows_after (test_query w) c.now m)
           by (WriteGoes.On b) a = goes_to test is (t, key) refl l (CellOp.Cond u y v) refl test_note (TxAt.Write w) (test_query w) its (TxGoes.On (TxAt.Write b)) a b (kept (TxGoes.On (TxAt.Write b)) a refl) tt a.stands.sees a.stands.locked
-              (λ left. aside_stays m (rows_after (test_query w) c.now m) own test_item (h.rows.asides own test_item).linked a.stands.shadow (query_keeps (test_query w) c.now m) (has left))
+              (λ left. aside_stays m (rows_after (test_query w) c.now m) own test_item (h.rows.asides own test_item).linked a.stands.shadow (rows_there (test_query w) its.1 c.now m) (has left))
           by (WriteGoes.Done (Note.Cond b) first) a = answers_by test is (t, key) refl l (CellOp.Cond u y v) refl test_note (TxAt.Write w) (test_query w) its (TxGoes.Value (Value.Bool b)) a w (Note.Cond b)
               (a.so.2 ∙ ap (λ z. Some (Note.Cond z)) (sym (same_bool a.so.1))) (test_done w (rows_after (test_query w) c.now m)) a.shadow
           by WriteGoes.Worn a = worn_so test is (t, key) refl l (CellOp.Cond u y v) refl test_note (TxAt.Write w) (test_query w) its TxGoes.Worn a (kept TxGoes.Worn a refl)

@@ -70,7 +70,7 @@ pub fn held_answers_stay()
     ensures { HeldAnswersStay }
 {}
 
-/// An event changes at most one row, by one act, and an item that it is no row of keeps its content.
+/// An event changes at most one row, by one act, which removes no row, and an item that it is no row of keeps its content.
 pub fn an_event_changes_one_row()
     ensures { ChangesOneRow }
 {}

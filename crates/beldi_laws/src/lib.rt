@@ -17,7 +17,7 @@
 //!   given the same.
 //! - Whether it is right or not, what rows hold at a step stays (`held_answers_stay`).
 //! - The book starts the requests that were bound, in order, and none out of memory (`starts_are_bound`).
-//! - An event changes at most one row, by one act, and an item that it is no row of keeps its content
+//! - An event changes at most one row, by one act, which removes no row, and an item that it is no row of keeps its content
 //!   (`an_event_changes_one_row`), and the book gets at most one entry, the one that its answer tells where the answer
 //!   was not lost (`an_event_writes_what_it_tells`).
 //! - The rows never exceed the room, where they did not before (`an_event_keeps_the_room`).

@@ -167,7 +167,7 @@ module _ (d : Deployment) (c : Core) (m : Rows) (h : Right d c m) (seats : Seats
             ap (ended_by d o.begin) k.made ∙ end_here d k.instance k.answers a rest o.begin commit (ap (λ ys. k.answers ++ ys) (sym some) ∙ k.run_answers) (wanted_here k ∙ is) opened ∙ ap (λ z. Some (z, commit)) (sym (at_steps k))
 
     pub decide_leaves : Leaves c m (rows_after (visit_asks s end commit first_visit.way first_visit.after first_visit.item first_visit.value first_visit.at) c.now m)
-    decide_leaves = own_put d c m h seats r g k finds (Kind.ReadLog (place_of r.id o.begin)) (PutRead (Value.Bool commit)) refl refl refl refl refl
+    decide_leaves = own_put d c m h seats r g k finds (Kind.ReadLog (place_of r.id o.begin)) (PutRead (Value.Bool commit)) refl refl refl refl refl refl
 
     by_visit : (cs : List Called) (af : Option ℕ) (y : Option (ℕ × List ℕ)) (u : Option Value) (a : EndAt) → is_past a ≡ true → Visited (end_walk r.id r.func o end commit (record { way = cs; after = af; item = y; value = u; at = a })) m → Leaves c m (rows_after (visit_asks s end commit cs af y u a) c.now m)
     by_visit cs af y u EndAt.Decide past visited = cc
@@ -175,7 +175,7 @@ module _ (d : Deployment) (c : Core) (m : Rows) (h : Right d c m) (seats : Seats
     by_visit cs af y u EndAt.Next past visited = leaves_same c m seats
     by_visit cs af (Some y) u (EndAt.Shadow i) past visited = leaves_looked c m seats c.now _
     by_visit cs af None u (EndAt.Shadow i) past visited = leaves_same c m seats
-    by_visit cs af (Some y) u (EndAt.Free w) past visited = leaves_op c m seats c.now (record { func = (visited_by s cs).1; table = y.0; key = y.1 }) (h.rows.chains (record { func = (visited_by s cs).1; table = y.0; key = y.1 })) _ (ByTx s) (CellOp.Free u) w visited.sees refl
+    by_visit cs af (Some y) u (EndAt.Free w) past visited = leaves_op c m seats c.now (record { func = (visited_by s cs).1; table = y.0; key = y.1 }) (h.rows.chains (record { func = (visited_by s cs).1; table = y.0; key = y.1 })) _ (ByTx s) (CellOp.Free u) w visited.sees (λ lock. cc)
     by_visit cs af None u (EndAt.Free w) past visited = leaves_same c m seats
     by_visit [] af y u EndAt.Stamp past visited = let clash = visited.begins in cc
     by_visit (b ∷ bs) af y u EndAt.Stamp past visited = stamps c.now s (visited_by s (b ∷ bs)) (members_joined d m h.known h.locked h.rows h.sane s (end, commit) (tx_is_ended visited.decided) b bs visited.member)

@@ -4,6 +4,7 @@ use Rattle.std.proofs.Common.{◌≡◌, ℕ, ◌+◌, ◌≤◌, ◌==◌, Bool
 use Rattle.beldi_value.specs.{Id.has_no_hops, declared.id.IntentId.IntentId, declared.outcome.Outcome.Outcome, declared.place.TxId.TxId}
 use Rattle.beldi_tree.specs.declared.deployment.Deployment.{Deployment}
 use Rattle.beldi_plain.specs.Plain.{Instance, outcome_of}
+use Rattle.beldi_row.specs.Act.{is_old, removed_tell, stays_unless}
 use Rattle.beldi_row.specs.{Act.act, Act.finish_at, Act.end_with, Act.bind_to, Act.stamp_with, Table.Rows, declared.act.Act.Act, declared.key.Kind.Kind, declared.row.Body.Body, declared.row.IntentRow.IntentRow, declared.row.Row.Row}
 use Rattle.beldi_walk.specs.{declared.query.Query.Query, Query.CameOn, Query.Told, Query.rows_after}
 use Rattle.beldi_walk.proofs.Lent.{refused_stand}
@@ -43,6 +44,11 @@ module _ (now life deadline : ℕ) (soon : deadline ≤ now + life) where
       by_body (Some b) = near
   acts (Act.End o stamp) (Some (Row.Intent i)) near = ends o stamp i i.outcome near
   acts Act.Stamp (Some (Row.Intent i)) near = stamps i i.finish near
+  acts (Act.DropIntent l) (Some (Row.Intent i)) near = by_old (is_old l now i)
+    where
+      by_old : (b : Bool) → IsNear life deadline (finish_in (stays_unless b (Row.Intent i, removed_tell (is_old l now i))).0)
+      by_old true = tt
+      by_old false = near
   acts a (Some (Row.Intent i)) near = near
   acts a None near = grind arith
   acts a (Some r) near = grind arith

@@ -1,4 +1,4 @@
--- Who stands at an Unlock holds its lock: the locks of a body are those that its answers hold, and it frees no other.
+-- Who stands at an Unlock holds its lock, and who returns holds none: the locks of a body are those that its answers hold, and it frees no other.
 use Rattle.std.specs.Prelude.{nat_lt, not}
 use Rattle.std.proofs.Common.{Bool, Err, List, None, Ok, Option, Result, Some, [], ap, append-nil, append_assoc, eq-eqb, eqb-true, false, if◌then◌else◌, is_some, refl, subst, suc, sym, true, zero, ℕ, ◌&&◌, ◌++◌, ◌+◌, ◌==◌, ◌||◌, ◌∙◌, ◌∷◌, ◌≡◌}
 use Rattle.std.proofs.{lemmas.Bool.or_parts, lemmas.Cmp.tied_itself, lemmas.Slice.Eq.slice_eq-Decides}
@@ -9,10 +9,11 @@ use Rattle.beldi_tree.specs.Command.{Command, Commands, abort, async, break, cal
 use Rattle.beldi_tree.specs.{Bindings.Bindings, Bindings.is_name, Evaluate.and_then, Evaluate.term_value, Evaluate.truth, Names.func_at, declared.deployment.Deployment.Deployment, declared.deployment.TableHead.TableHead}
 use Rattle.beldi_lang.specs.Wants.{Does, Leads, Local, answered, asks, body, body_of, breaks, closed, closes, counted, does, effect_of, effect_to, ends, fault, first_local, followed, func_number, goes, inside_of, key_value, locks, looped, most_effects, or_fault, releases, run_block, set_to, table_number, tables_of, takes, transact, turns, unlocks, wants}
 use Rattle.beldi_lang.specs.{Locks.is_held, Locks.is_lock, Locks.is_none_held, Locks.without, declared.effect.Answer.Answer, declared.effect.Effect.Effect, declared.state.HeldLock.HeldLock}
-use Rattle.beldi_plain.specs.{Holds.held_along, Holds.held_if, Item.Item, Item.item_cmp, Item.item_total, Operation.op_of, Plain.Instance}
+use Rattle.beldi_plain.specs.{Holds.held_along, Holds.held_by, Holds.held_if, Holds.holds, Item.Item, Item.item_cmp, Item.item_total, Operation.OnItem, Operation.item_in, Operation.op_of, Plain.Instance}
 use Rattle.beldi_order.proofs.Operations.{held_pushed, item_same}
 use Rattle.beldi_known.proofs.{Cases.by_cases, Cases.if_same, Flows.asked, Flows.held_after}
-use Rattle.beldi_upkeep.specs.Freed.{FreesWhatItHolds}
+use Rattle.beldi_laws.proofs.Cases.{false_by}
+use Rattle.beldi_upkeep.specs.Freed.{FreesWhatItHolds, ReturnsHoldNone}
 
 -- ---- no lock is held twice
 abbrev Once : List HeldLock → Type 0
@@ -98,6 +99,15 @@ locks_move func t k (Effect.Lock u j) hs = ap (λ b. if b then true else is_held
 locks_move func t k (Effect.Unlock u j) hs = ap (λ b. if b then false else is_held t k hs) (item_test func t u k j) ∙ sym (held_less t u k j hs)
 locks_move func t k e hs = refl
 
+-- .. and it is of items of its own function
+held_own : (x : Item) (func : ℕ) (o : Option OnItem) (b : Bool) → (b ≡ true → x.func ≡ func) → held_if x func o b ≡ true → x.func ≡ func
+held_own x func None b was h = was h
+held_own x func (Some o) b was h = by_test (is_eq (item_cmp (item_in func o) x)) refl h
+  where
+    by_test : (c : Bool) → is_eq (item_cmp (item_in func o) x) ≡ c → (if c then held_by o.does b else b) ≡ true → x.func ≡ func
+    by_test true e h = ap (λ (z : Item). z.func) (sym (item_same (item_in func o) x e))
+    by_test false e h = was h
+
 -- ---- no lock is held twice
 once_more : (hs : List HeldLock) (l : HeldLock) → is_held l.table l.key hs ≡ false → Once hs → Once (hs ++ l ∷ [])
 once_more [] l none once = (refl, tt)
@@ -133,15 +143,16 @@ leads_by at_end s rest = goes s rest
 leads_by at_break s rest = breaks s rest
 leads_by (at_outcome o) s rest = ends o s rest
 
--- an Unlock is of a lock that is held
+-- an Unlock is of a lock that is held, and a Return with none
 abbrev Frees : List HeldLock → Effect → Type 0
 Frees hs (Effect.Unlock t k) = is_held t k hs ≡ true
+Frees hs (Effect.Return o) = hs ≡ []
 Frees hs e = Unit {0}
 
 data Track : List HeldLock → (List Answer → Leads) → Type 0 where
   left : (hs : List HeldLock) (F : List Answer → Leads) (x : Left) (s : Local) → Once s.held → s.held ≡ hs → ((ts : List Answer) → F ts ≡ leads_by x s ts) → Track hs F
   wanted : (hs : List HeldLock) (F : List Answer → Leads) (i : Bool) (e : Effect) → F [] ≡ asks i e → Frees hs e → ((a : Answer) → Track (held_after e hs) (λ ts. F (a ∷ ts))) → Track hs F
-  returned : (hs : List HeldLock) (F : List Answer → Leads) (i : Bool) (o : Outcome) → ((ts : List Answer) → F ts ≡ asks i (Effect.Return o)) → Track hs F
+  returned : (hs : List HeldLock) (F : List Answer → Leads) (i : Bool) (o : Outcome) → hs ≡ [] → ((ts : List Answer) → F ts ≡ asks i (Effect.Return o)) → Track hs F
 
 same_track : (hs gs : List HeldLock) (F G : List Answer → Leads) → hs ≡ gs → ((ts : List Answer) → F ts ≡ G ts) → Track hs F → Track gs G
 same_track hs gs F G h g f = let same : F ≡ G = λ k ts. g ts k in subst (λ xs. Track xs G) h (subst (Track hs) same f)
@@ -161,7 +172,7 @@ module _ (K : Leads → Leads) (keeps : (b : Bool) (e : Effect) → K (asks b e)
   passes : (hs : List HeldLock) (F : List Answer → Leads) → Track hs F → Track hs (λ ts. K (F ts))
   passes _ _ (left hs F x s once same e) = same_track s.held hs (λ ts. K (leads_by x s ts)) (λ ts. K (F ts)) same (λ ts. ap K (sym (e ts))) (after x s once)
   passes _ _ (wanted hs F i e is frees more) = wanted hs (λ ts. K (F ts)) i e (ap K is ∙ keeps i e) frees (λ a. passes (held_after e hs) (λ ts. F (a ∷ ts)) (more a))
-  passes _ _ (returned hs F i o e) = returned hs (λ ts. K (F ts)) i o (λ ts. ap K (e ts) ∙ keeps i (Effect.Return o))
+  passes _ _ (returned hs F i o none e) = returned hs (λ ts. K (F ts)) i o none (λ ts. ap K (e ts) ∙ keeps i (Effect.Return o))
 
 if_track : (b : Bool) (hs : List HeldLock) (F G : List Answer → Leads) → Track hs F → Track hs G → Track hs (λ ts. if b then F ts else G ts)
 if_track true hs F G f g = f
@@ -282,7 +293,7 @@ module _ (d : Deployment) (ts : List TableHead) where
 
 -- ---- a body, and its releases
 releases_track : (i : Bool) (o : Outcome) (hs : List HeldLock) → Once hs → Track hs (λ ts. asks i (releases o hs ts))
-releases_track i o [] once = returned [] (λ ts. asks i (releases o [] ts)) i o (λ ts. refl)
+releases_track i o [] once = returned [] (λ ts. asks i (releases o [] ts)) i o refl (λ ts. refl)
 releases_track i o (l ∷ ls) once = wanted (l ∷ ls) (λ ts. asks i (releases o (l ∷ ls) ts)) i (Effect.Unlock l.table l.key) refl (ap (λ b. b || is_held l.table l.key ls) (lock_itself l))
     (λ a. subst (λ hs. Track hs (λ ts. asks i (releases o ls ts))) (sym (ap (λ b. if not b then l ∷ without l.table l.key ls else without l.table l.key ls) (lock_itself l) ∙ without_none l.table l.key ls once.0)) (releases_track i o ls once.1))
 
@@ -308,7 +319,7 @@ Steps hs F e = Frees hs e × ((a : Answer) → Track (held_after e hs) (λ ts. F
 steps : (hs : List HeldLock) (F : List Answer → Leads) → Track hs F → (i : Bool) (e : Effect) → F [] ≡ asks i e → Steps hs F e
 steps _ _ (left hs F x s once same is) i e at = absurd (no_ask x s i e (sym (is []) ∙ at))
 steps _ _ (wanted hs F j z is frees more) i e at = subst (Steps hs F) (ap effect_of (sym is ∙ at)) (frees, more)
-steps _ _ (returned hs F j o is) i e at = subst (Steps hs F) (ap effect_of (sym (is []) ∙ at)) (tt, λ a. returned hs (λ ts. F (a ∷ ts)) j o (λ ts. is (a ∷ ts)))
+steps _ _ (returned hs F j o none is) i e at = subst (Steps hs F) (ap effect_of (sym (is []) ∙ at)) (none, λ a. returned hs (λ ts. F (a ∷ ts)) j o none (λ ts. is (a ∷ ts)))
 
 -- ---- an instance after some of its answers
 module _ (d : Deployment) (q : Instance) where
@@ -325,9 +336,10 @@ module _ (d : Deployment) (q : Instance) where
     held : List HeldLock
     track : Track held (F given)
     same : (t : ℕ) (k : List ℕ) → held_along d (item q.func t k) q.func q.args i [] given false ≡ is_held t k held
+    own : (x : Item) → held_along d x q.func q.args i [] given false ≡ true → x.func ≡ q.func
 
   at_first : At []
-  at_first = record { held = []; track = body_track d q.func q.args i; same = λ t k. refl }
+  at_first = record { held = []; track = body_track d q.func q.args i; same = λ t k. refl; own = λ x is. cc }
 
   wants_here : (given : List Answer) → F given [] ≡ asks (inside_of i (body d (func_at d q.func) q.args i given)) (e given)
   wants_here given = ap (λ ts. asked i (body d (func_at d q.func) q.args i ts)) (append-nil given)
@@ -340,6 +352,7 @@ module _ (d : Deployment) (q : Instance) where
     held = held_after (e given) h.held;
     track = same_track (held_after (e given) h.held) (held_after (e given) h.held) (λ ts. F given (a ∷ ts)) (F (given ++ a ∷ [])) refl (λ ts. ap (λ xs. asked i (body d (func_at d q.func) q.args i xs)) (sym (append_assoc given (a ∷ []) ts))) ((steps_at given h).1 a);
     same = λ t k. held_pushed d (item q.func t k) q.func q.args i [] given a false ∙ ap (held_if (item q.func t k) q.func (op_of (e given))) (h.same t k) ∙ locks_move q.func t k (e given) h.held;
+    own = λ x is. held_own x q.func (op_of (e given)) (held_along d x q.func q.args i [] given false) (h.own x) (sym (held_pushed d x q.func q.args i [] given a false) ∙ is);
   }
 
   at_all : (given rest : List Answer) → At given → At (given ++ rest)
@@ -348,3 +361,11 @@ module _ (d : Deployment) (q : Instance) where
 
 pub frees_what_it_holds : FreesWhatItHolds
 frees_what_it_holds d q t k is = let h = at_all d q [] q.answers (at_first d q) in h.same t k ∙ subst (Frees h.held) is (steps_at d q q.answers h).0
+
+pub returns_hold_none : ReturnsHoldNone
+returns_hold_none d q o is x =
+    let h = at_all d q [] q.answers (at_first d q) in
+    false_by (holds d x (Some q)) (λ e.
+    let own = h.own x e in
+    let none : h.held ≡ [] = subst (Frees h.held) is (steps_at d q q.answers h).0 in
+    let clash = sym e ∙ (λ k. holds d (record { func = own k; table = x.table; key = x.key }) (Some q)) ∙ h.same x.table x.key ∙ ap (is_held x.table x.key) none in cc)

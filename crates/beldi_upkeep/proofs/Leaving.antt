@@ -6,11 +6,14 @@ use Rattle.beldi_links.specs.Links.{SeesAt}
 use Rattle.beldi_daal.{proofs.Logged.by_op, specs.Logged.LoggedTurn, specs.Logged.Logs, specs.Logged.at_of, specs.Walk.walk_asks, specs.Walk.walk_next, specs.Walk.walk_says, specs.declared.walk.Item.TheVariants.Plain, specs.declared.walk.WriteSays.WriteSays, specs.declared.walk.WriteWalk.WriteWalk}
 use Rattle.beldi_known.proofs.{Acts.is_data}
 use Rattle.beldi_known.specs.Contents.{IsLinkedItem}
-use Rattle.beldi_laws.proofs.Names.{Begins, Begun, Bool, CellOp, Core, Item, IntentId, Look, MakeCell, None, Null, Owner, Place, RowAct, RowKey, Rows, Run, Some, TxId, WriteAt, act, after_act, ap, at_row, blank, content_of, false, has_finish, head_key, inl, is_eq, is_some, key_cmp, key_same, looked, op_act, refl, rows_after, set_others, subst, sym, told_by, true, write_asks, ℕ, ◌-◌, ◌∙◌, ◌≡◌, ◌⊎◌}
+use Rattle.beldi_laws.proofs.Names.{Begins, Begun, Bool, CellOp, Core, Item, IntentId, Look, MakeCell, None, Null, Owner, Place, RowAct, RowKey, Rows, Run, Some, TxId, WriteAt, act, after_act, ap, at_row, blank, content_of, false, head_key, inl, inr, is_eq, is_some, key_cmp, key_same, looked, op_act, refl, rows_after, set_others, subst, sym, told_by, true, write_asks, ℕ, ◌-◌, ◌∙◌, ◌≡◌, ◌⊎◌}
 use Rattle.beldi_laws.proofs.Names.map
-use Rattle.beldi_laws.proofs.Frames.{is_intent, is_invoke, query_keeps}
-use Rattle.beldi_upkeep.specs.Callees.{AllFinished, IsPassed, Seats, belongs_to, owner_key, seat_of}
-use Rattle.beldi_upkeep.proofs.{CellActs.OwnedIn, CellActs.is_tx_lock, CellActs.op_owner, SeatRows.Onward, SeatRows.contents_off, SeatRows.finished_off, SeatRows.quiet_on, SeatRows.quiet_seats}
+use Rattle.beldi_laws.proofs.Frames.{is_intent, is_invoke}
+use Rattle.beldi_row.specs.Act.{drops}
+use Rattle.beldi_walk.proofs.Promises.{rows_there}
+use Rattle.beldi_daal.proofs.Spares.{write_spares}
+use Rattle.beldi_upkeep.specs.Callees.{AllFinished, IsPassed, Seats, belongs_to, seat_of}
+use Rattle.beldi_upkeep.proofs.{CellActs.OwnedIn, CellActs.op_owner, SeatRows.MayOwn, SeatRows.Onward, SeatRows.contents_off, SeatRows.finished_off, SeatRows.quiet_on, SeatRows.quiet_seats}
 
 -- a live run is past a transaction of its own
 pub record IsPassedBy (c : Core) (t : TxId) : Type 0 where
@@ -39,7 +42,7 @@ module _ (c : Core) (m : Rows) (h : Seats m) where
   leaves_looked now k = leaves_still (after_act Look now k m) (looked now k m)
 
   -- one row of neither an intent nor a call
-  module _ (now : ℕ) (k : RowKey) (a : RowAct) where
+  module _ (now : ℕ) (k : RowKey) (a : RowAct) (keeps : drops a ≡ false) where
     abbrev n : Rows
     n = after_act a now k m
 
@@ -47,24 +50,24 @@ module _ (c : Core) (m : Rows) (h : Seats m) where
     others l off = set_others m k (act a now (map.get m k)).0 l off
 
     stay : (l : RowKey) → is_some (map.get m l) ≡ true → is_some (map.get n l) ≡ true
-    stay l there = query_keeps (Act k a) now m l there
+    stay l there = rows_there (Act k a) keeps now m l there
 
     pub leaves_quiet : is_intent k.kind ≡ false → is_invoke k.kind ≡ false → is_data k.kind ≡ false → ((i : IntentId) → belongs_to k.kind ≡ Some i → is_some (map.get m (seat_of k i)) ≡ true) → Leaves c m n
     leaves_quiet off call item seated = record {
-      seats = quiet_seats m n k others stay (λ i of. stay (seat_of k i) (seated i of)) h off call (λ t x owned. inl (ap (λ c. c.owner) (sym (contents_off m n k others item x)) ∙ owned));
+      seats = quiet_seats m n k others stay (λ i of. stay (seat_of k i) (seated i of)) h off call (λ o x owned. inl (ap (λ c. c.owner) (sym (contents_off m n k others item x)) ∙ owned));
       on = quiet_on m n k others stay (λ i of. stay (seat_of k i) (seated i of)) h call;
       finished = λ t passed all. finished_off m n k others off t all;
     }
 
   -- ---- a row of an item
   module _ (now : ℕ) (y : Item) where
-    -- who owns the item then owned it, or is not finished
+    -- who owns the item then owned it, or may own it
     abbrev Owners : Rows → Type 0
-    Owners n = (t : TxId) → OwnedIn t (content_of n y) → OwnedIn t (content_of m y) ⊎ (has_finish (map.get m (owner_key t)) ≡ false)
+    Owners n = (o : Owner) → OwnedIn o (content_of n y) → OwnedIn o (content_of m y) ⊎ MayOwn m o
 
-    leaves_item : (i : ℕ) (a : RowAct) → let n = after_act a now (at_row (head_key y) i) m in ChangedAlone (head_key y) m n → Owners n → Leaves c m n
-    leaves_item i a alone owners = record {
-      seats = quiet_seats m n k others stay (λ i of. cc) h refl refl (λ t x owned. by_item t x owned (is_eq (key_cmp (head_key x) (head_key y))) refl);
+    leaves_item : (i : ℕ) (a : RowAct) → drops a ≡ false → let n = after_act a now (at_row (head_key y) i) m in ChangedAlone (head_key y) m n → Owners n → Leaves c m n
+    leaves_item i a keeps alone owners = record {
+      seats = quiet_seats m n k others stay (λ i of. cc) h refl refl (λ o x owned. by_item o x owned (is_eq (key_cmp (head_key x) (head_key y))) refl);
       on = quiet_on m n k others stay (λ i of. cc) h refl;
       finished = λ t passed all. finished_off m n k others refl t all;
     }
@@ -79,13 +82,11 @@ module _ (c : Core) (m : Rows) (h : Seats m) where
         others l off = set_others m (at_row (head_key y) i) (act a now (map.get m (at_row (head_key y) i))).0 l off
 
         stay : (l : RowKey) → is_some (map.get m l) ≡ true → is_some (map.get (after_act a now (at_row (head_key y) i) m) l) ≡ true
-        stay l there = query_keeps (Act (at_row (head_key y) i) a) now m l there
+        stay l there = rows_there (Act (at_row (head_key y) i) a) keeps now m l there
 
-        by_item : (t : TxId) (x : Item) → OwnedIn t (content_of (after_act a now (at_row (head_key y) i) m) x) → (b : Bool) → is_eq (key_cmp (head_key x) (head_key y)) ≡ b → OwnedIn t (content_of m x) ⊎ (has_finish (map.get m (owner_key t)) ≡ false)
-        by_item t x owned true e =
-            subst (λ z. OwnedIn t (content (chain (after_act a now (at_row (head_key y) i) m) z)) → OwnedIn t (content (chain m z)) ⊎ (has_finish (map.get m (owner_key t)) ≡ false))
-            (sym (key_same (head_key x) (head_key y) e)) (owners t) owned
-        by_item t x owned false e = inl (ap (λ f. (content f).owner) (sym (chain_other m (after_act a now (at_row (head_key y) i) m) (head_key y) (head_key x) alone (record { first = refl; numbered = λ i. refl }) e)) ∙ owned)
+        by_item : (o : Owner) (x : Item) → OwnedIn o (content_of (after_act a now (at_row (head_key y) i) m) x) → (b : Bool) → is_eq (key_cmp (head_key x) (head_key y)) ≡ b → OwnedIn o (content_of m x) ⊎ MayOwn m o
+        by_item o x owned true e = subst (λ z. OwnedIn o (content (chain (after_act a now (at_row (head_key y) i) m) z)) → OwnedIn o (content (chain m z)) ⊎ MayOwn m o) (sym (key_same (head_key x) (head_key y) e)) (owners o) owned
+        by_item o x owned false e = inl (ap (λ f. (content f).owner) (sym (chain_other m (after_act a now (at_row (head_key y) i) m) (head_key y) (head_key x) alone (record { first = refl; numbered = λ i. refl }) e)) ∙ owned)
 
     -- a turn of a walk on it
     module _ (linked : IsLinkedItem m y) (p : Place) (who : Owner) (op : CellOp) where
@@ -93,18 +94,21 @@ module _ (c : Core) (m : Rows) (h : Seats m) where
       after w = rows_after (write_asks (head_key y) p who op w) now m
 
       by_at : (w : WriteAt) → ChangedAlone (head_key y) m (after w) → Owners (after w) → Leaves c m (after w)
-      by_at (WriteAt.Try i) alone owners = leaves_item i (op_act p who op) alone owners
-      by_at WriteAt.Make alone owners = leaves_item 0 (MakeCell Null None blank) alone owners
-      by_at (WriteAt.Append i told) alone owners = leaves_item i (MakeCell told.value told.owner blank) alone owners
-      by_at (WriteAt.Link i) alone owners = leaves_item (i - 1) (LinkCell i) alone owners
+      by_at (WriteAt.Try i) alone owners = leaves_item i (op_act p who op) (write_spares (head_key y) p who op (WriteAt.Try i)) alone owners
+      by_at WriteAt.Make alone owners = leaves_item 0 (MakeCell Null None blank) refl alone owners
+      by_at (WriteAt.Append i told) alone owners = leaves_item i (MakeCell told.value told.owner blank) refl alone owners
+      by_at (WriteAt.Link i) alone owners = leaves_item (i - 1) (LinkCell i) refl alone owners
 
-      pub leaves_walk : (w : WriteAt) → SeesAt (chain m (head_key y)) p (at_of w) → ((t : TxId) (s : WriteSays) → Logs p who op s (content_of m y) (content_of (after w) y) → OwnedIn t (content_of (after w) y) → OwnedIn t (content_of m y) ⊎ (has_finish (map.get m (owner_key t)) ≡ false)) → Leaves c m (after w)
+      pub leaves_walk : (w : WriteAt) → SeesAt (chain m (head_key y)) p (at_of w) → ((o : Owner) (s : WriteSays) → Logs p who op s (content_of m y) (content_of (after w) y) → OwnedIn o (content_of (after w) y) → OwnedIn o (content_of m y) ⊎ MayOwn m o) → Leaves c m (after w)
       leaves_walk w sees owners =
           let x : WriteWalk = record { home = y.func; item = Plain y.table y.key; place = p; who = who; op = op; at = w } in
           let s : WriteSays = walk_says x (told_by (walk_asks x) now m) in
           let turn : LoggedTurn x (walk_next x (told_by (walk_asks x) now m)) m (after w) s = by_op x m (after w) now linked sees refl in
-          by_at w turn.others (λ t owned. owners t s turn.logs owned)
+          by_at w turn.others (λ o owned. owners o s turn.logs owned)
 
-      -- an operation on it, but a lock of a transaction
-      pub leaves_op : (w : WriteAt) → SeesAt (chain m (head_key y)) p (at_of w) → is_tx_lock who op ≡ false → Leaves c m (after w)
-      leaves_op w sees off = leaves_walk w sees (λ t s logs owned. inl (op_owner t p (content_of m y) (content_of (after w) y) who op s off logs owned))
+      -- an operation on it; who locks it may own it
+      pub leaves_op : (w : WriteAt) → SeesAt (chain m (head_key y)) p (at_of w) → (op ≡ CellOp.Lock → MayOwn m who) → Leaves c m (after w)
+      leaves_op w sees may = leaves_walk w sees (λ o s logs owned. elim (op_owner o p (content_of m y) (content_of (after w) y) who op s logs owned) [
+        | inl was ↦ inl was
+        | inr new ↦ inr (subst (MayOwn m) new.1 (may new.0))
+      ])

@@ -10,7 +10,7 @@ mod EndsLast
 mod Finishes
 mod FirstTurns
 mod Firsts
-mod Frees
+pub mod Frees
 pub mod FromRight
 mod Functions
 pub mod GivenBack
@@ -40,7 +40,7 @@ mod RowNotes
 mod RowSets
 mod SaysOwe
 mod SeatRows
-mod Shapes
+pub mod Shapes
 pub mod Sites
 mod StageSays
 pub mod Started

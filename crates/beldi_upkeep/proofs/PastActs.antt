@@ -2,7 +2,7 @@
 use Rattle.beldi_value.specs.{Id.child_of, declared.id.IntentId.IntentId, declared.place.Place.Place}
 use Rattle.beldi_value.specs.{Id.age_of, Passes.passes, declared.place.Owner.Owner}
 use Rattle.beldi_row.proofs.Logs.{place_same}
-use Rattle.beldi_row.specs.Act.{Tell, act, at_tail, cond_at, died, entered, free_at, held, held_or, if_owned, if_room, is_full, link_to, lock_at, next, next_or, no_row, not_full, not_owner, noted_or, off, on, on_cell, other_owner, owned_or, owns, packed, waits_for, write_at}
+use Rattle.beldi_row.specs.Act.{removes, stays_unless, Tell, act, at_tail, cond_at, died, entered, free_at, held, held_or, if_owned, if_room, is_full, link_to, lock_at, next, next_or, no_row, not_full, not_owner, noted_or, off, on, on_cell, other_owner, owned_or, owns, packed, waits_for, write_at}
 use Rattle.beldi_row.specs.{Log.note_at, Log.place_eq, declared.act.Act.Act, declared.key.Kind.Kind, declared.notes.Note.Note, declared.row.Cell.Cell, declared.row.Row.Row}
 use Rattle.beldi_chain.specs.Content.{content_in}
 use Rattle.std.specs.Prelude.{is_none}
@@ -143,7 +143,11 @@ note_on p a now (Row.Invoke i) h = grind arith
 note_on p a now Row.Lockset h = grind arith
 
 note_by : (p : Place) (a : Act) (now : ℕ) (o : Option Row) → has_note p (act a now o).0 ≡ true → (has_note p o ≡ true) ⊎ (notes_at a ≡ Some p)
-note_by p a now (Some r) h = note_on p a now r h
+note_by p a now (Some r) h = by_stay (removes a now r) h
+  where
+    by_stay : (b : Bool) → has_note p (stays_unless b (on a now r)).0 ≡ true → (has_note p (Some r) ≡ true) ⊎ (notes_at a ≡ Some p)
+    by_stay true h = cc
+    by_stay false h = note_on p a now r h
 note_by p a now None h = absurd (no_note a now h)
   where
     no_note : (a : Act) (now : ℕ) → is_some (note_at (content_in (off a now).0).notes p) ≡ true → ⊥

@@ -6,7 +6,10 @@ use Rattle.std.specs.FinMap as map
 use Rattle.beldi_value.specs.{Id.has_no_hops, Id.root_of, declared.id.IntentId.IntentId, declared.value.Value.Value}
 use Rattle.beldi_tree.specs.declared.deployment.Deployment.{Deployment}
 use Rattle.beldi_order.proofs.Maps.{same_some}
-use Rattle.beldi_row.specs.{Act.act, Act.bind_to, Act.bound, Key.RowKey, Key.key_cmp, Table.Rows, declared.act.Act.Act, declared.row.Body.Body, declared.row.IntentRow.IntentRow, declared.row.Row.Row}
+use Rattle.beldi_row.proofs.Removed.{act_stays}
+use Rattle.beldi_walk.specs.Query.{may_remove}
+use Rattle.beldi_step.proofs.Spares.{stage_spares}
+use Rattle.beldi_row.specs.{Act.act, Act.drops, Act.on, Act.bind_to, Act.bound, Key.RowKey, Key.key_cmp, Table.Rows, declared.act.Act.Act, declared.row.Body.Body, declared.row.IntentRow.IntentRow, declared.row.Row.Row}
 use Rattle.beldi_walk.specs.declared.query.Query.{Query}
 use Rattle.beldi_intent.specs.Intent.{root_key}
 use Rattle.beldi_step.proofs.Runs.{of_plan}
@@ -17,8 +20,12 @@ use Rattle.beldi_upkeep.specs.Checked.{IsOfIt, NoRootAtFirst, RootsStayOfIt, bod
 use Rattle.beldi_upkeep.proofs.{Asked.Tame, Asked.id_or, Asked.sets_body, Asked.stage_tame, Kept.KeepsAt, Kept.PlanKeeps, Kept.event_keeps}
 
 -- an act that sets no body leaves it
-body_kept : (a : Act) (now : ℕ) (r : Option Row) → sets_body a ≡ false → body_at (act a now r).0 ≡ body_at r
-body_kept a now r h = grind arith
+body_kept : (a : Act) (now : ℕ) (r : Option Row) → drops a ≡ false → sets_body a ≡ false → body_at (act a now r).0 ≡ body_at r
+body_kept a now None keeps h = grind arith
+body_kept a now (Some r) keeps h = ap (λ z. body_at z.0) (act_stays a now r keeps) ∙ left a now r h
+  where
+    left : (a : Act) (now : ℕ) (r : Row) → sets_body a ≡ false → body_at (Some (on a now r).0) ≡ body_at (Some r)
+    left a now r h = grind arith
 
 -- what is so of the ticket and the function of each root that was bound
 module _ (d : Deployment) (O : ℕ → ℕ → Type 0) where
@@ -26,16 +33,16 @@ module _ (d : Deployment) (O : ℕ → ℕ → Type 0) where
   abbrev pub P : RowKey → Option Row → Type 0
   P k r = (t : ℕ) → k ≡ root_key t → (b : Body) → body_at r ≡ Some b → O t b.func
 
-  mild_keeps : (now : ℕ) (k : RowKey) (a : Act) → sets_body a ≡ false → KeepsAt P now (Query.Act k a)
-  mild_keeps now k a none r h t same b is = h t same b (sym (body_kept a now r none) ∙ is)
+  mild_keeps : (now : ℕ) (k : RowKey) (a : Act) → drops a ≡ false → sets_body a ≡ false → KeepsAt P now (Query.Act k a)
+  mild_keeps now k a keeps none r h t same b is = h t same b (sym (body_kept a now r keeps none) ∙ is)
 
-  asks_keeps : (now : ℕ) (k : RowKey) (a : Act) (sets : Bool) → sets_body a ≡ sets → (sets_body a ≡ true → (t : ℕ) → k ≡ root_key t → ⊥) → KeepsAt P now (Query.Act k a)
-  asks_keeps now k a true e other r h t same b is = absurd (other e t same)
-  asks_keeps now k a false e other r h t same b is = mild_keeps now k a e r h t same b is
+  asks_keeps : (now : ℕ) (k : RowKey) (a : Act) (sets : Bool) → drops a ≡ false → sets_body a ≡ sets → (sets_body a ≡ true → (t : ℕ) → k ≡ root_key t → ⊥) → KeepsAt P now (Query.Act k a)
+  asks_keeps now k a true keeps e other r h t same b is = absurd (other e t same)
+  asks_keeps now k a false keeps e other r h t same b is = mild_keeps now k a keeps e r h t same b is
 
-  tame_keeps : (now : ℕ) (q : Query) → Tame q → KeepsAt P now q
-  tame_keeps now (Query.Act k a) h = asks_keeps now k a (sets_body a) refl h
-  tame_keeps now (Query.After k) h = tt
+  tame_keeps : (now : ℕ) (q : Query) → may_remove q ≡ false → Tame q → KeepsAt P now q
+  tame_keeps now (Query.Act k a) keeps h = asks_keeps now k a (sets_body a) keeps refl h
+  tame_keeps now (Query.After k) keeps h = tt
 
   -- what a request binds
   of_bound : (f : ℕ) (a : Value) (i : IntentRow) (o : Option Body) (b : Body) → (bind_to f a i o).0.body ≡ Some b → ((bind_to f a i o).1 ≡ bound × (b.func ≡ f)) ⊎ (i.body ≡ Some b)
@@ -58,9 +65,9 @@ module _ (d : Deployment) (O : ℕ → ℕ → Type 0) where
   no_hops id t hops same = let clash = sym (ap (λ (z : IntentId). has_no_hops z.hops) same) ∙ hops in cc
 
   run_keeps : (c : Core) (m : Rows) (h : Right d c m) (r : Run) (at : RunAt) → KnowsAt d m h.plain c.book h.known r at → KeepsAt P c.now (asks_at r at)
-  run_keeps c m h r RunAt.Looks k = mild_keeps c.now _ Act.Look refl
+  run_keeps c m h r RunAt.Looks k = mild_keeps c.now _ Act.Look refl refl
   run_keeps c m h r (RunAt.Registers b) k = λ v w t same. absurd (no_hops r.id t k.callee (ap (λ (z : RowKey). id_or r.id z.kind) same))
-  run_keeps c m h r (RunAt.Begins g) k = tame_keeps c.now (stage_asks r.id r.func g.caller g.tx g.machine.steps g.machine.effect g.stage) (stage_tame r.id r.func g.caller g.tx g.machine.steps g.machine.effect g.stage)
+  run_keeps c m h r (RunAt.Begins g) k = tame_keeps c.now (stage_asks r.id r.func g.caller g.tx g.machine.steps g.machine.effect g.stage) (stage_spares r.id r.func g.caller g.tx g.machine.steps g.machine.effect g.stage) (stage_tame r.id r.func g.caller g.tx g.machine.steps g.machine.effect g.stage)
 
   -- ---- an event
   turn_keeps : (c b : Core) (m : Rows) (h : Right d c m) (i : ℕ) (o : Option Run) → b.now ≡ c.now → Knows d m h.plain c.book h.known o → PlanKeeps P b (run_plan b i o)
@@ -77,7 +84,7 @@ module _ (d : Deployment) (O : ℕ → ℕ → Type 0) where
     IsSo e = Unit {0}
 
     plan_of_keeps : (e : Event) → IsSo e → PlanKeeps P (counted c) (plan_of d e (counted c))
-    plan_of_keeps Event.Ticket of = if_plan (PlanKeeps P (counted c)) (c.newest == 2 ^ 32 - 1) _ _ (λ t. tt) (λ t. mild_keeps c.now (root_key (c.newest + 1)) Act.Issue refl)
+    plan_of_keeps Event.Ticket of = if_plan (PlanKeeps P (counted c)) (c.newest == 2 ^ 32 - 1) _ _ (λ t. tt) (λ t. mild_keeps c.now (root_key (c.newest + 1)) Act.Issue refl refl)
     plan_of_keeps (Event.Request t f a) of = if_plan (PlanKeeps P (counted c)) ((t == 0) || nat_lt c.newest t) _ _ (λ u. tt) (λ u. if_plan (PlanKeeps P (counted c)) (is_crowded (counted c)) _ _ (λ u. tt) (λ u r. bound_keeps c.now t f a r (λ told. of)))
     plan_of_keeps (Event.Turn i) of = turn_keeps c (counted c) m h i (map.get c.runs i) refl (h.runs.runs i)
     plan_of_keeps (Event.Lost i) of = turn_keeps c (counted c) m h i (map.get c.runs i) refl (h.runs.runs i)

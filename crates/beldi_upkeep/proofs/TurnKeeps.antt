@@ -47,7 +47,7 @@ module _ (d : Deployment) (c : Core) (m : Rows) (h : Right d c m) (seats : Seats
   pub left : (s : Stage) (e : Effect) (o : Option RunTx) → g.stage ≡ s → g.machine.effect ≡ e → g.tx ≡ o → AtStage m h.plain c.book k s e o → Left s e o
   left Stage.Ask (Read t x) None st is tx at = look d c m h seats r g k finds _
   left (Stage.Walk i) (Read t x) None st is tx at = look d c m h seats r g k finds _
-  left (Stage.Keep v seen) (Read t x) None st is tx at = own_put d c m h seats r g k finds (Kind.ReadLog (place_of r.id g.machine.steps)) (PutRead v) refl refl refl refl refl
+  left (Stage.Keep v seen) (Read t x) None st is tx at = own_put d c m h seats r g k finds (Kind.ReadLog (place_of r.id g.machine.steps)) (PutRead v) refl refl refl refl refl refl
   left (Stage.Write w) e None st is tx at = write_leaves d c m h seats r g k finds w (cell_op e) at.1
   left (Stage.Call w) (Call f v) o st is tx at = call_leaves d c m h seats r g k finds w f
   left (Stage.Async w) (Async f v) None st is tx at = subst (λ b. Leaves c m (rows_after (if b then async_asks r.func (place_of r.id g.machine.steps) (callee_body r.id r.func g.machine.steps f v None false) w else look_asks r.id r.func) c.now m)) (sym at.0)

@@ -3,18 +3,20 @@ use Rattle.beldi_chain.specs.Chain.{chain}
 use Rattle.beldi_links.specs.Links.{SeesAt}
 use Rattle.beldi_daal.specs.Logged.{at_of}
 use Rattle.beldi_row.specs.declared.act.Act.TheVariants.{LinkCell}
+use Rattle.beldi_row.specs.Act.{drops}
+use Rattle.beldi_daal.proofs.Spares.{write_spares}
 use Rattle.beldi_known.proofs.{Acts.is_data, Callers.all_called, Participants.open_owner}
-use Rattle.beldi_laws.proofs.Names.{Async, AsyncAt, Begun, Body, Bool, ByTx, CallAt, Caller, CellOp, Core, Deployment, Effect, Inherited, Inside, Instance, IntentId, IntentMatches, InvokeRow, Item, Kind, Knows, List, Look, MakeCell, None, Null, Option, Outcome, Own, Place, PutLockset, PutRead, Register, Return, Right, RootMatches, Row, RowAct, RowKey, Rows, Run, RunTx, Some, Stage, TxAt, TxId, Value, WriteAt, after_act, ap, at_row, behind_locks, call_of, child_of, content_of, effect_before, length, false, func_called, has_ended, has_finish, has_no_hops, head_key, if◌then◌else◌, inl, inr, intent_key, invoke_key, is_some, key_in, log_key, op_act, note_at, place_of, refl, rows_after, same_some, shadow_key, subst, sym, touched, true, tx_after, tx_of, ℕ, ◌∙◌, ◌≡◌, AtItem, Lockset, async_asks, back_to_asks, blank, call_asks, callee_body, register_asks, tell_asks, write_asks, ◌-◌}
+use Rattle.beldi_laws.proofs.Names.{Async, AsyncAt, Begun, Body, Bool, ByTx, CallAt, Caller, CellOp, Core, Deployment, Effect, Inherited, Inside, Instance, IntentId, IntentMatches, InvokeRow, Item, Kind, Knows, List, Look, MakeCell, None, Null, Option, Outcome, Own, Place, PutLockset, PutRead, Register, Return, Right, RootMatches, Row, RowAct, RowKey, Rows, Run, RunTx, Some, Stage, TxAt, TxId, Value, WriteAt, after_act, ap, at_row, behind_locks, call_of, child_of, content_of, effect_before, length, false, func_called, has_ended, has_finish, has_no_hops, head_key, if◌then◌else◌, inl, intent_key, invoke_key, is_some, key_in, log_key, op_act, note_at, place_of, refl, rows_after, same_some, shadow_key, subst, sym, touched, true, tx_after, tx_of, ℕ, ◌∙◌, ◌≡◌, AtItem, Lockset, async_asks, back_to_asks, blank, call_asks, callee_body, register_asks, tell_asks, write_asks, ◌-◌}
 use Rattle.beldi_laws.proofs.Names.map
 use Rattle.beldi_laws.proofs.Names.txn
 use Rattle.beldi_laws.proofs.InTx as in_tx
 use Rattle.beldi_laws.proofs.{Frames.is_intent, Frames.is_invoke, Members.call_there, OpenOf.called_in, Returns.has_caller, Turns.at_steps, Turns.by_answer, Turns.effect_here, Turns.sane_instance}
 use Rattle.beldi_laws.specs.Inside.{SeesBoth, SeesPut}
 use Rattle.beldi_upkeep.specs.Callees.{HasPut, Seats, belongs_to, owner_key, seat_of}
-use Rattle.beldi_upkeep.proofs.{CellActs.lock_noted, CellActs.lock_owner, CellActs.told_note, FromRight.below_key, FromRight.call_absent, FromRight.call_is, FromRight.called_here, FromRight.child_key, FromRight.open_unfinished, Leaving.IsPassedBy, Leaving.Leaves, Leaving.leaves_looked, Leaving.leaves_op, Leaving.leaves_quiet, Leaving.leaves_walk, RowSets.marks, RowSets.opens, RowSets.registers, RowSets.returns}
+use Rattle.beldi_upkeep.proofs.{CellActs.owner_noted, CellActs.told_note, FromRight.below_key, FromRight.call_absent, FromRight.call_is, FromRight.called_here, FromRight.child_key, FromRight.open_unfinished, Leaving.IsPassedBy, Leaving.Leaves, Leaving.leaves_looked, Leaving.leaves_op, Leaving.leaves_quiet, Leaving.leaves_walk, RowSets.marks, RowSets.opens, RowSets.registers, RowSets.returns}
 use Rattle.beldi_invokelog.specs.InvokeLog.{open_asks}
 use Rattle.beldi_step.specs.Run.{OnCell, put_asks}
-use Rattle.beldi_value.specs.declared.place.Owner.{Owner}
+use Rattle.beldi_value.specs.{Id.home_of, declared.place.Owner.Owner}
 use Rattle.std.specs.Option.{option_map}
 
 -- ---- a live run that has begun
@@ -52,13 +54,13 @@ module _ (d : Deployment) (c : Core) (m : Rows) (h : Right d c m) (seats : Seats
       row_there (Some w) e = refl
 
   -- ---- a row that belongs to it, in its function's home
-  pub own_put : (kind : Kind) (a : RowAct) → is_intent kind ≡ false → is_invoke kind ≡ false → is_data kind ≡ false → belongs_to kind ≡ Some r.id → seat_of (record { home = r.func; kind = kind }) r.id ≡ intent_key r.id r.func → Leave (after_act a c.now (record { home = r.func; kind = kind }) m)
-  own_put kind a off call item of seat = leaves_quiet c m seats c.now (record { home = r.func; kind = kind }) a off call item
+  pub own_put : (kind : Kind) (a : RowAct) → drops a ≡ false → is_intent kind ≡ false → is_invoke kind ≡ false → is_data kind ≡ false → belongs_to kind ≡ Some r.id → seat_of (record { home = r.func; kind = kind }) r.id ≡ intent_key r.id r.func → Leave (after_act a c.now (record { home = r.func; kind = kind }) m)
+  own_put kind a keeps off call item of seat = leaves_quiet c m seats c.now (record { home = r.func; kind = kind }) a keeps off call item
       (λ i is. subst (λ z. is_some (map.get m (seat_of (record { home = r.func; kind = kind }) z)) ≡ true) (same_some (sym of ∙ is)) (ap (λ q. is_some (map.get m q)) seat ∙ own_row))
 
   -- a row of a shadow of the transaction that it is in
-  shadow_put : (o : RunTx) → g.tx ≡ Some o → (x : Item) (i : ℕ) (a : RowAct) → Leave (after_act a c.now (at_row (shadow_key (tx_of r.id r.func o) x) i) m)
-  shadow_put o is x i a = leaves_quiet c m seats c.now (at_row (shadow_key (tx_of r.id r.func o) x) i) a refl refl refl
+  shadow_put : (o : RunTx) → g.tx ≡ Some o → (x : Item) (i : ℕ) (a : RowAct) → drops a ≡ false → Leave (after_act a c.now (at_row (shadow_key (tx_of r.id r.func o) x) i) m)
+  shadow_put o is x i a keeps = leaves_quiet c m seats c.now (at_row (shadow_key (tx_of r.id r.func o) x) i) a keeps refl refl refl
       (λ j e. subst (λ z. is_some (map.get m (intent_key z (tx_of r.id r.func o).func)) ≡ true) (same_some e) (tx_row o is))
 
   -- a Look
@@ -68,7 +70,7 @@ module _ (d : Deployment) (c : Core) (m : Rows) (h : Right d c m) (seats : Seats
   -- ---- an operation outside
   pub write_leaves : (w : WriteAt) (o : Option OnCell) → SeesPut m r.func place w o → Leave (rows_after (put_asks r.id r.func g.machine.steps w o) c.now m)
   write_leaves w None sees = look (intent_key r.id r.func)
-  write_leaves w (Some o) sees = leaves_op c m seats c.now (record { func = r.func; table = o.table; key = o.key }) (h.rows.chains (record { func = r.func; table = o.table; key = o.key })) place (Owner.Intent r.id) o.op w sees refl
+  write_leaves w (Some o) sees = leaves_op c m seats c.now (record { func = r.func; table = o.table; key = o.key }) (h.rows.chains (record { func = r.func; table = o.table; key = o.key })) place (Owner.Intent r.id) o.op w sees (λ lock. (home_of r.id r.func, own_row))
 
   -- ---- inside a transaction
   module _ (o : RunTx) (tx : g.tx ≡ Some o) (here : tx_after d r.id k.instance k.answers ≡ Some (tx_of r.id r.func o)) (e : Effect) (is : g.machine.effect ≡ e) (x : ℕ × List ℕ) (touch : touched e ≡ Some x) where
@@ -83,33 +85,33 @@ module _ (d : Deployment) (c : Core) (m : Rows) (h : Right d c m) (seats : Seats
 
     -- a lock makes the transaction of who stands at the front the owner; behind, its place has its note
     lock_leaves : (w : WriteAt) → SeesAt (chain m (head_key item)) place (at_of w) → Leave (rows_after (write_asks (head_key item) place (ByTx own) CellOp.Lock w) c.now m)
-    lock_leaves w sees = leaves_walk c m seats c.now item (h.rows.chains item) place (ByTx own) CellOp.Lock w sees (λ t s logs owned. by_answer k
-        (λ left. elim (lock_owner t place (content_of m item) _ own s logs owned) [
-          | inl was ↦ inl was
-          | inr same ↦ inr (subst (λ z. has_finish (map.get m (owner_key z)) ≡ false) (sym same) (open_unfinished d c m h own
-              (open_owner d h.known h.sane r.id k.instance own k.made (in_tx.open_still d c m r g h k o here e is x touch left) (in_tx.apart d c m r g h k o here e is x touch left) (in_tx.tx_is d c m r g h k o here e is x touch left))))
-        ])
+    lock_leaves w sees = by_answer k
+        (λ left. leaves_op c m seats c.now item (h.rows.chains item) place (ByTx own) CellOp.Lock w sees (λ lock. (
+          tx_row o tx,
+          open_unfinished d c m h own
+              (open_owner d h.known h.sane r.id k.instance own k.made (in_tx.open_still d c m r g h k o here e is x touch left) (in_tx.apart d c m r g h k o here e is x touch left) (in_tx.tx_is d c m r g h k o here e is x touch left)),
+        )))
         (λ a rest left.
         let locks = behind_locks d m h.known h.locked h.rows r.id k.instance k.made (sane_instance h k) k.answers a rest (in_tx.known_answers d c m r g h k o here e is x touch a rest left) (in_tx.short d c m r g h k o here e is x touch) own here x (ap touched (in_tx.effect_so d c m r g h k o here e is x touch) ∙ touch) in
         let told = told_note (place_of r.id (length k.answers)) own (content_of m its_item) (content_of m its_item) _ locks.0 in
-        inl (lock_noted t place (content_of m item) _ own s _ ((λ i. note_at (content_of m (sym (in_tx.same_item d c m r g h k o here e is x touch) i)).notes (place_of r.id ((at_steps k) i))) ∙ told) logs owned)))
+        leaves_walk c m seats c.now item (h.rows.chains item) place (ByTx own) CellOp.Lock w sees (λ t s logs owned. inl (owner_noted t place (content_of m item) _ (ByTx own) CellOp.Lock s _ ((λ i. note_at (content_of m (sym (in_tx.same_item d c m r g h k o here e is x touch) i)).notes (place_of r.id ((at_steps k) i))) ∙ told) logs owned)))
 
     aside_leaves : (w : WriteAt) (y : Option CellOp) → Leave (rows_after (txn.aside_asks r.func place own (shadow_key own item) w y) c.now m)
     aside_leaves w None = look (log_key r.func place)
-    aside_leaves (WriteAt.Try i) (Some op) = shadow_put o tx item i (op_act place (ByTx own) op)
-    aside_leaves WriteAt.Make (Some op) = shadow_put o tx item 0 (MakeCell Null None blank)
-    aside_leaves (WriteAt.Append i told) (Some op) = shadow_put o tx item i (MakeCell told.value told.owner blank)
-    aside_leaves (WriteAt.Link i) (Some op) = shadow_put o tx item (i - 1) (LinkCell i)
+    aside_leaves (WriteAt.Try i) (Some op) = shadow_put o tx item i (op_act place (ByTx own) op) (write_spares (shadow_key own item) place (ByTx own) op (WriteAt.Try i))
+    aside_leaves WriteAt.Make (Some op) = shadow_put o tx item 0 (MakeCell Null None blank) refl
+    aside_leaves (WriteAt.Append i told) (Some op) = shadow_put o tx item i (MakeCell told.value told.owner blank) refl
+    aside_leaves (WriteAt.Link i) (Some op) = shadow_put o tx item (i - 1) (LinkCell i) refl
 
     pub tx_leaves : (a : TxAt) → SeesBoth m place own item a → Leave (rows_after (txn.item_asks r.func place own e x.0 x.1 a) c.now m)
     tx_leaves TxAt.Log sees = look (log_key r.func place)
-    tx_leaves (TxAt.Lock (Lockset b)) sees = own_put (Kind.Lockset r.id b x.0 x.1) PutLockset refl refl refl refl refl
+    tx_leaves (TxAt.Lock (Lockset b)) sees = own_put (Kind.Lockset r.id b x.0 x.1) PutLockset refl refl refl refl refl refl
     tx_leaves (TxAt.Lock (AtItem w)) sees = lock_leaves w sees
     tx_leaves TxAt.Seek sees = look (shadow_key own item)
     tx_leaves (TxAt.Shadow i) sees = look (at_row (shadow_key own item) i)
     tx_leaves (TxAt.Item i) sees = look (at_row (head_key item) i)
-    tx_leaves (TxAt.Keep v) sees = own_put (Kind.ReadLog place) (PutRead v) refl refl refl refl refl
-    tx_leaves (TxAt.Head v) sees = shadow_put o tx item 0 (MakeCell v None blank)
+    tx_leaves (TxAt.Keep v) sees = own_put (Kind.ReadLog place) (PutRead v) refl refl refl refl refl refl
+    tx_leaves (TxAt.Head v) sees = shadow_put o tx item 0 (MakeCell v None blank) refl
     tx_leaves (TxAt.Write w) sees = aside_leaves w (txn.op_of e)
 
   -- ---- calls

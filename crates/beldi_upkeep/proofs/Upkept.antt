@@ -1,8 +1,9 @@
 -- Every event keeps the seats of rows, and what live runs owe.
-use Rattle.beldi_laws.proofs.Names.{Begins, Begun, Body, Core, Deployment, Inside, Knows, KnowsAt, KnowsBody, Looks, None, Option, Query, Registers, Right, Row, RowKey, Rows, Run, RunAt, Some, after_act, ap, asks_at, bind_asks, body_registered, body_told, count_changes, func_at, get-empty, has_finish, inl, inr, intent_key, is_some, key_cmp, key_in, nat_cmp, refl, rows_after, run_asks, run_told, stage_says, subst, sym, told_at, told_by, true, Value, ℕ, ◌∙◌, ◌≡◌, ◌⊎◌}
+use Rattle.beldi_laws.proofs.Names.{Begins, Begun, Body, Content, Core, Deployment, Inside, Knows, KnowsAt, KnowsBody, Looks, None, Option, Query, Registers, Right, Row, RowKey, Rows, Run, RunAt, Some, after_act, ap, asks_at, bind_asks, body_registered, body_told, chain, count_changes, func_at, get-empty, has_finish, head_key, inl, inr, intent_key, is_some, key_cmp, key_in, nat_cmp, refl, rows_after, run_asks, run_told, stage_says, subst, sym, told_at, told_by, true, Value, ℕ, ◌∙◌, ◌≡◌, ◌⊎◌}
 use Rattle.beldi_laws.proofs.Names.map
 use Rattle.beldi_laws.proofs.Names.standing
 use Rattle.beldi_laws.proofs.Events.{keeps_right}
+use Rattle.beldi_chain.proofs.OneRow.{no_content}
 use Rattle.beldi_intent.specs.Intent.{issue_asks}
 use Rattle.beldi_invokelog.specs.InvokeLog.{invoke_key}
 use Rattle.beldi_step.specs.Run.{place_of}
@@ -23,6 +24,7 @@ seats_begin now = (
     has_seat = λ k i of there. let clash = sym (ap is_some (no_row k)) ∙ there in cc;
     ends_last = λ t home i r b over. absurd (no_finish (owner_key t) over);
     owns_none = λ t x over owned. no_finish (owner_key t) over;
+    owner_has_row = λ o x owned. let clash = sym (ap (λ (z : Content). z.owner) (no_content (chain map.empty (head_key x)) (no_row (head_key x)))) ∙ owned in cc;
     registered = λ f i n c home r b at. let clash = sym (no_row (invoke_key f (place_of i n))) ∙ at in cc;
     enrolled = λ f i n c at. let clash = sym (no_row (invoke_key f (place_of i n))) ∙ at in cc;
   },

@@ -2,35 +2,18 @@
 use Rattle.std.specs.Prelude.{◌≡◌, ◌<◌, ℕ, Bool, true, false, Option, Some, None, is_some, Result}
 use Rattle.std.specs.declared.alloc.AllocError.{AllocError}
 use Rattle.std.specs.FinMap as map
-use Rattle.beldi_value.specs.{Id.child_of, declared.id.IntentId.IntentId, declared.outcome.Outcome.Outcome, declared.place.Caller.Caller, declared.place.Owner.TheVariants.Tx as ByTx, declared.place.TxId.TxId}
+use Rattle.beldi_value.specs.{Id.child_of, declared.id.IntentId.IntentId, declared.outcome.Outcome.Outcome, declared.place.Caller.Caller, declared.place.Owner.Owner, declared.place.Owner.TheVariants.Intent as ByIntent, declared.place.Owner.TheVariants.Tx as ByTx, declared.place.TxId.TxId}
 use Rattle.beldi_tree.specs.declared.deployment.Deployment.{Deployment}
 use Rattle.beldi_lang.specs.declared.effect.Effect.{Effect}
 use Rattle.beldi_plain.specs.Item.{Item}
-use Rattle.beldi_row.specs.{Key.RowKey, Table.Rows, declared.key.Kind.Kind, declared.row.Body.Body, declared.row.IntentRow.IntentRow, declared.row.InvokeRow.InvokeRow, declared.row.Row.Row}
+use Rattle.beldi_row.specs.{Key.RowKey, Table.Rows, declared.row.Body.Body, declared.row.IntentRow.IntentRow, declared.row.InvokeRow.InvokeRow, declared.row.Row.Row}
 use Rattle.beldi_invokelog.specs.InvokeLog.{invoke_key, call_at, registered_in, result_in}
 use Rattle.beldi_intent.specs.Intent.{intent_key}
 use Rattle.beldi_call.specs.declared.async_call.AsyncAt.{AsyncAt}
+pub use Rattle.beldi_prune.specs.Seat.{belongs_to, seat_of}
 use Rattle.beldi_step.specs.{Host.Core, Host.EventOn, Host.first_core, Run.is_waited, Run.place_of, declared.event.Event.Event, declared.event.Seen.Seen, declared.run.Run.Run, declared.run.RunAt.TheVariants.Begins, declared.run.RunTx.RunTx, declared.run.RunTx.TheVariants.Inherited, declared.run.RunTx.TheVariants.Own, declared.run.Begun.Begun, declared.run.Stage.Stage}
 use Rattle.beldi_known.specs.{Contents.content_of, Stands.key_in}
 use Rattle.beldi_laws.specs.{Inside.has_finish, Right.Right}
-
--- the intent that a row belongs to; a row of an item is nobody's
-abbrev pub belongs_to : Kind → Option IntentId
-belongs_to (Kind.Intent id) = Some id
-belongs_to (Kind.ReadLog a) = Some a.intent
-belongs_to (Kind.Invoke a) = Some a.intent
-belongs_to (Kind.Data t k n) = None
-belongs_to (Kind.Shadow s t k n) = Some s.intent
-belongs_to (Kind.Lockset i b t k) = Some i
-
--- the function of that intent: that of the row's home, and of a shadow the function which began the transaction
-abbrev pub home_in : ℕ → Kind → ℕ
-home_in home (Kind.Shadow s t k n) = s.func
-home_in home k = home
-
--- the key of that intent's row: a root's stands in the host's home, a callee's in that of its function
-abbrev pub seat_of : RowKey → IntentId → RowKey
-seat_of k i = intent_key i (home_in k.home k.kind)
 
 -- the row of the owner of a transaction: a root's stands in the host's home
 abbrev pub owner_key : TxId → RowKey
@@ -41,6 +24,11 @@ pub record HasBody (m : Rows) (home : ℕ) (id : IntentId) (r : IntentRow) (b : 
   pub there : map.get m (key_in home id) ≡ Some (Row.Intent r)
   pub body : r.body ≡ Some b
 
+-- the row of an owner's intent: a transaction's is its owner's
+abbrev pub HasIntentRow : Rows → Owner → Type 0
+HasIntentRow m (ByTx t) = is_some (map.get m (owner_key t)) ≡ true
+HasIntentRow m (ByIntent i) = (home : ℕ) × (is_some (map.get m (key_in home i)) ≡ true)
+
 pub record Seats (m : Rows) : Type 0 where
   -- each row belongs to an intent that has its row
   pub has_seat : (k : RowKey) (i : IntentId) → belongs_to k.kind ≡ Some i → is_some (map.get m k) ≡ true → is_some (map.get m (seat_of k i)) ≡ true
@@ -48,6 +36,8 @@ pub record Seats (m : Rows) : Type 0 where
   pub ends_last : (t : TxId) (home : ℕ) (i : IntentId) (r : IntentRow) (b : Body) → has_finish (map.get m (owner_key t)) ≡ true → HasBody m home i r b → b.tx ≡ Some t → is_some r.finish ≡ true
   -- .. and owns nothing then
   pub owns_none : (t : TxId) (x : Item) → has_finish (map.get m (owner_key t)) ≡ true → (content_of m x).owner ≡ Some (ByTx t) → ⊥
+  -- the owner of an item has its intent's row
+  pub owner_has_row : (o : Owner) (x : Item) → (content_of m x).owner ≡ Some o → HasIntentRow m o
   -- who nobody waits for has its outcome only once its call says that it is registered
   pub registered : (f : ℕ) (i : IntentId) (n : ℕ) (c : InvokeRow) (home : ℕ) (r : IntentRow) (b : Body) → map.get m (invoke_key f (place_of i n)) ≡ Some (Row.Invoke c) → c.registered ≡ false
       → HasBody m home (child_of i n) r b → is_waited b.from ≡ false → r.outcome ≡ None

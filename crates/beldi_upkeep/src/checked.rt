@@ -1,6 +1,6 @@
 // Laws.
 ghost use Rattle.beldi_upkeep.specs.Checked.{BoundsAreOwn, CallersAreShort, DecisionsAreOwn, EffectsAreCarriedOut, FoundBodiesAreKnown, InstancesAreOfIt, NoBodyIsStranded, NoFirstTurnIsOver, NoRootAtFirst, NoRunIsStranded, NoTurnIsOver, NoTurnStays, NoneIsInside, NotesAreOwn, RootsStayOfIt, RootsStayStarted, ShadowNotesAreOwn, ShadowsAreFree, StartedRootsAreOfIt, UnlocksAreOwned};
-ghost use Rattle.beldi_upkeep.specs.Freed.{FreesWhatItHolds};
+ghost use Rattle.beldi_upkeep.specs.Freed.{FreesWhatItHolds, ReturnsHoldNone};
 ghost use Rattle.beldi_upkeep.specs.Written.{WantsAreWritten};
 
 /// Where the host is right, nobody owns a shadow.
@@ -36,6 +36,11 @@ pub fn wants_are_written()
 /// An instance that stands at an Unlock holds the lock of its item.
 pub fn who_frees_holds()
     ensures { FreesWhatItHolds }
+{}
+
+/// An instance that returns holds no lock.
+pub fn who_returns_holds_none()
+    ensures { ReturnsHoldNone }
 {}
 
 /// In a deployment that passed the checks, each instance that is known is of one of its functions.

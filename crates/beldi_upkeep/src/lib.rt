@@ -4,7 +4,7 @@
 //! Proved of callees (`specs/Callees`):
 //! - Each row belongs to an intent that has its row; who nobody waits for has its outcome only once its call says that it is registered,
 //!   and a call that says so has its callee's row; the owner of a transaction has its finish only where all who took part have
-//!   theirs, and owns nothing then (`begins_seated`, `an_event_keeps_seats`).
+//!   theirs, and owns nothing then; and the owner of an item has its intent's row (`begins_seated`, `an_event_keeps_seats`).
 //! - So a registered call has its callee's row, with a body that names the call (`registered_calls_have_their_callee`); who has its
 //!   outcome has told its caller (`ended_callees_have_told`); and the owner of a transaction that owns an item has not ended
 //!   (`owners_are_open`).
@@ -37,7 +37,7 @@
 //! - It waits or goes on, but for the visits at the end of a transaction, of which this is not said (`no_turn_stays`).
 //! - What these stand on: nobody owns a shadow (`shadows_have_no_owner`); the notes and the decision that a run finds are its own
 //!   (`notes_are_own`, `shadow_notes_are_own`, `decisions_are_own`); who frees a lock holds it (`who_frees_holds`, `specs/Freed`), and
-//!   owns its item (`unlocks_are_owned`); each call and each lock is that of a statement (`wants_are_written`, `specs/Written`);
+//!   owns its item (`unlocks_are_owned`); who returns holds none (`who_returns_holds_none`); each call and each lock is that of a statement (`wants_are_written`, `specs/Written`);
 //!   nothing is locked inside a transaction (`nothing_is_locked_inside`), ends are of one's own (`bounds_are_own`), and who calls has
 //!   a short id (`callers_are_short`): so each effect is carried out (`effects_are_carried_out`).
 //!
@@ -71,7 +71,7 @@ pub use checked::{
     no_first_turn_is_over, no_root_at_first, no_run_is_stranded, no_turn_is_over, no_turn_stays,
     notes_are_own, nothing_is_locked_inside, roots_are_of_the_deployment, roots_are_started,
     shadow_notes_are_own, shadows_have_no_owner, started_roots_are_of_the_deployment,
-    unlocks_are_owned, wants_are_written, who_frees_holds,
+    unlocks_are_owned, wants_are_written, who_frees_holds, who_returns_holds_none,
 };
 pub use deadlines::{an_event_keeps_deadlines, begins_near};
 pub use upkeep::{an_event_keeps_upkeep, begins_upkept};
