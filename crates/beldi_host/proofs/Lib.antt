@@ -4,6 +4,7 @@ mod Looks
 mod Names
 mod Newest
 mod Openings
+mod Pruned
 pub mod Right
 mod Skips
 mod Steps

@@ -17,10 +17,11 @@ pub use Rattle.beldi_collect.specs.{Collect.collect_says, declared.cursor.Found.
 pub use Rattle.beldi_step.specs.Host.{Core, EventOn, Followed, HaltCame, HaltOn, Plan, StepBy, Stepped, after_turn, asks, at_once, collect_next, counted, crash_plan, ended_run, first_core, halt_next, has_run, heard, in_time, is_crowded, is_halt, last_moment, may_start, most_events, new_run, newest_of, greatest, open_plan, plan, plan_of, reads_all, refused, request_next, run_next, run_plan, started, ticket_next, turned_core, unheard_next, with_run}
 pub use Rattle.beldi_step.specs.Tables.{is_committed, line_at, owned_value, row_line, shown_under, tables_text, value_in, value_line}
 pub use Rattle.beldi_step.specs.declared.event.Event.TheVariants.{Crash, Halt, Ic, Lost, Request, Restart, Tick, Ticket, Turn}
-pub use Rattle.beldi_step.{proofs.Late.expires, proofs.Steps.over_rows, specs.Run.callee_of, specs.Run.run_asks, specs.Run.run_told, specs.Run.says_of, specs.declared.event.Event.Event, specs.declared.event.Seen.Seen, specs.declared.run.Run.Run, specs.declared.run.TurnSays.TurnSays, specs.declared.run.Wait.Wait}
+pub use Rattle.beldi_step.{proofs.Late.expires, proofs.Steps.over_rows, specs.Prunes.Prunes, specs.Prunes.PrunesOn, specs.declared.event.Pruned.Pruned, specs.Run.callee_of, specs.Run.run_asks, specs.Run.run_told, specs.Run.says_of, specs.declared.event.Event.Event, specs.declared.event.Seen.Seen, specs.declared.run.Run.Run, specs.declared.run.TurnSays.TurnSays, specs.declared.run.Wait.Wait}
 pub use Rattle.beldi_known.specs.{Matches.has_ended, Rows.BodyMatches, Rows.IntentMatches, Stands.Stands}
-pub use Rattle.beldi_laws.{proofs.Events.after_event, proofs.Events.right_legal, proofs.Listing.listing_plain, proofs.Moves.seen_by, proofs.Moves.with_runs, proofs.OneAnswer.answers_stay, proofs.OneAnswer.one_answer, proofs.Outside.outcome_known, proofs.Standing.right_stands, proofs.Standing.same_run, specs.Laws.is_gone, specs.OneAnswer.AnswersStay, specs.OneAnswer.OneAnswerPerStep, specs.Right.Right}
+pub use Rattle.beldi_laws.{proofs.Events.after_event, proofs.Moves.seen_by, proofs.Moves.with_runs, proofs.OneAnswer.answers_stay, proofs.OneAnswer.one_answer, proofs.Outside.outcome_known, proofs.Standing.right_stands, proofs.Standing.same_run, specs.Laws.is_gone, specs.OneAnswer.AnswersStay, specs.OneAnswer.OneAnswerPerStep, specs.Right.Right}
 pub use Rattle.beldi_upkeep.{proofs.Together.begins_upkept, proofs.Together.keeps_upkeep, specs.Upkeep.Upkeep}
+pub use Rattle.beldi_kept.{proofs.Begins.begins_early, proofs.Begins.begins_kept, proofs.Collecting.prunings_keep_safe, proofs.Collecting.prunings_keep_whole, proofs.Collecting.safe_at_cursor, proofs.Collecting.safe_at_first, proofs.LeftRows.kept_answers, proofs.LeftRows.kept_listing, proofs.LeftRows.kept_stand, proofs.Telling.kept_are_legal, specs.Kept.HasKept, specs.Safe.EventsKeepSafe, specs.Safe.IsSafe, specs.Stands.OneAnswerLess, specs.Stands.StandsLess}
 pub use Rattle.beldi_core.{proofs.Plans.no_memory, proofs.Plans.query_asked, proofs.Plans.reads, proofs.Truths.first, proofs.Truths.less, proofs.Truths.second, proofs.Truths.test_true, specs.Parts.core_in}
 pub use Rattle.beldi_host.specs.Survey.{IsHighWater, IsNewest, NewestAt, Past, Reads, cell_seen, is_unknown, last_rank, latest, latest_of, line_after, next_mark_of, opened_core, rest, row_moment, next_line_of, next_seen_of, outcome_seen, reply_seen, row_seen, seen_at, seen_of, told_row}
-pub use Rattle.beldi_host.specs.{Host.core_of, Right.EndsLate, Right.HasNoRows, Right.RowsStandFor, Said.SaidOf, declared.survey.OpenErr.OpenErr, declared.survey.OpenErr.TheVariants.Failed, declared.survey.OpenErr.TheVariants.OutOfMemory, declared.survey.Owned.Owned, declared.survey.ReplySeen.ReplySeen, declared.survey.ReplySeen.TheVariants.Unknown}
+pub use Rattle.beldi_host.specs.{Host.core_of, Right.EndsLate, Right.HasNoRows, Right.RowsStandFor, Right.RowsStandLess, Said.SaidOf, declared.survey.OpenErr.OpenErr, declared.survey.OpenErr.TheVariants.Failed, declared.survey.OpenErr.TheVariants.OutOfMemory, declared.survey.Owned.Owned, declared.survey.ReplySeen.ReplySeen, declared.survey.ReplySeen.TheVariants.Gone, declared.survey.ReplySeen.TheVariants.Unknown}

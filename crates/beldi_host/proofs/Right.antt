@@ -1,6 +1,8 @@
 -- Why the calls of a host keep it and its rows right, and what they tell of the run of the book.
 use Rattle.beldi_row.specs.declared.row.Row.TheVariants.{Intent}
-use Rattle.beldi_host.proofs.Names.{AllocError, AnswersStay, Body, BodyMatches, Bool, Core, Deployment, EndsLate, Err, Event, EventOn, HasNoReply, HasNoRows, IfOk, IsHighWater, IfSome, IntentMatches, IsLegal, IsSome, List, None, Ok, OnOk, OneAnswerPerStep, OpenErr, Option, Outcome, PlainState, Reads, ReplySeen, Result, Right, Row, RowKey, Rows, RowsStandFor, SaidOf, Seen, Some, Stands, Stepped, TableState, Tells, Unknown, Upkeep, [], after_event, answers_stay, ap, arith, begins_upkept, expires, false, first_core, greatest, has_ended, if◌then◌else◌, is_gone, is_some, is_unknown, keeps_upkeep, key_cmp, len-empty, latest_of, len-entries, listing_of, max, opened_core, listing_plain, nat_le, nat_lt, nat_tests, nil_from_length, one_answer, outcome_known, outcome_of, outcome_seen, over_rows, refl, reply_of, reply_seen, right_legal, right_stands, root_key, root_of, row_seen, run_of, same_run, seen_by, subst, sym, tables_text, tells_map, true, with_runs, ℕ, ◌&&◌, ◌++◌, ◌∙◌, ◌≡◌}
+use Rattle.beldi_book.specs.declared.entry.Entry.{Entry}
+use Rattle.beldi_step.{proofs.Prunes.over_rows as pruned_over_rows, specs.declared.event.Pruned.TheVariants.Removed}
+use Rattle.beldi_host.proofs.Names.{[], after_event, AllocError, answers_stay, AnswersStay, ap, arith, begins_early, begins_kept, begins_upkept, Body, BodyMatches, Bool, Core, Deployment, EndsLate, Err, Event, EventOn, EventsKeepSafe, expires, false, first_core, Gone, greatest, has_ended, HasKept, HasNoReply, HasNoRows, IfOk, IfSome, if◌then◌else◌, inl, inr, IntentMatches, is_gone, is_some, is_unknown, IsHighWater, IsLegal, IsSafe, IsSome, keeps_upkeep, kept_answers, kept_are_legal, kept_listing, kept_stand, key_cmp, latest_of, len-empty, len-entries, List, listing_of, max, nat_le, nat_lt, nat_tests, nil_from_length, None, Ok, one_answer, OneAnswerLess, OneAnswerPerStep, OnOk, opened_core, OpenErr, Option, Outcome, outcome_known, outcome_of, outcome_seen, over_rows, PlainState, Pruned, Prunes, PrunesOn, prunings_keep_safe, prunings_keep_whole, Reads, refl, reply_of, reply_seen, ReplySeen, Result, Right, right_stands, root_key, root_of, Row, row_seen, RowKey, Rows, RowsStandFor, RowsStandLess, run_of, safe_at_cursor, safe_at_first, SaidOf, same_run, Seen, seen_by, Some, Stands, StandsLess, Stepped, subst, sym, tables_text, TableState, Tells, tells_map, true, Unknown, Upkeep, with_runs, ℕ, ◌&&◌, ◌++◌, ◌∙◌, ◌≡◌, ◌⊎◌}
 use Rattle.beldi_host.proofs.Names.map
 
 -- ---- what is told
@@ -16,14 +18,20 @@ tells_so Z none some (Some m) (Some n) h = some m n h
 
 -- ---- what a right host has
 module _ (d : Deployment) (c : Core) (told : Option Rows) where
-  pub legal_at : IfSome told (Upkeep d c) → IfSome told (λ m. IsLegal d c.book)
-  legal_at h = if_told {P = Upkeep d c} {Q = λ m. IsLegal d c.book} told (λ m u. right_legal d c m u.right) h
+  pub legal_at : IfSome told (IsSafe d c) → IfSome told (λ m. IsLegal d c.book)
+  legal_at h = if_told {P = IsSafe d c} {Q = λ m. IsLegal d c.book} told (λ m u. kept_are_legal d c m u.has) h
 
   pub stands_at : IfSome told (Upkeep d c) → RowsStandFor d c.book told
   stands_at h = if_told {P = Upkeep d c} {Q = λ m. (p : PlainState) → run_of d c.book ≡ Some p → Stands d m p} told (λ m u p is. right_stands d c m p u.right is) h
 
+  pub stands_less_at : IfSome told (IsSafe d c) → RowsStandLess d c.book told
+  stands_less_at h = if_told {P = IsSafe d c} {Q = λ m. (p : PlainState) → run_of d c.book ≡ Some p → (latest : ℕ) × StandsLess d latest m p} told (λ m u p is. (u.has.latest, kept_stand d c m p u.has is)) h
+
   pub one_answer_at : IfSome told (Upkeep d c) → IfSome told (λ m. (p : PlainState) → run_of d c.book ≡ Some p → OneAnswerPerStep d c m p)
   one_answer_at h = if_told {P = Upkeep d c} {Q = λ m. (p : PlainState) → run_of d c.book ≡ Some p → OneAnswerPerStep d c m p} told (λ m u p is. one_answer d c m p u.right is) h
+
+  pub one_answer_less_at : IfSome told (IsSafe d c) → IfSome told (λ m. (p : PlainState) → run_of d c.book ≡ Some p → (latest : ℕ) × OneAnswerLess d c latest m p)
+  one_answer_less_at h = if_told {P = IsSafe d c} {Q = λ m. (p : PlainState) → run_of d c.book ≡ Some p → (latest : ℕ) × OneAnswerLess d c latest m p} told (λ m u p is. (u.has.latest, kept_answers d c m p u.has is)) h
 
 -- ---- where the intent collector stands is nothing that has to be right
 pub at_cursor : (d : Deployment) (c : Core) (k : RowKey) (m : Rows) → Right d c m → Right d (record c { cursor = k }) m
@@ -32,8 +40,8 @@ at_cursor d c k m h = with_runs h (record c { cursor = k }) refl refl h.runs
 kept_at_cursor : (d : Deployment) (c : Core) (k : RowKey) (m : Rows) → Upkeep d c m → Upkeep d (record c { cursor = k }) m
 kept_at_cursor d c k m u = record { right = at_cursor d c k m u.right; seats = u.seats; owe = record { each = u.owe.each }; past = u.past; passes = record { each = u.passes.each }; near = record { soon = u.near.soon; near = u.near.near }; started = u.started }
 
-pub moved_cursor : (d : Deployment) (c : Core) (k : RowKey) (told : Option Rows) → IfSome told (Upkeep d c) → IfSome told (Upkeep d (record c { cursor = k }))
-moved_cursor d c k told h = if_told {P = Upkeep d c} {Q = Upkeep d (record c { cursor = k })} told (kept_at_cursor d c k) h
+pub moved_cursor : (d : Deployment) (c : Core) (k : RowKey) (told : Option Rows) → (IfSome told (IsSafe d c) → IfSome told (IsSafe d (record c { cursor = k }))) × (IfSome told (Upkeep d c) → IfSome told (Upkeep d (record c { cursor = k })))
+moved_cursor d c k told = (if_told {P = IsSafe d c} {Q = IsSafe d (record c { cursor = k })} told (λ m h. (safe_at_cursor d c m h k).0), if_told {P = Upkeep d c} {Q = Upkeep d (record c { cursor = k })} told (kept_at_cursor d c k))
 
 -- ---- the host after an event
 module _ (d : Deployment) (e : Event) (c b : Core) (old new : TableState) (x : Result Seen AllocError) (s : Stepped d e c b old new x) where
@@ -43,9 +51,11 @@ module _ (d : Deployment) (e : Event) (c b : Core) (old new : TableState) (x : R
   pub event_stays : Tells old.rows new.rows AnswersStay
   event_stays = tells_map {P = On} {Q = AnswersStay} old.rows new.rows (λ m n h. answers_stay d old.room old.faults new.faults e c b m n x h) (over_rows d e c b old new x s)
 
-  pub event_keeps : (k : Deployment) → k ≡ d → IfSome old.rows (Upkeep d c) → IfSome new.rows (Upkeep k b)
-  event_keeps k code = subst (λ (z : Deployment). IfSome old.rows (Upkeep d c) → IfSome new.rows (Upkeep z b)) (sym code)
-      (tells_so {R = On} (λ o u. IfSome o (Upkeep d c) → IfSome u (Upkeep d b)) (λ h. tt) (λ m n h u. keeps_upkeep d old.room old.faults new.faults e c b m n x u h) old.rows new.rows (over_rows d e c b old new x s))
+  pub event_keeps : EventsKeepSafe → (k : Deployment) → k ≡ d → (IfSome old.rows (IsSafe d c) → IfSome new.rows (IsSafe k b)) × (IfSome old.rows (Upkeep d c) → IfSome new.rows (Upkeep k b))
+  event_keeps keeps_safe k code = subst (λ (z : Deployment). (IfSome old.rows (IsSafe d c) → IfSome new.rows (IsSafe z b)) × (IfSome old.rows (Upkeep d c) → IfSome new.rows (Upkeep z b))) (sym code) (
+    tells_so {R = On} (λ o u. IfSome o (IsSafe d c) → IfSome u (IsSafe d b)) (λ h. tt) (λ m n h u. (keeps_safe d old.room old.faults new.faults e c b m n x u h).0) old.rows new.rows (over_rows d e c b old new x s),
+    tells_so {R = On} (λ o u. IfSome o (Upkeep d c) → IfSome u (Upkeep d b)) (λ h. tt) (λ m n h u. keeps_upkeep d old.room old.faults new.faults e c b m n x u h) old.rows new.rows (over_rows d e c b old new x s),
+  )
 
   -- no ticket is answered gone
   pub never_gone : IsSome old.rows → IfSome old.rows (Upkeep d c) → IfOk x (λ y. is_gone y ≡ false)
@@ -59,31 +69,55 @@ module _ (d : Deployment) (e : Event) (c b : Core) (old new : TableState) (x : R
   pub ends_late : EndsLate e c b old new x
   ends_late i run few unshut of is past = expires d e c b old new x i run s few unshut of is past
 
+-- ---- the host after a turn of a log collector
+module _ (d : Deployment) (k : ℕ) (c b : Core) (old new : TableState) (x : Result Pruned AllocError) (s : Prunes d k c b old new x) (l : Deployment) (code : l ≡ d) where
+  abbrev Pruned_on : Rows → Rows → Type 0
+  Pruned_on m n = PrunesOn d old.faults new.faults k c m b n x
+
+  pub pruning_keeps : IfSome old.rows (IsSafe d c) → IfSome new.rows (IsSafe l b)
+  pruning_keeps = subst (λ (z : Deployment). IfSome old.rows (IsSafe d c) → IfSome new.rows (IsSafe z b)) (sym code)
+      (tells_so {R = Pruned_on} (λ o u. IfSome o (IsSafe d c) → IfSome u (IsSafe d b)) (λ h. tt) (λ m n h u. (prunings_keep_safe d old.faults new.faults k c b m n x u h).0) old.rows new.rows (pruned_over_rows d k c b old new x s))
+
+  -- where it removed no row, all rows are there that were
+  pub pruning_keeps_whole : IfSome old.rows (Upkeep d c) → (x ≡ Ok Removed → ⊥) → IfSome new.rows (Upkeep l b)
+  pruning_keeps_whole h none = subst (λ (z : Deployment). IfSome new.rows (Upkeep z b)) (sym code)
+      (tells_so {R = Pruned_on} (λ o u. IfSome o (Upkeep d c) → IfSome u (Upkeep d b)) (λ h. tt) (λ m n h u. prunings_keep_whole d old.faults new.faults k c b m n x h none u) old.rows new.rows (pruned_over_rows d k c b old new x s) h)
+
 -- ---- a host that was opened over no rows
 no_entries : map.entries (map.empty {X = Row} {R = key_cmp}) ≡ []
 no_entries = nil_from_length (map.entries (map.empty {X = Row} {R = key_cmp})) (sym (len-entries (map.empty {X = Row} {R = key_cmp})) ∙ len-empty key_cmp Row)
 
-begins_kept : (d : Deployment) (now : ℕ) (m : Rows) → m ≡ map.empty → Upkeep d (opened_core m now) m
-begins_kept d now m none = subst (λ (y : Rows). Upkeep d (opened_core y now) y) (sym none) (subst (λ (k : ℕ). Upkeep d (first_core k (max now (latest_of map.empty))) map.empty) (sym (ap greatest no_entries)) (begins_upkept d (max now (latest_of map.empty))))
+begins_whole : (d : Deployment) (now : ℕ) (m : Rows) → m ≡ map.empty → Upkeep d (opened_core m now) m
+begins_whole d now m none = subst (λ (y : Rows). Upkeep d (opened_core y now) y) (sym none) (subst (λ (k : ℕ). Upkeep d (first_core k (max now (latest_of map.empty))) map.empty) (sym (ap greatest no_entries)) (begins_upkept d (max now (latest_of map.empty))))
 
 pub begins_right : (d : Deployment) (now : ℕ) (m : Rows) → m ≡ map.empty → Right d (opened_core m now) m
-begins_right d now m none = (begins_kept d now m none).right
+begins_right d now m none = (begins_whole d now m none).right
+
+-- .. and right, where nobody was old
+abbrev IsEarly : Deployment → Core → Rows → Type 0
+IsEarly d c m = (g : IsSafe d c m) × (g.has.latest ≡ 0)
+
+pub begins_safe : (d : Deployment) (now : ℕ) (m : Rows) → m ≡ map.empty → (g : IsSafe d (opened_core m now) m) × (g.has.latest ≡ 0)
+begins_safe d now m none =
+    let t = max now (latest_of map.empty) in
+    let g = safe_at_first d (first_core 0 t) map.empty (begins_kept d t) refl in
+    subst (λ (y : Rows). IsEarly d (opened_core y now) y) (sym none) (subst (λ (k : ℕ). IsEarly d (first_core k t) map.empty) (sym (ap greatest no_entries)) (g.0, ap (λ z. z.latest) g.1 ∙ begins_early d t))
 
 -- by what was found in the rows
 pub opened_rows : (c : Core) (t u now : ℕ) (before after : Option Rows) → c ≡ first_core t (max now u) → Tells before after (λ m n. (n ≡ m) × IsHighWater m t u) → Tells before after (λ m n. (n ≡ m) × (c ≡ opened_core m now))
 opened_rows c t u now before after core = tells_map {P = λ m n. (n ≡ m) × IsHighWater m t u} {Q = λ m n. (n ≡ m) × (c ≡ opened_core m now)} before after (λ m n h. (h.0, core ∙ (λ i. first_core (h.1.newest i) (max now (h.1.latest i)))))
 
-pub opened : (d : Deployment) (c : Core) (now : ℕ) (before after : Option Rows) → Tells before after (λ m n. (n ≡ m) × (c ≡ opened_core m now)) → HasNoRows before → IfSome after (Upkeep d c)
-opened d c now before after = tells_so {R = λ m n. (n ≡ m) × (c ≡ opened_core m now)} (λ o u. HasNoRows o → IfSome u (Upkeep d c)) (λ h. tt)
-    (λ m n t none. subst (Upkeep d c) (sym t.0) (subst (λ (z : Core). Upkeep d z m) (sym t.1) (begins_kept d now m none))) before after
+pub opened : (d : Deployment) (c : Core) (now : ℕ) (before after : Option Rows) → Tells before after (λ m n. (n ≡ m) × (c ≡ opened_core m now)) → HasNoRows before → IfSome after (IsSafe d c) × IfSome after (Upkeep d c)
+opened d c now before after = tells_so {R = λ m n. (n ≡ m) × (c ≡ opened_core m now)} (λ o u. HasNoRows o → IfSome u (IsSafe d c) × IfSome u (Upkeep d c)) (λ h. (tt, tt))
+    (λ m n t none. subst (λ z. IsSafe d c z × Upkeep d c z) (sym t.0) (subst (λ (z : Core). IsSafe d z m × Upkeep d z m) (sym t.1) ((begins_safe d now m none).0, begins_whole d now m none))) before after
 
 -- ---- the listing
 pub listed : (d : Deployment) (c : Core) (text longer : List ℕ) (old new : TableState) (x : Result (Unit {0}) OpenErr) → Reads (λ m u. longer ≡ text ++ tables_text d m) old new x
-    → IfSome old.rows (Upkeep d c) → OnOk x (IfSome old.rows (λ m. (p : PlainState) → run_of d c.book ≡ Some p → longer ≡ text ++ listing_of d p))
+    → IfSome old.rows (IsSafe d c) → OnOk x (IfSome old.rows (λ m. (p : PlainState) → run_of d c.book ≡ Some p → longer ≡ text ++ listing_of d p))
 listed d c text longer old new (Err w) s h = tt
 listed d c text longer old new (Ok u) s h = tells_so {R = λ m n. (n ≡ m) × (longer ≡ text ++ tables_text d m)}
-    (λ o u. IfSome o (Upkeep d c) → IfSome o (λ m. (p : PlainState) → run_of d c.book ≡ Some p → longer ≡ text ++ listing_of d p)) (λ h. tt)
-    (λ m n t u p is. t.1 ∙ ap (λ z. text ++ z) (listing_plain d c m p u.right is)) old.rows new.rows s.rows h
+    (λ o u. IfSome o (IsSafe d c) → IfSome o (λ m. (p : PlainState) → run_of d c.book ≡ Some p → longer ≡ text ++ listing_of d p)) (λ h. tt)
+    (λ m n t u p is. t.1 ∙ ap (λ z. text ++ z) (kept_listing d c m p u.has is)) old.rows new.rows s.rows h
 
 -- ---- a reply
 issued_if : (t n : ℕ) → is_unknown n t ≡ false → (nat_lt 0 t && nat_le t n) ≡ true
@@ -125,8 +159,46 @@ module _ (d : Deployment) (c : Core) (m : Rows) (h : Right d c m) (t : ℕ) wher
   pub said_of : SaidOf d c.book t (reply_seen c.newest t m)
   said_of = by_ticket (is_unknown c.newest t) refl
 
+-- .. by the rows that are left: where that of the ticket is gone, nothing is said
+by_left : (d : Deployment) (book : List Entry) (t : ℕ) (unknown : Bool) (o p : Option Row) → (o ≡ p) ⊎ (o ≡ None) → SaidOf d book t (if unknown then Unknown else row_seen p) → SaidOf d book t (if unknown then Unknown else row_seen o)
+by_left d book t true o p is said = said
+by_left d book t false o p (inl same) said = subst (λ (z : Option Row). SaidOf d book t (row_seen z)) (sym same) said
+by_left d book t false o p (inr none) said = subst (λ (z : Option Row). SaidOf d book t (row_seen z)) (sym none) tt
+
+pub said_less : (d : Deployment) (c : Core) (m : Rows) → HasKept d c m → (t : ℕ) → SaidOf d c.book t (reply_seen c.newest t m)
+said_less d c m h t = elim (h.less.rows (root_key t)) [
+  | inl same ↦ by_row (inl same)
+  | inr off ↦ by_row (inr off.0)
+]
+  where
+    by_row : (map.get m (root_key t) ≡ map.get h.kept (root_key t)) ⊎ (map.get m (root_key t) ≡ None) → SaidOf d c.book t (reply_seen c.newest t m)
+    by_row left = by_left d c.book t (is_unknown c.newest t) (map.get m (root_key t)) (map.get h.kept (root_key t)) left (said_of d c h.kept h.upkeep.right t)
+
 pub said : (d : Deployment) (c : Core) (t : ℕ) (old new : TableState) (x : Result ReplySeen OpenErr)
-    → Reads (λ m y. y ≡ reply_seen c.newest t m) old new x → IfSome old.rows (Upkeep d c) → IfOk x (λ y. IfSome old.rows (λ m. SaidOf d c.book t y))
+    → Reads (λ m y. y ≡ reply_seen c.newest t m) old new x → IfSome old.rows (IsSafe d c) → IfOk x (λ y. IfSome old.rows (λ m. SaidOf d c.book t y))
 said d c t old new (Err w) s h = tt
-said d c t old new (Ok y) s h = tells_so {R = λ m n. (n ≡ m) × (y ≡ reply_seen c.newest t m)} (λ o u. IfSome o (Upkeep d c) → IfSome o (λ m. SaidOf d c.book t y)) (λ h. tt)
-    (λ m n z u. subst (λ (r : ReplySeen). SaidOf d c.book t r) (sym z.1) (said_of d c m u.right t)) old.rows new.rows s.rows h
+said d c t old new (Ok y) s h = tells_so {R = λ m n. (n ≡ m) × (y ≡ reply_seen c.newest t m)} (λ o u. IfSome o (IsSafe d c) → IfSome o (λ m. SaidOf d c.book t y)) (λ h. tt)
+    (λ m n z u. subst (λ (r : ReplySeen). SaidOf d c.book t r) (sym z.1) (said_less d c m u.has t)) old.rows new.rows s.rows h
+
+-- ---- where no row was removed, the row of a ticket that was issued is there
+outcome_there : (o : Option Outcome) → outcome_seen o ≡ Gone → ⊥
+outcome_there None is = cc
+outcome_there (Some o) is = cc
+
+row_there : (r : Option Row) → is_some r ≡ true → row_seen r ≡ Gone → ⊥
+row_there None there is = cc
+row_there (Some (Intent i)) there is = outcome_there i.outcome is
+row_there (Some r) there is = cc
+
+pub reply_there : (d : Deployment) (c : Core) (m : Rows) → Right d c m → (t : ℕ) → reply_seen c.newest t m ≡ Gone → ⊥
+reply_there d c m h t is = by_ticket (is_unknown c.newest t) refl is
+  where
+    by_ticket : (b : Bool) → is_unknown c.newest t ≡ b → (if b then Unknown else row_seen (map.get m (root_key t))) ≡ Gone → ⊥
+    by_ticket true known is = cc
+    by_ticket false known is = row_there (map.get m (root_key t)) (h.tickets t ∙ issued_if t c.newest known) is
+
+pub not_gone : (d : Deployment) (c : Core) (t : ℕ) (old new : TableState) (x : Result ReplySeen OpenErr)
+    → Reads (λ m y. y ≡ reply_seen c.newest t m) old new x → IsSome old.rows → IfSome old.rows (Upkeep d c) → IfOk x (λ y. y ≡ Gone → ⊥)
+not_gone d c t old new (Err w) s some h = tt
+not_gone d c t old new (Ok y) s some h = tells_so {R = λ m n. (n ≡ m) × (y ≡ reply_seen c.newest t m)} (λ o u. IsSome o → IfSome o (Upkeep d c) → y ≡ Gone → ⊥) (λ some. let clash : false ≡ true = some in cc)
+    (λ m n z some u is. reply_there d c m u.right t (sym z.1 ∙ is)) old.rows new.rows s.rows some h

@@ -4,11 +4,12 @@ use Rattle.beldi_value.specs.declared.place.Place.{Place}
 use Rattle.beldi_row.specs.{Key.at_row, Key.row_of, Table.Along, Table.LeadsOn, Table.PassesOn, Table.PassesTold}
 use Rattle.beldi_walk.specs.Query.{told_by}
 use Rattle.beldi_core.specs.{Parts.IsWalk, Parts.WalkTold, Parts.strode, Runs.walked_in}
-use Rattle.beldi_step.{proofs.Forward.key_here, proofs.Forward.key_twice, proofs.Forward.run_twice, proofs.PutRun.put_self, proofs.PutRun.put_twice, proofs.Stride.walks_on, specs.Host.EventBy, specs.Host.put_run, specs.Host.turn_next}
+use Rattle.beldi_row.proofs.Keys.{key_here, key_twice}
+use Rattle.beldi_step.{proofs.Forward.run_twice, proofs.PutRun.put_self, proofs.PutRun.put_twice, proofs.Stride.walks_on, specs.Host.EventBy, specs.Host.put_run, specs.Host.turn_next}
 use Rattle.beldi_step.specs.Stride.{WalkedOn, walked, walking}
 use Rattle.beldi_step.specs.declared.run.{Walking.Walking}
 use Rattle.beldi_host.specs.Stride.{Passes, Strides, Strode, just_acted}
-use Rattle.beldi_host.proofs.Names.{Core, Deployment, None, Ok, Option, Rows, Run, RowKey, Seen, Some, TableState, Turn, Upkeep, IfSome, ap, append-nil, arith, asks, at_once, count_changes, counted, ended_run, false, heard, if◌then◌else◌, is_halt, keeps_upkeep, most_events, nat_lt, not, open_plan, plan, plan_of, refl, run_asks, run_next, run_plan, subst, suc, sym, true, zero, ℕ, ◌&&◌, ◌+◌, ◌<◌, ◌∙◌, ◌≡◌, ◌≤◌}
+use Rattle.beldi_host.proofs.Names.{Core, Deployment, EventOn, EventsKeepSafe, IsSafe, None, Ok, Option, Rows, Run, RowKey, Seen, Some, TableState, Turn, Upkeep, IfSome, ap, append-nil, arith, asks, at_once, count_changes, counted, ended_run, false, heard, if◌then◌else◌, is_halt, keeps_upkeep, most_events, nat_lt, not, open_plan, plan, plan_of, refl, run_asks, run_next, run_plan, subst, suc, sym, true, zero, ℕ, ◌&&◌, ◌+◌, ◌<◌, ◌∙◌, ◌≡◌, ◌≤◌}
 use Rattle.beldi_host.proofs.Names.map
 
 -- the core after so many turns, in which the run came to this row
@@ -82,11 +83,14 @@ pub strides_so : (d : Deployment) (i most : ℕ) (c : Core) (t : TableState) (n 
 strides_so d i most c t n b some fits h = strides_told d t.room t.faults i most c h.walk b n some fits t.rows h.walks h.passes
 
 -- ---- what it keeps
-module _ (d : Deployment) (room faults i : ℕ) where
-  keeps_on : (m : Rows) (n : ℕ) (c z : Core) → Strides d room faults i n c z m → Upkeep d c m → Upkeep d z m
-  keeps_on m zero c z same u = subst (λ k. Upkeep d k m) (sym same) u
-  keeps_on m (suc n) c z h u = keeps_on m n h.0 z h.2 (keeps_upkeep d room faults faults (Turn i) c h.0 m m (Ok just_acted) u h.1.event)
+module _ (d : Deployment) (room faults i : ℕ) (m : Rows) where
+  along : (P : Core → Type 0) → ((c b : Core) → EventOn d room faults faults (Turn i) c m b m (Ok just_acted) → P c → P b) → (n : ℕ) (c z : Core) → Strides d room faults i n c z m → P c → P z
+  along P keeps zero c z same h = subst P (sym same) h
+  along P keeps (suc n) c z s h = along P keeps n s.0 z s.2 (keeps c s.0 s.1.event h)
 
-  pub strides_keep : (n : ℕ) (c z : Core) (told : Option Rows) → IfSome told (Strides d room faults i n c z) → IfSome told (Upkeep d c) → IfSome told (Upkeep d z)
-  strides_keep n c z None h u = u
-  strides_keep n c z (Some m) h u = keeps_on m n c z h u
+pub strides_keep : EventsKeepSafe → (d : Deployment) (room faults i n : ℕ) (c z : Core) (told : Option Rows) → IfSome told (Strides d room faults i n c z) → (IfSome told (IsSafe d c) → IfSome told (IsSafe d z)) × (IfSome told (Upkeep d c) → IfSome told (Upkeep d z))
+strides_keep keeps_safe d room faults i n c z None s = (λ h. h, λ h. h)
+strides_keep keeps_safe d room faults i n c z (Some m) s = (
+  along d room faults i m (λ k. IsSafe d k m) (λ b a on h. (keeps_safe d room faults faults (Turn i) b a m m (Ok just_acted) h on).0) n c z s,
+  along d room faults i m (λ k. Upkeep d k m) (λ b a on h. keeps_upkeep d room faults faults (Turn i) b a m m (Ok just_acted) h on) n c z s,
+)

@@ -10,6 +10,7 @@ use Rattle.beldi_step.specs.{declared.event.Event.Event, declared.event.Seen.See
 use Rattle.beldi_known.specs.Stands.{Stands}
 use Rattle.beldi_laws.specs.OneAnswer.{OneAnswerPerStep, AnswersStay}
 use Rattle.beldi_upkeep.specs.Upkeep.{Upkeep}
+use Rattle.beldi_kept.specs.{Safe.IsSafe, Stands.OneAnswerLess, Stands.StandsLess}
 use Rattle.beldi_host.specs.{declared.host.Host.Host, declared.survey.ReplySeen.ReplySeen, Host.core_of, Said.SaidOf}
 
 -- an event of a live run that is past its deadline leaves the table, and ends the run
@@ -21,6 +22,10 @@ EndsLate e c b old new r = (i : ℕ) (run : Run) → c.taken < most_events → c
 abbrev pub RowsStandFor : Deployment → List Entry → Option Rows → Type 0
 RowsStandFor d book told = IfSome told (λ m. (p : PlainState) → run_of d book ≡ Some p → Stands d m p)
 
+-- .. as far as rows tell it of which some may be gone
+abbrev pub RowsStandLess : Deployment → List Entry → Option Rows → Type 0
+RowsStandLess d book told = IfSome told (λ m. (p : PlainState) → run_of d book ≡ Some p → (latest : ℕ) × StandsLess d latest m p)
+
 -- the table tells no rows, or it has none
 abbrev pub HasNoRows : Option Rows → Type 0
 HasNoRows told = IfSome told (λ m. m ≡ map.empty)
@@ -30,9 +35,17 @@ module _ {T : Type 0} {G : Ghosts T} where
   abbrev pub rows_of : Host T G → Option Rows
   rows_of h = (G.state h.table).rows
 
-  -- the host and its rows are right, and keep what is kept beside
+  -- the host and its rows are right, where no row was removed, and keep what is kept beside
+  abbrev pub IsWhole : Host T G → Type 0
+  IsWhole h = IfSome (rows_of h) (Upkeep h.code (core_of h))
+
+  -- .. where rows of intents that are old may be gone, and the log collectors are about to remove no other
   abbrev pub IsRight : Host T G → Type 0
-  IsRight h = IfSome (rows_of h) (Upkeep h.code (core_of h))
+  IsRight h = IfSome (rows_of h) (IsSafe h.code (core_of h))
+
+  -- the second host is so where the first one is
+  abbrev pub StaysRight : Host T G → Host T G → Type 0
+  StaysRight h k = (IsRight h → IsRight k) × (IsWhole h → IsWhole k)
 
   -- its rows are told
   abbrev pub HasRows : Host T G → Type 0
@@ -46,9 +59,17 @@ module _ {T : Type 0} {G : Ghosts T} where
   abbrev pub RowsStand : Host T G → Type 0
   RowsStand h = RowsStandFor h.code (core_of h).book (rows_of h)
 
+  -- .. as far as they tell it where some are gone
+  abbrev pub RowsLeftStand : Host T G → Type 0
+  RowsLeftStand h = RowsStandLess h.code (core_of h).book (rows_of h)
+
   -- each step of an instance, also inside a transaction, has one answer, whichever run asks for it: the one that the rows hold
   abbrev pub HasOneAnswerPerStep : Host T G → Type 0
   HasOneAnswerPerStep h = IfSome (rows_of h) (λ m. (p : PlainState) → run_of h.code (core_of h).book ≡ Some p → OneAnswerPerStep h.code (core_of h) m p)
+
+  -- .. where some rows are gone, each step of one whose rows are there
+  abbrev pub FreshHaveOneAnswer : Host T G → Type 0
+  FreshHaveOneAnswer h = IfSome (rows_of h) (λ m. (p : PlainState) → run_of h.code (core_of h).book ≡ Some p → (latest : ℕ) × OneAnswerLess h.code (core_of h) latest m p)
 
   -- the answers that the first one's rows hold are held by the second one's
   abbrev pub AnswersAreKept : Host T G → Host T G → Type 0

@@ -5,9 +5,9 @@ use Rattle.beldi_book.specs.declared.entry.Entry.{Entry}
 use Rattle.beldi_plain.specs.Replies.{HasNoReply, HasReply}
 use Rattle.beldi_host.specs.declared.survey.ReplySeen.{ReplySeen, TheVariants.Unknown, TheVariants.Gone, TheVariants.Waiting, TheVariants.Reply}
 
--- what is said of a reply is so in the run of the book; the row of a ticket that was issued is never absent
+-- what is said of a reply is so in the run of the book; where the row of a ticket that was issued is gone, nothing is said
 abbrev pub SaidOf : Deployment → List Entry → ℕ → ReplySeen → Type 0
 SaidOf d book t Unknown = HasNoReply d book t
-SaidOf d book t Gone = ⊥
+SaidOf d book t Gone = Unit {0}
 SaidOf d book t Waiting = HasNoReply d book t
 SaidOf d book t (Reply o) = HasReply d book t o

@@ -1,12 +1,15 @@
 // The host: the one place where an event touches the table.
-ghost use Rattle.std.specs.Prelude.{◌≡◌, ◌+◌, ◌++◌, ◌≤◌, ◌^◌, ◌↔◌, IsTrue, true, false, IfOk, IfErr, IfSome, OnOk, OnErr};
+ghost use Rattle.std.specs.Prelude.{◌≡◌, ◌+◌, ◌++◌, ◌≤◌, ◌^◌, ◌↔◌, IsTrue, true, false, Ok, IfOk, IfErr, IfSome, OnOk, OnErr};
+ghost use Rattle.beldi_step.specs.Prunes.{pruned_by};
 
 use crate::survey::{OpenErr, ReplySeen, ahead, find_newest, list_tables, prepare, read_reply};
 use beldi_book::Book;
 use beldi_check::Checked;
 use beldi_core::{HostCore, MOST_EVENTS, Pending, Planned, Runs};
-use beldi_row::{Act, RowKey, Table};
-use beldi_step::{Event, Seen, Walking};
+use beldi_kept::an_event_keeps_the_collectors_safe;
+use beldi_prune::{Collectors, GcSays};
+use beldi_row::{Act, RowKey, Table, TableErr};
+use beldi_step::{Event, Pruned, Seen, Walking};
 use beldi_value::{Str, or_drop};
 use beldi_walk::{Heard, Query};
 use std::alloc::{AllocError, Global};
@@ -26,9 +29,11 @@ impl<T: Table> Host<T> {
     ghost use Rattle.beldi_check.specs.Keeps.{KeepsRules};
     ghost use Rattle.beldi_step.specs.Host.{StepBy, Stepped, last_moment, most_events, reads_all};
     ghost use Rattle.beldi_step.specs.declared.event.Event.TheVariants as events;
+    ghost use Rattle.beldi_step.specs.declared.event.Pruned.TheVariants.{Removed};
+    ghost use Rattle.beldi_step.specs.Prunes.{Prunes};
     ghost use Rattle.beldi_step.specs.Tables.{tables_text};
     ghost use Rattle.beldi_host.specs.Survey.{Opened, PassesToldOpen, Refused, NewestAt, Reads, reply_seen, is_unknown};
-    ghost use Rattle.beldi_host.specs.declared.survey.ReplySeen.TheVariants.{Unknown};
+    ghost use Rattle.beldi_host.specs.declared.survey.ReplySeen.TheVariants.{Gone, Unknown};
     ghost use Rattle.beldi_core.specs.Runs.{IsLeastPast};
     ghost use Rattle.beldi_walk.specs.declared.query.Query.TheVariants as queries;
     ghost use Rattle.beldi_host.specs.Host.{core_of};
@@ -36,7 +41,7 @@ impl<T: Table> Host<T> {
     ghost use Rattle.beldi_step.specs.Next.{at_key, next_run, reset};
     ghost use Rattle.beldi_core.specs.Parts.{core_in, Ready, Asked};
     ghost use Rattle.beldi_laws.specs.Laws.{is_gone};
-    ghost use Rattle.beldi_host.specs.Right.{EndsLate, IsRight, HasLegalBook, AnswersAreKept, HasRows, ListsRun, TellsRun, HasNoRows, RowsStandFor};
+    ghost use Rattle.beldi_host.specs.Right.{EndsLate, IsRight, IsWhole, StaysRight, HasLegalBook, AnswersAreKept, HasRows, ListsRun, TellsRun, HasNoRows, RowsStandFor, RowsStandLess};
 
     /// Opens a host over a table whose rows it keeps: sets the table's room, and reads all rows to find the newest ticket and
     /// the greatest moment, so that it goes on where an earlier session ended. Its moment, in ticks, is that one, or `now` where
@@ -51,7 +56,7 @@ impl<T: Table> Host<T> {
         ensures ok { IfOk result (λ h. Opened code h.code now (T.state table) (T.state h.table) (core_of h)) }
         ensures err { IfErr result (λ e. Refused (T.state table) (T.state e.0) e.1) }
         ensures newest { IfOk result (λ h. NewestAt (T.state table).rows h.core.newest) }
-        ensures right { IfOk result (λ h. HasNoRows (T.state table).rows → IsRight h) }
+        ensures right { IfOk result (λ h. HasNoRows (T.state table).rows → IsRight h × IsWhole h) }
     {
         match prepare(alloc, code.code().room, &mut table) {
             Ok(left) => Ok(Host {
@@ -65,6 +70,7 @@ impl<T: Table> Host<T> {
                     cursor: RowKey::least(alloc),
                     taken: 0,
                     shut: false,
+                    collectors: Collectors::new(alloc),
                 },
                 table,
             }),
@@ -75,7 +81,8 @@ impl<T: Table> Host<T> {
     /// Gives the table back.
     pub fn close(self) -> T
         ensures table { result ≡ self.table }
-        ensures stands { IsRight self → RowsStandFor self.code (core_of self).book (T.state result).rows }
+        ensures stands { IsWhole self → RowsStandFor self.code (core_of self).book (T.state result).rows }
+        ensures stands_less { IsRight self → RowsStandLess self.code (core_of self).book (T.state result).rows }
     {
         let Host { code, core, table } = self;
         drop(code);
@@ -133,9 +140,10 @@ impl<T: Table> Host<T> {
         ensures core { core_of self.new ≡ reset (core_of self.old) }
         ensures table { self.new.table ≡ self.old.table }
         ensures code { self.new.code ≡ self.old.code }
-        ensures right { IsRight self.old → IsRight self.new }
+        ensures right { StaysRight self.old self.new }
     {
-        self.core.cursor = RowKey::least(self.core.alloc);
+        let least = RowKey::least(self.core.alloc);
+        drop(replace(&mut self.core.cursor, least));
     }
 
     /// Sets the intent collector forward over rows that are of no open intent, where the table tells them.
@@ -144,7 +152,7 @@ impl<T: Table> Host<T> {
         ensures passes { PassesToldOpen (T.state self.old.table).rows (core_of self.old).cursor (core_of self.new).cursor }
         ensures table { self.new.table ≡ self.old.table }
         ensures code { self.new.code ≡ self.old.code }
-        ensures right { IsRight self.old → IsRight self.new }
+        ensures right { StaysRight self.old self.new }
     {
         if let Some(key) = ahead(self.core.alloc, &self.table, &self.core.cursor) {
             drop(replace(&mut self.core.cursor, key));
@@ -157,7 +165,7 @@ impl<T: Table> Host<T> {
         ensures err { OnErr result (out.new ≡ out.old) }
         ensures core { core_of self.new ≡ core_of self.old }
         ensures code { self.new.code ≡ self.old.code }
-        ensures right { IsRight self.old → IsRight self.new }
+        ensures right { StaysRight self.old self.new }
         ensures listing { IsRight self.old → OnOk result (ListsRun self.old out.old out.new) }
     {
         self.list(out)
@@ -190,8 +198,9 @@ impl<T: Table> Host<T> {
         ensures untouched { is_unknown self.old.core.newest ticket ≡ true → T.state self.new.table ≡ T.state self.old.table }
         ensures core { core_of self.new ≡ core_of self.old }
         ensures code { self.new.code ≡ self.old.code }
-        ensures right { IsRight self.old → IsRight self.new }
+        ensures right { StaysRight self.old self.new }
         ensures plain { IsRight self.old → IfOk result (λ x. TellsRun self.old ticket x) }
+        ensures there { HasRows self.old → IsWhole self.old → IfOk result (λ x. x ≡ Gone → ⊥) }
     {
         self.look(ticket)
     }
@@ -222,8 +231,9 @@ impl<T: Table> Host<T> {
         ensures none { result ≡ 0 → self.new ≡ self.old }
         ensures table { self.new.table ≡ self.old.table }
         ensures code { self.new.code ≡ self.old.code }
-        ensures right { IsRight self.old → IsRight self.new }
+        ensures right { StaysRight self.old self.new }
     {
+        an_event_keeps_the_collectors_safe();
         let most = most.min(MOST_EVENTS - self.core.taken);
         match self.passes(run, most) {
             Some((turns, row)) => {
@@ -239,6 +249,16 @@ impl<T: Table> Host<T> {
 
     // Over how many rows the walk of a run goes, at most so many, and to which one, as the table tells.
     fn passes(&self, run: u64, most: u64) -> Option<(u64, u32)>
+        ensures { IfSome result (λ x. Passes (core_of self.entry.now) run most x (T.state self.entry.now.table).rows) }
+    {
+        if !self.core.may_walk(run) {
+            return None;
+        }
+        self.walked(run, most)
+    }
+
+    // .. where it may make a walk.
+    fn walked(&self, run: u64, most: u64) -> Option<(u64, u32)>
         ensures { IfSome result (λ x. Passes (core_of self.entry.now) run most x (T.state self.entry.now.table).rows) }
     {
         match self.core.walking(run) {
@@ -261,12 +281,45 @@ impl<T: Table> Host<T> {
     pub fn event(&mut self, event: Event) -> Result<Seen, AllocError>
         ensures step { Stepped self.old.code event (core_of self.old) (core_of self.new) (T.state self.old.table) (T.state self.new.table) result }
         ensures code { self.new.code ≡ self.old.code }
-        ensures right { IsRight self.old → IsRight self.new }
+        ensures right { StaysRight self.old self.new }
         ensures answers_stay { AnswersAreKept self.old self.new }
-        ensures has_rows { HasRows self.old → IsRight self.old → IfOk result (λ x. is_gone x ≡ false) }
+        ensures has_rows { HasRows self.old → IsWhole self.old → IfOk result (λ x. is_gone x ≡ false) }
         ensures in_time { EndsLate event (core_of self.old) (core_of self.new) (T.state self.old.table) (T.state self.new.table) result }
     {
+        an_event_keeps_the_collectors_safe();
         self.step(event)
+    }
+
+    /// Gives the log collector of this number a turn, with at most one call of the table. The turn counts as an event. Out of memory,
+    /// or where the table failed, the rows are as before, and a row that the collector had begun it begins anew.
+    pub fn prune(&mut self, number: u8) -> Result<Pruned, AllocError>
+        ensures prunes { Prunes self.old.code number (core_of self.old) (core_of self.new) (T.state self.old.table) (T.state self.new.table) result }
+        ensures code { self.new.code ≡ self.old.code }
+        ensures right { IsRight self.old → IsRight self.new }
+        ensures whole { IsWhole self.old → (result ≡ Ok Removed → ⊥) → IsWhole self.new }
+    {
+        self.collect(number)
+    }
+
+    // One turn of the definition.
+    fn collect(&mut self, number: u8) -> Result<Pruned, AllocError>
+        ensures prunes { Prunes self.old.code number (core_of self.old) (core_of self.new) (T.state self.old.table) (T.state self.new.table) result }
+        ensures code { self.new.code ≡ self.old.code }
+    {
+        if self.core.taken >= MOST_EVENTS {
+            return Ok(Pruned::Spent);
+        }
+        self.core.taken += 1;
+        if self.core.shut {
+            return Ok(Pruned::Shut);
+        }
+        let life = self.code.code().life;
+        let core = &mut self.core;
+        let table = &mut self.table;
+        let said = core
+            .collectors
+            .turn(number, core.alloc, table, core.newest, life, core.now);
+        pruned(said)
     }
 
     // One step of the definition.
@@ -275,10 +328,10 @@ impl<T: Table> Host<T> {
         ensures code { self.new.code ≡ self.old.code }
     {
         match self.core.plan(self.code.code(), event) {
-            Ok(Planned::Now(answer)) => Ok(answer.seen()),
-            Ok(Planned::Asks(query, pending)) => self.ask(query.into_inner(), pending),
-            Ok(Planned::ReadsAll) => self.halt(),
-            Err(why) => Err(why),
+            Ok(Planned::Now(answer)) => return Ok(answer.seen()),
+            Ok(Planned::Asks(query, pending)) => return self.ask(query.into_inner(), pending),
+            Ok(Planned::ReadsAll) => return self.halt(),
+            Err(why) => return Err(why),
         }
     }
 
@@ -298,11 +351,11 @@ impl<T: Table> Host<T> {
         ensures code { self.new.code ≡ self.old.code }
     {
         match query {
-            Query::Act(key, act) => self.act(key, act, pending),
+            Query::Act(key, act) => return self.act(key, act, pending),
             Query::After(key) => {
                 let seen = self.look_after(&key, pending);
                 drop(key);
-                seen
+                return seen;
             }
         }
     }
@@ -313,8 +366,8 @@ impl<T: Table> Host<T> {
         ensures code { self.new.code ≡ self.old.code }
     {
         match self.table.act(key, act, self.core.now) {
-            Ok(said) => self.core.told(self.code.code(), pending, Heard::Said(said)),
-            Err(why) => self.core.refused(pending, why),
+            Ok(said) => return self.core.told(self.code.code(), pending, Heard::Said(said)),
+            Err(why) => return self.core.refused(pending, why),
         }
     }
 
@@ -329,5 +382,18 @@ impl<T: Table> Host<T> {
                 .told(self.code.code(), pending, Heard::Found(found)),
             Err(why) => self.core.refused(pending, why),
         }
+    }
+}
+
+// How a turn of a log collector is answered.
+fn pruned(said: Result<GcSays, TableErr>) -> Result<Pruned, AllocError>
+    ensures { result ≡ pruned_by said }
+{
+    match said {
+        Ok(GcSays::Going) => Ok(Pruned::Going),
+        Ok(GcSays::Removed) => Ok(Pruned::Removed),
+        Ok(GcSays::Round) => Ok(Pruned::Round),
+        Err(TableErr::OutOfMemory) => Err(AllocError),
+        Err(_) => Ok(Pruned::Dropped),
     }
 }

@@ -1,9 +1,10 @@
 //! The host: it carries out events over a table, one at a time, and reads the table's rows. Each event is planned, asks the
 //! table at most one thing, and is followed by what the table told (`beldi_core`); only `Host` touches the table.
-//! It stands on `beldi_core`, and on `beldi_laws`, which says what every event keeps. Its
+//! It stands on `beldi_core`, on `beldi_laws`, which says what every event keeps, and on `beldi_kept`, which says that of rows of which
+//! log collectors removed some. Its
 //! definitions: `specs/Host` (the host as the core that events speak of), `specs/Survey` (calls that read the rows), `specs/LastRow`
 //! (what is read of a chain), `specs/Opening` (their errors), `specs/Said` (that what is said of a reply is so), `specs/Stride` (many
-//! turns of a run at once) and `specs/Right` (what the calls keep, and what a right host has).
+//! turns of a run at once) and `specs/Right` (what the calls keep, and what a right or a whole host has).
 //!
 //! Proved:
 //! - `Host::event` is one step of the definition, for every table that keeps the trait's contract; crashes, lost
@@ -16,24 +17,30 @@
 //!   which leaves the table as it was (`untouched`).
 //! - A run that is past its deadline makes no act: its event makes no call of the table, and the run is over (`in_time`).
 //! - What the rows held at a step stays after an event, whether the host is right or not (`answers_stay`).
-//! - Where the host is right and its table tells its rows, no ticket is answered `gone` (`has_rows`).
+//! - `Host::prune` gives a log collector its turn: it is the definition's (`prunes`, `code`), for every table that keeps the trait's contract.
+//! - A host may be whole: no row was removed, and all holds that every event keeps (`IsWhole`). It may be right where rows of intents that are
+//!   old are gone, and no log collector is about to remove another one (`IsRight`). Both are so of a host that was opened over no rows, and
+//!   each is so after `event`, `tables`, `reply`, `ic_reset`, `ic_skip` and `stride` where it was before, also out of memory (`right`). A turn
+//!   of a log collector leaves a right host right (`right`), and a whole one whole where it removed no row (`whole`).
+//! - Where the host is whole and its table tells its rows, no ticket is answered `gone` (`has_rows` of `event`, `there` of `reply`).
 //! - `Host::rows` tells how many rows the table has, as `len` does (`IsCount`).
 //! - `Host::open`, at a moment of at most 2^62, finds the newest ticket, which is the greatest that any key names
 //!   (`newest`), and changes no row (`ok`); where it refuses, it gives the table back (`err`).
 //! - `Host::tables` and `Host::reply` say what the rows say, and change nothing (`reads`, `err`, `unknown`, `core`,
 //!   `code`).
-//! - A host opened over no rows is right, and so are the host and its rows after `event`, `tables` and `reply` where
-//!   they were before, also out of memory (`right`). A right host has a legal book (`right_is_legal`, and `legal` of
-//!   `book`), its rows stand for the book's run (`right_stands`), also in the table that `close` gives back (`stands`), and
-//!   each step of an instance, also inside a transaction, has one answer, whichever of its runs asks: the one that the rows hold
-//!   (`right_has_one_answer`).
+//! - A right host has a legal book (`right_is_legal`, and `legal` of `book`). Where it is whole, its rows stand for the book's run
+//!   (`whole_stands`), also in the table that `close` gives back (`stands`), and each step of an instance, also inside a transaction, has
+//!   one answer, whichever of its runs asks: the one that the rows hold (`whole_has_one_answer`). Where it is right, so it is of the rows
+//!   that are left; but of a transaction whose decision is absent they tell only where its owner's row is there and was not old
+//!   (`right_stands_less`, `stands_less` of `close`), and so is an instance's own row, where its steps have one answer
+//!   (`right_has_one_answer_less`).
 //! - Where the host is right, the listing of `tables` is that of the run (`listing`), and what `reply` tells is the
-//!   outcome that the root has in the run, or none (`plain`).
+//!   outcome that the root has in the run, or none, or that its row is gone (`plain`).
 //! - `next_run` is the least live run past a number (`IsLeastPast`); `ic_reset` sets the intent collector before all rows, and `ic_skip` to
 //!   a key, where it stood or past rows that are of no open intent, as far as the table's rows are told (`passes`). Both make no event,
-//!   leave the table as it was, and keep a right host right (`right`).
+//!   and leave the table as it was.
 //! - `Host::stride` gives a run that walks along an item's rows many turns at once, where the table tells how far it goes: it is so many
-//!   events, one after another, each with the same answer (`strides`), it counts them (`taken`), and keeps a right host right (`right`).
+//!   events, one after another, each with the same answer (`strides`), and it counts them (`taken`).
 //!
 //! Files:
 //! - Code (`src/`): `host` the host over its table; `survey` reads the rows, `last_row` those of a chain; `laws` what a right host
@@ -52,5 +59,8 @@ mod survey;
 
 pub use beldi_core::LAST_MOMENT;
 pub use host::Host;
-pub use laws::{right_has_one_answer, right_is_legal, right_stands};
+pub use laws::{
+    right_has_one_answer_less, right_is_legal, right_stands_less, whole_has_one_answer,
+    whole_stands,
+};
 pub use survey::{OpenErr, ReplySeen};

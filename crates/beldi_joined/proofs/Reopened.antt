@@ -2,7 +2,7 @@
 use Rattle.std.specs.Prelude.{ℕ, ◌≡◌, List, [], max, Some, refl}
 use Rattle.std.specs.{FinMap.get-empty, Ordering.nat_cmp}
 use Rattle.std.specs.FinMap as map
-use Rattle.std.proofs.Common.{subst, sym, ◌∙◌}
+use Rattle.std.proofs.Common.{ap, subst, sym, ◌∙◌}
 use Rattle.beldi_tree.specs.declared.deployment.Deployment.{Deployment}
 use Rattle.beldi_book.specs.{declared.entry.Entry.Entry, Order.count_changes}
 use Rattle.beldi_row.specs.{Key.RowKey, Table.Rows}
@@ -10,6 +10,7 @@ use Rattle.beldi_step.specs.{Host.Core, Host.first_core, Host.newest_of, Next.at
 use Rattle.beldi_laws.specs.Right.{Right}
 use Rattle.beldi_laws.proofs.{Lives.runs_none, Moves.with_runs, Newest.newest_named}
 use Rattle.beldi_upkeep.specs.Upkeep.{Upkeep}
+use Rattle.beldi_kept.{proofs.Collecting.safe_at_first, proofs.Newest.newest_is, specs.Kept.HasKept, specs.Safe.IsSafe}
 use Rattle.beldi_host.specs.Survey.{latest_of, opened_core}
 use Rattle.beldi_joined.specs.Joined.{behind, joined, reopened}
 use Rattle.beldi_joined.proofs.{Books.joined_nothing, Books.nothing_joined, RaisedRuns.empty_raised, RaisedRuns.none_raised}
@@ -46,6 +47,30 @@ opens_upkept d c m now u = subst (λ z. Upkeep d z m) (sym (opened_behind c.book
 
 pub opened_upkept : (d : Deployment) (c : Core) (m : Rows) (now : ℕ) → Upkeep d c m → Upkeep d (behind c.book (opened_core m now)) m
 opened_upkept d c m now u = opens_upkept d c m (max now (latest_of m)) u
+
+-- .. also over rows of which some are gone
+module _ (d : Deployment) (c : Core) (m : Rows) (h : HasKept d c m) where
+  abbrev reopened_kept : (now : ℕ) → HasKept d (reopened c.newest c.book now) m
+  reopened_kept now = record {
+    kept = h.kept;
+    upkeep = reopened_upkept d c h.kept now h.upkeep;
+    gone = h.gone;
+    less = h.less;
+    latest = h.latest;
+    over = h.over;
+    spared = λ n r i is. absurd (no_run n r is);
+    newest = h.newest;
+  }
+
+  abbrev Safe : Core → Type 0
+  Safe z = (g : IsSafe d z m) × (g.has.latest ≡ h.latest)
+
+  reopened_safe : (now : ℕ) → Safe (reopened c.newest c.book now)
+  reopened_safe now = let g = safe_at_first d (reopened c.newest c.book now) m (reopened_kept now) refl in (g.0, ap (λ z. z.latest) g.1)
+
+  pub opened_safe : (now : ℕ) → Safe (behind c.book (opened_core m now))
+  opened_safe now = let t = max now (latest_of m) in
+      subst Safe (sym (opened_behind c.book (newest_of m) t)) (subst (λ n. Safe (reopened n c.book t)) (sym (newest_is d c m h)) (reopened_safe t))
 
 -- .. and over those that a session left which was itself behind others
 pub opens_again : (d : Deployment) (base : List Entry) (c : Core) (m : Rows) (now : ℕ) → Right d (behind base c) m → Right d (behind (joined base c.book) (first_core (newest_of m) now)) m

@@ -4,9 +4,10 @@ use Rattle.std.specs.declared.alloc.AllocError.{AllocError}
 use Rattle.beldi_tree.specs.declared.deployment.Deployment.{Deployment}
 use Rattle.beldi_book.specs.{declared.entry.Entry.Entry, Order.count_changes}
 use Rattle.beldi_row.specs.Table.{Rows}
-use Rattle.beldi_step.specs.{declared.event.Event.Event, declared.event.Seen.Seen, Host.Core, Host.EventOn, Host.last_moment, Host.newest_of}
+use Rattle.beldi_step.specs.{declared.event.Event.Event, declared.event.Pruned.Pruned, declared.event.Seen.Seen, Host.Core, Host.EventOn, Host.last_moment, Host.newest_of, Prunes.PrunesOn}
 use Rattle.beldi_laws.specs.Right.{Right}
 use Rattle.beldi_upkeep.specs.Upkeep.{Upkeep}
+use Rattle.beldi_kept.specs.{Kept.HasKept, Safe.IsSafe}
 use Rattle.beldi_schedule.specs.{Settle.first_at, Settle.go_on, Settles.Settles, Settles.State, declared.machine.Settled.Settled, declared.machine.Standing.TheVariants.Over}
 use Rattle.beldi_bound.specs.Ends.{Promises, Sound}
 use Rattle.beldi_host.specs.Survey.{opened_core}
@@ -24,6 +25,10 @@ ReopenedIsUpkept = (d : Deployment) (c : Core) (m : Rows) (now : ℕ) → Upkeep
 abbrev pub OpenedIsUpkept : Type 0
 OpenedIsUpkept = (d : Deployment) (c : Core) (m : Rows) (now : ℕ) → Upkeep d c m → Upkeep d (behind c.book (opened_core m now)) m
 
+-- .. also over rows of which some are gone: the same ones are gone then, and its log collectors are about to remove none
+abbrev pub OpenedIsSafe : Type 0
+OpenedIsSafe = (d : Deployment) (c : Core) (m : Rows) (now : ℕ) (h : HasKept d c m) → (g : IsSafe d (behind c.book (opened_core m now)) m) × (g.has.latest ≡ h.latest)
+
 -- .. and stays so by every event, behind the same book
 abbrev pub StaysUpkeptBehind : Type 0
 StaysUpkeptBehind = (d : Deployment) (base : List Entry) (room old new : ℕ) (e : Event) (c b : Core) (m n : Rows) (r : Result Seen AllocError) → Upkeep d (behind base c) m → EventOn d room old new e c m b n r → Upkeep d (behind base b) n
@@ -36,6 +41,10 @@ NewestIsInTheRows = (d : Deployment) (c : Core) (m : Rows) → Right d c m → n
 abbrev pub StepsOverLongerBook : Type 0
 StepsOverLongerBook = (d : Deployment) (base : List Entry) (room old new : ℕ) (e : Event) (c b : Core) (m n : Rows) (r : Result Seen AllocError) → EventOn d room old new e c m b n r
     → EventOn d room old new e (behind base c) m (behind base b) n (raised_answer (count_changes base) r)
+
+-- .. and so does a turn of a log collector
+abbrev pub PrunesOverLongerBook : Type 0
+PrunesOverLongerBook = (d : Deployment) (base : List Entry) (old new k : ℕ) (c b : Core) (m n : Rows) (r : Result Pruned AllocError) → PrunesOn d old new k c m b n r → PrunesOn d old new k (behind base c) m (behind base b) n r
 
 -- a settling after other sessions keeps its promises, by the book of them all
 abbrev pub SettlesAsPromisedAfter : Type 0

@@ -1,5 +1,5 @@
 // The laws of sessions one after another.
-ghost use Rattle.beldi_joined.specs.Laws.{ReopenedIsRight, ReopenedIsUpkept, OpenedIsUpkept, StaysUpkeptBehind, NewestIsInTheRows, StepsOverLongerBook, SettlesAsPromisedAfter};
+ghost use Rattle.beldi_joined.specs.Laws.{NewestIsInTheRows, OpenedIsSafe, OpenedIsUpkept, PrunesOverLongerBook, ReopenedIsRight, ReopenedIsUpkept, SettlesAsPromisedAfter, StaysUpkeptBehind, StepsOverLongerBook};
 
 use beldi_bound::settlings_are_as_promised;
 
@@ -18,6 +18,12 @@ pub fn an_opened_host_is_upkept_behind()
     ensures { OpenedIsUpkept }
 {}
 
+/// So has one that is opened over rows of which some are gone what is kept then; the same ones are gone, and its log collectors are about to
+/// remove none.
+pub fn an_opened_host_is_safe_behind()
+    ensures { OpenedIsSafe }
+{}
+
 /// It has it so after every event.
 pub fn a_host_stays_upkept_behind()
     ensures { StaysUpkeptBehind }
@@ -31,6 +37,11 @@ pub fn the_newest_ticket_is_in_the_rows()
 /// What an event does to a host and its rows, it does to that host behind a longer book, and to the same rows.
 pub fn a_step_over_a_longer_book()
     ensures { StepsOverLongerBook }
+{}
+
+/// What a turn of a log collector does to a host and its rows, it does to that host behind a longer book, and to the same rows.
+pub fn a_pruning_over_a_longer_book()
+    ensures { PrunesOverLongerBook }
 {}
 
 /// A settling of a host that is right behind the book of earlier sessions keeps its promises, by their book and its own.

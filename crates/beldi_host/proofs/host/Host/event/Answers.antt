@@ -1,8 +1,12 @@
-use Rattle.beldi_host.proofs.{Names.rules, Right.event_keeps, Right.event_stays, Right.never_gone, Right.ends_late}
+use Rattle.beldi_host.proofs.{Names.core_of, Names.rules, Right.event_keeps, Right.event_stays, Right.never_gone, Right.ends_late}
 use Rattle.beldi_host.proofs.host.Host.event.Goals as goal
 
 pub returns-clause-right : goal.returns-clause-right
-returns-clause-right g c = search (rules, event_keeps)
+returns-clause-right g c =
+    let t = g.T.Table in
+    let h = c.args.self.now in
+    let k = c.step.new.self in
+    event_keeps h.code c.args.event (core_of h) (core_of k) (t.state h.table) (t.state k.table) c.step.result c.step.ensures.step c.an_event_keeps_the_collectors_safe.ensures k.code c.step.ensures.code
 
 pub returns-clause-answers_stay : goal.returns-clause-answers_stay
 returns-clause-answers_stay g c = search (rules, event_stays)

@@ -17,4 +17,4 @@ pub returns-else-turns-most-clause-right : goal.returns-else-turns-most-clause-r
 returns-else-turns-most-clause-right g c =
     let old = c.args.self.now in
     let t = g.T.Table.state old.table in
-    strides_keep old.code t.room t.faults c.args.run c.in-Some.turns (core_of old) (core_in c.stride.new.self) t.rows (returns-else-turns-most-clause-strides g c)
+    strides_keep c.an_event_keeps_the_collectors_safe.ensures old.code t.room t.faults c.args.run c.in-Some.turns (core_of old) (core_in c.stride.new.self) t.rows (returns-else-turns-most-clause-strides g c)

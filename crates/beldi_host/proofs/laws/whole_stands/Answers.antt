@@ -1,5 +1,5 @@
 use Rattle.beldi_host.proofs.{Names.rules, Right.stands_at}
-use Rattle.beldi_host.proofs.laws.right_stands.Goals as goal
+use Rattle.beldi_host.proofs.laws.whole_stands.Goals as goal
 
 pub returns : goal.returns
 returns g c = search (rules, stands_at)
