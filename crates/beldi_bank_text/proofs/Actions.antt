@@ -1,5 +1,5 @@
 -- What a session carries out of generated work.
-use Rattle.std.proofs.Common.{arith, ◌≡◌, ℕ, zero, suc, ◌<◌, ◌+◌, ◌%◌, ◌^◌, ◌++◌, ◌&&◌, append_assoc, codes, Bool, true, false, List, [], ◌∷◌, Result, None, Ok, Err, refl, ap, subst, sym, ◌∙◌, if◌then◌else◌}
+use Rattle.std.proofs.Common.{arith, ◌≡◌, ℕ, zero, suc, ◌<◌, ◌+◌, ◌%◌, ◌^◌, ◌++◌, ◌&&◌, append_assoc, codes, Bool, true, List, [], ◌∷◌, Result, None, Ok, Err, refl, ap, subst, sym, ◌∙◌}
 use Rattle.std.proofs.lemmas.{Nat.mod_below}
 use Rattle.std.proofs.Transfers.{drop-appended}
 use Rattle.beldi_value.specs.declared.value.Value.{Value}
@@ -7,7 +7,7 @@ use Rattle.beldi_check.specs.Calls.{through}
 use Rattle.beldi_script.specs.{Cut.lines_of, Line.line_at, declared.line.Line.Line, declared.line.ScriptErr.ScriptErr}
 use Rattle.beldi_generator.specs.Generated.{bank, fate_text, fifth, request_of, request_text, requests_from, transfer_text}
 use Rattle.beldi_bank.specs.Bank.{bank_code, IsTransfer}
-use Rattle.beldi_session.specs.{declared.refusal.Cause.Cause, Script.Action, Script.actions_in, Script.actions_of, Script.and_then, Script.is_ok, Script.is_whole, Script.times, Source.accepted, Source.is_built, Source.next, Source.numbered, Source.refusal_at, Source.refusal_in, Source.said_by, Source.source_by}
+use Rattle.beldi_session.specs.{Script.Action, Script.actions_in, Script.actions_of, Script.and_then, Script.is_ok, Script.is_whole, Script.times, Source.accepted, Source.next, Source.numbered, Source.refusal_in, Source.said_by, Source.source_by}
 use Rattle.beldi_bank_text.specs.Text.{AreWork, GeneratedIsTheBank, GeneratedIsWork, IsWork, IsWorkThenListings, bank_source}
 use Rattle.beldi_bank_text.proofs.{Lines.AreOther, Lines.IsOther, Lines.cut, Lines.fate_line, Lines.request_line, Lines.request_printed, Lines.two_lines, Read.text_is_the_bank, Transfers.args_of, Transfers.args_transfer, Transfers.IsOtherLine, Transfers.other_read, Transfers.request_read}
 
@@ -16,7 +16,7 @@ times_work : (n : ℕ) (a : Action) → IsWork a → AreWork (times n a)
 times_work zero a h = tt
 times_work (suc n) a h = (h, times_work n a h)
 
--- of one that is no request and tells nothing
+-- of one that is no request, tells nothing, and is for no log collector
 other_work : (line : Line) → IsOtherLine line → AreWork (actions_of line)
 other_work Line.Blank h = tt
 other_work Line.Ticket h = (tt, tt)
@@ -26,8 +26,8 @@ other_work (Line.Lost r) h = (tt, tt)
 other_work (Line.Crash r) h = (tt, tt)
 other_work (Line.Restart id f) h = (tt, tt)
 other_work (Line.Ic n) h = times_work n _ tt
-other_work (Line.Gc k n) h = tt
-other_work (Line.Sweep k n) h = tt
+other_work (Line.Gc k n) h = absurd h
+other_work (Line.Sweep k n) h = absurd h
 other_work (Line.Settle n) h = (tt, tt)
 other_work (Line.Tick n) h = (tt, tt)
 other_work Line.Halt h = (tt, tt)
@@ -45,11 +45,7 @@ work_ahead (a ∷ actions) more h g = let w = work_ahead actions more h.1 g in (
 line_ahead : (n : ℕ) (r : Result Line ScriptErr) (whole : Bool) (more : List Action)
     → ((line : Line) → r ≡ Ok line → AreWork (actions_of line)) → (whole ≡ true → IsWorkThenListings more) → (is_ok (said_by n r) && whole) ≡ true → IsWorkThenListings (and_then (said_by n r) more)
 line_ahead n (Err e) whole more h g w = cc
-line_ahead n (Ok line) whole more h g w =
-    (elim (is_built line) as (λ built. let said = if built then Ok line else Err (refusal_at Cause.Unbuilt n) in (is_ok said && whole) ≡ true → IsWorkThenListings (and_then said more)) [
-      | true ↦ λ v. work_ahead (actions_of line) more (h line refl) (g v)
-      | false ↦ λ v. cc
-    ]) w
+line_ahead n (Ok line) whole more h g w = work_ahead (actions_of line) more (h line refl) (g w)
 
 -- ---- the actions of a text
 abbrev AreIn : ℕ → List (List ℕ) → Type 0
@@ -88,7 +84,7 @@ one_transfer ticket from to amount line fate rest o t f g h apart more =
     let third = next (next line) in
     let last = other_line third o.first o.second o.bytes (lines_of rest) o.other (more (next third)) in
     let second = transfer_line (next line) ticket (args_of from to amount) asked fated (request_read ticket from to amount t f g h) (args_transfer from to amount apart) last in
-    subst (AreIn line) (sym (lines_are ticket from to amount fate rest o t f g h)) (other_line line 116 105 (codes "cket") (asked ∷ fated) (λ e. omega (arith, e), λ e. omega (arith, e), λ e. omega (arith, e)) second)
+    subst (AreIn line) (sym (lines_are ticket from to amount fate rest o t f g h)) (other_line line 116 105 (codes "cket") (asked ∷ fated) (λ e. omega (arith, e), λ e. omega (arith, e), λ e. omega (arith, e), λ e. omega (arith, e), λ e. omega (arith, e)) second)
 
 one_request : (ticket a b c d e line : ℕ) (rest : List ℕ) → 0 < ticket → ticket < 2 ^ 32 → ((n : ℕ) → AreIn n (lines_of rest)) → AreIn line (lines_of (request_text ticket a b c d e ++ rest))
 one_request ticket a b c d e line rest some small more =
@@ -96,7 +92,7 @@ one_request ticket a b c d e line rest some small more =
     (fate_line (1 + d % ticket) e (omega (arith, mod_below d ticket some)) (omega arith)) small (omega arith) (omega arith) (omega arith) (accounts_differ a b) more
 
 all_requests : (n ticket x line : ℕ) → 0 < ticket → ticket + n < 2 ^ 32 → AreIn line (lines_of (requests_from n ticket x ++ codes "settle 4000000000\n"))
-all_requests zero ticket x line some small = other_line line 115 101 (codes "ttle 4000000000") [] (λ e. omega (arith, e), λ e. omega (arith, e), λ e. omega (arith, e)) (λ w. ([], refl, tt))
+all_requests zero ticket x line some small = other_line line 115 101 (codes "ttle 4000000000") [] (λ e. omega (arith, e), λ e. omega (arith, e), λ e. omega (arith, e), λ e. omega (arith, e), λ e. omega (arith, e)) (λ w. ([], refl, tt))
 all_requests (suc n) ticket x line some small =
     let rest = requests_from n (ticket + 1) (fifth x) ++ codes "settle 4000000000\n" in
     subst (λ t. AreIn line (lines_of t)) (sym (append_assoc (request_of ticket x) (requests_from n (ticket + 1) (fifth x)) (codes "settle 4000000000\n")))

@@ -78,10 +78,10 @@ two_lines ticket from to amount rest f g =
     ∙ ap (λ r. decimal ticket ++ (codes " bank {\"from\":\"a" ++ (48 + from) ∷ (codes "\",\"n\":" ++ r))) (append_assoc (decimal amount) (end_line to ++ 10 ∷ []) rest ∙ sym (append_assoc (decimal amount) (end_line to) (10 ∷ rest)))
     ∙ sym (append_assoc (decimal ticket) (codes " bank " ++ json_line from to amount) (10 ∷ rest)))
 
--- ---- what comes of a run is one line, which is no request and tells nothing
--- with these two bytes begins none of `request`, `reply`, `rows`, `book` and `tables`
+-- ---- what comes of a run is one line, which is no request, tells nothing, and is for no log collector
+-- with these two bytes begins none of `request`, `reply`, `rows`, `book`, `tables`, `gc` and `sweep`
 abbrev pub AreOther : ℕ → ℕ → Type 0
-AreOther first second = (first ≡ 114 → ⊥) × (first ≡ 98 → ⊥) × (second ≡ 97 → ⊥)
+AreOther first second = (first ≡ 114 → ⊥) × (first ≡ 98 → ⊥) × (first ≡ 103 → ⊥) × (second ≡ 97 → ⊥) × (second ≡ 119 → ⊥)
 
 pub record IsOther (text : List ℕ) : Type 0 where
   pub first : ℕ
@@ -96,7 +96,7 @@ crash_line run h = record {
   first = 99;
   second = 114;
   bytes = codes "ash " ++ decimal run;
-  other = (λ e. omega (arith, e), λ e. omega (arith, e), λ e. omega (arith, e));
+  other = (λ e. omega (arith, e), λ e. omega (arith, e), λ e. omega (arith, e), λ e. omega (arith, e), λ e. omega (arith, e));
   shown = number_printed run h;
   is = λ rest. ap (λ r. codes "crash " ++ r) (append_assoc (decimal run) (10 ∷ []) rest);
 }
@@ -106,7 +106,7 @@ turn_line run n h g = record {
   first = 116;
   second = 117;
   bytes = codes "rn " ++ (decimal run ++ (codes " " ++ decimal n));
-  other = (λ e. omega (arith, e), λ e. omega (arith, e), λ e. omega (arith, e));
+  other = (λ e. omega (arith, e), λ e. omega (arith, e), λ e. omega (arith, e), λ e. omega (arith, e), λ e. omega (arith, e));
   shown = joined (decimal run) (codes " " ++ decimal n) (number_printed run h) (number_printed n g);
   is = λ rest. ap (λ r. codes "turn " ++ r) (
       append_assoc (decimal run) (codes " " ++ (decimal n ++ codes "\n")) rest

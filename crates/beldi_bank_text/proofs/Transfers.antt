@@ -97,9 +97,11 @@ args_transfer from to amount h = record {
   is = refl;
 }
 
--- ---- a line that begins otherwise is no request and tells nothing
+-- ---- a line that begins otherwise is no request, tells nothing, and is for no log collector
 abbrev pub IsOtherLine : Line → Type 0
 IsOtherLine (Line.Request ticket f a) = ⊥
+IsOtherLine (Line.Gc k n) = ⊥
+IsOtherLine (Line.Sweep k n) = ⊥
 IsOtherLine (Line.Reply ticket) = ⊥
 IsOtherLine Line.Rows = ⊥
 IsOtherLine Line.Tables = ⊥
@@ -115,14 +117,14 @@ other_form b c bs (Line.Lost run) h form = tt
 other_form b c bs (Line.Crash run) h form = tt
 other_form b c bs (Line.Restart id f) h form = tt
 other_form b c bs (Line.Ic n) h form = tt
-other_form b c bs (Line.Gc k n) h form = tt
-other_form b c bs (Line.Sweep k n) h form = tt
+other_form b c bs (Line.Gc k n) h form = h.2 (ap (λ w. get_or w 0 0) form.3)
+other_form b c bs (Line.Sweep k n) h form = h.4 (ap (λ w. get_or w 1 0) form.2)
 other_form b c bs (Line.Settle n) h form = tt
 other_form b c bs (Line.Tick n) h form = tt
 other_form b c bs Line.Halt h form = tt
 other_form b c bs (Line.Reply ticket) h form = h.0 (ap (λ w. get_or w 0 0) form.1)
 other_form b c bs Line.Rows h form = h.0 (ap (λ w. get_or w 0 0) form)
-other_form b c bs Line.Tables h form = h.2 (ap (λ w. get_or w 1 0) form)
+other_form b c bs Line.Tables h form = h.3 (ap (λ w. get_or w 1 0) form)
 other_form b c bs Line.Book h form = h.1 (ap (λ w. get_or w 0 0) form)
 
 pub other_read : (b c : ℕ) (bs : List ℕ) (line : Line) → AreOther b c → line_at bank_code (b ∷ c ∷ bs) ≡ Ok line → IsOtherLine line

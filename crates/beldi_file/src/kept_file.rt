@@ -3,14 +3,14 @@ use beldi_blobs::{BlobErr, Blobs, Entry, FileBlobs};
 use sqlite::{Alter, File, FileStore};
 use std::alloc::AllocError;
 
-/// A database file, or one that could not be opened: then each call fails. The first put after a keep begins a transaction, and the
-/// next keep commits it.
+/// A database file, or one that could not be opened: then each call fails. The first put or removal after a keep begins a
+/// transaction, and the next keep commits it.
 #[derive(Drop)]
 pub struct KeptFile<S: Alter + Drop> {
     blobs: Option<FileBlobs<S>>,
-    // the puts since the last keep, all in one transaction
+    // the puts and removals since the last keep, all in one transaction
     waiting: u64,
-    // puts that waited are gone: from then on each call fails
+    // changes that waited are gone: from then on each call fails
     lost: bool,
 }
 
@@ -86,18 +86,32 @@ impl<S: Alter + Drop> KeptFile<S> {
         }
     }
 
+    // After a change, which waits from now on where it was made.
+    fn note(&mut self, is_made: bool) {
+        if is_made {
+            self.waiting = self.waiting.saturating_add(1);
+        } else {
+            self.look_after();
+        }
+    }
+
     /// Sets the value at a key; the next keep keeps it.
     pub fn put(&mut self, key: &[u8], value: &[u8]) -> Result<(), BlobErr> {
         self.begin()?;
         let put = self.usable()?.put(key, value);
-        match put {
-            Ok(()) => self.waiting = self.waiting.saturating_add(1),
-            Err(_) => self.look_after(),
-        }
+        self.note(put.is_ok());
         put
     }
 
-    /// Keeps all that was put: the file has it, whatever ends the program. Where it refuses, that is lost, and each later call fails.
+    /// Removes the entry at a key, where there is one; the next keep keeps that.
+    pub fn remove(&mut self, key: &[u8]) -> Result<(), BlobErr> {
+        self.begin()?;
+        let removed = self.usable()?.remove(key);
+        self.note(removed.is_ok());
+        removed
+    }
+
+    /// Keeps all that was put and removed: the file has it, whatever ends the program. Where it refuses, that is lost, and each later call fails.
     pub fn keep(&mut self) -> Result<(), BlobErr> {
         if self.waiting == 0 && !self.lost {
             return Ok(());

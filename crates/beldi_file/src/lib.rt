@@ -5,7 +5,7 @@
 //! keep the contracts of a sink and a link that do not tell, whose failures are counted. That nothing is told that the file may lose is
 //! read in `kept`, and tested (`tests/db`).
 //!
-//! - The first put after a keep begins a transaction of SQLite, and the next keep commits it. `KeptSink` and `KeptLink` keep before each
+//! - The first put or removal after a keep begins a transaction of SQLite, and the next keep commits it. `KeptSink` and `KeptLink` keep before each
 //!   write. So many acts are one commit, and after a crash the file has what it had at a keep: the rows that stood after one of the acts,
 //!   with all that anybody was told of.
 //! - Where a commit fails, or a call that ends the transaction with others waiting in it, these are gone: each later call of the file

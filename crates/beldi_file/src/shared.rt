@@ -36,6 +36,13 @@ impl<S: Alter + Drop> Blobs for SharedBlobs<'_, S> {
         }
     }
 
+    fn remove(&mut self, key: &[u8]) -> Result<(), BlobErr> {
+        match self.file.try_borrow_mut() {
+            Ok(mut file) => file.remove(key),
+            Err(_) => Err(BlobErr::Failed),
+        }
+    }
+
     fn next(&mut self, key: &[u8]) -> Result<Option<Entry>, BlobErr> {
         match self.file.try_borrow_mut() {
             Ok(mut file) => file.next(key),

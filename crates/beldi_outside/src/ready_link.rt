@@ -5,7 +5,7 @@ ghost use Rattle.beldi_outside.specs.Outside.{counted};
 use crate::traits::{Failed, Link};
 use crate::watch::Watch;
 use std::alloc::Global;
-use std::io::Write;
+use std::io::{ErrorKind, Write};
 use std::net::Net;
 use std::time;
 
@@ -21,6 +21,8 @@ pub struct ReadyLink<'a, R: Net + time::Clock, W: Write + Drop> {
     watch: Option<Watch<'a, R>>,
     // The key of the open connection.
     open: Option<usize>,
+    // Whether memory was short when it last refused to listen.
+    short: bool,
     refusals: u64,
     faults: u64,
 }
@@ -37,6 +39,7 @@ impl<'a, R: Net + time::Clock, W: Write + Drop> ReadyLink<'a, R, W> {
             notes,
             watch: None,
             open: None,
+            short: false,
             refusals: 0,
             faults: 0,
         }
@@ -109,8 +112,16 @@ impl<R: Net + time::Clock, W: Write + Drop> Link for ReadyLink<'_, R, W> {
                 self.begin(watch, port);
                 Ok(())
             }
-            Err(_) => Err(self.refuse()),
+            Err(error) => {
+                self.short = error.kind() == ErrorKind::OutOfMemory;
+                drop(error);
+                Err(self.refuse())
+            }
         }
+    }
+
+    fn is_short(&self) -> bool {
+        self.short
     }
 
     fn accept(&mut self) -> Result<(), Failed> {

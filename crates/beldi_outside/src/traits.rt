@@ -57,6 +57,11 @@ pub trait Link {
         ensures cause { HasCause (refusals self.old) (refusals self.new) result }
         ensures later { faults self.old ≤ faults self.new };
 
+    /// Whether memory was short when it last refused to listen. A link need not tell.
+    fn is_short(&self) -> bool {
+        false
+    }
+
     /// Opens the next connection, for which it may wait; one that is open is closed first. `Failed`: there is none, or
     /// the link does not listen; `refusals` has risen.
     fn accept(&mut self) -> Result<(), Failed>

@@ -1,7 +1,9 @@
 -- What the responses to some actions bind, and that the last two of a whole session are the listings.
 use Rattle.std.specs.List.{AllByRecursion}
 use Rattle.beldi_step.{proofs.Runs.either, specs.Told.bound_of, specs.Told.requested}
-use Rattle.beldi_session.specs.Response.{Whole, after_request, goes_on}
+use Rattle.std.specs.Prelude.{nat_lt, ◌+◌}
+use Rattle.beldi_step.specs.declared.event.Pruned.{Pruned}
+use Rattle.beldi_session.specs.{Response.PruneAnswered, Response.PruneBroke, Response.SweptIs, Response.Whole, Response.after_request, Response.goes_on, Script.Prune, Script.Sweep, Script.TellSwept, Script.sweep_at, Script.sweep_heard}
 use Rattle.beldi_program.proofs.Names.{Action, Answered, AreTo, AtFirst, BookIs, BrokeOff, Call, Carry, CountRows, Event, Goes, IsTo, LineRefused, List, ListBook, ListTables, None, Option, Over, Refuse, ReplyAlone, ReplyIs, Reported, Response, RowsAre, Seen, Settle, SettledIs, Some, TablesAre, TellReply, Value, WentBack, WentOn, [], ap, append_assoc, bound_by, bound_in, is_turn, refl, subst, sym, true, ℕ, ◌++◌, ◌∙◌, ◌∷◌, ◌≡◌}
 
 -- ---- what is bound was asked for
@@ -44,6 +46,18 @@ module _ (P : ℕ × Value → Type 0) where
   turn_asks Event.Ic h = tt
   turn_asks e h = cc
 
+  -- nor does what is left of a sweep
+  sweep_at_asks : (k budget n : ℕ) → AsksSo (sweep_at k budget n)
+  sweep_at_asks k budget n = either AsksSo (nat_lt n budget) _ _ (λ h. tt) (λ h. tt)
+
+  sweep_asks : (k budget n : ℕ) (x : Pruned) → AsksSo (sweep_heard k budget n x)
+  sweep_asks k budget n Pruned.Round = tt
+  sweep_asks k budget n Pruned.Going = sweep_at_asks k budget (n + 1)
+  sweep_asks k budget n Pruned.Removed = sweep_at_asks k budget (n + 1)
+  sweep_asks k budget n Pruned.Dropped = sweep_at_asks k budget (n + 1)
+  sweep_asks k budget n Pruned.Shut = sweep_at_asks k budget (n + 1)
+  sweep_asks k budget n Pruned.Spent = sweep_at_asks k budget (n + 1)
+
   asks_left : (a : Action) (y : Response) (left : List Action) → IsTo a y left → AsksSo a → AskSo left × BoundSo (bound_by y)
   asks_left (Carry e) (Answered Whole f x) left h g = (subst AskSo (sym h.1) tt, bound_event f x (subst (λ z. AsksSo (Carry z)) (sym h.0) g))
   asks_left (Carry e) (BrokeOff (Some f)) left h g = (subst AskSo (sym h.1) (g, tt), tt)
@@ -54,6 +68,11 @@ module _ (P : ℕ × Value → Type 0) where
   asks_left (Settle budget (Goes s)) (WentOn k) left h g = (subst AskSo (sym h.1) (tt, tt), tt)
   asks_left (Settle budget (Goes s)) (BrokeOff (Some e)) left h g = (subst AskSo (sym h.2) (tt, tt), tt)
   asks_left (Settle budget (Over r)) (Reported (SettledIs q)) left h g = (subst AskSo (sym h.1) tt, tt)
+  asks_left (Prune k) (PruneAnswered Whole j x) left h g = (subst AskSo (sym h.1) tt, tt)
+  asks_left (Prune k) (PruneBroke j) left h g = (subst AskSo (sym h.1) (tt, tt), tt)
+  asks_left (Sweep k budget n) (PruneAnswered ReplyAlone j x) left h g = (subst AskSo (sym h.1) (sweep_asks k budget n x, tt), tt)
+  asks_left (Sweep k budget n) (PruneBroke j) left h g = (subst AskSo (sym h.1) (tt, tt), tt)
+  asks_left (TellSwept x) (Reported (SweptIs y)) left h g = (subst AskSo (sym h.1) tt, tt)
   asks_left (TellReply t) (Reported (ReplyIs u x)) left h g = (subst AskSo (sym h.1) tt, tt)
   asks_left (TellReply t) (BrokeOff None) left h g = (subst AskSo (sym h) (tt, tt), tt)
   asks_left CountRows (Reported (RowsAre n)) left h g = (subst AskSo (sym h) tt, tt)
@@ -99,6 +118,9 @@ quiet_left (Settle budget (Goes s)) (WentOn k) left h g = (subst (AllByRecursion
 quiet_left (Settle budget (Goes s)) (BrokeOff (Some e)) left h g = (subst (AllByRecursion IsQuiet) (sym h.2) (tt, tt), tt)
 quiet_left (Settle budget (Over r)) (Reported (SettledIs q)) left h g = (subst (AllByRecursion IsQuiet) (sym h.1) tt, tt)
 quiet_left (Call t f v) y left h g = absurd g
+quiet_left (Prune k) y left h g = absurd g
+quiet_left (Sweep k budget n) y left h g = absurd g
+quiet_left (TellSwept x) y left h g = absurd g
 quiet_left (TellReply t) y left h g = absurd g
 quiet_left CountRows y left h g = absurd g
 quiet_left ListTables y left h g = absurd g

@@ -39,7 +39,7 @@ ask_transfers (a ∷ front) h =
     ((one.0, others.0), (one.1, others.1))
 
 -- what is told of the items, by the run of the book at the end
-totals_told : (book : List Entry) (p : PlainState) → run_of bank_code book ≡ Some p → Balanced p → (tables : Option (List ℕ)) (text : List ℕ) → IsReportSo bank_code alone book (TablesAre tables) → IsBalanced (totals_text (lines_of (last_text tables text)))
+totals_told : (book : List Entry) (p : PlainState) → run_of bank_code book ≡ Some p → Balanced p → (tables : Option (List ℕ)) (text : List ℕ) → IsReportSo bank_code alone None book None (TablesAre tables) → IsBalanced (totals_text (lines_of (last_text tables text)))
 totals_told book p run even None text items = inl (ap totals_text (cut_some (codes "dropped\n" ++ (codes "== book\n" ++ text)) (codes "== book\n" ++ text) refl))
 totals_told book p run even (Some listing) text items =
     let l = are_listed p even in

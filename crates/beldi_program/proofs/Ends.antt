@@ -1,7 +1,8 @@
 -- How the program ends.
 use Rattle.std.specs.Prelude.{IfOk}
 use Rattle.beldi_program.proofs.Names.{Accepted, AsRead, BareEnds, Bool, ByStatus, Check, CheckEnds, Command, CommandEnds, Connections, Core, Cut, Deployment, Does, DoneBy, Ended, Ends, Err, Failed, Gen, GeneratedEnds, HasEnded, IsErrOf, IsPrefixOf, Line, List, LongOn, None, NothingDone, Numbered, Ok, OnOk, OpenErr, Opened, Option, OutOfMemory, ReadAllOn, ReadEnds, Refusal, Refused, Result, Rose, Rows, Run, ServeEnds, ServiceEnds, Serving, ServingEnds, SessionEnds, Sight, SinkFault, SinkState, Some, Serve, SourceAsRead, SourceCommandEnds, SourceEnds, State, Stop, SummedUp, TableState, TextEnds, Told, TookFront, Untouched, Vec, WentBy, Whole, WordsAsRead, Writes, WroteOn, [], actions_in, ap, arith, check_at, check_by, counted, counted_on, end_of, false, false≢true, fine, first_line, generated, inl, inr, is_bare_source, is_none, is_ok, is_whole, is_whole_asked, is_whole_by, is_whole_source, kept, kept_faults, length, max_source, new_sink, opened_at, opened_core, reads_source, refl, refusal_text, said_at, script_of, source_at, state_at, status_of, subst, subst₂, suc, summary_text, sym, tested, told_map, told_same, told_tells, told_then, true, usage, with_line, zero, ℕ, ◌&&◌, ◌+◌, ◌-◌, ◌^◌, ◌∙◌, ◌∷◌, ◌≡◌, ◌≤◌, ◌⊎◌}
-use Rattle.beldi_program.proofs.PlainRuns.{hosted_by, said}
+use Rattle.beldi_program.specs.Hosted.{SessionsArePlainRuns}
+use Rattle.beldi_program.proofs.Booking.{hosted_by, said}
 use Rattle.beldi_program.proofs.Names.map
 
 -- ---- a text that was written, or a front of it
@@ -15,7 +16,7 @@ abbrev pub SessionBy : {X : Type 0} → Result X Stop → Deployment → List Nu
 SessionBy (Ok x) d lines m n f g w = Whole d lines m n f g w
 SessionBy (Err why) d lines m n f g w = Cut d lines m n f g w
 
-module _ (d : Deployment) (lines : List Numbered) (m n : Rows) (f opened g : ℕ) (sooner : f ≤ opened) (core : Core) (w q : List ℕ) where
+module _ (plain_runs : SessionsArePlainRuns) (d : Deployment) (lines : List Numbered) (m n : Rows) (f opened g : ℕ) (sooner : f ≤ opened) (core : Core) (w q : List ℕ) where
   -- where it ends
   abbrev at_end : State
   at_end = record { core = core; rows = n; faults = g }
@@ -24,24 +25,24 @@ module _ (d : Deployment) (lines : List Numbered) (m n : Rows) (f opened g : ℕ
   session (Ok x) none h =
       let k = subst (λ z. WentBy d d.room (actions_in d lines) [] (opened_at m 0 opened) at_end [] w z (fine x)) none h in
       record {
-        session = said d (actions_in d lines) [] m opened at_end w [] k;
-        hosted = hosted_by d (actions_in d lines) [] m opened at_end w [] k f sooner;
+        session = said plain_runs d (actions_in d lines) [] m opened at_end w [] k;
+        hosted = hosted_by plain_runs d (actions_in d lines) [] m opened at_end w [] k f sooner;
       }
   session (Err why) none h = record {
     more = h.0;
     rest = h.1;
-    session = said d (actions_in d lines) h.0 m opened at_end w h.1 h.2;
-    hosted = hosted_by d (actions_in d lines) h.0 m opened at_end w h.1 h.2 f sooner;
+    session = said plain_runs d (actions_in d lines) h.0 m opened at_end w h.1 h.2;
+    hosted = hosted_by plain_runs d (actions_in d lines) h.0 m opened at_end w h.1 h.2 f sooner;
   }
 
 -- a host that was opened over a table, and the script that it carried out
-pub hosted : {X : Type 0} (d : Deployment) (t : TableState) (a b : Sight) (lines : List Numbered) (r : Result X Stop) → Opened d a.code 0 t a.table a.core → a.waiting ≡ [] → OnOk r (b.waiting ≡ []) → Does (actions_in a.code lines) a b r
+pub hosted : (plain_runs : SessionsArePlainRuns) {X : Type 0} (d : Deployment) (t : TableState) (a b : Sight) (lines : List Numbered) (r : Result X Stop) → Opened d a.code 0 t a.table a.core → a.waiting ≡ [] → OnOk r (b.waiting ≡ []) → Does (actions_in a.code lines) a b r
     → (w : List ℕ) × Writes a.held b.held w × Told t.rows b.table.rows (λ m n. SessionBy r d lines m n t.faults b.table.faults w)
-hosted d t a b lines r o none end x = (
+hosted plain_runs d t a b lines r o none end x = (
   x.written,
   x.sink,
   told_then {P = λ m n. (n ≡ m) × (a.core ≡ opened_core m 0)} {Q = λ m n. WentBy a.code a.table.room (actions_in a.code lines) [] (state_at a m) (state_at b n) a.waiting x.written b.waiting r} {R = λ m n. SessionBy r d lines m n t.faults b.table.faults x.written} t.rows a.table.rows b.table.rows
-      (λ m n j v w. session d lines m j t.faults a.table.faults b.table.faults o.later b.core x.written b.waiting r end (begun m n j v w)) (told_tells t.rows a.table.rows (λ m n. (n ≡ m) × (a.core ≡ opened_core m 0)) o.rows) x.went,
+      (λ m n j v w. session plain_runs d lines m j t.faults a.table.faults b.table.faults o.later b.core x.written b.waiting r end (begun m n j v w)) (told_tells t.rows a.table.rows (λ m n. (n ≡ m) × (a.core ≡ opened_core m 0)) o.rows) x.went,
 )
   where
     begun : (m n j : Rows) → (n ≡ m) × (a.core ≡ opened_core m 0) → WentBy a.code a.table.room (actions_in a.code lines) [] (state_at a n) (state_at b j) a.waiting x.written b.waiting r → WentBy d d.room (actions_in d lines) [] (opened_at m 0 a.table.faults) (state_at b j) [] x.written b.waiting r

@@ -1,5 +1,6 @@
 mod Asked
 mod Balances
+mod Booking
 mod Ends
 mod Flat
 mod Listed

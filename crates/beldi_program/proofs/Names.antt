@@ -9,8 +9,8 @@ pub use Rattle.beldi_book.specs.declared.entry.Entry.{Entry}
 pub use Rattle.beldi_plain.specs.{Legal.IsLegal, Replies.HasReply, Replies.starts_of}
 pub use Rattle.beldi_row.specs.{Key.RowKey, Key.least_key, Table.Rows, Table.TableState}
 pub use Rattle.beldi_step.specs.{Host.Core, Host.EventOn, Next.at_key, Next.reset, declared.event.Event.Event, declared.event.Seen.Seen}
-pub use Rattle.beldi_laws.{proofs.Events.keeps_right, proofs.Events.replies, proofs.Events.right_legal, proofs.Listing.listing_plain, proofs.OneEvent.book_grew, proofs.Standing.right_stands, proofs.Starts.outcomes_stay, proofs.Starts.starts_bound, specs.Laws.BookGrew, specs.Laws.bound_by as bound_by_event, specs.Right.Right}
-pub use Rattle.beldi_host.{proofs.Right.at_cursor, proofs.Right.begins_right, proofs.Right.said_of, specs.Said.SaidOf, specs.Survey.Opened, specs.Survey.Refused, specs.Survey.opened_core, specs.declared.survey.OpenErr.OpenErr, specs.declared.survey.ReplySeen.ReplySeen, specs.declared.survey.ReplySeen.TheVariants.Gone, specs.declared.survey.ReplySeen.TheVariants.Reply, specs.declared.survey.ReplySeen.TheVariants.Unknown, specs.declared.survey.ReplySeen.TheVariants.Waiting}
+pub use Rattle.beldi_laws.{proofs.OneEvent.book_grew, proofs.Standing.right_stands, proofs.Starts.starts_bound, specs.Laws.BookGrew, specs.Laws.bound_by as bound_by_event}
+pub use Rattle.beldi_host.{specs.Said.SaidOf, specs.Survey.Opened, specs.Survey.Refused, specs.Survey.opened_core, specs.declared.survey.OpenErr.OpenErr, specs.declared.survey.ReplySeen.ReplySeen, specs.declared.survey.ReplySeen.TheVariants.Gone, specs.declared.survey.ReplySeen.TheVariants.Reply, specs.declared.survey.ReplySeen.TheVariants.Unknown, specs.declared.survey.ReplySeen.TheVariants.Waiting}
 pub use Rattle.beldi_script.specs.{Cut.lines_of, declared.line.Line.Line}
 pub use Rattle.beldi_outside.specs.Connection.{Connections}
 pub use Rattle.beldi_outside.specs.Outside.{IsPrefixOf, ReadAllOn, Rose, Told, TookFront, WroteOn, max_source}

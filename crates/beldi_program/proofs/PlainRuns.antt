@@ -1,42 +1,49 @@
--- What every step keeps, what is said at its moment, and what is so at the end.
-use Rattle.std.specs.Prelude.{◌≤◌}
-use Rattle.beldi_session.specs.Response.{Whole}
-use Rattle.beldi_program.proofs.Names.{Action, AllocError, begins_right, Answered, AreTo, AtFirst, BookGrew, BookIs, Booked, BrokeOff, Call, Carry, Collect, Core, CountRows, Deployment, Entry, Err, Event, EventOn, Follows, Goes, Gone, HasReply, Hosted, IsLegal, IsPlainRun, IsReport, IsReportSo, IsSo, IsStep, IsTo, IsToSettling, Leads, LeadsTo, Leaves, LineRefused, List, ListBook, ListTables, Moment, Moments, Next, None, Ok, Outcome, Over, Refuse, Reply, ReplyAlone, ReplyIs, ReplySeen, Report, Reported, Reset, Response, Result, Right, RowKey, Rows, RowsAre, RowsStandFor, SaidOf, Seen, Session, Settle, SettledIs, SettlingLeaves, Some, State, Steps, StepsTo, TablesAre, TellOutcomes, TellReply, Turn, Unchanged, Unknown, Value, Waiting, Went, WentBack, WentOn, [], ap, append-nil, append_assoc, at_cursor, at_key, book_grew, bound_by, bound_by_event, bound_in, entries_in, false, is_turn, keeps_right, last_book, least_key, listing_plain, loses, next_of, opened_at, outcome_in, outcomes_stay, refl, replies, responses_in, responses_text, right_legal, right_stands, said_of, same_Some, starts_bound, starts_of, subst, sym, unchanged, ℕ, ◌++◌, ◌∙◌, ◌∷◌, ◌≡◌}
-use Rattle.beldi_program.proofs.Names.map
-use Rattle.beldi_serve.proofs.Leading.{leads_so}
-use Rattle.std.specs.Prelude.{max}
+-- What every step keeps, what is said at its moment, and what is so at the end: a session is a run without crashes.
+use Rattle.std.specs.Prelude.{is_some, max, if◌then◌else◌}
 use Rattle.beldi_book.specs.Order.{count_changes}
 use Rattle.beldi_plain.specs.{Legal.run_of, Listing.listing_of, Plain.PlainState}
-use Rattle.beldi_step.specs.{Tables.tables_text, Told.told_outcome}
+use Rattle.beldi_row.specs.Table.{HasCause}
+use Rattle.beldi_step.specs.{Host.first_core, Prunes.PrunesOn, Tables.tables_text, Told.told_outcome, declared.event.Pruned.Pruned}
+use Rattle.beldi_upkeep.{proofs.Together.begins_upkept, proofs.Together.keeps_upkeep, specs.Upkeep.Upkeep}
+use Rattle.beldi_kept.specs.{Kept.HasKept, Kept.IsLater, Safe.EventsKeepSafe, Safe.IsSafe, Stands.StandsLess, Told.KeptOutcomes, Told.KeptReplies}
+use Rattle.beldi_kept.proofs.{Begins.begins_kept, Begins.begins_early, Collecting.prunings_keep_safe, Collecting.prunings_keep_whole, Collecting.prunings_move, Collecting.safe_at_cursor, Collecting.upkept, LeftRows.kept_listing, LeftRows.kept_stand, LeftRows.stands_later, Telling.kept_are_legal}
 use Rattle.beldi_host.specs.Survey.{latest_of, opened_core, reply_seen}
+use Rattle.beldi_host.proofs.Right.{said_less, reply_there}
 use Rattle.beldi_joined.specs.Joined.{behind, joined, raised_answer, raised_seen}
-use Rattle.beldi_joined.proofs.{After.told_same, Books.joined_nothing, Books.starts_joined, RaisedEvents.step_behind, Reopened.first_right, Reopened.opens_again}
-use Rattle.beldi_program.specs.PlainRun.{alone}
-use Rattle.beldi_program.specs.Hosted.{Left, no_session, one_more}
+use Rattle.beldi_joined.proofs.{After.told_same, Books.joined_nothing, Books.starts_joined, RaisedEvents.step_behind, RaisedPrunes.prunes_behind, Reopened.behind_nothing, Reopened.opened_safe, Reopened.opened_upkept}
+use Rattle.beldi_session.specs.Response.{PruneAnswered, PruneBroke, Share, SweptIs}
+use Rattle.beldi_program.proofs.Names.{AllocError, Answered, BookGrew, BookIs, Booked, BrokeOff, Core, Deployment, Entry, Err, Event, EventOn, Gone, HasReply, IsLegal, IsPlainRun, IsReport, IsReportSo, IsSo, IsStep, LeadsTo, LineRefused, List, Moment, Moments, None, Ok, Option, Outcome, Reply, ReplyIs, ReplySeen, Report, Reported, Response, Result, RowKey, Rows, RowsAre, RowsStandFor, SaidOf, Seen, SettledIs, Some, State, TablesAre, TellOutcomes, Unchanged, Unknown, Value, Waiting, WentBack, WentOn, [], ap, append-nil, append_assoc, arith, at_key, book_grew, bound_by, bound_by_event, bound_in, entries_in, false, last_book, least_key, loses, opened_at, outcome_in, refl, responses_in, right_stands, same_Some, starts_bound, starts_of, subst, sym, true, ℕ, ◌++◌, ◌+◌, ◌∙◌, ◌∷◌, ◌≡◌, ◌≤◌}
+use Rattle.beldi_program.proofs.Names.map
+use Rattle.beldi_program.specs.PlainRun.{StandsBy, alone, last_removed, later, removes}
+use Rattle.beldi_program.specs.Hosted.{Left, SessionsArePlainRuns, StepTo, no_session, one_more, removed_by}
 
 abbrev Bound : Type 0
 Bound = List (ℕ × (ℕ × Value))
 
 -- ---- the host as if it had made the whole history: it makes the same steps, and tells the same outcomes
-pub record Lifts (d : Deployment) (lift : Core → Core) (history : List Entry → List Entry) : Type 0 where
-  pub answer : Result Seen AllocError → Result Seen AllocError
-  pub event : (room f g : ℕ) (e : Event) (c b : Core) (m n : Rows) (r : Result Seen AllocError) → EventOn d room f g e c m b n r → EventOn d room f g e (lift c) m (lift b) n (answer r)
-  pub told : (x : Seen) → (y : Seen) × (answer (Ok x) ≡ Ok y) × (told_outcome y ≡ told_outcome x)
-  pub book : (c : Core) → (lift c).book ≡ history c.book
-  pub starts : (book : List Entry) → starts_of (history book) ≡ starts_of (history []) ++ starts_of book
-  pub cursor : (k : RowKey) (c : Core) → lift (at_key k c) ≡ at_key k (lift c)
-  pub newest : (c : Core) → (lift c).newest ≡ c.newest
+record Lifts (d : Deployment) (lift : Core → Core) (history : List Entry → List Entry) : Type 0 where
+  answer : Result Seen AllocError → Result Seen AllocError
+  event : (room f g : ℕ) (e : Event) (c b : Core) (m n : Rows) (r : Result Seen AllocError) → EventOn d room f g e c m b n r → EventOn d room f g e (lift c) m (lift b) n (answer r)
+  prune : (f g k : ℕ) (c b : Core) (m n : Rows) (r : Result Pruned AllocError) → PrunesOn d f g k c m b n r → PrunesOn d f g k (lift c) m (lift b) n r
+  told : (x : Seen) → (y : Seen) × (answer (Ok x) ≡ Ok y) × (told_outcome y ≡ told_outcome x)
+  book : (c : Core) → (lift c).book ≡ history c.book
+  starts : (book : List Entry) → starts_of (history book) ≡ starts_of (history []) ++ starts_of book
+  cursor : (k : RowKey) (c : Core) → lift (at_key k c) ≡ at_key k (lift c)
+  newest : (c : Core) → (lift c).newest ≡ c.newest
+  now : (c : Core) → (lift c).now ≡ c.now
 
 -- the first session over its rows is its own history
 first_lifts : (d : Deployment) → Lifts d (λ c. c) alone
 first_lifts d = record {
   answer = λ r. r;
   event = λ room f g e c b m n r o. o;
+  prune = λ f g k c b m n r o. o;
   told = λ x. (x, refl, refl);
   book = λ c. refl;
   starts = λ book. refl;
   cursor = λ k c. refl;
   newest = λ c. refl;
+  now = λ c. refl;
 }
 
 -- a later one has those before it as the front of its history
@@ -44,49 +51,65 @@ behind_lifts : (d : Deployment) (base : List Entry) → Lifts d (behind base) (j
 behind_lifts d base = record {
   answer = raised_answer (count_changes base);
   event = λ room f g e c b m n r o. step_behind base d room f g e c b m n r o;
+  prune = λ f g k c b m n r o. prunes_behind d base f g k c b m n r o;
   told = λ x. (raised_seen (count_changes base) x, refl, told_same (count_changes base) x);
   book = λ c. refl;
   starts = λ book. starts_joined base book ∙ ap (λ z. starts_of z ++ starts_of book) (sym (joined_nothing base));
   cursor = λ k c. refl;
   newest = λ c. refl;
+  now = λ c. refl;
 }
 
--- a response, with book and rows as they are
-abbrev pub booked_at : Response → State → Booked
-booked_at y t = record { response = y; book = t.core.book; rows = t.rows }
+-- ---- when a row was removed last: where none was, all rows are there; else who is gone was old then
+abbrev Removed : (d : Deployment) → Option ℕ → (c : Core) (m : Rows) → HasKept d c m → Type 0
+Removed d None c m h = Upkeep d c m × (h.latest ≡ 0)
+Removed d (Some l) c m h = h.latest ≤ l
 
-module _ (d : Deployment) (room : ℕ) (lift : Core → Core) (history : List Entry → List Entry) (lifts : Lifts d lift history) where
-  abbrev RightAt : State → Type 0
-  RightAt s = Right d (lift s.core) s.rows
+-- .. and where a row is removed now
+removed_now : (d : Deployment) (gone was : Option ℕ) (c b : Core) (m n : Rows) (h : HasKept d c m) (g : HasKept d b n) (now : ℕ) → Removed d (later gone was) c m h → g.latest ≤ max h.latest now → Removed d (later gone (later was (Some now))) b n g
+removed_now d None None c b m n h g now so up = let none = so.1 in omega (arith, none, up)
+removed_now d None (Some a) c b m n h g now so up = omega (arith, so, up)
+removed_now d (Some a) None c b m n h g now so up = omega (arith, so, up)
+removed_now d (Some a) (Some b') c b m n h g now so up = omega (arith, so, up)
+
+-- the laws that are called
+record Laws : Type 0 where
+  keep : EventsKeepSafe
+  reply : KeptReplies
+  stay : KeptOutcomes
+
+module _ (laws : Laws) (d : Deployment) (lift : Core → Core) (history : List Entry → List Entry) (lifts : Lifts d lift history) (gone : Option ℕ) where
+  -- a host with its rows, that is right with its history; `was` is when a row was removed last in this session
+  record RightFor (was : Option ℕ) (c : Core) (m : Rows) : Type 0 where
+    safe : IsSafe d (lift c) m
+    so : Removed d (later gone was) (lift c) m safe.has
+
+  abbrev RightAt : Option ℕ → State → Type 0
+  RightAt was s = RightFor was s.core s.rows
 
   -- ---- what lies between two states of a host that is right, and what was bound
-  record Kept (s t : State) (bound : Bound) : Type 0 where
-    pub right : RightAt t
-    pub starts : starts_of t.core.book ≡ starts_of s.core.book ++ bound
-    pub keeps : (n : ℕ) (o : Outcome) → HasReply d (history s.core.book) n o → HasReply d (history t.core.book) n o
+  record Kept (now : Option ℕ) (s t : State) (bound : Bound) : Type 0 where
+    right : RightAt now t
+    starts : starts_of t.core.book ≡ starts_of s.core.book ++ bound
+    keeps : (n : ℕ) (o : Outcome) → HasReply d (history s.core.book) n o → HasReply d (history t.core.book) n o
 
-  still : (P : Core → Rows → Type 0) (s t : State) → Unchanged s t → P s.core s.rows → P t.core t.rows
-  still P s t u h = subst (λ c. P c t.rows) (sym u.core) (subst (λ m. P s.core m) (sym u.rows) h)
-
-  kept_same : (s t : State) → RightAt s → Unchanged s t → Kept s t []
-  kept_same s t h u = record {
-    right = still (λ c m. Right d (lift c) m) s t u h;
-    starts = ap (λ (c : Core). starts_of c.book) u.core ∙ sym (append-nil (starts_of s.core.book));
-    keeps = λ n o r. still (λ c m. HasReply d (history c.book) n o) s t u r;
+  kept_then : (r : Option ℕ) (s t u : State) (x y : Bound) (q : Option ℕ) → Kept q s t x → Kept r t u y → Kept r s u (x ++ y)
+  kept_then r s t u x y q p k = record {
+    right = k.right;
+    starts = k.starts ∙ ap (λ z. z ++ y) p.starts ∙ append_assoc (starts_of s.core.book) x y;
+    keeps = λ n o h. k.keeps n o (p.keeps n o h);
   }
 
-  kept_then : (s t u : State) (x y : Bound) → Kept s t x → Kept t u y → Kept s u (x ++ y)
-  kept_then s t u x y p q = record {
-    right = q.right;
-    starts = q.starts ∙ ap (λ z. z ++ y) p.starts ∙ append_assoc (starts_of s.core.book) x y;
-    keeps = λ n o r. q.keeps n o (p.keeps n o r);
+  -- where the book is the same
+  kept_by : (was : Option ℕ) (s t : State) → t.core.book ≡ s.core.book → RightAt was t → Kept was s t []
+  kept_by was s t same right = record {
+    right = right;
+    starts = ap starts_of same ∙ sym (append-nil (starts_of s.core.book));
+    keeps = λ n o h. subst (λ b. HasReply d (history b) n o) (sym same) h;
   }
 
-  grew : (e : Event) (s t : State) (r : Result Seen AllocError) → EventOn d room s.faults t.faults e s.core s.rows t.core t.rows r → BookGrew e s.core t.core r
-  grew e s t r o = book_grew d room s.faults t.faults e s.core t.core s.rows t.rows r o
-
-  lifted : (e : Event) (s t : State) (r : Result Seen AllocError) → EventOn d room s.faults t.faults e s.core s.rows t.core t.rows r → EventOn d room s.faults t.faults e (lift s.core) s.rows (lift t.core) t.rows (lifts.answer r)
-  lifted e s t r o = lifts.event room s.faults t.faults e s.core t.core s.rows t.rows r o
+  kept_same : (was : Option ℕ) (s t : State) → RightAt was s → Unchanged s t → Kept was s t []
+  kept_same was s t h u = kept_by was s t (ap (λ (c : Core). c.book) u.core) (subst (λ c. RightFor was c t.rows) (sym u.core) (subst (RightFor was s.core) (sym u.rows) h))
 
   -- what is so of the book of the host as if, is so of the history
   of_history : (P : List Entry → Type 0) (s : State) → P (lift s.core).book → P (history s.core.book)
@@ -95,111 +118,179 @@ module _ (d : Deployment) (room : ℕ) (lift : Core → Core) (history : List En
   to_history : (P : List Entry → Type 0) (s : State) → P (history s.core.book) → P (lift s.core).book
   to_history P s h = subst P (sym (lifts.book s.core)) h
 
-  kept_event : (e : Event) (s t : State) (r : Result Seen AllocError) → RightAt s → EventOn d room s.faults t.faults e s.core s.rows t.core t.rows r → Kept s t (bound_by_event e r)
-  kept_event e s t r h o = record {
-    right = keeps_right d room s.faults t.faults e (lift s.core) (lift t.core) s.rows t.rows (lifts.answer r) h (lifted e s t r o);
-    starts = starts_bound d room s.faults t.faults e s.core t.core s.rows t.rows r o;
-    keeps = λ n w k. of_history (λ b. HasReply d b n w) t (outcomes_stay d room s.faults t.faults e (lift s.core) (lift t.core) s.rows t.rows (lifts.answer r) n w h (lifted e s t r o) (to_history (λ b. HasReply d b n w) s k));
+  -- ---- an event
+  lifted : (e : Event) (s t : State) (r : Result Seen AllocError) → EventOn d d.room s.faults t.faults e s.core s.rows t.core t.rows r → EventOn d d.room s.faults t.faults e (lift s.core) s.rows (lift t.core) t.rows (lifts.answer r)
+  lifted e s t r o = lifts.event d.room s.faults t.faults e s.core t.core s.rows t.rows r o
+
+  event_right : (was : Option ℕ) (e : Event) (s t : State) (r : Result Seen AllocError) → RightAt was s → EventOn d d.room s.faults t.faults e s.core s.rows t.core t.rows r → RightAt was t
+  event_right was e s t r h o = record { safe = g.0; so = by_removed (later gone was) h.so }
+    where
+      g : (g : IsSafe d (lift t.core) t.rows) × IsLater h.safe.has g.has × (g.has.latest ≡ h.safe.has.latest)
+      g = laws.keep d d.room s.faults t.faults e (lift s.core) (lift t.core) s.rows t.rows (lifts.answer r) h.safe (lifted e s t r o)
+
+      by_removed : (l : Option ℕ) → Removed d l (lift s.core) s.rows h.safe.has → Removed d l (lift t.core) t.rows g.0.has
+      by_removed None so = (keeps_upkeep d d.room s.faults t.faults e (lift s.core) (lift t.core) s.rows t.rows (lifts.answer r) so.0 (lifted e s t r o), g.2 ∙ so.1)
+      by_removed (Some l) so = subst (λ z. z ≤ l) (sym g.2) so
+
+  kept_event : (was : Option ℕ) (e : Event) (s t : State) (r : Result Seen AllocError) → RightAt was s → EventOn d d.room s.faults t.faults e s.core s.rows t.core t.rows r → Kept was s t (bound_by_event e r)
+  kept_event was e s t r h o = record {
+    right = event_right was e s t r h o;
+    starts = starts_bound d d.room s.faults t.faults e s.core t.core s.rows t.rows r o;
+    keeps = λ n w k. of_history (λ b. HasReply d b n w) t (laws.stay d d.room s.faults t.faults e (lift s.core) (lift t.core) s.rows t.rows (lifts.answer r) n w h.safe.has (lifted e s t r o) (to_history (λ b. HasReply d b n w) s k));
   }
 
-  told_so : (e : Event) (s t : State) (x : Seen) → RightAt s → EventOn d room s.faults t.faults e s.core s.rows t.core t.rows (Ok x) → (n : ℕ) (w : Outcome) → told_outcome x ≡ Some (n, w) → HasReply d (lift t.core).book n w
-  told_so e s t x h o n w is =
+  told_so : (was : Option ℕ) (e : Event) (s t : State) (x : Seen) → RightAt was s → EventOn d d.room s.faults t.faults e s.core s.rows t.core t.rows (Ok x) → (n : ℕ) (w : Outcome) → told_outcome x ≡ Some (n, w) → HasReply d (lift t.core).book n w
+  told_so was e s t x h o n w is =
       let y = lifts.told x in
-      replies d room s.faults t.faults e (lift s.core) (lift t.core) s.rows t.rows y.0 h (subst (EventOn d room s.faults t.faults e (lift s.core) s.rows (lift t.core) t.rows) y.1 (lifted e s t (Ok x) o)) n w (y.2 ∙ is)
+      laws.reply d d.room s.faults t.faults e (lift s.core) (lift t.core) s.rows t.rows y.0 h.safe.has (subst (EventOn d d.room s.faults t.faults e (lift s.core) s.rows (lift t.core) t.rows) y.1 (lifted e s t (Ok x) o)) n w (y.2 ∙ is)
 
-  -- the intent collector was set to a key
-  kept_at : (k : RowKey) (s t : State) → RightAt s → t ≡ record s { core = at_key k s.core } → Kept s t []
-  kept_at k s t h o = subst (λ z. Kept s z []) (sym o) (record {
-    right = subst (λ c. Right d c s.rows) (sym (lifts.cursor k s.core)) (at_cursor d (lift s.core) k s.rows h);
-    starts = sym (append-nil (starts_of s.core.book));
-    keeps = λ n w k. k;
-  })
+  -- ---- a turn of a log collector
+  module _ (was : Option ℕ) (k : ℕ) (s t : State) (r : Result Pruned AllocError) (h : RightAt was s) (o : PrunesOn d s.faults t.faults k s.core s.rows t.core t.rows r) where
+    abbrev on : PrunesOn d s.faults t.faults k (lift s.core) s.rows (lift t.core) t.rows r
+    on = lifts.prune s.faults t.faults k s.core t.core s.rows t.rows r o
 
-  kept_step : (s t : State) (y : Response) → RightAt s → IsStep d room s t y → Kept s t (bound_by y)
-  kept_step s t (Answered share e x) h o = kept_event e s t (Ok x) h o.0
-  kept_step s t WentBack h o = kept_at least_key s t h o
-  kept_step s t (WentOn k) h o = kept_at k s t h o.1
-  kept_step s t (BrokeOff None) h o = kept_same s t h o
-  kept_step s t (BrokeOff (Some e)) h o = kept_event e s t (Err (record {})) h o.0
-  kept_step s t (Reported r) h o = kept_same s t h o.0
+    after : (g : IsSafe d (lift t.core) t.rows) × IsLater h.safe.has g.has × (g.has.latest ≤ max h.safe.has.latest (lift s.core).now) × ((r ≡ Ok Pruned.Removed → ⊥) → (t.rows ≡ s.rows) × (g.has.latest ≡ h.safe.has.latest))
+    after = prunings_keep_safe d s.faults t.faults k (lift s.core) (lift t.core) s.rows t.rows r h.safe on
 
-  kept_all : (ys : List Response) (s t : State) → RightAt s → Leads (IsStep d room) ys s t → Kept s t (bound_in ys)
-  kept_all [] s t h x = subst (λ z. Kept s z []) (sym x) (kept_same s s h (unchanged s))
-  kept_all (y ∷ ys) s t h x = let k = kept_step s x.0 y h x.1 in kept_then s x.0 t (bound_by y) (bound_in ys) k (kept_all ys x.0 t k.right x.2)
+    same_book : t.core.book ≡ s.core.book
+    same_book = let moves = prunings_move d s.faults t.faults k s.core t.core s.rows t.rows r o in ap (λ (c : Core). c.book) moves.is
 
-  pub right_after : (ys : List Response) (s t : State) → RightAt s → Leads (IsStep d room) ys s t → RightAt t
-  right_after ys s t h x = (kept_all ys s t h x).right
+    -- it removed no row
+    kept_still : (r ≡ Ok Pruned.Removed → ⊥) → Kept was s t []
+    kept_still none = kept_by was s t same_book (record { safe = after.0; so = by_removed (later gone was) h.so })
+      where
+        by_removed : (l : Option ℕ) → Removed d l (lift s.core) s.rows h.safe.has → Removed d l (lift t.core) t.rows after.0.has
+        by_removed None so = (prunings_keep_whole d s.faults t.faults k (lift s.core) (lift t.core) s.rows t.rows r on none so.0, (after.3 none).1 ∙ so.1)
+        by_removed (Some l) so = subst (λ z. z ≤ l) (sym (after.3 none).1) so
+
+    -- it removed one
+    kept_less : Kept (later was (Some s.core.now)) s t []
+    kept_less = kept_by (later was (Some s.core.now)) s t same_book (record { safe = after.0; so = removed_now d gone was (lift s.core) (lift t.core) s.rows t.rows h.safe.has after.0.has s.core.now h.so (subst (λ z. after.0.has.latest ≤ max h.safe.has.latest z) (lifts.now s.core) after.2) })
+
+  kept_prune : (was : Option ℕ) (share : Share) (k : ℕ) (s t : State) (x : Pruned) → RightAt was s → PrunesOn d s.faults t.faults k s.core s.rows t.core t.rows (Ok x) → Kept (removed_by s.core.now was (PruneAnswered share k x)) s t []
+  kept_prune was share k s t Pruned.Removed h o = kept_less was k s t (Ok Pruned.Removed) h o
+  kept_prune was share k s t Pruned.Going h o = kept_still was k s t (Ok Pruned.Going) h o (λ e. cc)
+  kept_prune was share k s t Pruned.Round h o = kept_still was k s t (Ok Pruned.Round) h o (λ e. cc)
+  kept_prune was share k s t Pruned.Dropped h o = kept_still was k s t (Ok Pruned.Dropped) h o (λ e. cc)
+  kept_prune was share k s t Pruned.Shut h o = kept_still was k s t (Ok Pruned.Shut) h o (λ e. cc)
+  kept_prune was share k s t Pruned.Spent h o = kept_still was k s t (Ok Pruned.Spent) h o (λ e. cc)
+
+  -- ---- the intent collector was set to a key
+  kept_at : (was : Option ℕ) (k : RowKey) (s t : State) → RightAt was s → t ≡ record s { core = at_key k s.core } → Kept was s t []
+  kept_at was k s t h o = subst (λ z. Kept was s z []) (sym o) (kept_by was s (record s { core = at_key k s.core }) refl moved)
+    where
+      by_removed : (l : Option ℕ) → Removed d l (lift s.core) s.rows h.safe.has → Removed d l (at_key k (lift s.core)) s.rows (safe_at_cursor d (lift s.core) s.rows h.safe k).0.has
+      by_removed None so = (upkept d (lift s.core) s.rows so.0 k (lift s.core).taken (lift s.core).collectors, (safe_at_cursor d (lift s.core) s.rows h.safe k).1 ∙ so.1)
+      by_removed (Some l) so = subst (λ z. z ≤ l) (sym (safe_at_cursor d (lift s.core) s.rows h.safe k).1) so
+
+      at_lift : (c : Core) → at_key k (lift s.core) ≡ c → (g : IsSafe d c s.rows) × Removed d (later gone was) c s.rows g.has
+      at_lift c is = subst (λ z. (g : IsSafe d z s.rows) × Removed d (later gone was) z s.rows g.has) is ((safe_at_cursor d (lift s.core) s.rows h.safe k).0, by_removed (later gone was) h.so)
+
+      moved : RightFor was (at_key k s.core) s.rows
+      moved = let g = at_lift (lift (at_key k s.core)) (sym (lifts.cursor k s.core)) in record { safe = g.0; so = g.1 }
+
+  kept_step : (was : Option ℕ) (s t : State) (y : Response) → RightAt was s → IsStep d d.room s t y → Kept (removed_by s.core.now was y) s t (bound_by y)
+  kept_step was s t (Answered share e x) h o = kept_event was e s t (Ok x) h o.0
+  kept_step was s t WentBack h o = kept_at was least_key s t h o
+  kept_step was s t (WentOn k) h o = kept_at was k s t h o.1
+  kept_step was s t (BrokeOff None) h o = kept_same was s t h o
+  kept_step was s t (BrokeOff (Some e)) h o = kept_event was e s t (Err (record {})) h o.0
+  kept_step was s t (PruneAnswered share k x) h o = kept_prune was share k s t x h o.0
+  kept_step was s t (PruneBroke k) h o = kept_still was k s t (Err (record {})) h o.0 (λ e. cc)
+  kept_step was s t (Reported r) h o = kept_same was s t h o.0
+
+  -- with the book, the rows and the moment that the response has
+  kept_to : (was : Option ℕ) (s u : State) (y : Booked) → RightAt was s → StepTo d was s u y → Kept y.removed s u (bound_by y.response)
+  kept_to was s u y h o = subst (λ z. Kept z s u (bound_by y.response)) (sym o.removed) (kept_step was s u y.response h o.step)
+
+  kept_all : (ys : List Booked) (was : Option ℕ) (s t : State) → RightAt was s → LeadsTo d was ys s t → Kept (last_removed was ys) s t (bound_in (responses_in ys))
+  kept_all [] was s t h x = subst (λ z. Kept was s z []) (sym x) (kept_by was s s refl h)
+  kept_all (y ∷ ys) was s t h x = let k = kept_to was s x.0 y h x.1 in kept_then (last_removed y.removed ys) s x.0 t (bound_by y.response) (bound_in (responses_in ys)) y.removed k (kept_all ys y.removed x.0 t k.right x.2)
 
   -- ---- the moment after a step
-  report_so : (s t : State) (r : Report) → RightAt s → IsReport d s t r → IsReportSo d history s.core.book r
-  report_so s t (ReplyIs n None) h o = tt
-  report_so s t (ReplyIs n (Some x)) h o =
-      let told = subst (λ k. x ≡ reply_seen k n s.rows) (sym (lifts.newest s.core)) o in
-      of_history (λ b. SaidOf d b n x) s (subst (λ z. SaidOf d (lift s.core).book n z) (sym told) (said_of d (lift s.core) s.rows h n))
-  report_so s t (RowsAre n) h o = tt
-  report_so s t (TablesAre None) h o = tt
-  report_so s t (TablesAre (Some lines)) h o = λ p is. o ∙ listing_plain d (lift s.core) s.rows p h (to_history (λ b. run_of d b ≡ Some p) s is)
-  report_so s t (BookIs lines) h o = o
-  report_so s t (SettledIs r) h o = tt
-  report_so s t (LineRefused x) h o = tt
+  whole_told : (was : Option ℕ) (s : State) (n : ℕ) (l : Option ℕ) (h : RightAt was s) → Removed d l (lift s.core) s.rows h.safe.has → reply_seen (lift s.core).newest n s.rows ≡ Gone → is_some l ≡ true
+  whole_told was s n None h so gone = absurd (reply_there d (lift s.core) s.rows so.0.right n gone)
+  whole_told was s n (Some l) h so gone = refl
 
-  stands_for : (t : State) → RightAt t → RowsStandFor d t.rows (history t.core.book)
-  stands_for t h p is = right_stands d (lift t.core) t.rows p h (to_history (λ b. run_of d b ≡ Some p) t is)
+  report_so : (was : Option ℕ) (s t : State) (r : Report) → RightAt was s → IsReport d s t r → IsReportSo d history gone s.core.book was r
+  report_so was s t (ReplyIs n None) h o = tt
+  report_so was s t (ReplyIs n (Some x)) h o =
+      let told = subst (λ k. x ≡ reply_seen k n s.rows) (sym (lifts.newest s.core)) o in (
+        of_history (λ b. SaidOf d b n x) s (subst (λ z. SaidOf d (lift s.core).book n z) (sym told) (said_less d (lift s.core) s.rows h.safe.has n)),
+        λ is. whole_told was s n (later gone was) h h.so (sym told ∙ is),
+      )
+  report_so was s t (RowsAre n) h o = tt
+  report_so was s t (TablesAre None) h o = tt
+  report_so was s t (TablesAre (Some lines)) h o = λ p is. o ∙ kept_listing d (lift s.core) s.rows p h.safe.has (to_history (λ b. run_of d b ≡ Some p) s is)
+  report_so was s t (BookIs lines) h o = o
+  report_so was s t (SettledIs r) h o = tt
+  report_so was s t (SweptIs r) h o = tt
+  report_so was s t (LineRefused x) h o = tt
 
-  legal_at : (t : State) → RightAt t → IsLegal d (history t.core.book)
-  legal_at t h = of_history (IsLegal d) t (right_legal d (lift t.core) t.rows h)
+  stands_for : (was : Option ℕ) (t : State) → RightAt was t → RowsStandFor d (later gone was) t.rows (history t.core.book)
+  stands_for was t h p is = by_removed (later gone was) h.so
+    where
+      by_removed : (l : Option ℕ) → Removed d l (lift t.core) t.rows h.safe.has → StandsBy d l t.rows p
+      by_removed None so = right_stands d (lift t.core) t.rows p so.0.right (to_history (λ b. run_of d b ≡ Some p) t is)
+      by_removed (Some l) so = stands_later d h.safe.has.latest l t.rows p so (kept_stand d (lift t.core) t.rows p h.safe.has (to_history (λ b. run_of d b ≡ Some p) t is))
 
-  moment_at : (k : RowKey) (s t : State) (y : Response) → RightAt s → t ≡ record s { core = at_key k s.core } → (loses y ≡ false → [] ≡ entries_in y) → IsSo d history t.core.book y → Moment d history s.core.book (booked_at y t)
-  moment_at k s t y h o told so = record {
+  legal_at : (was : Option ℕ) (t : State) → RightAt was t → IsLegal d (history t.core.book)
+  legal_at was t h = of_history (IsLegal d) t (kept_are_legal d (lift t.core) t.rows h.safe.has)
+
+  -- what is after a response
+  abbrev at_moment : Option ℕ → State → State → Response → Booked
+  at_moment was s t y = record { response = y; book = t.core.book; rows = t.rows; removed = removed_by s.core.now was y }
+
+  still_by : (was : Option ℕ) (now : ℕ) (y : Response) → removes y ≡ false → removed_by now was y ≡ was
+  still_by was now y none = ap (λ b. if b then later was (Some now) else was) none
+
+  -- one that makes no entry
+  quiet : (was : Option ℕ) (s t : State) (y : Response) → t.core.book ≡ s.core.book → (loses y ≡ false → [] ≡ entries_in y) → RightAt (removed_by s.core.now was y) t → IsSo d history gone t.core.book (removed_by s.core.now was y) y → Moment d history gone s.core.book was (at_moment was s t y)
+  quiet was s t y same told right so = record {
     entry = None;
-    grew = ap (λ (z : State). z.core.book) o ∙ sym (append-nil s.core.book);
+    grew = same ∙ sym (append-nil s.core.book);
     told = told;
-    legal = legal_at t (kept_at k s t h o).right;
-    tables = stands_for t (kept_at k s t h o).right;
+    still = still_by was s.core.now y;
+    legal = legal_at (removed_by s.core.now was y) t right;
+    tables = stands_for (removed_by s.core.now was y) t right;
     so = so;
   }
 
-  moment : (s t : State) (y : Response) → RightAt s → IsStep d room s t y → Moment d history s.core.book (booked_at y t)
-  moment s t (Answered share e x) h o =
-      let g = grew e s t (Ok x) o.0 in
-      let right = (kept_step s t (Answered share e x) h o).right in
+  moment : (was : Option ℕ) (s t : State) (y : Response) → RightAt was s → IsStep d d.room s t y → RightAt (removed_by s.core.now was y) t → Moment d history gone s.core.book was (at_moment was s t y)
+  moment was s t (Answered share e x) h o right =
+      let g = book_grew d d.room s.faults t.faults e s.core t.core s.rows t.rows (Ok x) o.0 in
       record {
         entry = g.entry;
         grew = g.book;
         told = g.told;
-        legal = legal_at t right;
-        tables = stands_for t right;
-        so = λ n w is. of_history (λ b. HasReply d b n w) t (told_so e s t x h o.0 n w is);
+        still = λ none. refl;
+        legal = legal_at was t right;
+        tables = stands_for was t right;
+        so = λ n w is. of_history (λ b. HasReply d b n w) t (told_so was e s t x h o.0 n w is);
       }
-  moment s t WentBack h o = moment_at least_key s t WentBack h o (λ v. refl) tt
-  moment s t (WentOn k) h o = moment_at k s t (WentOn k) h o.1 (λ v. refl) tt
-  moment s t (BrokeOff None) h o = record {
-    entry = None;
-    grew = ap (λ (c : Core). c.book) o.core ∙ sym (append-nil s.core.book);
-    told = λ v. cc;
-    legal = legal_at t (kept_same s t h o).right;
-    tables = stands_for t (kept_same s t h o).right;
-    so = tt;
-  }
-  moment s t (BrokeOff (Some e)) h o =
-      let g = grew e s t (Err (record {})) o.0 in
-      let right = (kept_step s t (BrokeOff (Some e)) h o).right in
+  moment was s t WentBack h o right = quiet was s t WentBack (ap (λ (z : State). z.core.book) o) (λ v. refl) right tt
+  moment was s t (WentOn k) h o right = quiet was s t (WentOn k) (ap (λ (z : State). z.core.book) o.1) (λ v. refl) right tt
+  moment was s t (BrokeOff None) h o right = quiet was s t (BrokeOff None) (ap (λ (c : Core). c.book) o.core) (λ v. cc) right tt
+  moment was s t (BrokeOff (Some e)) h o right =
+      let g = book_grew d d.room s.faults t.faults e s.core t.core s.rows t.rows (Err (record {})) o.0 in
       record {
         entry = g.entry;
         grew = g.book;
         told = λ v. cc;
-        legal = legal_at t right;
-        tables = stands_for t right;
+        still = λ none. refl;
+        legal = legal_at was t right;
+        tables = stands_for was t right;
         so = tt;
       }
-  moment s t (Reported r) h o = record {
-    entry = None;
-    grew = ap (λ (c : Core). c.book) o.0.core ∙ sym (append-nil s.core.book);
-    told = λ v. refl;
-    legal = legal_at t (kept_step s t (Reported r) h o).right;
-    tables = stands_for t (kept_step s t (Reported r) h o).right;
-    so = subst (λ (c : Core). IsReportSo d history c.book r) (sym o.0.core) (report_so s t r h o.1);
-  }
+  moment was s t (PruneAnswered share k x) h o right = quiet was s t (PruneAnswered share k x) (same_book was k s t (Ok x) h o.0) (λ v. refl) right tt
+  moment was s t (PruneBroke k) h o right = quiet was s t (PruneBroke k) (same_book was k s t (Err (record {})) h o.0) (λ v. refl) right tt
+  moment was s t (Reported r) h o right = quiet was s t (Reported r) (ap (λ (c : Core). c.book) o.0.core) (λ v. refl) right
+      (subst (λ (c : Core). IsReportSo d history gone c.book was r) (sym o.0.core) (report_so was s t r h o.1))
+
+  moment_to : (was : Option ℕ) (s u : State) (y : Booked) → RightAt was s → StepTo d was s u y → Moment d history gone s.core.book was y
+  moment_to was s u y h o =
+      let same : at_moment was s u y.response ≡ y = λ i. record { response = y.response; book = o.book i; rows = o.rows i; removed = sym o.removed i } in
+      subst (Moment d history gone s.core.book was) same (moment was s u y.response h o.step (kept_step was s u y.response h o.step).right)
 
   -- ---- outcomes
   reply_tells : (book : List Entry) (u n : ℕ) (x : ReplySeen) (o : Outcome) → SaidOf d book u x → outcome_in (Reported (ReplyIs u (Some x))) ≡ Some (n, o) → HasReply d book n o
@@ -208,168 +299,109 @@ module _ (d : Deployment) (room : ℕ) (lift : Core → Core) (history : List En
   reply_tells book u n Gone o s is = cc
   reply_tells book u n Waiting o s is = cc
 
-  tells : (book : List Entry) (y : Response) (n : ℕ) (o : Outcome) → IsSo d history book y → outcome_in y ≡ Some (n, o) → HasReply d (history book) n o
-  tells book (Answered share e x) n o s is = s n o is
-  tells book WentBack n o s is = cc
-  tells book (WentOn k) n o s is = cc
-  tells book (BrokeOff e) n o s is = cc
-  tells book (Reported (ReplyIs u (Some x))) n o s is = reply_tells (history book) u n x o s is
-  tells book (Reported (ReplyIs u None)) n o s is = cc
-  tells book (Reported (RowsAre k)) n o s is = cc
-  tells book (Reported (TablesAre lines)) n o s is = cc
-  tells book (Reported (BookIs lines)) n o s is = cc
-  tells book (Reported (SettledIs r)) n o s is = cc
-  tells book (Reported (LineRefused x)) n o s is = cc
+  tells : (book : List Entry) (removed : Option ℕ) (y : Response) (n : ℕ) (o : Outcome) → IsSo d history gone book removed y → outcome_in y ≡ Some (n, o) → HasReply d (history book) n o
+  tells book removed (Answered share e x) n o s is = s n o is
+  tells book removed WentBack n o s is = cc
+  tells book removed (WentOn k) n o s is = cc
+  tells book removed (BrokeOff e) n o s is = cc
+  tells book removed (PruneAnswered share k x) n o s is = cc
+  tells book removed (PruneBroke k) n o s is = cc
+  tells book removed (Reported (ReplyIs u (Some x))) n o s is = reply_tells (history book) u n x o s.0 is
+  tells book removed (Reported (ReplyIs u None)) n o s is = cc
+  tells book removed (Reported (RowsAre k)) n o s is = cc
+  tells book removed (Reported (TablesAre lines)) n o s is = cc
+  tells book removed (Reported (BookIs lines)) n o s is = cc
+  tells book removed (Reported (SettledIs r)) n o s is = cc
+  tells book removed (Reported (SweptIs r)) n o s is = cc
+  tells book removed (Reported (LineRefused x)) n o s is = cc
 
-  told_all : (ys : List Response) (s t : State) → RightAt s → Leads (IsStep d room) ys s t → TellOutcomes d (history t.core.book) ys
-  told_all [] s t h x = tt
-  told_all (y ∷ ys) s t h x =
-      let after = (kept_step s x.0 y h x.1).right in
-      (λ n o is. (kept_all ys x.0 t after x.2).keeps n o (tells x.0.core.book y n o (moment s x.0 y h x.1).so is), told_all ys x.0 t after x.2)
+  -- ---- a session
+  told_all : (ys : List Booked) (was : Option ℕ) (s t : State) → RightAt was s → LeadsTo d was ys s t → TellOutcomes d (history t.core.book) (responses_in ys)
+  told_all [] was s t h x = tt
+  told_all (y ∷ ys) was s t h x =
+      let after = (kept_to was s x.0 y h x.1).right in
+      let so = (moment_to was s x.0 y h x.1).so in
+      (λ n o is. (kept_all ys y.removed x.0 t after x.2).keeps n o (subst (λ b. HasReply d (history b) n o) (sym x.1.book) (tells y.book y.removed y.response n o so is)), told_all ys y.removed x.0 t after x.2)
 
--- ---- a session
--- the responses, each with book and rows after its step
-abbrev pub booked : (d : Deployment) (room : ℕ) (ys : List Response) (s t : State) → Leads (IsStep d room) ys s t → List Booked
-booked d room [] s t x = []
-booked d room (y ∷ ys) s t x = booked_at y x.0 ∷ booked d room ys x.0 t x.2
+  last_is : (ys : List Booked) (was : Option ℕ) (s t : State) → LeadsTo d was ys s t → last_book s.core.book ys ≡ t.core.book
+  last_is [] was s t x = ap (λ (z : State). z.core.book) (sym x)
+  last_is (y ∷ ys) was s t x = ap (λ b. last_book b ys) (sym x.1.book) ∙ last_is ys y.removed x.0 t x.2
 
-pub booked_back : (d : Deployment) (room : ℕ) (ys : List Response) (s t : State) (x : Leads (IsStep d room) ys s t) → responses_in (booked d room ys s t x) ≡ ys
-booked_back d room [] s t x = refl
-booked_back d room (y ∷ ys) s t x = ap (λ z. y ∷ z) (booked_back d room ys x.0 t x.2)
-
-last_booked : (d : Deployment) (room : ℕ) (ys : List Response) (s t : State) (x : Leads (IsStep d room) ys s t) → last_book s.core.book (booked d room ys s t x) ≡ t.core.book
-last_booked d room [] s t x = ap (λ (z : State). z.core.book) (sym x)
-last_booked d room (y ∷ ys) s t x = last_booked d room ys x.0 t x.2
-
-module _ (d : Deployment) (lift : Core → Core) (history : List Entry → List Entry) (lifts : Lifts d lift history) where
-  moments : (ys : List Response) (s t : State) → Right d (lift s.core) s.rows → (x : Leads (IsStep d d.room) ys s t) → Moments d history s.core.book (booked d d.room ys s t x)
-  moments [] s t h x = tt
-  moments (y ∷ ys) s t h x = (moment d d.room lift history lifts s x.0 y h x.1, moments ys x.0 t (kept_step d d.room lift history lifts s x.0 y h x.1).right x.2)
+  moments : (ys : List Booked) (was : Option ℕ) (s t : State) → RightAt was s → LeadsTo d was ys s t → Moments d history gone s.core.book was ys
+  moments [] was s t h x = tt
+  moments (y ∷ ys) was s t h x = (moment_to was s x.0 y h x.1, subst (λ b. Moments d history gone b y.removed ys) x.1.book (moments ys y.removed x.0 t (kept_to was s x.0 y h x.1).right x.2))
 
   -- over rows for which the host is right, with its history, its steps are a run without crashes
-  module _ (ys : List Response) (m : Rows) (now opened : ℕ) (t : State) (x : Leads (IsStep d d.room) ys (opened_at m now opened) t) (h : Right d (lift (opened_core m now)) m) where
-    abbrev zs : List Booked
-    zs = booked d d.room ys (opened_at m now opened) t x
+  module _ (ys : List Booked) (m : Rows) (now opened : ℕ) (t : State) (x : LeadsTo d None ys (opened_at m now opened) t) (h : RightAt None (opened_at m now opened)) where
+    end_right : RightAt (last_removed None ys) t
+    end_right = (kept_all ys None (opened_at m now opened) t h x).right
 
-    last_is : t.core.book ≡ last_book [] zs
-    last_is = sym (last_booked d d.room ys (opened_at m now opened) t x)
+    book_is : t.core.book ≡ last_book [] ys
+    book_is = sym (last_is ys None (opened_at m now opened) t x)
 
-    same_responses : ys ≡ responses_in zs
-    same_responses = sym (booked_back d d.room ys (opened_at m now opened) t x)
-
-    pub run_so : IsPlainRun d history t.rows zs
+    run_so : IsPlainRun d history gone t.rows ys
     run_so =
-        let k = kept_all d d.room lift history lifts ys (opened_at m now opened) t h x in
+        let k = kept_all ys None (opened_at m now opened) t h x in
         record {
-          moments = moments ys (opened_at m now opened) t h x;
-          legal = subst (λ b. IsLegal d (history b)) last_is (legal_at d d.room lift history lifts t k.right);
-          bound = ap (λ b. starts_of (history b)) (sym last_is) ∙ lifts.starts t.core.book ∙ ap (λ z. starts_of (history []) ++ z) (k.starts ∙ ap bound_in same_responses);
-          replies = subst (λ b. TellOutcomes d (history b) (responses_in zs)) last_is (subst (TellOutcomes d (history t.core.book)) same_responses (told_all d d.room lift history lifts ys (opened_at m now opened) t h x));
-          tables = subst (λ b. RowsStandFor d t.rows (history b)) last_is (stands_for d d.room lift history lifts t k.right);
+          moments = moments ys None (opened_at m now opened) t h x;
+          legal = subst (λ b. IsLegal d (history b)) book_is (legal_at (last_removed None ys) t k.right);
+          bound = ap (λ b. starts_of (history b)) (sym book_is) ∙ lifts.starts t.core.book ∙ ap (λ z. starts_of (history []) ++ z) k.starts;
+          replies = subst (λ b. TellOutcomes d (history b) (responses_in ys)) book_is (told_all ys None (opened_at m now opened) t h x);
+          tables = subst (λ b. RowsStandFor d (later gone (last_removed None ys)) t.rows (history b)) book_is (stands_for (last_removed None ys) t k.right);
         }
 
-    pub listing_so : (p : PlainState) → run_of d (history t.core.book) ≡ Some p → tables_text d t.rows ≡ listing_of d p
-    listing_so p is = listing_plain d (lift t.core) t.rows p (right_after d d.room lift history lifts ys (opened_at m now opened) t h x) (to_history d d.room lift history lifts (λ b. run_of d b ≡ Some p) t is)
+    listing_so : (p : PlainState) → run_of d (history t.core.book) ≡ Some p → tables_text d t.rows ≡ listing_of d p
+    listing_so p is = kept_listing d (lift t.core) t.rows p end_right.safe.has (to_history (λ b. run_of d b ≡ Some p) t is)
 
 -- ---- rows that sessions left
-led : (d : Deployment) (ys : List Booked) (s t : State) → LeadsTo d ys s t → Leads (IsStep d d.room) (responses_in ys) s t
-led d [] s t x = x
-led d (y ∷ ys) s t x = (x.0, x.1.0, led d ys x.0 t x.2)
+module _ (laws : Laws) (d : Deployment) where
+  -- a host that is opened over kept rows, behind the books that they are of
+  abbrev OpensAt : Option ℕ → Core → Rows → Type 0
+  OpensAt l c m = (g : IsSafe d c m) × Removed d l c m g.has
 
--- a host that is opened over them is right, with the book of these sessions
-reopens : (d : Deployment) {base : List Entry} {m : Rows} → Left d base m → (now : ℕ) → Right d (behind base (opened_core m now)) m
-reopens d no_session now = first_right d (opened_core map.empty now) map.empty (begins_right d now map.empty refl)
-reopens d (one_more first k left before opened ys t x) now =
-    let right = right_after d d.room (behind first) (joined first) (behind_lifts d first) (responses_in ys) (opened_at k before opened) t (reopens d left before) (led d ys (opened_at k before opened) t x) in
-    opens_again d first t.core t.rows (max now (latest_of t.rows)) right
+  opens : (l : Option ℕ) (c : Core) (m : Rows) (now : ℕ) (h : HasKept d c m) → Removed d l c m h → OpensAt l (behind c.book (opened_core m now)) m
+  opens l c m now h so = (g.0, by_removed l so)
+    where
+      g : (g : IsSafe d (behind c.book (opened_core m now)) m) × (g.has.latest ≡ h.latest)
+      g = opened_safe d c m h now
 
--- over no rows
-module _ (d : Deployment) (ys : List Response) (m : Rows) (now opened : ℕ) (t : State) (x : Leads (IsStep d d.room) ys (opened_at m now opened) t) where
-  pub plain_run : m ≡ map.empty → IsPlainRun d alone t.rows (booked d d.room ys (opened_at m now opened) t x)
-  plain_run none = run_so d (λ c. c) alone (first_lifts d) ys m now opened t x (begins_right d now m none)
+      by_removed : (l : Option ℕ) → Removed d l c m h → Removed d l (behind c.book (opened_core m now)) m g.0.has
+      by_removed None so = (opened_upkept d c m now so.0, g.1 ∙ so.1)
+      by_removed (Some l) so = subst (λ z. z ≤ l) (sym g.1) so
 
-  -- over rows that sessions left
-  pub joined_run : (base : List Entry) → Left d base m → IsPlainRun d (joined base) t.rows (booked d d.room ys (opened_at m now opened) t x)
-  joined_run base left = run_so d (behind base) (joined base) (behind_lifts d base) ys m now opened t x (reopens d left now)
+  begins : (now : ℕ) → OpensAt None (behind [] (opened_core map.empty now)) map.empty
+  begins now = opens None (first_core 0 0) map.empty now (begins_kept d 0) (begins_upkept d 0, begins_early d 0)
 
-  pub joined_listing : (base : List Entry) → Left d base m → (p : PlainState) → run_of d (joined base t.core.book) ≡ Some p → tables_text d t.rows ≡ listing_of d p
-  joined_listing base left = listing_so d (behind base) (joined base) (behind_lifts d base) ys m now opened t x (reopens d left now)
+  no_more : (l : Option ℕ) → later l None ≡ l
+  no_more None = refl
+  no_more (Some l) = refl
 
-pub leads_to : (d : Deployment) (ys : List Response) (s t : State) (x : Leads (IsStep d d.room) ys s t) → LeadsTo d (booked d d.room ys s t x) s t
-leads_to d [] s t x = x
-leads_to d (y ∷ ys) s t x = (x.0, (x.1, refl, refl), leads_to d ys x.0 t x.2)
+  reopens : {base : List Entry} {gone : Option ℕ} {m : Rows} → Left d base gone m → (now : ℕ) → OpensAt gone (behind base (opened_core m now)) m
+  reopens no_session now = begins now
+  reopens (one_more first gone k left before opened ys t x) now =
+      let first_right = reopens left before in
+      let begun : RightFor laws d (behind first) (joined first) (behind_lifts d first) gone None (opened_core k before) k = record { safe = first_right.0; so = subst (λ l. Removed d l (behind first (opened_core k before)) k first_right.0.has) (sym (no_more gone)) first_right.1 } in
+      let right = end_right laws d (behind first) (joined first) (behind_lifts d first) gone ys k before opened t x begun in
+      opens (later gone (last_removed None ys)) (behind first t.core) t.rows now right.safe.has right.so
 
-steps_to : (d : Deployment) (ys : List Response) (fs more : List Action) (s t : State) (x : Steps (IsStep d d.room) ys fs more s t) → StepsTo d (booked d d.room ys s t (leads_so (IsStep d d.room) ys fs more s t x)) fs more s t
-unfolding leads_so
-steps_to d [] fs more s t x = x
-steps_to d (y ∷ ys) fs more s t x = (x.0, x.1, (x.2, refl, refl), x.3, steps_to d ys x.1 more x.0 t x.4)
+pub plain_runs : EventsKeepSafe → KeptReplies → KeptOutcomes → SessionsArePlainRuns
+plain_runs keep reply stay d ys m now opened t x = (
+  λ none. run_so laws d (λ c. c) alone (first_lifts d) None ys m now opened t x (alone_right none),
+  λ base gone left. let right = behind_right base gone left in (
+    run_so laws d (behind base) (joined base) (behind_lifts d base) gone ys m now opened t x right,
+    listing_so laws d (behind base) (joined base) (behind_lifts d base) gone ys m now opened t x right,
+  ),
+)
+  where
+    laws : Laws
+    laws = record { keep = keep; reply = reply; stay = stay }
 
--- ---- what the responses are to
-is_to_settling : (budget : ℕ) (c : Core) (n : Next) (y : Response) (left : List Action) → SettlingLeaves budget c n y left → IsToSettling budget y left
-is_to_settling budget c (Turn s i) (Answered ReplyAlone e x) left h = (ap is_turn h.0, _, h.1)
-is_to_settling budget c (Turn s i) (Answered Whole e x) left h = absurd h
-is_to_settling budget c (Turn s i) WentBack left h = absurd h
-is_to_settling budget c (Turn s i) (Reported r) left h = absurd h
-is_to_settling budget c (Turn s i) (WentOn k) left h = absurd h
-is_to_settling budget c (Turn s i) (BrokeOff None) left h = absurd h
-is_to_settling budget c (Turn s i) (BrokeOff (Some e)) left h = (ap is_turn h.0, _, h.1)
-is_to_settling budget c (Collect s) (Answered ReplyAlone e x) left h = (ap is_turn h.0, _, h.1)
-is_to_settling budget c (Collect s) (WentOn k) left h = (_, h)
-is_to_settling budget c (Collect s) (BrokeOff None) left h = absurd h
-is_to_settling budget c (Collect s) (BrokeOff (Some e)) left h = (ap is_turn h.0, _, h.1)
-is_to_settling budget c (Collect s) (Answered Whole e x) left h = absurd h
-is_to_settling budget c (Collect s) WentBack left h = absurd h
-is_to_settling budget c (Collect s) (Reported r) left h = absurd h
-is_to_settling budget c (Reset s) (Answered share e x) left h = absurd h
-is_to_settling budget c (Reset s) WentBack left h = (_, h)
-is_to_settling budget c (Reset s) (WentOn k) left h = absurd h
-is_to_settling budget c (Reset s) (BrokeOff o) left h = absurd h
-is_to_settling budget c (Reset s) (Reported r) left h = absurd h
+    alone_right : m ≡ map.empty → RightFor laws d (λ c. c) alone (first_lifts d) None None (opened_core m now) m
+    alone_right none =
+        let g = subst (λ (c : Core). OpensAt laws d None c map.empty) (behind_nothing (opened_core map.empty now)) (begins laws d now) in
+        subst (λ z. RightFor laws d (λ c. c) alone (first_lifts d) None None (opened_core z now) z) (sym none) (record { safe = g.0; so = g.1 })
 
-is_to : (a : Action) (c z : Core) (y : Response) (left : List Action) → Leaves a c z y left → IsTo a y left
-is_to (Carry e) c z y left h = h
-is_to (Call t f v) c z y left h = h
-is_to (Settle budget (Goes s)) c z y left h = is_to_settling budget z (next_of c s) y left h
-is_to (Settle budget (Over r)) c z y left h = h
-is_to (TellReply t) c z y left h = h
-is_to CountRows c z y left h = h
-is_to ListTables c z y left h = h
-is_to ListBook c z y left h = h
-is_to (Refuse x) c z y left h = h
-
-is_to_first : (fs : List Action) (c z : Core) (y : Response) (left : List Action) → Follows fs c z y left → AtFirst (λ a front. IsTo a y front) fs left
-is_to_first [] c z y left h = absurd h
-is_to_first (a ∷ fs) c z y left h = (h.0, is_to a c z y h.0 h.1, h.2)
-
-pub are_to : (d : Deployment) (room : ℕ) (ys : List Response) (fs more : List Action) (s t : State) → Steps (IsStep d room) ys fs more s t → AreTo ys fs more
-are_to d room [] fs more s t x = x.1
-are_to d room (y ∷ ys) fs more s t x = (x.1, is_to_first fs s.core x.0.core y x.1 x.3, are_to d room ys x.1 more x.0 t x.4)
-
--- from the rows m, over which a host was opened, by these steps
-module _ (d : Deployment) (actions more : List Action) (m : Rows) (opened : ℕ) (t : State) (written rest : List ℕ) (x : Went (IsStep d d.room) d actions more (opened_at m 0 opened) t [] written rest) where
-  abbrev leads : Leads (IsStep d d.room) x.responses (opened_at m 0 opened) t
-  leads = leads_so (IsStep d d.room) x.responses actions more (opened_at m 0 opened) t x.steps
-
-  abbrev said_zs : List Booked
-  said_zs = booked d d.room x.responses (opened_at m 0 opened) t leads
-
-  pub said_back : x.responses ≡ responses_in said_zs
-  said_back = sym (booked_back d d.room x.responses (opened_at m 0 opened) t leads)
-
-  abbrev pub said : Session d actions more m t.rows written rest
-  said = record {
-    responses = said_zs;
-    actions_are = subst (λ z. AreTo z actions more) said_back (are_to d d.room x.responses actions more (opened_at m 0 opened) t x.steps);
-    text = x.text ∙ ap (responses_text d) said_back;
-    plain = plain_run d x.responses m 0 opened t leads;
-  }
-
-  pub hosted_by : (f : ℕ) → f ≤ opened → Hosted d actions more said_zs m t.rows f t.faults
-  hosted_by f sooner = record {
-    opened = opened;
-    sooner = sooner;
-    core = t.core;
-    steps = steps_to d x.responses actions more (opened_at m 0 opened) t x.steps;
-    joins = joined_run d x.responses m 0 opened t leads;
-    listing = joined_listing d x.responses m 0 opened t leads;
-  }
+    behind_right : (base : List Entry) (gone : Option ℕ) → Left d base gone m → RightFor laws d (behind base) (joined base) (behind_lifts d base) gone None (opened_core m now) m
+    behind_right base gone left =
+        let g = reopens laws d left now in
+        record { safe = g.0; so = subst (λ l. Removed d l (behind base (opened_core m now)) m g.0.has) (sym (no_more laws d gone)) g.1 }

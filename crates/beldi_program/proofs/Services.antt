@@ -2,11 +2,12 @@
 use Rattle.beldi_row.specs.declared.table.Table.{Ghosts}
 use Rattle.beldi_host.specs.{declared.host.Host.Host, Host.core_of}
 use Rattle.beldi_session.specs.Response.{responses_text}
-use Rattle.beldi_serve.specs.{Desk.state_of, Service.Exchange, Service.Same, Service.Served, Service.ServedAll, Service.ServesBy, Service.Serving as Served_by, Service.World, Service.lines_from, Service.moment_of, Service.responses_of, Service.sight as serve_sight, Service.tick_to, declared.connections.ServeErr.ServeErr}
+use Rattle.beldi_serve.specs.{Desk.state_of, Service.Exchange, Service.Same, Service.Served, Service.ServedAll, Service.ServesBy, Service.Serving as Served_by, Service.World, Service.lines_from, Service.moment_of, Service.pruning, Service.responses_of, Service.sight as serve_sight, Service.tick_to, declared.connections.ServeErr.ServeErr}
 use Rattle.beldi_serve.proofs.Leading.{leads_so, leads_then}
 use Rattle.beldi_program.specs.{Serves.Lists, Serves.ServesHost, Service.Course, Service.ServedTo, Service.Service, Service.is_service_end, Service.listed_end, Service.served_end}
-use Rattle.beldi_program.proofs.Names.{Connections, Core, Deployment, Does, Ended, Err, IsErrOf, IsStep, Leads, List, ListBook, ListTables, Ok, OnOk, Opened, Option, Response, Result, Rose, Rows, ServiceEnds, State, Stop, Told, WentBy, Writes, [], ap, append-nil, append_assoc, arith, false≢true, inl, inr, opened_at, opened_core, refl, sight, subst, sym, told_map, told_same, told_tells, told_then, true, ℕ, ◌++◌, ◌∙◌, ◌∷◌, ◌≡◌, ◌≤◌}
-use Rattle.beldi_program.proofs.PlainRuns.{are_to, booked, booked_back, joined_run, leads_to, plain_run}
+use Rattle.beldi_program.proofs.Names.{Connections, Core, Deployment, Does, Ended, Err, IsErrOf, IsStep, Leads, List, ListBook, ListTables, None, Ok, OnOk, Opened, Option, Response, Result, Rose, Rows, ServiceEnds, State, Stop, Told, WentBy, Writes, [], ap, append-nil, append_assoc, arith, false≢true, inl, inr, opened_at, opened_core, refl, sight, subst, sym, told_map, told_same, told_tells, told_then, true, ℕ, ◌++◌, ◌∙◌, ◌∷◌, ◌≡◌, ◌≤◌}
+use Rattle.beldi_program.specs.Hosted.{SessionsArePlainRuns}
+use Rattle.beldi_program.proofs.Booking.{are_to, booked, booked_back, leads_to}
 
 abbrev pub not_all : ServeErr → Result (Unit {0}) ServeErr
 not_all why = Err why
@@ -18,7 +19,8 @@ served_all x = Ok x
 module _ {C : Type 0} (tells : C → ℕ → C → Type 0) (d : Deployment) (room : ℕ) where
   one_leads : (v w : World C) (x : Exchange) → Served tells d room v w x → Leads (IsStep d room) x.responses v.state w.state
   one_leads v w x s = subst (λ ys. Leads (IsStep d room) ys v.state w.state) (sym s.responses)
-      (leads_then (IsStep d room) s.ticks s.asked v.state s.mid w.state (leads_so (IsStep d room) s.ticks (tick_to v.state.core.now s.moment) [] v.state s.mid s.ticked) s.leads)
+      (leads_then (IsStep d room) s.ticks (s.asked ++ s.pruned) v.state s.mid w.state (leads_so (IsStep d room) s.ticks (tick_to v.state.core.now s.moment) [] v.state s.mid s.ticked)
+      (leads_then (IsStep d room) s.asked s.pruned s.mid s.late w.state s.leads (leads_so (IsStep d room) s.pruned pruning [] s.late w.state s.prunes)))
 
   all_lead : (xs : List Exchange) (v w : World C) → ServedAll tells d room xs v w → Leads (IsStep d room) (responses_of xs) v.state w.state
   all_lead [] v w h = ap (λ (z : World C). z.state) h
@@ -109,18 +111,32 @@ module _ {K T : Type 0} {G : Ghosts T} {C : Type 0} (held : K → Option (List �
   served_over h b' b l1 l2 e k k' r first last s = subst (λ (z : Host T G). Served_by tells requests (serve_sight host l1 c) (serve_sight z l2 e) (held k) (held k') r) (sym last)
       (subst (λ (z : Host T G). Served_by tells requests (serve_sight z l1 c) (serve_sight b' l2 e) (held k) (held k') r) first s)
 
-  -- the link did not listen
-  pub not_listening : (l l' : Option Connections) (refused : Type 0) (k : K) (t' : T) → Same l l' → t' ≡ host.table → refused → Goal l l' refused k k t' Ended.LinkRefused
-  not_listening l l' refused k t' same is h = record {
+  -- the link did not listen, so no connection was served
+  unserved : (l l' : Option Connections) (refused : Type 0) (k : K) (t' : T) (e : Ended) → t' ≡ host.table → ((m : Rows) → ServedTo host.code requests l' [] (λ xs ys last. Course tells host.code (G.state host.table).room l c xs ys last (state_of host m) (record { core = core_of host; rows = m; faults = (G.state host.table).faults })) e)
+      → (e ≡ Ended.SinkFault → ⊥) → (e ≡ Ended.LinkRefused → refused) → is_service_end e ≡ true → Goal l l' refused k k t' e
+  unserved l l' refused k t' e is none no_fault refusal ends = record {
     written = [];
     sink = told_same (λ a b. b ≡ a ++ []) (held k) (λ a. sym (append-nil a));
-    went = subst (λ (x : T). Told (G.state host.table).rows (G.state x).rows (λ m n. (core : Core) × ServedTo host.code requests l' [] (λ xs ys last. Course tells host.code (G.state host.table).room l c xs ys last (state_of host m) (record { core = core; rows = n; faults = (G.state x).faults })) Ended.LinkRefused)) (sym is)
-        (told_same (λ m n. (core : Core) × ServedTo host.code requests l' [] (λ xs ys last. Course tells host.code (G.state host.table).room l c xs ys last (state_of host m) (record { core = core; rows = n; faults = (G.state host.table).faults })) Ended.LinkRefused) (G.state host.table).rows
-        (λ m. (core_of host, ([], record { state = state_of host m; link = l'; clock = c }, inr refl, refl, told_same (λ x y. y ≡ x) l' (λ x. refl), record { listening = l'; listens = same; served = refl; leads = refl }))));
-    fault = λ e. cc;
-    refusal = λ e. h;
-    ends = refl;
+    went = subst (λ (x : T). Told (G.state host.table).rows (G.state x).rows (λ m n. (core : Core) × ServedTo host.code requests l' [] (λ xs ys last. Course tells host.code (G.state host.table).room l c xs ys last (state_of host m) (record { core = core; rows = n; faults = (G.state x).faults })) e)) (sym is)
+        (told_same (λ m n. (core : Core) × ServedTo host.code requests l' [] (λ xs ys last. Course tells host.code (G.state host.table).room l c xs ys last (state_of host m) (record { core = core; rows = n; faults = (G.state host.table).faults })) e) (G.state host.table).rows
+        (λ m. (core_of host, none m)));
+    fault = λ e. absurd (no_fault e);
+    refusal = refusal;
+    ends = ends;
   }
+
+  -- .. and went nowhere
+  nowhere : (l l' : Option Connections) → Same l l' → (m : Rows) → Course tells host.code (G.state host.table).room l c [] [] (record { state = state_of host m; link = l'; clock = c }) (state_of host m) (record { core = core_of host; rows = m; faults = (G.state host.table).faults })
+  nowhere l l' same m = record { listening = l'; listens = same; served = refl; leads = refl }
+
+  pub not_listening : (l l' : Option Connections) (refused : Type 0) (k : K) (t' : T) → Same l l' → t' ≡ host.table → refused → Goal l l' refused k k t' Ended.LinkRefused
+  not_listening l l' refused k t' same is h =
+      unserved l l' refused k t' Ended.LinkRefused is (λ m. ([], record { state = state_of host m; link = l'; clock = c }, inr refl, refl, told_same (λ x y. y ≡ x) l' (λ x. refl), nowhere l l' same m)) (λ e. cc) (λ e. h) refl
+
+  -- memory was short for it
+  pub short_for_port : (l l' : Option Connections) (refused : Type 0) (k : K) (t' : T) → Same l l' → t' ≡ host.table → Goal l l' refused k k t' Ended.OutOfMemory
+  short_for_port l l' refused k t' same is =
+      unserved l l' refused k t' Ended.OutOfMemory is (λ m. ([], [], record { state = state_of host m; link = l'; clock = c }, ([], refl), nowhere l l' same m)) (λ e. cc) (λ e. cc) refl
 
   -- it ended before all connections were served
   pub service_broke : (b : Host T G) (l0 l1 l2 : Option Connections) (e : C) (refused : Type 0) (k k' : K) (t' : T) (why : ServeErr) → Same l0 l1 → t' ≡ b.table → Served_by {X = Unit {0}} tells requests (serve_sight host l1 c) (serve_sight b l2 e) (held k) (held k') (Err why)
@@ -190,7 +206,7 @@ module _ {K T : Type 0} {G : Ghosts T} {C : Type 0} (held : K → Option (List �
       listed_ends (Err Stop.SinkFault) = refl
 
 -- ---- over the table that was handed in
-module _ {K T : Type 0} {G : Ghosts T} {C : Type 0} (held : K → Option (List ℕ)) (faults : K → ℕ) (tells : C → ℕ → C → Type 0) (d : Deployment) (requests : ℕ) (t : T) (host : Host T G) (l l' : Option Connections) (c0 c : C) (moment : ℕ) (told : tells c0 moment c) (refused : Type 0)
+module _ (plain_runs : SessionsArePlainRuns) {K T : Type 0} {G : Ghosts T} {C : Type 0} (held : K → Option (List ℕ)) (faults : K → ℕ) (tells : C → ℕ → C → Type 0) (d : Deployment) (requests : ℕ) (t : T) (host : Host T G) (l l' : Option Connections) (c0 c : C) (moment : ℕ) (told : tells c0 moment c) (refused : Type 0)
     (o : Opened d host.code (moment_of moment) (G.state t) (G.state host.table) (core_of host)) where
   -- over no rows it is a run without crashes
   served_so : (m : Rows) (n : Rows) (core : Core) (g : ℕ) (xs : List Exchange) (ys : List Response) (last : World C) → Course tells d d.room l c xs ys last (opened_at m (moment_of moment) (G.state host.table).faults) (record { core = core; rows = n; faults = g })
@@ -199,6 +215,8 @@ module _ {K T : Type 0} {G : Ghosts T} {C : Type 0} (held : K → Option (List �
       let s = opened_at m (moment_of moment) (G.state host.table).faults in
       let e : State = record { core = core; rows = n; faults = g } in
       let all = leads_then (IsStep d d.room) (responses_of xs) ys s last.state e (all_lead tells d d.room xs (record { state = s; link = course.listening; clock = c }) last course.served) course.leads in
+      let zs = booked d None (responses_of xs ++ ys) s e all in
+      let to = leads_to d None (responses_of xs ++ ys) s e all in
       record {
         moment = moment;
         opening = c;
@@ -207,11 +225,11 @@ module _ {K T : Type 0} {G : Ghosts T} {C : Type 0} (held : K → Option (List �
         sooner = o.later;
         core = core;
         course = course;
-        booked = booked d d.room (responses_of xs ++ ys) s e all;
-        are = booked_back d d.room (responses_of xs ++ ys) s e all;
-        steps = leads_to d (responses_of xs ++ ys) s e all;
-        plain = plain_run d (responses_of xs ++ ys) m (moment_of moment) (G.state host.table).faults e all;
-        joins = joined_run d (responses_of xs ++ ys) m (moment_of moment) (G.state host.table).faults e all;
+        booked = zs;
+        are = booked_back d None (responses_of xs ++ ys) s e all;
+        steps = to;
+        plain = (plain_runs d zs m (moment_of moment) (G.state host.table).faults e to).0;
+        joins = λ base gone left. ((plain_runs d zs m (moment_of moment) (G.state host.table).faults e to).1 base gone left).0;
       }
 
   opened_so : (m k : Rows) → (k ≡ m) × (core_of host ≡ opened_core m (moment_of moment)) → state_of host k ≡ opened_at m (moment_of moment) (G.state host.table).faults

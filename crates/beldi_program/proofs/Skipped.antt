@@ -9,7 +9,7 @@ use Rattle.beldi_script.{proofs.Lines.cut_some, specs.Cut.unreturned}
 use Rattle.beldi_generator.specs.Summary.{past}
 use Rattle.beldi_session.specs.Answer.{answer_text, entry_part, numbered, outcome_line, over_part, reply_part, reply_told, run_part}
 use Rattle.beldi_schedule.specs.{declared.machine.Settled.Settled}
-use Rattle.beldi_session.specs.{Response.Whole, Response.book_head, Response.response_text, Response.unread_line, Settled.settled_text, Settled.wait_text}
+use Rattle.beldi_session.specs.{Response.PruneAnswered, Response.PruneBroke, Response.Whole, Response.book_head, Response.response_text, Response.unread_line, Settled.settled_text, Settled.wait_text}
 use Rattle.beldi_bank_lines.proofs.Unbroken.{text_flat}
 use Rattle.beldi_program.proofs.{Asked.EndsListed, Asked.IsOfEvents, Asked.IsQuiet, Flat.AreFlat, Flat.IsFlat, Flat.decimal_flat, Flat.entry_flat, Flat.id_flat, Flat.joined, Flat.outcome_flat, Flat.owner_flat}
 use Rattle.beldi_program.proofs.Names.{Action, Answered, Bool, BookIs, BrokeOff, Deployment, Entry, Event, List, None, Option, Outcome, ReplyAlone, Reported, Response, Seen, SettledIs, Some, TablesAre, WentBack, WentOn, [], ap, append-nil, append_assoc, false, lines_of, refl, responses_text, sym, true, ℕ, ◌++◌, ◌∙◌, ◌∷◌, ◌≡◌}
@@ -210,6 +210,8 @@ module _ (h : List ℕ) (d : Deployment) (names : AreFlat d) where
   response_passed (BrokeOff e) o = nothing (past (61 ∷ h))
   response_passed (Reported (SettledIs r)) o = settled_passed r
   response_passed (Reported r) o = absurd o
+  response_passed (PruneAnswered share k x) o = absurd o
+  response_passed (PruneBroke k) o = absurd o
 
   pub past_events : (ys more : List Response) → AllByRecursion IsOfEvents ys → past (61 ∷ h) (lines_of (responses_text d (ys ++ more))) ≡ past (61 ∷ h) (lines_of (responses_text d more))
   past_events [] more o = refl

@@ -1,15 +1,17 @@
 -- That a session is a run without crashes, of exactly the requests that were bound. Nothing here knows how the host moves.
-use Rattle.std.specs.Prelude.{◌≡◌, ◌&&◌, ℕ, Bool, true, false, List, [], ◌∷◌, ◌++◌, flat_map, map, Option, Some, None, option_to_list}
+use Rattle.std.specs.Prelude.{◌≡◌, ◌&&◌, ℕ, max, Bool, true, false, List, [], ◌∷◌, ◌++◌, flat_map, map, is_some, Option, Some, None, option_to_list}
 use Rattle.std.specs.FinMap as finite
 use Rattle.beldi_value.specs.declared.{value.Value.Value, outcome.Outcome.Outcome}
 use Rattle.beldi_tree.specs.declared.deployment.Deployment.{Deployment}
 use Rattle.beldi_book.specs.{Text.book_text, declared.entry.Entry.Entry}
 use Rattle.beldi_plain.specs.{Plain.PlainState, Legal.IsLegal, Legal.run_of, Listing.listing_of, Replies.starts_of, Replies.HasReply}
 use Rattle.beldi_row.specs.Table.{Rows}
+use Rattle.beldi_step.specs.declared.event.Pruned.TheVariants.{Removed}
 use Rattle.beldi_step.specs.Told.{bound_of, entries_told, is_dropped, is_lost, told_outcome}
 use Rattle.beldi_known.specs.Stands.{Stands}
-use Rattle.beldi_host.specs.{Said.SaidOf, declared.survey.ReplySeen.TheVariants.Reply}
-use Rattle.beldi_session.specs.Response.{Report, ReplyIs, TablesAre, BookIs, Response, Answered, WentBack, WentOn, Reported, BrokeOff, IsTo, AtFirst, responses_text}
+use Rattle.beldi_kept.specs.Stands.{StandsLess}
+use Rattle.beldi_host.specs.{Said.SaidOf, declared.survey.ReplySeen.TheVariants.Gone, declared.survey.ReplySeen.TheVariants.Reply}
+use Rattle.beldi_session.specs.Response.{Report, ReplyIs, TablesAre, BookIs, Response, Answered, Reported, BrokeOff, PruneAnswered, IsTo, AtFirst, responses_text}
 use Rattle.beldi_session.specs.Script.{Action}
 
 -- ---- the moment after an action
@@ -24,55 +26,78 @@ loses (Answered share e x) = is_lost e && is_dropped x
 loses (BrokeOff o) = true
 loses y = false
 
--- the rows stand for the run of the book
-abbrev pub RowsStandFor : Deployment → Rows → List Entry → Type 0
-RowsStandFor d rows book = (p : PlainState) → run_of d book ≡ Some p → Stands d rows p
+-- a log collector removed a row
+abbrev pub removes : Response → Bool
+removes (PruneAnswered share k Removed) = true
+removes y = false
 
--- a response, with the book and the rows after it
+-- ---- moments at which rows were removed, none where none was
+-- the later one
+abbrev pub later : Option ℕ → Option ℕ → Option ℕ
+later None r = r
+later (Some a) None = Some a
+later (Some a) (Some b) = Some (max a b)
+
+-- the rows stand for a plain state: where none was removed, each tells of it; else as rows do of which some of old intents were removed
+-- up to this moment
+abbrev pub StandsBy : Deployment → Option ℕ → Rows → PlainState → Type 0
+StandsBy d None rows p = Stands d rows p
+StandsBy d (Some l) rows p = StandsLess d l rows p
+
+-- .. for that of the run of the book
+abbrev pub RowsStandFor : Deployment → Option ℕ → Rows → List Entry → Type 0
+RowsStandFor d removed rows book = (p : PlainState) → run_of d book ≡ Some p → StandsBy d removed rows p
+
+-- a response, with the book and the rows after it, and the latest moment at which a row was removed in this session
 pub record Booked : Type 0 where
   pub response : Response
   pub book : List Entry
   pub rows : Rows
+  pub removed : Option ℕ
 
 -- the history of a session that is the first over its rows: its own book
 abbrev pub alone : List Entry → List Entry
 alone book = book
 
--- by the history that the session's book is the last part of
-module _ (d : Deployment) (history : List Entry → List Entry) where
-  abbrev pub IsReportSo : List Entry → Report → Type 0
-  IsReportSo book (ReplyIs t (Some x)) = SaidOf d (history book) t x
-  IsReportSo book (TablesAre (Some lines)) = (p : PlainState) → run_of d (history book) ≡ Some p → lines ≡ listing_of d p
-  IsReportSo book (BookIs lines) = lines ≡ book_text d book
-  IsReportSo book r = Unit {0}
+-- by the history that the session's book is the last part of, and the latest moment at which a row was removed before the session
+module _ (d : Deployment) (history : List Entry → List Entry) (gone : Option ℕ) where
+  -- a ticket is gone only where a row was removed
+  abbrev pub IsReportSo : List Entry → Option ℕ → Report → Type 0
+  IsReportSo book removed (ReplyIs t (Some x)) = SaidOf d (history book) t x × (x ≡ Gone → is_some (later gone removed) ≡ true)
+  IsReportSo book removed (TablesAre (Some lines)) = (p : PlainState) → run_of d (history book) ≡ Some p → lines ≡ listing_of d p
+  IsReportSo book removed (BookIs lines) = lines ≡ book_text d book
+  IsReportSo book removed r = Unit {0}
 
   -- what a response says is so in the run of the history
-  abbrev pub IsSo : List Entry → Response → Type 0
-  IsSo book (Answered share e x) = (t : ℕ) (o : Outcome) → told_outcome x ≡ Some (t, o) → HasReply d (history book) t o
-  IsSo book WentBack = Unit {0}
-  IsSo book (WentOn k) = Unit {0}
-  IsSo book (BrokeOff o) = Unit {0}
-  IsSo book (Reported r) = IsReportSo book r
+  abbrev pub IsSo : List Entry → Option ℕ → Response → Type 0
+  IsSo book removed (Answered share e x) = (t : ℕ) (o : Outcome) → told_outcome x ≡ Some (t, o) → HasReply d (history book) t o
+  IsSo book removed (Reported r) = IsReportSo book removed r
+  IsSo book removed y = Unit {0}
 
-  -- the book got at most one entry, the one that the response tells, unless the answer was lost; the history is legal; what is said is so
-  -- in its run; and the rows stand for that run
-  pub record Moment (before : List Entry) (y : Booked) : Type 0 where
+  -- the book got at most one entry, the one that the response tells, unless the answer was lost; only where a collector removed a row, one
+  -- was removed; the history is legal; what is said is so in its run; and the rows stand for that run
+  pub record Moment (before : List Entry) (was : Option ℕ) (y : Booked) : Type 0 where
     pub entry : Option Entry
     pub grew : y.book ≡ before ++ option_to_list entry
     pub told : loses y.response ≡ false → option_to_list entry ≡ entries_in y.response
+    pub still : removes y.response ≡ false → y.removed ≡ was
     pub legal : IsLegal d (history y.book)
-    pub so : IsSo y.book y.response
-    pub tables : RowsStandFor d y.rows (history y.book)
+    pub so : IsSo y.book y.removed y.response
+    pub tables : RowsStandFor d (later gone y.removed) y.rows (history y.book)
 
   -- from a book on, each of these is a moment after the one before
-  abbrev pub Moments : List Entry → List Booked → Type 0
-  Moments before [] = Unit {0}
-  Moments before (y ∷ ys) = Moment before y × Moments y.book ys
+  abbrev pub Moments : List Entry → Option ℕ → List Booked → Type 0
+  Moments before was [] = Unit {0}
+  Moments before was (y ∷ ys) = Moment before was y × Moments y.book y.removed ys
 
--- the book after the last of them
+-- the book after the last of them, and when a row was removed last
 abbrev pub last_book : List Entry → List Booked → List Entry
 last_book before [] = before
 last_book before (y ∷ ys) = last_book y.book ys
+
+abbrev pub last_removed : Option ℕ → List Booked → Option ℕ
+last_removed was [] = was
+last_removed was (y ∷ ys) = last_removed y.removed ys
 
 abbrev pub responses_in : List Booked → List Response
 responses_in ys = map (λ (y : Booked). y.response) ys
@@ -102,12 +127,12 @@ TellOutcomes d book (y ∷ ys) = ((t : ℕ) (o : Outcome) → outcome_in y ≡ S
 -- one that leaves no item changed (`after` of `beldi_plain/specs/Entries`); the history starts what it had started before the session, and
 -- then exactly the requests that were answered bound, in order; every outcome that was told is its root's; and the rows stand for the
 -- history's run.
-pub record IsPlainRun (d : Deployment) (history : List Entry → List Entry) (rows : Rows) (ys : List Booked) : Type 0 where
-  pub moments : Moments d history [] ys
+pub record IsPlainRun (d : Deployment) (history : List Entry → List Entry) (gone : Option ℕ) (rows : Rows) (ys : List Booked) : Type 0 where
+  pub moments : Moments d history gone [] None ys
   pub legal : IsLegal d (history (last_book [] ys))
   pub bound : starts_of (history (last_book [] ys)) ≡ starts_of (history []) ++ bound_in (responses_in ys)
   pub replies : TellOutcomes d (history (last_book [] ys)) (responses_in ys)
-  pub tables : RowsStandFor d rows (history (last_book [] ys))
+  pub tables : RowsStandFor d (later gone (last_removed None ys)) rows (history (last_book [] ys))
 
 -- ---- a session from the rows m to the rows n, with the text that was written
 -- each is a response to the first of the actions that are left before it, and `more` are left after them all
@@ -121,4 +146,4 @@ pub record Session (d : Deployment) (actions more : List Action) (m n : Rows) (w
   pub responses : List Booked
   pub actions_are : AreTo (responses_in responses) actions more
   pub text : written ++ rest ≡ responses_text d (responses_in responses)
-  pub plain : m ≡ finite.empty → IsPlainRun d alone n responses
+  pub plain : m ≡ finite.empty → IsPlainRun d alone None n responses

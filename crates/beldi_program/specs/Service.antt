@@ -1,5 +1,5 @@
 -- How the program serves: connections one after another over a host, and the listings after the last one.
-use Rattle.std.specs.Prelude.{◌≡◌, ◌≤◌, ◌<◌, ◌⊎◌, ℕ, Bool, true, false, length, List, [], ◌∷◌, ◌++◌, Option, Result, Ok, Err}
+use Rattle.std.specs.Prelude.{◌≡◌, ◌≤◌, ◌<◌, ◌⊎◌, ℕ, Bool, true, false, length, List, [], ◌∷◌, ◌++◌, Option, None, Result, Ok, Err}
 use Rattle.std.specs.FinMap as map
 use Rattle.beldi_tree.specs.declared.deployment.Deployment.{Deployment}
 use Rattle.beldi_book.specs.declared.entry.Entry.{Entry}
@@ -44,9 +44,9 @@ pub record Service {C : Type 0} (tells : C → ℕ → C → Type 0) (d : Deploy
   pub course : Course tells d d.room link opening xs ys last (opened_at m (moment_of moment) opened) (record { core = core; rows = n; faults = g })
   pub booked : List Booked
   pub are : responses_in booked ≡ responses_of xs ++ ys
-  pub steps : LeadsTo d booked (opened_at m (moment_of moment) opened) (record { core = core; rows = n; faults = g })
-  pub plain : m ≡ map.empty → IsPlainRun d alone n booked
-  pub joins : (base : List Entry) → Left d base m → IsPlainRun d (joined base) n booked
+  pub steps : LeadsTo d None booked (opened_at m (moment_of moment) opened) (record { core = core; rows = n; faults = g })
+  pub plain : m ≡ map.empty → IsPlainRun d alone None n booked
+  pub joins : (base : List Entry) (gone : Option ℕ) → Left d base gone m → IsPlainRun d (joined base) gone n booked
 
 -- ---- how it ends, by what a call answers
 abbrev pub served_end : ServeErr → Ended

@@ -57,6 +57,8 @@
 //!   the sum.
 #![tactic(auto)]
 
+mod laws;
 mod program;
 
+pub use laws::sessions_are_plain_runs;
 pub use program::top;

@@ -15,6 +15,7 @@ ghost use Rattle.beldi_program.specs.Serves.{Lists, ServesHost};
 ghost use Rattle.beldi_program.specs.Headline.{ByStatus, CheckEnds, CommandEnds, DoneBy, Ends, GeneratedEnds, HasEnded, LongOn, ServeEnds, ServiceEnds, Serving, SessionEnds, SourceCommandEnds, SourceEnds, SummedUp, TextEnds, Untouched, WordsAsRead, end_of, is_whole_asked, reads, reads_source, serves, status_of, unread_by, usage};
 ghost use Rattle.beldi_program.specs.declared.program.Ended.TheVariants as ended;
 
+use crate::laws::sessions_are_plain_runs;
 use beldi_check::Checked;
 use beldi_command::{Command, read_command};
 use beldi_generator::{generate, summarise};
@@ -343,6 +344,7 @@ fn host<K: Sink, T: Table>(
 ) -> (Ended, T)
     ensures { SessionEnds K.held K.faults T.state code (numbered first (lines_of script.now)) sink.old sink.new table result.1 result.0 }
 {
+    sessions_are_plain_runs();
     match Host::open(alloc, code, table, 0) {
         Ok(mut host) => {
             let mut waiting = Str::new(alloc);
@@ -399,6 +401,7 @@ fn serve_code<K: Sink, T: Table, N: Link, C: Clock>(
 ) -> (Ended, T)
     ensures { ServiceEnds K.held K.faults T.state C.tells (N.seen link.old) (N.seen link.new) clock.old (Rose (N.refusals link.old) (N.refusals link.new)) code requests sink.old sink.new table result.1 result.0 }
 {
+    sessions_are_plain_runs();
     match Host::open(alloc, code, table, moment_of(clock.now())) {
         Ok(host) => serve_host(alloc, host, sink, link, clock, port, requests),
         Err((table, OpenErr::Failed)) => (Ended::TableFault, table),
@@ -426,7 +429,13 @@ fn serve_host<K: Sink, T: Table, N: Link, C: Clock>(
                 Err(why) => (served_end(why), desk.into_host().close()),
             }
         }
-        Err(_) => (Ended::LinkRefused, host.close()),
+        Err(_) => {
+            if link.is_short() {
+                (Ended::OutOfMemory, host.close())
+            } else {
+                (Ended::LinkRefused, host.close())
+            }
+        }
     }
 }
 

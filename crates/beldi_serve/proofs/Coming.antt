@@ -13,6 +13,7 @@ use Rattle.beldi_schedule.specs.{Settle.first_at, Settle.go_on, Settles.State}
 use Rattle.beldi_session.proofs.{Responses.told_tells, Went.steps_before, Went.steps_then}
 use Rattle.beldi_session.specs.{Response.Response, Response.Answered, Response.BrokeOff, Response.Reported, Response.ReplyIs, Response.Whole, Response.after_request, Response.goes_on, Response.patience, Script.Action, Script.Call, Script.Carry, Script.Settle, Script.TellReply, Session.Does, Session.IsStep, Session.Leaves, Session.Steps, Session.Unchanged, Session.WentBy, Session.sight, declared.session.Stop.Stop}
 use Rattle.beldi_gateway.specs.{declared.desk.CallSaid.CallSaid, declared.desk.TicketSaid.TicketSaid, declared.response.Response.Response as Reply, declared.response.Response.TheVariants.Call as Called, declared.response.Response.TheVariants.Ticket as Ticketed, Exchange.Question, Exchange.ask_call, Exchange.ask_ticket}
+use Rattle.beldi_serve.proofs.Leading.{leads_so}
 use Rattle.beldi_serve.specs.Desk.{AnswersTo, Asks, Comes, IsNoMemory, Passed, Says, Way, reply_said, request_said, said_by, state_of, ticket_said}
 
 -- ---- one step after another
@@ -209,6 +210,13 @@ module _ {T : Type 0} {G : Ghosts T} where
   pub go_on_short : (X : Type 0) (a b : Host T G) (f : Action) (t : ℕ) (e : Stop) → Comes (Settled (f ∷ []) (stopped_so X e)) a b → Comes (AnswersTo (f ∷ TellReply t ∷ []) (Called CallSaid.NoMemory)) a b
   go_on_short X a b f t e = comes_map {P = Settled (f ∷ []) (stopped_so X e)} {Q = AnswersTo (f ∷ TellReply t ∷ []) (Called CallSaid.NoMemory)} {a = a} {b = b}
       (λ d room s u settled. short_after d room s u settled.0 (f ∷ []) settled.1 (TellReply t ∷ []) (Called CallSaid.NoMemory) settled.2 (inr refl))
+
+  -- ---- turns were given, and what they tell is dropped
+  pub turns_given : (a b : Host T G) (fs : List Action) → Comes (Settled fs (settled_so {X = Unit {0}} tt)) a b → Comes (Passed fs (none_lost tt)) a b
+  turns_given a b fs = comes_map {P = Settled fs (settled_so {X = Unit {0}} tt)} {Q = Passed fs (none_lost tt)} {a = a} {b = b} (λ d room s u k. (k.0, subst (λ z. Steps (IsStep d room) k.0 fs z s u) k.3 k.2))
+
+  pub turns_short : (a b : Host T G) (fs : List Action) (e : Stop) (w : AllocError) → Comes (Settled fs (stopped_so (Unit {0}) e)) a b → Comes (Passed fs (lost w)) a b
+  turns_short a b fs e w = comes_map {P = Settled fs (stopped_so (Unit {0}) e)} {Q = Passed fs (lost w)} {a = a} {b = b} (λ d room s u k. (k.0, leads_so (IsStep d room) k.0 fs k.1 s u k.2))
 
   -- ---- ticks passed
   pub ticks_told : (a b : Host T G) (by : ℕ) (x : Seen) → Comes (Made (Event.Tick by) (Ok x)) a b → Comes (Passed (Carry (Event.Tick by) ∷ []) (none_lost tt)) a b

@@ -9,8 +9,8 @@ use Rattle.beldi_outside.{proofs.Told.told_map, proofs.Told.told_same, proofs.To
 use Rattle.beldi_schedule.specs.Settles.{State}
 use Rattle.beldi_session.specs.{Response.Response, Session.IsStep, Session.Leads}
 use Rattle.beldi_gateway.specs.{declared.response.Refusal.Refusal, declared.response.Response.Response as Reply, declared.serve.Served.Served as Ended, declared.serve.Served.TheVariants.Status, declared.serve.Served.TheVariants.Silent, declared.serve.Served.TheVariants.Fault, Exchange.Exchanges, Exchange.Question, Serve.Answered, Serve.Broken, Serve.Serves, Serve.Whole}
-use Rattle.beldi_serve.specs.{Desk.Comes, Desk.Consults, Desk.Says, Desk.Way, Desk.state_of, declared.desk.HostDesk.HostDesk, declared.connections.ServeErr.ServeErr}
-use Rattle.beldi_serve.specs.Service.{ConnectsBy, Exchange, LineBy, Passes, Served, ServedAll, ServesBy, Sight, Ticks, World, ended_so, line_of, lines_from, sight, tick_to, world_at}
+use Rattle.beldi_serve.specs.{Desk.Comes, Desk.Consults, Desk.Passed, Desk.Says, Desk.Way, Desk.state_of, declared.desk.HostDesk.HostDesk, declared.connections.ServeErr.ServeErr}
+use Rattle.beldi_serve.specs.Service.{ConnectsBy, Exchange, LineBy, Passes, Served, ServedAll, ServesBy, Sight, Ticks, World, ended_so, line_of, lines_from, pruning, sight, tick_to, world_at}
 use Rattle.beldi_serve.proofs.Leading.{leads_so, leads_then}
 use Rattle.beldi_serve.proofs.Coming.{comes_map, comes_then, lost, none_lost}
 
@@ -71,6 +71,10 @@ module _ {T : Type 0} {G : Ghosts T} where
     -- time passed, and there was one exchange
     abbrev Connecting : ℕ → Ended → Way
     Connecting moment x d room s u = (mid : State) × (Ticks moment (none_lost tt) d room s mid × Exchanged (ended_so x) d room mid u)
+
+    -- .. and then the log collector had its turns
+    abbrev Connection : ℕ → Ended → Way
+    Connection moment x d room s u = (late : State) × (Connecting moment x d room s late × Passed pruning (none_lost tt) d room late u)
 
     whole_comes : (n : ℕ) → Whole funcs Keeps a b old new n → Comes (λ d room s t. (ys : List Response) × Leads (IsStep d room) ys s t × Whole (number_of d.funcs) (Consults d room ys) s t old new n) a.host b.host
     whole_comes n w = comes_so a.host.code (λ d room s t h is. (
@@ -160,12 +164,15 @@ line_last n (y ∷ xs) x = ap (λ z. line_of n y.ended ++ z) (line_last (n + 1) 
 
 -- ---- a connection
 module _ {T : Type 0} {G : Ghosts T} {C : Type 0} (tells : C → ℕ → C → Type 0) where
-  -- time passed, and there was one exchange
-  pub connected : (h : Host T G) (a b : HostDesk T G) (l0 l1 l2 l3 : Option Connections) (c e : C) (moment : ℕ) (x : Ended) → Told l0 l1 (AcceptOn accepted) → tells c moment e → Comes (Ticks moment (none_lost tt)) h a.host
-      → Serves (number_of a.host.code.funcs) (λ d q x e. Comes (Says q x) d.host e.host) a b l1 l2 (ended_so x) → Told l2 l3 (λ s t. t ≡ closed s) → Passes (λ d room v w. ConnectsBy tells d room v w (connects x)) (sight h l0 c) (sight b.host l3 e)
-  connected h a b l0 l1 l2 l3 c e moment x opened told ticks serves closes =
-      passes_by {P = λ d room v w. ConnectsBy tells d room v w (connects x)} {Q = Connecting a b l1 l2 moment x} {a = h} {b = b.host} l0 l3 c e (λ d room s u w. (
-        w.1.0.0 ++ w.1.1.0,
+  abbrev Serving : HostDesk T G → HostDesk T G → Option Connections → Option Connections → Result Ended AllocError → Type 0
+  Serving a b l1 l2 r = Serves (number_of a.host.code.funcs) (λ d q x e. Comes (Says q x) d.host e.host) a b l1 l2 r
+
+  -- time passed, there was one exchange, and then the log collector had its turns
+  pub connected : (h : Host T G) (a b : HostDesk T G) (f : Host T G) (l0 l1 l2 l3 : Option Connections) (c e : C) (moment : ℕ) (x : Ended) → Told l0 l1 (AcceptOn accepted) → tells c moment e → Comes (Ticks moment (none_lost tt)) h a.host
+      → Serving a b l1 l2 (ended_so x) → Told l2 l3 (λ s t. t ≡ closed s) → Comes (Passed pruning (none_lost tt)) b.host f → Passes (λ d room v w. ConnectsBy tells d room v w (connects x)) (sight h l0 c) (sight f l3 e)
+  connected h a b f l0 l1 l2 l3 c e moment x opened told ticks serves closes turns =
+      passes_by {P = λ d room v w. ConnectsBy tells d room v w (connects x)} {Q = Connection a b l1 l2 moment x} {a = h} {b = f} l0 l3 c e (λ d room s u k. let w = k.1.0 in (
+        w.1.0.0 ++ (w.1.1.0 ++ k.1.1.0),
         record {
           opened = l1;
           accepted = opened;
@@ -175,20 +182,35 @@ module _ {T : Type 0} {G : Ghosts T} {C : Type 0} (tells : C → ℕ → C → T
           mid = w.0;
           ticked = w.1.0.1;
           asked = w.1.1.0;
+          late = k.0;
           leads = w.1.1.1;
           ended = l2;
           exchange = w.1.1.2;
           closes = closes;
+          pruned = k.1.1.0;
+          prunes = k.1.1.1;
           responses = refl;
         },
-      )) (comes_then {P = Ticks moment (none_lost tt)} {Q = Exchanged a b l1 l2 (ended_so x)} {R = Connecting a b l1 l2 moment x} (λ d room s t u p q. (t, (p, q))) ticks (exchange_comes a b l1 l2 (ended_so x) serves))
+      )) (comes_then {P = Connecting a b l1 l2 moment x} {Q = Passed pruning (none_lost tt)} {R = Connection a b l1 l2 moment x} (λ d room s t u p q. (t, (p, q)))
+      (comes_then {P = Ticks moment (none_lost tt)} {Q = Exchanged a b l1 l2 (ended_so x)} {R = Connecting a b l1 l2 moment x} (λ d room s t u p q. (t, (p, q))) ticks (exchange_comes a b l1 l2 (ended_so x) serves)) turns)
+
+  -- it leads on, whatever came of the exchange
+  exchange_leads : (h : Host T G) (a b : HostDesk T G) (l1 l2 : Option Connections) (moment : ℕ) (r : Result Ended AllocError) → Comes (Ticks moment (none_lost tt)) h a.host → Serving a b l1 l2 r → Comes Led h b.host
+  exchange_leads h a b l1 l2 moment r ticks serves =
+      comes_then {P = Ticks moment (none_lost tt)} {Q = Exchanged a b l1 l2 r} {R = Led} (λ d room s t u p q. (p.0 ++ q.0, leads_then (IsStep d room) p.0 q.0 s t u (leads_so (IsStep d room) p.0 (tick_to s.core.now moment) [] s t p.1) q.1)) ticks (exchange_comes a b l1 l2 r serves)
 
   -- memory was short in the exchange, or as time passed
   pub connect_short : (h : Host T G) (a b : HostDesk T G) (l0 l1 l2 : Option Connections) (c e : C) (moment : ℕ) (w : AllocError) → Comes (Ticks moment (none_lost tt)) h a.host
-      → Serves (number_of a.host.code.funcs) (λ d q x e. Comes (Says q x) d.host e.host) a b l1 l2 (short_so w) → Passes (λ d room v w. ConnectsBy tells d room v w (not_connected ServeErr.OutOfMemory)) (sight h l0 c) (sight b.host l2 e)
+      → Serving a b l1 l2 (short_so w) → Passes (λ d room v w. ConnectsBy tells d room v w (not_connected ServeErr.OutOfMemory)) (sight h l0 c) (sight b.host l2 e)
   connect_short h a b l0 l1 l2 c e moment w ticks serves =
-      passes_by {P = λ d room v w. ConnectsBy tells d room v w (not_connected ServeErr.OutOfMemory)} {Q = Led} {a = h} {b = b.host} l0 l2 c e (λ d room s u k. k)
-      (comes_then {P = Ticks moment (none_lost tt)} {Q = Exchanged a b l1 l2 (short_so w)} {R = Led} (λ d room s t u p q. (p.0 ++ q.0, leads_then (IsStep d room) p.0 q.0 s t u (leads_so (IsStep d room) p.0 (tick_to s.core.now moment) [] s t p.1) q.1)) ticks (exchange_comes a b l1 l2 (short_so w) serves))
+      passes_by {P = λ d room v w. ConnectsBy tells d room v w (not_connected ServeErr.OutOfMemory)} {Q = Led} {a = h} {b = b.host} l0 l2 c e (λ d room s u k. k) (exchange_leads h a b l1 l2 moment (short_so w) ticks serves)
+
+  -- .. or in one of the turns that follow
+  pub prune_short : (h : Host T G) (a b : HostDesk T G) (f : Host T G) (l0 l1 l2 l3 : Option Connections) (c e : C) (moment : ℕ) (x : Ended) (w : AllocError) → Comes (Ticks moment (none_lost tt)) h a.host
+      → Serving a b l1 l2 (ended_so x) → Comes (Passed pruning (lost w)) b.host f → Passes (λ d room v w. ConnectsBy tells d room v w (not_connected ServeErr.OutOfMemory)) (sight h l0 c) (sight f l3 e)
+  prune_short h a b f l0 l1 l2 l3 c e moment x w ticks serves turns =
+      passes_by {P = λ d room v w. ConnectsBy tells d room v w (not_connected ServeErr.OutOfMemory)} {Q = Led} {a = h} {b = f} l0 l3 c e (λ d room s u k. k)
+      (comes_then {P = Led} {Q = Passed pruning (lost w)} {R = Led} (λ d room s t u p q. (p.0 ++ q.0, leads_then (IsStep d room) p.0 q.0 s t u p.1 q.1)) (exchange_leads h a b l1 l2 moment (ended_so x) ticks serves) turns)
 
   pub tick_short : (a b : Host T G) (l0 l1 : Option Connections) (c e : C) (moment : ℕ) (w : AllocError) → Comes (Ticks moment (lost w)) a b → Passes (λ d room v w. ConnectsBy tells d room v w (not_connected ServeErr.OutOfMemory)) (sight a l0 c) (sight b l1 e)
   tick_short a b l0 l1 c e moment w = passes_by {P = λ d room v w. ConnectsBy tells d room v w (not_connected ServeErr.OutOfMemory)} {Q = Ticks moment (lost w)} l0 l1 c e (λ d room s u k. k)
@@ -229,8 +251,15 @@ module _ {C : Type 0} (tells : C → ℕ → C → Type 0) where
     where
       by_cause : (e : ServeErr) → LineBy (line_of (n + 1) x) line_front (not_served Y e) → (d : Deployment) (room : ℕ) (u v w : World C) → SoFar n written d room u v → One x d room v w → ServesBy tells d room requests (written ++ line_front) u w (not_served X e)
       by_cause ServeErr.OutOfMemory none d room u v w far one =
-          let s = one.1 in
-          (far.0, s.ticks ++ s.asked, v, ap (λ z. written ++ z) none ∙ append-nil written ∙ far.2, far.3, leads_then (IsStep d room) s.ticks s.asked v.state s.mid w.state (leads_so (IsStep d room) s.ticks (tick_to v.state.core.now s.moment) [] v.state s.mid s.ticked) s.leads)
+          let s = one.1 in (
+            far.0,
+            s.ticks ++ (s.asked ++ s.pruned),
+            v,
+            ap (λ z. written ++ z) none ∙ append-nil written ∙ far.2,
+            far.3,
+            leads_then (IsStep d room) s.ticks (s.asked ++ s.pruned) v.state s.mid w.state (leads_so (IsStep d room) s.ticks (tick_to v.state.core.now s.moment) [] v.state s.mid s.ticked)
+                (leads_then (IsStep d room) s.asked s.pruned s.mid s.late w.state s.leads (leads_so (IsStep d room) s.pruned pruning [] s.late w.state s.prunes)),
+          )
       by_cause ServeErr.LinkRefused none d room u v w far one = absurd none
       by_cause ServeErr.SinkFault front d room u v w far one =
           let y : Exchange = record { ended = x; responses = one.0 } in

@@ -9,7 +9,7 @@ use Rattle.beldi_step.specs.{declared.event.Event.Event, Host.Core, Host.last_mo
 use Rattle.beldi_host.specs.{declared.host.Host.Host, Host.core_of}
 use Rattle.beldi_outside.specs.{Connection.AcceptOn, Connection.Connections, Connection.closed, Outside.IsPrefixOf, Outside.Rose, Outside.Told}
 use Rattle.beldi_schedule.specs.Settles.{State}
-use Rattle.beldi_session.specs.{Response.Response, Script.Action, Script.Carry, Session.IsStep, Session.Leads, Session.Steps, Session.Writes}
+use Rattle.beldi_session.specs.{Response.Response, Script.Action, Script.Carry, Script.sweep_at, Session.IsStep, Session.Leads, Session.Steps, Session.Writes}
 use Rattle.beldi_gateway.specs.{declared.serve.Served.Served as Ended, declared.serve.Served.TheVariants.Status, declared.serve.Served.TheVariants.Silent, declared.serve.Served.TheVariants.Fault, Serve.Serves}
 use Rattle.beldi_serve.specs.{Desk.Consults, Desk.Passed, Desk.Way, declared.connections.ServeErr.ServeErr, declared.connections.ServeErr.TheVariants.OutOfMemory, declared.connections.ServeErr.TheVariants.SinkFault, declared.connections.ServeErr.TheVariants.LinkRefused}
 
@@ -45,6 +45,10 @@ moment_of m = min m last_moment
 abbrev pub tick_to : ℕ → ℕ → List Action
 tick_to now m = if nat_lt now (moment_of m) then Carry (Event.Tick (moment_of m - now)) ∷ [] else []
 
+-- ---- the sweep of the first log collector that follows a connection
+abbrev pub pruning : List Action
+pruning = sweep_at 0 256 0 ∷ []
+
 -- ---- the host, the link by what it tells, and the clock
 pub record World (C : Type 0) : Type 0 where
   pub state : State
@@ -60,7 +64,8 @@ Stays v w = (w.state ≡ v.state) × Same v.link w.link × (w.clock ≡ v.clock)
 
 -- a clock is seen by what it may tell: itself before, the moment, and itself after
 module _ {C : Type 0} (tells : C → ℕ → C → Type 0) (d : Deployment) (room : ℕ) where
-  -- one connection, from its opening to its end: time passes up to the clock, and then there is one exchange over the open connection
+  -- one connection, from its opening to its end, and what follows: time passes up to the clock, there is one exchange over the open
+  -- connection, and once it is closed the log collector has its turns
   pub record Served (v w : World C) (x : Exchange) : Type 0 where
     pub opened : Option Connections
     pub accepted : Told v.link opened (AcceptOn (Ok (record {})))
@@ -70,11 +75,14 @@ module _ {C : Type 0} (tells : C → ℕ → C → Type 0) (d : Deployment) (roo
     pub mid : State
     pub ticked : Steps (IsStep d room) ticks (tick_to v.state.core.now moment) [] v.state mid
     pub asked : List Response
-    pub leads : Leads (IsStep d room) asked mid w.state
+    pub late : State
+    pub leads : Leads (IsStep d room) asked mid late
     pub ended : Option Connections
-    pub exchange : Serves (number_of d.funcs) (Consults d room asked) mid w.state opened ended (ended_so x.ended)
+    pub exchange : Serves (number_of d.funcs) (Consults d room asked) mid late opened ended (ended_so x.ended)
     pub closes : Told ended w.link (λ s t. t ≡ closed s)
-    pub responses : x.responses ≡ ticks ++ asked
+    pub pruned : List Response
+    pub prunes : Steps (IsStep d room) pruned pruning [] late w.state
+    pub responses : x.responses ≡ ticks ++ (asked ++ pruned)
 
   -- one after another
   abbrev pub ServedAll : List Exchange → World C → World C → Type 0

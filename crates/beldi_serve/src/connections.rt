@@ -45,7 +45,7 @@ fn tick<T: Table>(desk: &mut HostDesk<T>, moment: u64) -> Result<(), AllocError>
     }
 }
 
-// One connection, from its opening to its end.
+// One connection, from its opening to its end, and what follows.
 fn connect<T: Table, N: Link, C: Clock>(
     alloc: Global,
     desk: &mut HostDesk<T>,
@@ -68,7 +68,10 @@ fn connect<T: Table, N: Link, C: Clock>(
     match serve_one(alloc, desk, link) {
         Ok(served) => {
             link.close();
-            Ok(served)
+            match desk.prune() {
+                Ok(()) => Ok(served),
+                Err(_) => Err(ServeErr::OutOfMemory),
+            }
         }
         Err(_) => Err(ServeErr::OutOfMemory),
     }

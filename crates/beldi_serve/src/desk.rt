@@ -7,11 +7,12 @@ ghost use Rattle.beldi_host.specs.Host.{core_of};
 ghost use Rattle.beldi_session.specs.Script.{Carry, Settle, TellReply};
 ghost use Rattle.beldi_gateway.specs.declared.response.Response.TheVariants.{Call as Called};
 ghost use Rattle.beldi_serve.specs.Desk.{AnswersTo, Comes, Passed, is_replied, reply_said, request_said, ticket_said};
+ghost use Rattle.beldi_serve.specs.Service.{pruning};
 
 use beldi_gateway::{CallSaid, Desk, TicketSaid};
 use beldi_host::{Host, OpenErr, ReplySeen};
 use beldi_row::Table;
-use beldi_session::{Stop, settle};
+use beldi_session::{Stop, settle, sweep};
 use beldi_step::{Event, Seen};
 use beldi_value::{Str, Value};
 use std::alloc::{AllocError, Global};
@@ -19,7 +20,10 @@ use std::alloc::{AllocError, Global};
 /// The turns that one call is given at most.
 pub const PATIENCE: u64 = 10_000;
 
-/// Answers the questions of requests by the events of a host. What a settling tells beside it is written down and dropped.
+// The most turns of the log collector that follow a connection.
+const PRUNING: u64 = 256;
+
+/// Answers the questions of requests by the events of a host. What a settling or a log collector tells is written down and dropped.
 #[derive(Drop)]
 pub struct HostDesk<T: Table> {
     alloc: Global,
@@ -143,6 +147,18 @@ impl<T: Table> HostDesk<T> {
                 Ok(())
             }
             Err(why) => Err(why),
+        }
+    }
+
+    /// The first log collector of its host has turns up to the end of its round, at most those that may follow a connection.
+    pub fn prune(&mut self) -> Result<(), AllocError>
+        ensures { Comes (Passed pruning result) self.old.host self.new.host }
+    {
+        let given = sweep(self.alloc, &mut self.host, &mut self.told, 0, PRUNING);
+        self.told.clear();
+        match given {
+            Ok(()) => Ok(()),
+            Err(_) => Err(AllocError),
         }
     }
 

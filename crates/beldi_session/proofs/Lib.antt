@@ -6,4 +6,5 @@ mod Refusals
 pub mod Responses
 mod SettleEvents
 mod Strides
+mod Sweeps
 pub mod Went

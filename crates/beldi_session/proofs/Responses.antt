@@ -1,5 +1,6 @@
 -- The responses of the host, and their text.
-use Rattle.beldi_session.proofs.Names.{Action, AllocError, Answered, BrokeOff, Does, DoesTo, Err, Event, EventOn, IfOk, IsCount, IsErrOf, IsReport, Leaves, List, None, Ok, OnOk, OpenErr, Option, OutOfMemory, Reads, Report, Reported, Result, Rows, Seen, Share, Sight, SinkFault, Some, Stepped, Stop, Tells, Told, WentBy, [], ap, append_assoc, by_text, over_any_table, over_rows, refl, report_text, response_text, row_count, state_at, tables_head, tells_map, told_map, unread_line, ℕ, ◌++◌, ◌∙◌, ◌∷◌, ◌≡◌}
+use Rattle.beldi_session.proofs.Names.{Action, AllocError, Answered, BrokeOff, Does, DoesTo, Err, Event, EventOn, IfOk, IsCount, IsErrOf, IsReport, Leaves, List, None, Ok, OnOk, OpenErr, Option, OutOfMemory, PruneAnswered, PruneBroke, Pruned, Prunes, PrunesOn, Reads, Report, Reported, Result, Rows, Seen, Share, Sight, SinkFault, Some, Stepped, Stop, Tells, Told, WentBy, [], ap, append_assoc, by_text, over_any_table, over_rows, refl, report_text, response_text, row_count, state_at, tables_head, tells_map, told_map, unread_line, ℕ, ◌++◌, ◌∙◌, ◌∷◌, ◌≡◌}
+use Rattle.beldi_step.proofs.Prunes.{over_any_table as prune_over_any_table, over_rows as prune_over_rows}
 use Rattle.beldi_session.proofs.{Went.broken, Went.by_one, Calls.Calm, Calls.made}
 
 -- what a table tells is told
@@ -67,6 +68,32 @@ module _ (a b : Sight) (held : b.held ≡ a.held) (faults : b.faults ≡ a.fault
       over a b (calm (Err w) h) (broken X OutOfMemory) act left (EventFrom a b e (Err w))
       (λ m n o. by_one a.code a.table.room act front left (BrokeOff (Some e)) (state_at a m) (state_at b n) a.waiting b.waiting (broken X OutOfMemory) is (o, (calm (Err w) h).later) tt) (λ e. cc)
       (over_rows a.code e a.core b.core a.table b.table (Err w) h)
+
+-- a turn of a log collector is one step of the host
+module _ (a b : Sight) (held : b.held ≡ a.held) (faults : b.faults ≡ a.faults) (code : b.code ≡ a.code) (k : ℕ) (act : Action) (left : List Action) where
+  abbrev PruneStep : Result Pruned AllocError → Type 0
+  PruneStep r = Prunes a.code k a.core b.core a.table b.table r
+
+  abbrev PruneFrom : Result Pruned AllocError → Rows → Rows → Type 0
+  PruneFrom r m n = PrunesOn a.code a.table.faults b.table.faults k a.core m b.core n r
+
+  prune_calm : (r : Result Pruned AllocError) → PruneStep r → Calm a b
+  prune_calm r h = let t = prune_over_any_table a.code k a.core b.core a.table b.table r h in record { held = held; faults = faults; code = code; room = t.room; later = t.later }
+
+  -- it was answered, and what is told of the answer appended
+  pub prune_answered : {X : Type 0} (share : Share) (x : Pruned) (front : List Action) (r : Result X Stop) → Leaves act a.core b.core (PruneAnswered share k x) front → PruneStep (Ok x)
+      → OnOk r ((left ≡ front) × (b.waiting ≡ a.waiting ++ response_text a.code (PruneAnswered share k x))) → (IsErrOf r SinkFault → ⊥) → DoesTo (act ∷ []) left a b r
+  prune_answered share x front r is h text none =
+      over a b (prune_calm (Ok x) h) r act left (PruneFrom (Ok x))
+      (λ m n o. by_one a.code a.table.room act front left (PruneAnswered share k x) (state_at a m) (state_at b n) a.waiting b.waiting r is (o, (prune_calm (Ok x) h).later) text) none
+      (prune_over_rows a.code k a.core b.core a.table b.table (Ok x) h)
+
+  -- it was out of memory
+  pub prune_broke : (X : Type 0) (w : AllocError) (front : List Action) → Leaves act a.core b.core (PruneBroke k) front → PruneStep (Err w) → DoesTo (act ∷ []) left a b (broken X OutOfMemory)
+  prune_broke X w front is h =
+      over a b (prune_calm (Err w) h) (broken X OutOfMemory) act left (PruneFrom (Err w))
+      (λ m n o. by_one a.code a.table.room act front left (PruneBroke k) (state_at a m) (state_at b n) a.waiting b.waiting (broken X OutOfMemory) is (o, (prune_calm (Err w) h).later) tt) (λ e. cc)
+      (prune_over_rows a.code k a.core b.core a.table b.table (Err w) h)
 
 -- what the table told of its rows as they were read
 module _ (a b : Sight) {X : Type 0} (P : Rows → X → Type 0) where

@@ -8,7 +8,7 @@ use Rattle.beldi_bound.proofs.Nexts.{next_put}
 use Rattle.beldi_schedule.specs.{Settle.by_round, Settle.is_empty, Settle.restless, Settle.strode, Settle.turn_or, Settle.unparked, Settle.core_for, Settle.event_of, Settle.heard_of, Settles.Advances, Settles.Settles, declared.machine.Settled.TheVariants.Unsettled}
 use Rattle.beldi_session.specs.Settling.{Led, state_with}
 use Rattle.beldi_session.{proofs.Calls.does_so, proofs.Calls.made, proofs.Led.settles_once, proofs.Led.settles_then, proofs.SettleEvents.calm, proofs.Went.by_one, proofs.Went.by_then, proofs.Went.fine}
-use Rattle.beldi_session.proofs.Names.{Answered, At, Bool, Core, Deployment, DoesTo, Event, EventOn, Goes, List, Next, None, Ok, Option, Over, ReplyAlone, Reset, Rows, Settle, SettlingLeaves, Sight, Some, Standing, State, TableState, Tells, Told, Turn, WentBy, [], ap, append-nil, arith, false, go_on, if◌then◌else◌, next_of, next_run, refl, state_at, subst, suc, sym, zero, ℕ, ◌&&◌, ◌+◌, ◌<◌, ◌∙◌, ◌∷◌, ◌≡◌}
+use Rattle.beldi_session.proofs.Names.{Answered, At, Bool, Core, Deployment, DoesTo, Event, EventOn, Goes, List, Next, None, Ok, Option, Over, ReplyAlone, Reset, Rows, Settle, SettlingLeaves, Sight, Some, Standing, State, TableState, Tells, Told, Turn, WentBy, [], ap, append-nil, arith, false, go_on, if◌then◌else◌, next_of, next_run, refl, subst, suc, sym, zero, ℕ, ◌&&◌, ◌+◌, ◌<◌, ◌∙◌, ◌∷◌, ◌≡◌}
 
 -- ---- where a run is given a turn next
 abbrev Gives : Core → At → ℕ → Type 0

@@ -4,7 +4,7 @@ use Rattle.std.specs.Fmt.{decimal}
 use Rattle.beldi_value.specs.{Json.text_of, Value.datum_of, Text.id_text, Text.outcome_text, Text.owner_text, declared.id.IntentId.IntentId, declared.outcome.Outcome.Outcome, declared.place.Owner.Owner}
 use Rattle.beldi_tree.specs.{declared.deployment.Deployment.Deployment, Names.func_text}
 use Rattle.beldi_book.specs.{Text.entry_text, declared.entry.Entry.Entry}
-use Rattle.beldi_step.specs.declared.event.Seen.{Seen}
+use Rattle.beldi_step.specs.declared.event.{Pruned.Pruned, Seen.Seen}
 
 -- a word and a number, as a line
 abbrev pub numbered : List ℕ → ℕ → List ℕ
@@ -81,6 +81,15 @@ answer_text d Seen.ClockEnd = codes "clock-end\n"
 answer_text d Seen.Halted = codes "halted\n"
 answer_text d Seen.Shut = codes "shut\n"
 answer_text d Seen.Spent = codes "spent\n"
+
+-- the answer to a turn of a log collector, as a line
+abbrev pub pruned_text : Pruned → List ℕ
+pruned_text Pruned.Going = codes "going\n"
+pruned_text Pruned.Removed = codes "removed\n"
+pruned_text Pruned.Round = codes "round\n"
+pruned_text Pruned.Dropped = codes "dropped\n"
+pruned_text Pruned.Shut = codes "shut\n"
+pruned_text Pruned.Spent = codes "spent\n"
 
 -- of the answer to a turn inside a settling the reply alone is told
 abbrev pub reply_told : Seen → List ℕ

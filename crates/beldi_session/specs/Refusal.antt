@@ -27,7 +27,6 @@ rule_text (Why.LockInTx n) = codes "lock-in-tx " ++ n
 abbrev pub cause_text : Cause → List ℕ
 cause_text (Cause.Syntax w) = syntax_text w
 cause_text (Cause.Rule w) = rule_text w
-cause_text Cause.Unbuilt = codes "unbuilt"
 cause_text Cause.BadLine = codes "line"
 cause_text (Cause.UnknownFunction n) = codes "unknown-function " ++ n
 cause_text Cause.BadValue = codes "value"

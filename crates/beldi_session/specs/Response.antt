@@ -2,35 +2,39 @@
 use Rattle.std.specs.Prelude.{◌≡◌, ℕ, Bool, true, false, List, [], ◌∷◌, ◌++◌, flat_map, Option, Some, None, codes, if◌then◌else◌}
 use Rattle.beldi_tree.specs.declared.deployment.Deployment.{Deployment}
 use Rattle.beldi_row.specs.Key.{RowKey}
-use Rattle.beldi_step.specs.declared.event.{Event.Event, Seen.Seen}
+use Rattle.beldi_step.specs.declared.event.{Event.Event, Pruned.Pruned, Seen.Seen}
 use Rattle.beldi_host.specs.declared.survey.ReplySeen.{ReplySeen}
-use Rattle.beldi_session.specs.Script.{Action, Carry, Call, Settle, TellReply, CountRows, ListTables, ListBook, Refuse}
+use Rattle.beldi_session.specs.Script.{Action, Carry, Call, Settle, Prune, Sweep, TellSwept, sweep_heard, TellReply, CountRows, ListTables, ListBook, Refuse}
 use Rattle.beldi_schedule.specs.{Settle.first_at, Settle.go_on, declared.machine.Settled.Settled, declared.machine.Standing.Standing, declared.machine.Standing.TheVariants.Goes, declared.machine.Standing.TheVariants.Over}
-use Rattle.beldi_session.specs.{declared.refusal.Refusal.Refusal, Answer.answer_text, Answer.numbered, Answer.outcome_line, Answer.reply_told, Answer.ticket_line, Refusal.refusal_text, Settled.settled_text}
+use Rattle.beldi_session.specs.{declared.refusal.Refusal.Refusal, declared.sweeping.Swept.Swept, Answer.answer_text, Answer.numbered, Answer.outcome_line, Answer.pruned_text, Answer.reply_told, Answer.ticket_line, Refusal.refusal_text, Settled.settled_text, Settled.swept_text}
 
 -- what is said without an event: what a ticket's run gave; how many rows there are; the lines of a listing of the tables, or of
--- the book; how a settling ended; why a line is refused. None where the table failed as a ticket's row, or all rows, were to be read.
+-- the book; how a settling or a sweep ended; why a line is refused. None where the table failed as a ticket's row, or all rows, were to be read.
 pub data Report : Type 0 where
   ReplyIs : ℕ → Option ReplySeen → Report
   RowsAre : ℕ → Report
   TablesAre : Option (List ℕ) → Report
   BookIs : List ℕ → Report
   SettledIs : Settled → Report
+  SweptIs : Swept → Report
   LineRefused : Refusal → Report
 
--- how much is told of an answer: all of it, or, inside a settling, the reply alone that a turn of a run gives
+-- how much is told of an answer: all of it, or, inside a settling or a sweep, the reply alone that a turn of a run gives
 pub data Share : Type 0 where
   Whole : Share
   ReplyAlone : Share
 
 -- how an event was answered; a settling set the intent collector before all rows, or to a key, past rows that are of no open intent; a
--- report; or memory was short: in an event, or as something was to be told
+-- report; memory was short: in an event, or as something was to be told; how a turn of the log collector of this number was answered; or
+-- memory was short in one
 pub data Response : Type 0 where
   Answered : Share → Event → Seen → Response
   WentBack : Response
   WentOn : RowKey → Response
   Reported : Report → Response
   BrokeOff : Option Event → Response
+  PruneAnswered : Share → ℕ → Pruned → Response
+  PruneBroke : ℕ → Response
 
 -- ---- the actions that a response leaves to do, in place of the one that it is to
 -- the events of a settling
@@ -68,6 +72,11 @@ IsTo (Call t f v) (Answered Whole e x) left = (e ≡ Event.Request t f v) × (le
 IsTo (Call t f v) (BrokeOff (Some e)) left = (e ≡ Event.Request t f v) × (left ≡ Call t f v ∷ [])
 IsTo (Settle budget (Goes s)) y left = IsToSettling budget y left
 IsTo (Settle budget (Over r)) (Reported (SettledIs q)) left = (q ≡ r) × (left ≡ [])
+IsTo (Prune k) (PruneAnswered Whole j x) left = (j ≡ k) × (left ≡ [])
+IsTo (Prune k) (PruneBroke j) left = (j ≡ k) × (left ≡ Prune k ∷ [])
+IsTo (Sweep k budget n) (PruneAnswered ReplyAlone j x) left = (j ≡ k) × (left ≡ sweep_heard k budget n x ∷ [])
+IsTo (Sweep k budget n) (PruneBroke j) left = (j ≡ k) × (left ≡ Sweep k budget n ∷ [])
+IsTo (TellSwept x) (Reported (SweptIs y)) left = (y ≡ x) × (left ≡ [])
 IsTo (TellReply t) (Reported (ReplyIs u x)) left = (u ≡ t) × (left ≡ [])
 IsTo (TellReply t) (BrokeOff None) left = left ≡ TellReply t ∷ []
 IsTo CountRows (Reported (RowsAre n)) left = left ≡ []
@@ -108,6 +117,7 @@ report_text d (TablesAre None) = tables_head ++ unread_line
 report_text d (TablesAre (Some lines)) = tables_head ++ lines
 report_text d (BookIs lines) = book_head ++ lines
 report_text d (SettledIs r) = settled_text d r
+report_text d (SweptIs x) = swept_text x
 report_text d (LineRefused x) = refusal_text x
 
 abbrev pub response_text : Deployment → Response → List ℕ
@@ -117,6 +127,9 @@ response_text d (Answered ReplyAlone e x) = reply_told x
 response_text d WentBack = []
 response_text d (WentOn k) = []
 response_text d (BrokeOff o) = []
+response_text d (PruneAnswered Whole k x) = pruned_text x
+response_text d (PruneAnswered ReplyAlone k x) = []
+response_text d (PruneBroke k) = []
 response_text d (Reported r) = report_text d r
 
 -- the text of all responses, one after another

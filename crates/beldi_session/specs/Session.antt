@@ -4,12 +4,12 @@ use Rattle.std.specs.declared.alloc.AllocError.{AllocError}
 use Rattle.beldi_tree.specs.declared.deployment.Deployment.{Deployment}
 use Rattle.beldi_book.specs.Text.{book_text}
 use Rattle.beldi_row.specs.{declared.table.Table.Ghosts, Table.Rows, Table.TableState, Table.Rose, Table.row_count}
-use Rattle.beldi_step.specs.{declared.event.Event.Event, Host.Core, Host.EventOn, Next.PassesNoOpen, Next.at_key, Next.next_run, Next.reset, Tables.tables_text}
+use Rattle.beldi_step.specs.{declared.event.Event.Event, Host.Core, Host.EventOn, Prunes.PrunesOn, Next.PassesNoOpen, Next.at_key, Next.next_run, Next.reset, Tables.tables_text}
 use Rattle.beldi_host.specs.{declared.host.Host.Host, Host.core_of, Survey.reply_seen, Survey.is_unknown}
 use Rattle.beldi_outside.specs.Outside.{Told, IsPrefixOf}
-use Rattle.beldi_session.specs.Response.{Report, ReplyIs, RowsAre, TablesAre, BookIs, SettledIs, LineRefused, ReplyAlone, Response, Answered, WentBack, WentOn, Reported, BrokeOff, IsTo, AtFirst, responses_text}
+use Rattle.beldi_session.specs.Response.{Report, ReplyIs, RowsAre, TablesAre, BookIs, SettledIs, SweptIs, LineRefused, ReplyAlone, Response, Answered, WentBack, WentOn, Reported, BrokeOff, PruneAnswered, PruneBroke, IsTo, AtFirst, responses_text}
 use Rattle.beldi_schedule.specs.{declared.machine.Next.Next, declared.machine.Next.TheVariants.Turn, declared.machine.Next.TheVariants.Collect, declared.machine.Next.TheVariants.Reset, declared.machine.Standing.Standing, declared.machine.Standing.TheVariants.Goes, Settle.begun, Settle.ic_heard, Settle.next_of, Settle.turn_heard, Settles.State}
-use Rattle.beldi_session.specs.{declared.session.Stop.Stop, declared.session.Stop.TheVariants.OutOfMemory, declared.session.Stop.TheVariants.SinkFault, Script.Action, Script.Settle}
+use Rattle.beldi_session.specs.{declared.session.Stop.Stop, declared.session.Stop.TheVariants.OutOfMemory, declared.session.Stop.TheVariants.SinkFault, Script.Action, Script.Settle, Script.sweep_next}
 
 -- ---- one step
 -- the host and the rows are as they were
@@ -27,16 +27,19 @@ IsReport d s t (TablesAre None) = Rose s.faults t.faults
 IsReport d s t (TablesAre (Some lines)) = lines ≡ tables_text d s.rows
 IsReport d s t (BookIs lines) = lines ≡ book_text d s.core.book
 IsReport d s t (SettledIs r) = Unit {0}
+IsReport d s t (SweptIs x) = Unit {0}
 IsReport d s t (LineRefused x) = Unit {0}
 
--- this is the response of an action that leads from s to t: an event is one step of the host, also one that is out of memory, and a report
--- changes nothing
+-- this is the response of an action that leads from s to t: an event, or a turn of a log collector, is one step of the host, also one that is
+-- out of memory, and a report changes nothing
 abbrev pub IsStep : Deployment → ℕ → State → State → Response → Type 0
 IsStep d room s t (Answered share e x) = EventOn d room s.faults t.faults e s.core s.rows t.core t.rows (Ok x) × (s.faults ≤ t.faults)
 IsStep d room s t WentBack = t ≡ record s { core = reset s.core }
 IsStep d room s t (WentOn k) = PassesNoOpen s.rows s.core.cursor k × (t ≡ record s { core = at_key k s.core })
 IsStep d room s t (BrokeOff None) = Unchanged s t
 IsStep d room s t (BrokeOff (Some e)) = EventOn d room s.faults t.faults e s.core s.rows t.core t.rows (Err (record {})) × (s.faults ≤ t.faults)
+IsStep d room s t (PruneAnswered share k x) = PrunesOn d s.faults t.faults k s.core s.rows t.core t.rows (Ok x) × (s.faults ≤ t.faults)
+IsStep d room s t (PruneBroke k) = PrunesOn d s.faults t.faults k s.core s.rows t.core t.rows (Err (record {})) × (s.faults ≤ t.faults)
 IsStep d room s t (Reported r) = Unchanged s t × IsReport d s t r
 
 -- ---- one step after another
@@ -139,3 +142,8 @@ Does actions a b result = DoesTo actions [] a b result
 abbrev pub left_by : ℕ → Result Standing Stop → List Action
 left_by budget (Ok next) = Settle budget next ∷ []
 left_by budget (Err why) = []
+
+-- .. and of a sweep after a turn
+abbrev pub left_of_sweep : ℕ → ℕ → ℕ → Result Bool Stop → List Action
+left_of_sweep k budget n (Ok ended) = sweep_next k budget n ended ∷ []
+left_of_sweep k budget n (Err why) = []

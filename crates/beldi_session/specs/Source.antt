@@ -1,5 +1,5 @@
 -- What a source says: where and why it is refused, or a deployment and the lines of a script.
-use Rattle.std.specs.Prelude.{◌≡◌, ℕ, ◌+◌, ◌-◌, ◌^◌, min, Bool, true, false, List, [], ◌∷◌, drop, Option, Some, None, Result, Ok, Err, if◌then◌else◌}
+use Rattle.std.specs.Prelude.{◌≡◌, ℕ, ◌+◌, ◌-◌, ◌^◌, min, List, [], ◌∷◌, drop, Option, Some, None, Result, Ok, Err, if◌then◌else◌}
 use Rattle.beldi_tree.specs.declared.deployment.Deployment.{Deployment}
 use Rattle.beldi_check.specs.Rules.{Offence, first_offence}
 use Rattle.std.specs.List.{list_all}
@@ -54,12 +54,6 @@ numbered n (l ∷ ls) = (n, l) ∷ numbered (next n) ls
 abbrev pub script_of : List ℕ → Accepted → List Numbered
 script_of bytes p = numbered p.line (lines_of (drop p.rest bytes))
 
--- the program can do what the line says
-abbrev pub is_built : Line → Bool
-is_built (Line.Gc k n) = false
-is_built (Line.Sweep k n) = false
-is_built l = true
-
 -- a line is never read as out of memory
 abbrev pub cause_of : ScriptErr → Cause
 cause_of ScriptErr.OutOfMemory = Cause.BadLine
@@ -68,7 +62,7 @@ cause_of (ScriptErr.UnknownFunction n) = Cause.UnknownFunction n
 cause_of ScriptErr.BadValue = Cause.BadValue
 
 abbrev pub said_by : ℕ → Result Line ScriptErr → Result Line Refusal
-said_by n (Ok l) = if is_built l then Ok l else Err (refusal_at Cause.Unbuilt n)
+said_by n (Ok l) = Ok l
 said_by n (Err e) = Err (refusal_at (cause_of e) n)
 
 -- what a line says, or its refusal

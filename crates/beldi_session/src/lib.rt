@@ -14,6 +14,8 @@
 //!   that was written and waits is that of the steps that were done, and the host and its table are those that the last step left.
 //! - An event that is out of memory is a response too, and leaves its action to do (`BrokeOff`): its step is that of the definition, in which
 //!   the act may have been made.
+//! - A turn of a log collector is a response of its own (`PruneAnswered`, or `PruneBroke` where memory was short). A line `gc` gives turns,
+//!   and a line `sweep` as many as end a round, that turn counted, or else its budget, and tells which (`sweep_at`, `sweep_heard`).
 //! - A line `settle` is carried out as just the events of the machine of `beldi_schedule` (`Leaves`), each a step of the host as those of other
 //!   lines, also where the host gives a run many turns at once; before a turn of the intent collector that is set past rows of no open
 //!   intent alone, where the table tells them (`WentOn`). It
@@ -23,10 +25,12 @@
 //!
 //! Files:
 //! - Code (`src/`): `source` what a source says, and one that is not refused; `refusal` why it is refused; `session` a
-//!   script's lines, from a line to the host's calls; `settling` one line that is many events; `check` a source that is tested;
+//!   script's lines, from a line to the host's calls; `settling` one line that is many events; `sweeping` turns of log collectors;
+//!   `check` a source that is tested;
 //!   `answer` the text of an answer; `output` text on its way.
 //! - Lemmas (`proofs/`): `Went` actions that were done, `Calls` calls one after another; `Responses` what the host answers;
-//!   `SettleEvents` an event of a settling, `Strides` many turns at once, `Led` that they lead on, and its promises; `Lines`, `Refusals`.
+//!   `SettleEvents` an event of a settling, `Strides` many turns at once, `Led` that they lead on, and its promises; `Sweeps` a sweep, turn by
+//!   turn; `Lines`, `Refusals`.
 #![tactic(auto)]
 
 mod answer;
@@ -36,9 +40,11 @@ mod refusal;
 mod session;
 mod settling;
 mod source;
+mod sweeping;
 
 pub use check::check_source;
 pub use refusal::{Cause, Refusal, SourceErr, write_refusal};
 pub use session::{Stop, Taker, run_script, write_listings};
 pub use settling::settle;
 pub use source::{Accepted, find_line, read_source, script_at};
+pub use sweeping::{Swept, sweep};

@@ -14,8 +14,6 @@ pub enum Cause {
     Syntax(What),
     /// The deployment breaks this rule.
     Rule(Why),
-    /// What the line asks for cannot be carried out yet.
-    Unbuilt,
     /// The line of the script has none of the forms.
     BadLine,
     /// No function of the deployment has the name in this line of the script.
@@ -84,7 +82,6 @@ fn write_cause(cause: &Cause, out: &mut Str) -> Result<(), AllocError>
     match cause {
         Cause::Syntax(what) => out.push_text(syntax_text(*what)),
         Cause::Rule(why) => write_rule(why, out),
-        Cause::Unbuilt => out.push_text("unbuilt"),
         Cause::BadLine => out.push_text("line"),
         Cause::UnknownFunction(name) => push_named("unknown-function ", name, out),
         Cause::BadValue => out.push_text("value"),

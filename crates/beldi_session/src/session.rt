@@ -13,6 +13,7 @@ use crate::output::{flush, flush_if_long};
 use crate::refusal::{SourceErr, write_refusal};
 use crate::settling::settle;
 use crate::source::read_said;
+use crate::sweeping::{prune, sweep};
 use beldi_book::Book;
 use beldi_check::Checked;
 use beldi_host::{Host, OpenErr};
@@ -39,16 +40,8 @@ pub enum Taker {
     Run(u32),
     /// The intent collector.
     IntentCollector,
-}
-
-// The event of one turn.
-fn turn_of(taker: Taker) -> Event
-    ensures { result ≡ turn_of taker }
-{
-    match taker {
-        Taker::Run(run) => Event::Turn(u64::from(run)),
-        Taker::IntentCollector => Event::Ic,
-    }
+    /// The log collector of this number.
+    LogCollector(u8),
 }
 
 // The text of a response was appended, or memory ran out.
@@ -90,7 +83,23 @@ fn answer<T: Table>(
     }
 }
 
-// Gives so many turns.
+// Gives one turn, and appends the text of its answer.
+fn give_turn<T: Table>(
+    alloc: Global,
+    host: &mut Host<T>,
+    out: &mut Str,
+    taker: Taker,
+) -> Result<(), Stop>
+    ensures { (held : Option (List ℕ)) (faults : ℕ) → Does (turn_of taker ∷ []) (sight host.old out.old held faults) (sight host.new out.new held faults) result }
+{
+    match taker {
+        Taker::Run(run) => answer(alloc, host, out, Event::Turn(u64::from(run))),
+        Taker::IntentCollector => answer(alloc, host, out, Event::Ic),
+        Taker::LogCollector(number) => prune(host, out, number),
+    }
+}
+
+// Gives so many turns, and appends the text of the answers.
 fn give_turns<T: Table>(
     alloc: Global,
     host: &mut Host<T>,
@@ -98,10 +107,10 @@ fn give_turns<T: Table>(
     taker: Taker,
     count: u32,
 ) -> Result<(), Stop>
-    ensures { (held : Option (List ℕ)) (faults : ℕ) → Does (times count (Carry (turn_of taker))) (sight host.old out.old held faults) (sight host.new out.new held faults) result }
+    ensures { (held : Option (List ℕ)) (faults : ℕ) → Does (times count (turn_of taker)) (sight host.old out.old held faults) (sight host.new out.new held faults) result }
 {
     for turn in 0..count {
-        match answer(alloc, host, out, turn_of(taker)) {
+        match give_turn(alloc, host, out, taker) {
             Ok(()) => {}
             Err(stop) => return Err(stop),
         }
@@ -202,8 +211,8 @@ fn say<T: Table>(alloc: Global, host: &mut Host<T>, out: &mut Str, line: Line) -
         Line::Tables => list_tables(host, out),
         Line::Book => list_book(alloc, host, out),
         Line::Blank => Ok(()),
-        Line::Gc { .. } => Ok(()),
-        Line::Sweep { .. } => Ok(()),
+        Line::Gc { k, times } => give_turns(alloc, host, out, Taker::LogCollector(k), times),
+        Line::Sweep { k, budget } => sweep(alloc, host, out, k, budget),
         Line::Settle { budget } => settle_all(alloc, host, out, budget),
         Line::Halt => answer(alloc, host, out, Event::Halt),
     }

@@ -1,14 +1,14 @@
 // Settling: each live run is given turns until all that are left wait, and an intent that has no run is given one.
 ghost use Rattle.std.specs.Prelude.{◌≡◌, ◌<◌, ◌++◌, ◌∷◌, [], ℕ, List, Option, IfOk, OnOk, flat_map};
 ghost use Rattle.beldi_host.specs.Host.{core_of};
-ghost use Rattle.beldi_host.specs.Right.{IsRight};
+ghost use Rattle.beldi_host.specs.Right.{IsWhole};
 ghost use Rattle.beldi_step.specs.declared.event.Event.TheVariants as event;
 ghost use Rattle.beldi_schedule.specs.Settle.{HasTurns, WasTaken, first_at, go_on, next_of, restless, turn_heard, turns_in};
 ghost use Rattle.beldi_schedule.specs.declared.machine.Next.TheVariants.{Turn, Collect};
 ghost use Rattle.beldi_schedule.specs.declared.machine.Standing.TheVariants.{Goes, Over};
 ghost use Rattle.beldi_upkeep.specs.Checked.{StartsAreOfIt};
 ghost use Rattle.beldi_book.specs.declared.entry.Entry.{Entry};
-ghost use Rattle.beldi_joined.specs.Joined.{IsRightAfter, joined};
+ghost use Rattle.beldi_joined.specs.Joined.{IsWholeAfter, joined};
 ghost use Rattle.beldi_session.specs.Script.{Action, Settle};
 ghost use Rattle.beldi_session.specs.Session.{Does, DoesTo, left_by, sight};
 ghost use Rattle.beldi_session.specs.Settling.{Collected, Heard, KeepsPromises, KeepsPromisesAfter, Led};
@@ -203,9 +203,9 @@ fn tell_settled<T: Table>(
 }
 
 /// Gives turns until all live runs wait or are over, at most the budget, and appends the lines of replies and of how it ended. Of a right
-/// host whose book starts functions of its deployment alone it keeps its promises: its turns are at most the work, it is settled only where
-/// all have ended, and stuck only with a cause, and with a budget above the work what can end ends. So it does of one that is right behind the
-/// book of sessions that left its rows, by their book and its own.
+/// host of which no row was removed, and whose book starts functions of its deployment alone, it keeps its promises: its turns are at most
+/// the work, it is settled only where all have ended, and stuck only with a cause, and with a budget above the work what can end ends. So it
+/// does of one that is right behind the book of sessions that left its rows, by their book and its own.
 pub fn settle<T: Table>(
     alloc: Global,
     host: &mut Host<T>,
@@ -213,8 +213,8 @@ pub fn settle<T: Table>(
     budget: u64,
 ) -> Result<Settled, Stop>
     ensures does { (held : Option (List ℕ)) (faults : ℕ) → Does (Settle budget (go_on budget first_at) ∷ []) (sight host.old out.old held faults) (sight host.new out.new held faults) result }
-    ensures promises { IsRight host.old → StartsAreOfIt host.old.code (core_of host.old).book → IfOk result (λ x. KeepsPromises host.old.code budget (core_of host.old) (core_of host.new) (T.state host.old.table) (T.state host.new.table) x) }
-    ensures joins { (base : List Entry) → IsRightAfter base host.old → StartsAreOfIt host.old.code (joined base (core_of host.old).book) → IfOk result (λ x. KeepsPromisesAfter base host.old.code budget (core_of host.old) (core_of host.new) (T.state host.old.table) (T.state host.new.table) x) }
+    ensures promises { IsWhole host.old → StartsAreOfIt host.old.code (core_of host.old).book → IfOk result (λ x. KeepsPromises host.old.code budget (core_of host.old) (core_of host.new) (T.state host.old.table) (T.state host.new.table) x) }
+    ensures joins { (base : List Entry) → IsWholeAfter base host.old → StartsAreOfIt host.old.code (joined base (core_of host.old).book) → IfOk result (λ x. KeepsPromisesAfter base host.old.code budget (core_of host.old) (core_of host.new) (T.state host.old.table) (T.state host.new.table) x) }
 {
     settlings_are_as_promised();
     settlings_after_sessions_are_as_promised();

@@ -3,7 +3,7 @@ ghost use Rattle.std.specs.Prelude.{◌≡◌, drop};
 ghost use Rattle.std.specs.List.{list_all};
 ghost use Rattle.beldi_script.specs.Cut.{lines_of};
 ghost use Rattle.beldi_script.specs.Words.{is_space};
-ghost use Rattle.beldi_session.specs.Source.{ReadsAs, accepted, accepted_of, first_line, is_built, numbered, refusal_at, refusal_in, said_at, source_at};
+ghost use Rattle.beldi_session.specs.Source.{ReadsAs, accepted, accepted_of, first_line, numbered, refusal_at, refusal_in, said_at, source_at};
 ghost use Rattle.beldi_session.specs.declared.refusal.SourceErr.TheVariants.{Refused};
 
 use crate::refusal::{Cause, Refusal, SourceErr};
@@ -63,29 +63,12 @@ pub fn script_at(bytes: &[u8], rest: usize) -> &[u8]
     }
 }
 
-// The program can do what the line says.
-fn is_built(line: &Line) -> bool
-    ensures { result ≡ is_built line.now }
-{
-    match line {
-        Line::Gc { .. } | Line::Sweep { .. } => false,
-        _ => true,
-    }
-}
-
 /// Reads the line of the script that has this number in the source.
 pub fn read_said(alloc: Global, code: &Checked, number: u32, line: &[u8]) -> Result<Line, SourceErr>
     ensures { ReadsAs (said_at code.now (number, line.now)) result }
 {
     match read_line(alloc, code, line) {
-        Ok(said) => {
-            if is_built(&said) {
-                Ok(said)
-            } else {
-                drop(said);
-                Err(refused(number, Cause::Unbuilt))
-            }
-        }
+        Ok(said) => Ok(said),
         Err(ScriptErr::OutOfMemory) => Err(SourceErr::OutOfMemory),
         Err(ScriptErr::BadLine) => Err(refused(number, Cause::BadLine)),
         Err(ScriptErr::UnknownFunction(name)) => {

@@ -3,9 +3,3 @@ use Rattle.beldi_session.proofs.session.say.Goals as goal
 
 pub returns-in-Blank : goal.returns-in-Blank
 returns-in-Blank g c = λ held faults. does_no_action (actions_of c.args.line) (ap actions_of c.in-Blank.is) (sight c.args.host.now c.args.out.now held faults)
-
-pub returns-in-Gc : goal.returns-in-Gc
-returns-in-Gc g c = λ held faults. does_no_action (actions_of c.args.line) (ap actions_of c.in-Gc.is) (sight c.args.host.now c.args.out.now held faults)
-
-pub returns-in-Sweep : goal.returns-in-Sweep
-returns-in-Sweep g c = λ held faults. does_no_action (actions_of c.args.line) (ap actions_of c.in-Sweep.is) (sight c.args.host.now c.args.out.now held faults)

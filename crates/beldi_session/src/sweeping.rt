@@ -1,0 +1,109 @@
+// Turns of a log collector, alone and in a sweep, which gives turns up to the end of a round.
+ghost use Rattle.std.specs.Prelude.{◌≡◌, ◌++◌, ◌∷◌, [], ℕ, List, Option, OnOk};
+ghost use Rattle.beldi_session.specs.Answer.{pruned_text};
+ghost use Rattle.beldi_session.specs.Script.{Prune, Sweep, TellSwept, is_round, sweep_at};
+ghost use Rattle.beldi_session.specs.Session.{Does, DoesTo, left_of_sweep, sight};
+ghost use Rattle.beldi_session.specs.Settled.{swept_text};
+
+use crate::answer::write_numbered;
+use crate::session::{Stop, appended};
+use beldi_host::Host;
+use beldi_row::Table;
+use beldi_step::Pruned;
+use beldi_value::Str;
+use std::alloc::{AllocError, Global};
+
+/// How a sweep ended.
+#[derive(Clone, Copy, Debug, PartialEq, Eq)]
+pub enum Swept {
+    /// The log collector ended its round in so many turns, of which the last one said so.
+    All(u64),
+    /// It did not within this budget of turns.
+    Unswept(u64),
+}
+
+fn pruned_text(pruned: Pruned) -> &'static str
+    ensures { result.now ≡ pruned_text pruned }
+{
+    match pruned {
+        Pruned::Going => "going\n",
+        Pruned::Removed => "removed\n",
+        Pruned::Round => "round\n",
+        Pruned::Dropped => "dropped\n",
+        Pruned::Shut => "shut\n",
+        Pruned::Spent => "spent\n",
+    }
+}
+
+/// Gives a log collector a turn, and appends its answer.
+pub fn prune<T: Table>(host: &mut Host<T>, out: &mut Str, number: u8) -> Result<(), Stop>
+    ensures { (held : Option (List ℕ)) (faults : ℕ) → Does (Prune number ∷ []) (sight host.old out.old held faults) (sight host.new out.new held faults) result }
+{
+    match host.prune(number) {
+        Ok(pruned) => appended(out.push_text(pruned_text(pruned))),
+        Err(_) => Err(Stop::OutOfMemory),
+    }
+}
+
+// It was the last turn of a round.
+fn is_round(pruned: Pruned) -> bool
+    ensures { result ≡ is_round pruned }
+{
+    match pruned {
+        Pruned::Round => true,
+        _ => false,
+    }
+}
+
+// The next turn of a sweep after so many, which tells nothing. `true`: it ended the round.
+fn sweep_on<T: Table>(host: &mut Host<T>, number: u8, turns: u64) -> Result<bool, Stop>
+    ensures { (budget : ℕ) (text : List ℕ) (held : Option (List ℕ)) (faults : ℕ) → DoesTo (Sweep number budget turns ∷ []) (left_of_sweep number budget turns result) (sight host.old text held faults) (sight host.new text held faults) result }
+{
+    match host.prune(number) {
+        Ok(pruned) => Ok(is_round(pruned)),
+        Err(_) => Err(Stop::OutOfMemory),
+    }
+}
+
+fn write_swept(alloc: Global, swept: Swept, out: &mut Str) -> Result<(), AllocError>
+    ensures { OnOk result (out.new ≡ out.old ++ swept_text swept) }
+{
+    match swept {
+        Swept::All(turns) => write_numbered(alloc, "swept ", turns, out),
+        Swept::Unswept(budget) => write_numbered(alloc, "unswept ", budget, out),
+    }
+}
+
+// Appends how a sweep ended.
+fn tell_swept<T: Table>(
+    alloc: Global,
+    host: &Host<T>,
+    out: &mut Str,
+    swept: Swept,
+) -> Result<(), Stop>
+    ensures { (held : Option (List ℕ)) (faults : ℕ) → Does (TellSwept swept ∷ []) (sight host.now out.old held faults) (sight host.now out.new held faults) result }
+{
+    appended(write_swept(alloc, swept, out))
+}
+
+/// Gives a log collector turns up to the end of its round, at most the budget, and appends how it ended.
+pub fn sweep<T: Table>(
+    alloc: Global,
+    host: &mut Host<T>,
+    out: &mut Str,
+    number: u8,
+    budget: u64,
+) -> Result<(), Stop>
+    ensures { (held : Option (List ℕ)) (faults : ℕ) → Does (sweep_at number budget 0 ∷ []) (sight host.old out.old held faults) (sight host.new out.new held faults) result }
+{
+    let mut turns = 0;
+    while turns < budget {
+        match sweep_on(host, number, turns) {
+            Ok(true) => return tell_swept(alloc, host, out, Swept::All(turns + 1)),
+            Ok(false) => {}
+            Err(stop) => return Err(stop),
+        }
+        turns += 1;
+    }
+    tell_swept(alloc, host, out, Swept::Unswept(budget))
+}
