@@ -121,13 +121,21 @@ def requests(count, size):
     return "".join("\n".join(it for it in lines(at) if it) for at in range(1, count + 1))
 
 
+def collected(count, size):
+    """The same with a short life, in which log collectors make turns after each request."""
+    lines = requests(count, size).split("ticket\n")[1:]
+    source = "".join(f"ticket\n{it}tick 3\ngc 0 20\ngc 7 5\n{'sweep 1 999' if at % 7 == 0 else f'reply {at // 2}'}\n" for at, it in enumerate(lines))
+    return f"{WRITES.replace('life 100000000', 'life 10')}{source}"
+
+
 def sources():
-    """Sources with halts: the golden ones, and one whose text is written in several pieces."""
+    """Sources with halts: the golden ones, and two whose texts are written in several pieces, one of them with log collectors."""
     for name in sorted(os.listdir(f"{TOP}/tests/rows")):
         source = read(f"{TOP}/tests/rows/{name}") if name.endswith(".in") else b""
         if b"\nhalt\n" in source:
             yield name[: -len(".in")], source
     yield "a text of several pieces", f"{WRITES}{requests(80, 1000)}".encode()
+    yield "a text of several pieces, with log collectors", collected(80, 1000).encode()
 
 
 def failing_reads(system, name, source, whole):
@@ -193,19 +201,25 @@ def killed(source, count):
 
 
 def cut():
-    """The program is killed at any moment: what was written is a front of the whole text, and that it is cut can be told."""
-    source = f"{WRITES}{requests(200, 2000)}book\n".encode()
+    """The program is killed at any moment: what was written is a front of the whole text, and that it is cut can be told; so too where log
+    collectors make turns."""
+    cut_at("a text", f"{WRITES}{requests(200, 2000)}book\n".encode())
+    cut_at("a text with log collectors", f"{collected(200, 2000)}book\n".encode())
+
+
+def cut_at(name, source):
+    """The same of one source."""
     done = subprocess.run([PROGRAM, "run"], input=source, capture_output=True, timeout=6 * LIMIT, check=False)
     whole, draw, halves = done.stdout, random.Random("cut").random, 0
-    same("a text that is not cut", (done.returncode, is_whole(whole)), (0, True))
+    same(f"{name} that is not cut", (done.returncode, is_whole(whole)), (0, True))
     for at in range(KILLS):
         text, status = killed(source, int(draw() * len(whole) * 0.9))
         halves += told(text) != text
-        same(f"kill {at}", (status, whole.startswith(text), is_whole(text)), (-signal.SIGKILL, True, False))
-    counts.true("some texts are cut in mid-line", halves > KILLS // 4, f"{halves} of {KILLS}")
+        same(f"{name}: kill {at}", (status, whole.startswith(text), is_whole(text)), (-signal.SIGKILL, True, False))
+    counts.true(f"{name}: some are cut in mid-line", halves > KILLS // 4, f"{halves} of {KILLS}")
     places = {0, len(whole) - 1, *range(whole.rindex(b"== book\n"), len(whole), 99), *(int(draw() * len(whole)) for _ in range(300))}
-    same("places where a cut is not told", [at for at in places if is_whole(whole[:at])], [])
-    print(f"cut: {KILLS} kills, {halves} of them in mid-line")
+    same(f"{name}: places where a cut is not told", [at for at in places if is_whole(whole[:at])], [])
+    print(f"cut: {name}, {KILLS} kills, {halves} of them in mid-line")
 
 
 # ---- answers where calls of the table fail
@@ -228,6 +242,11 @@ def wrong_course(source, text, most):
         said = event.answer.split(" ")[0]
         dropped += said == "dropped" and event.word != "lost"
         if event.word in READINGS:
+            continue
+        if event.word == "sweep":
+            # (its turns are not told one by one)
+            if is_shut and said != "unswept":
+                return f"{event.text} is answered {event.answer}, where it is shut"
             continue
         if event.word == "halt":
             if said not in ("halted", "dropped"):
@@ -257,6 +276,25 @@ settle 100
 reply {MADE + 1}
 """
 AFTER = f"{WRITES}settle 100\nreply 1\nreply {MADE}\nreply {MADE + 1}\nticket\n"
+# log collectors make turns more than a life later, between halts; and then they take away all that is left
+LATER = 100_000_001
+SWEPT = f"""{WRITES}reply 1
+tick {LATER}
+gc 0 300
+gc 7 60
+sweep 1 300
+halt
+gc 0 400
+ticket
+request {MADE + 1} f "b"
+settle 100
+sweep 0 300
+halt
+gc 1 20
+reply {MADE + 1}
+sweep 0 4000
+"""
+AFTER_SWEPT = f"{WRITES}settle 100\nreply 1\nreply {MADE}\nreply {MADE + 1}\ntick {LATER}\nsweep 0 4000000000\nrows\nticket\n"
 
 
 def with_rows(path):
@@ -280,23 +318,38 @@ def is_kept(told, after):
     ) and int(lines[at + 2].split(" ")[1]) > max([MADE, *tickets])
 
 
-def failing_disk(system, base, whole, how):
+def is_swept(told, after):
+    """The same of sessions in which log collectors make turns: each reply is told or gone, that of the newest ticket is there, and only the
+    rows of the one item are left, which are one for each eight writes, and that of the newest ticket's intent."""
+    lines = after.split("\n")
+    first, last, more, rows = lines[1], lines[2], lines[3], lines[6]
+    made = MADE + more.startswith(f"reply {MADE + 1} value [{MADE + 1},")
+    was_bound = f"\nreply {MADE + 1} value" in told or "\nsettled 0\n" not in f"\n{after}"
+    return (
+        first in (f'reply 1 value [1,"{"a" * 4000}"]', "reply 1 gone")
+        and (last.startswith(f"reply {MADE} value [{MADE},") or (last == f"reply {MADE} gone" and "unknown" not in more))
+        and (made > MADE or (more in (f"reply {MADE + 1} unknown", f"reply {MADE + 1} waiting") and not was_bound))
+        and rows == f"rows {(made + 7) // 8 + 1}" and f'\n== tables\nf t "k" {made}\n' in after
+    )
+
+
+COURSES = ((COUNTED, AFTER, is_kept), (SWEPT, AFTER_SWEPT, is_swept))
+
+
+def failing_disk(system, base, whole, how, course):
     """A session in which these calls of the disk fail, and one after it in which none does; how the first one ended."""
-    path = f"{system.place}/rows"
-    for it in (path, f"{path}-wal"):
-        if os.path.exists(it):
-            os.remove(it)
-    shutil.copy(base, path)
-    name = f"{how} of the disk"
-    status, text = system.ended(["--db", path, "run"], COUNTED, "disk", FAIL_WITH=errno.EIO, **how)
+    during, later, is_there = course
+    path = copied(system, base)
+    name = f"{how} of the disk{', with log collectors' if during is SWEPT else ''}"
+    status, text = system.ended(["--db", path, "run"], during, "disk", FAIL_WITH=errno.EIO, **how)
     text = text.decode()
-    after, then = system.ended(["--db", path, "run"], AFTER, "")
+    after, then = system.ended(["--db", path, "run"], later, "")
     if status == 0:
-        why = wrong_course(COUNTED, text, 1 if "FAIL_AT" in how else len(text))
+        why = wrong_course(during, text, 1 if "FAIL_AT" in how else len(text))
     else:
         why = "" if text in ("", whole) and status in (4, 8) else f"status {status}, {serve.short(text)}"
     counts.say(name, why)
-    counts.true(f"{name}: what was told is there", after == 0 and is_kept(text, then.decode()), f"status {after}, {serve.short(then)}")
+    counts.true(f"{name}: what was told is there", after == 0 and is_there(text, then.decode()), f"status {after}, {serve.short(then)}")
     return status, "dropped" in text
 
 
@@ -306,19 +359,37 @@ def disk():
     if not has_compiler():
         return
     with tempfile.TemporaryDirectory(dir="/dev/shm" if os.path.isdir("/dev/shm") else None) as place:
-        system, ends = System(place), {}
+        system = System(place)
         with_rows(f"{place}/base")
-        shutil.copy(f"{place}/base", f"{place}/rows")
-        status, whole = system.ended(["--db", f"{place}/rows", "run"], COUNTED, "disk")
-        same("a session whose disk does not fail", (status, wrong_course(COUNTED, whole.decode(), 0)), (0, ""))
-        count, draw = system.count(), random.Random("disk").random
-        drawn = (1 + int(draw() * count) for _ in range(DRAWN))
-        for at in sorted({*range(1, CALLS), *range(count - CALLS, count + 1), *drawn}):
-            for way in WAYS:
-                found = failing_disk(system, f"{place}/base", whole.decode(), {way: at})
-                ends[found] = ends.get(found, 0) + 1
-        counts.true("a disk that fails: some answers are dropped", ends.get((0, True), 0) > 0, f"{ends}")
-        print(f"disk: {system.runs} runs, {count} calls; by status, and whether something was dropped: {ends}")
+        for course in COURSES:
+            failing_course(system, f"{place}/base", course)
+
+
+def copied(system, base):
+    """A copy of a file of rows."""
+    path = f"{system.place}/rows"
+    for it in (path, f"{path}-wal"):
+        if os.path.exists(it):
+            os.remove(it)
+    shutil.copy(base, path)
+    return path
+
+
+def failing_course(system, base, course):
+    """Calls of the disk fail in one course of two sessions."""
+    system.ended(["--db", copied(system, base), "run"], WRITES, "disk")
+    opened, ends = system.count(), {}
+    status, whole = system.ended(["--db", copied(system, base), "run"], course[0], "disk")
+    same("a session whose disk does not fail", (status, wrong_course(course[0], whole.decode(), 0)), (0, ""))
+    count, draw = system.count(), random.Random("disk").random
+    # (a half of them after the file was opened; once a row is removed, what fails is told by the status)
+    drawn = (1 + int(draw() * count) if at % 2 else opened + int(draw() * (count - opened)) for at in range(DRAWN))
+    for at in sorted({*range(1, CALLS), *range(opened + 1, opened + 3 * CALLS), *range(count - CALLS, count + 1), *drawn}):
+        for way in WAYS:
+            found = failing_disk(system, base, whole.decode(), {way: at}, course)
+            ends[found] = ends.get(found, 0) + 1
+    counts.true("a disk that fails: some answers are dropped", ends.get((0, True), 0) > 0, f"{ends}")
+    print(f"disk: {system.runs} runs, {count} calls, of which {opened} open the file; by status, and whether something was dropped: {ends}")
 
 
 # ---- a table that fails at any call
@@ -389,7 +460,8 @@ def failing_program(place):
     os.makedirs(f"{place}/examples")
     for it in ("HANDLES", "beldi", "crates.txt", "examples/first.beldi"):
         shutil.copy(f"{TOP}/{it}", f"{place}/{it}")
-    os.remove(f"{place}/crates/beldi_main/src/tests.rt")
+    for it in os.listdir(f"{place}/crates/beldi_main/src"):
+        os.remove(f"{place}/crates/beldi_main/src/{it}")
     with open(f"{place}/crates/beldi_main/src/main.rt", "w", encoding="utf-8") as it:
         it.write(FAILING_MAIN)
     with open(f"{TOP}/examples/first.beldi", "rb") as it:
@@ -451,8 +523,8 @@ def failing_call(failing, name, source, whole, call):
         same(f"{name}: call 0 fails", (status, text), (8, ""))
         return
     other = first_difference(whole[1], told)
-    # (the answer to a line `lost` is dropped either way, and a settling does not tell it)
-    is_told = other in ("", "dropped") or "\nlost " in source or "\nsettle " in source
+    # (the answer to a line `lost` is dropped either way, and a settling or a sweep does not tell it)
+    is_told = other in ("", "dropped") or any(f"\n{it} " in source for it in ("lost", "settle", "sweep"))
     why = "" if is_told else f"it first tells {other}"
     counts.say(f"{name}: call {call} fails", why or ("" if status == whole[0] else f"status {status}") or wrong_course(source, text, 1) or wrong_end(source, text))
 
@@ -485,32 +557,25 @@ def random_calls(failing, kind, number):
     settles within the work, to which each failure adds the greatest part."""
     draw = random.Random(f"calls {kind} {number}").random
     calls = sorted({1 + int(draw() * BEFORE) for _ in range(1 + int(draw() * MOST))})
-    source = bounds.drawn(kind, number)
-    asked = "".join(f"reply {it}\n" for it in range(1, source.count("\nticket\n") + 1))
-    source += f"settle {bounds.AMPLE}\nhalt\nhalt\nsettle {bounds.AMPLE}\nbook\n{asked}"
-    status, text = failing.ended(["run"], source, calls)
+    source = f"{bounds.drawn(kind, number)}settle {bounds.AMPLE}\nhalt\nhalt\n"
+    source = bounds.whole(source, bounds.AMPLE, kind.startswith("collected-"))
+    status, told = failing.ended(["run"], source, calls)
+    text = settled_text(source, told)
     why = f"status {status}" if status != 0 else wrong_course(source, text, len(calls)) or wrong_end(source, text) or wrong_replies(source, text)
     counts.say(f"{kind} {number} with failures at {calls}", why or wrong_settlings(source, text, len(calls)))
     return text.count("dropped")
 
 
 def wrong_replies(source, text):
-    """What is wrong with what is told of replies at the end of a session."""
-    session = bounds.bound.Bound(source, text)
-    issued = max((int(it.answer.split(" ")[1]) for it in session.events if it.answer.startswith("ticket ")), default=0)
-    for event in session.events:
-        if event.word == "reply":
-            is_issued = int(event.text.split(" ")[1]) <= issued
-            wanted = bounds.reply_of(session.plain, event.text) if is_issued else f"{event.text} unknown"
-            if event.answer not in (wanted, "dropped"):
-                return f"{event.text} is answered {event.answer}, not {wanted}"
-    return ""
+    """What is wrong with what is told of requests and replies."""
+    return bounds.wrong_answers(bounds.bound.Bound(source, text))
 
 
 def wrong_settlings(source, text, failures):
     """What is wrong with how a session is settled."""
     for it in bounds.bound.Bound(source, text).settlings():
-        if it.end not in ("settled", "stuck", "shut"):
+        small = it.event.text != f"settle {bounds.AMPLE}"
+        if it.end not in ("settled", "stuck", "shut") and not (small and it.end == "unsettled"):
             return it.text
         if it.work is not None and it.turns > it.work + failures * (1 + max(sum(it.costs(), []), default=0)):
             return f"{it.text}, with {failures} failures"
@@ -523,7 +588,7 @@ def table():
         failing = Failing(failing_program(place))
         golden_calls(failing)
         print(f"table: {failing.runs} golden sessions with a call that fails", flush=True)
-        kinds = [it for it in bounds.KINDS if it.startswith("halted-")]
+        kinds = [it for it in bounds.KINDS if it.startswith(("halted-", "collected-"))]
         dropped = [random_calls(failing, kind, number) for kind in kinds for number in range(bounds.SESSIONS[kind])]
     print(f"table: {len(dropped)} random sessions, {sum(map(bool, dropped))} of them with an answer that is dropped")
 

@@ -169,10 +169,12 @@ def sources():
         cost_of(place, "a source of 16 MiB and a byte", ["run"], bytes_of(filled(f"{SCRIPT}#", MOST + 1)), b"", 7)
 
 
+LONG_LIST = f"[{','.join(['0'] * 2000)}]"
 # bodies of a deployment that is as long as it may be: what is before, what is repeated, what is behind, and the reply
 BODIES = [
     ("a sum in 10,000 turns of loops", "repeat 9 { repeat 999 { set y = 1", "+1", "; } } return 1;", "value 1"),
     ("texts joined in 10,000 turns of loops", 'repeat 9 { repeat 999 { set y = ""', ' ++ ""', "; } } return 1;", "value 1"),
+    ("a list of 2,000 numbers copied in 10 turns of a loop", f"set x = {LONG_LIST}; repeat 10 {{", "set y=x;", "} return 1;", "value 1"),
     ("variables", "set y = 1;", "set y=y+1;", "return 1;", "value 1"),
     ("blocks beside one another", "", "if true { }", "return 1;", "value 1"),
     ("a list with a fault", "return [1", ",1", "];", "fault value-too-large"),
@@ -286,9 +288,9 @@ def costs():
 
 
 # ---- a host that is busy
-# a turn of so many sums in 9,000 turns of loops takes far longer than the patience of the service
-SUMS = int(os.environ.get("SUMS", "15000"))
-BUSY = f"life 1000000;\nfunction busy(x) {{ repeat 9 {{ repeat 999 {{ set y = 1{'+1' * SUMS}; }} }} return y; }}\nfunction f(x) {{ return x; }}\n"
+# a turn that copies a long list so often in each of 9,000 turns of loops takes far longer than the patience of the service
+COPIES = int(os.environ.get("COPIES", "100"))
+BUSY = f"life 1000000;\nfunction busy(x) {{ repeat 9 {{ repeat 999 {{ {'set y = x; ' * COPIES}}} }} return 1; }}\nfunction f(x) {{ return x; }}\n"
 
 
 def late(port, pieces, pause):
@@ -306,7 +308,7 @@ def late_clients(port):
     """Four clients, one after another in less than a second: what each gets, and how long it took."""
     asked, found = serve.call("f", 2, "7"), {}
     sent = {
-        "before": ([asked[:-1], asked[-1:]], 3), "half": ([asked[:-1]], 0), "busy": ([serve.call("busy", 1, "7")], 0), "meanwhile": ([asked], 0),
+        "before": ([asked[:-1], asked[-1:]], 3), "half": ([asked[:-1]], 0), "busy": ([serve.call("busy", 1, LONG_LIST)], 0), "meanwhile": ([asked], 0),
     }
 
     def work(name):
@@ -327,7 +329,7 @@ def busy():
     service = serve.Service(BUSY, 6)
     same("two tickets", [service.ask(NEW_TICKET), service.ask(NEW_TICKET)], [serve.ticket(1), serve.ticket(2)])
     found = late_clients(service.port)
-    same("a busy host: the turn that takes long", found["busy"][0], serve.value(SUMS + 1))
+    same("a busy host: the turn that takes long", found["busy"][0], serve.value(1))
     counts.true("a busy host: it is busy for longer than the patience", found["busy"][1] > serve.PATIENCE + 2, f"{found['busy'][1]:.1f} s")
     for name in ("before", "meanwhile"):
         same(f"a busy host: who sent all, {name}", found[name][0], serve.value("7"))
@@ -413,16 +415,16 @@ def starved_service(place, **how):
 
 
 def is_served(status, got, text):
-    """Whether this is what a service may come to where memory is short: it ends with status 1, or with 6 before it listens, and each answer stands
-    in a line, or a front of that text was written; or it is told to one client alone that memory is short, and it goes on."""
+    """Whether this is what a service may come to where memory is short: it ends with status 1, and each answer stands in a line, or a front of
+    that text was written; or it is told to one client alone that memory is short, and it goes on."""
     lines, _, listings = text.partition(b"== tables\n")
     said = [line.split(b" ")[2].decode() for line in lines.splitlines()]
     answers = [str(serve.status_of(it)) for it in got if it]
     told = [it for it in said if it != "fault"]
     if not all(it in wanted for it, (_, wanted) in zip(got, TRIPLE)):
         return False
-    if status in (1, 6):
-        return not listings and told == answers[: len(told)] and (status == 1 or not got)
+    if status == 1:
+        return not listings and told == answers[: len(told)]
     if status == 0:
         return len(said) == len(TRIPLE) and told == answers and (listings.startswith(b'f t "k" 7\n') or serve.value("7") not in got)
     # a connection that finds no memory is closed, and is none of the three

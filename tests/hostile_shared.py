@@ -32,7 +32,7 @@ PLAIN = "function f(x) { }\n"
 SCRIPT = f"{LIFE}{PLAIN}script\n"
 ENDS = "== tables\n== book\n"
 # what most services here serve
-WIRE = f"{LIFE}function f(x) {{ table t; write t[\"k\"] = x; return x; }}\n"
+WIRE = f"life 1000000;\nfunction f(x) {{ table t; write t[\"k\"] = x; return x; }}\n"
 NEW_TICKET = "POST /tickets HTTP/1.1\r\nContent-Length: 0\r\n\r\n".encode()
 
 

@@ -79,6 +79,7 @@ BYTES = [
 MORE = [
     b"9223372036854775808", b"4294967296", b"4294967295", b"-1", b"0", b"1e9", b"repeat 3 {", b"}", b"settle 100", b"turn 1 9", b"restart 1/0 f",
     b"transaction {", b"aborted { }", b"abort;", b"break;", b"lock", b"null", b"script", b"ticket\n", b"\nbook\n", b"\ntables\n", b"\nic 3\n",
+    b"\ngc 0 9\n", b"\ngc 7\n", b"\nsweep 1 99\n", b"\ntick 101\n",
     b"\nhalt\n", b"\nlost 1\n", b"\ncrash 1\n", b"\ntick 9\n", b"\nreply 1\n", b"\nrows\n", b"async", b"[[[[", b"{\"a\":", b"\\ud800",
     b"1.5", b"true", b"=", b"not",
 ]
@@ -146,6 +147,8 @@ ANSWERS = {
     "reply": rf"reply \d+ (?:{OUTCOME}|waiting|gone|unknown)",
     "rows": r"rows \d+",
     "halt": r"halted",
+    "gc": r"going|removed|round",
+    "sweep": r"swept \d+|unswept \d+",
 }
 ANSWERS = {word: re.compile(form, re.S) for word, form in ANSWERS.items()}
 TOLD = re.compile(rf"bound (\d+) run|acted ({ENTRY})")
@@ -154,7 +157,7 @@ SETTLED = re.compile(r"settled \d+|unsettled \d+|stuck (\d+)")
 WAITS = re.compile(rf"run \d+ (?:{STANDS})")
 BOOKED = re.compile(rf"start \d+ \w+ {JSON}|{ENTRY}", re.S)
 REFUSED = re.compile(
-    r"refused line [1-9]\d*: (?:utf8|too-large|syntax|number|too-deep|too-many|line|value|unbuilt"
+    r"refused line [1-9]\d*: (?:utf8|too-large|syntax|number|too-deep|too-many|line|value"
     r"|(?:duplicate|unknown-table|break-outside|nested-tx|leaves-tx|call-cycle|async-in-tx|lock-in-tx) \w+|unknown-function [^ \n]+)"
 )
 NUMBER, TIMES, BUDGET = r"(0|[1-9]\d*)", r"(?: ([1-9]\d*))?", r"([1-9]\d*)"
@@ -163,7 +166,7 @@ FORMS = [
     ("ticket", "ticket", ()), ("turn", f"turn {NUMBER}{TIMES}", (2 ** 32 - 1, 1000)), ("lost", f"lost {NUMBER}", (2 ** 32 - 1,)),
     ("crash", f"crash {NUMBER}", (2 ** 32 - 1,)), ("ic", f"ic{TIMES}", (1000,)), ("settle", f"settle {BUDGET}", (4 * 10 ** 9,)),
     ("tick", f"tick {NUMBER}", (2 ** 32 + 1,)), ("reply", f"reply {NUMBER}", (2 ** 32 - 1,)), ("rows", "rows", ()), ("tables", "tables", ()),
-    ("book", "book", ()), ("unbuilt", f"gc {NUMBER}{TIMES}", (7, 1000)), ("unbuilt", f"sweep {NUMBER} {BUDGET}", (7, 4 * 10 ** 9)),
+    ("book", "book", ()), ("gc", f"gc {NUMBER}{TIMES}", (7, 1000)), ("sweep", f"sweep {NUMBER} {BUDGET}", (7, 4 * 10 ** 9)),
     ("halt", "halt", ()),
 ]
 FORMS = [(word, re.compile(form.encode(), re.A), most) for word, form, most in FORMS]
@@ -211,9 +214,7 @@ def word_of(line, functions):
     for word, form, most in FORMS:
         found = form.fullmatch(line)
         if found and all(it is None or int(it) <= limit for it, limit in zip(found.groups(), most)):
-            if word == "unbuilt":
-                return None, "unbuilt"
-            times = found.groups()[-1] if word in ("turn", "ic") else None
+            times = found.groups()[-1] if word in ("turn", "ic", "gc") else None
             return word, int(times or 1)
     called = REQUEST.fullmatch(line) or RESTART.fullmatch(line)
     if not called or not (is_ticket(called[1], 0) if called.re is REQUEST else is_id(called[1])) or not called[2] or not serve.is_text(called[2]):
@@ -330,7 +331,7 @@ def reading(source, status, text, tested):
 def wrong_line(source, last):
     """Of a source that is refused before any answer: where a line of the script is, that must be the line."""
     number, what = last[len("refused line ") :].split(": ", 1)
-    if what.split(" ")[0] not in ("line", "value", "unbuilt"):
+    if what.split(" ")[0] not in ("line", "value"):
         return ""
     return along(source, 5, bytes_of(last) + b"\n", None, last)
 
@@ -393,6 +394,6 @@ def changes():
     # a draw that only ever made some kinds of refusals would show little
     wanted = {"ok", "syntax", "line", "value", "unknown-function", "utf8"}
     if IS_LONG:
-        wanted |= {"number", "duplicate", "unknown-table", "unbuilt", "call-cycle", "break-outside", "leaves-tx"}
+        wanted |= {"number", "unknown-table", "call-cycle"}
     same("changed texts: kinds that were not made", wanted - set(kinds), set())
     print("changed texts:", ", ".join(f"{count} {kind}" for kind, count in kinds.most_common()))

@@ -8,6 +8,8 @@ OPERATORS = {"or", "and", "+", "-", "++", "*", "/", "%", "==", "!=", "<", "<=", 
 CLOSING = {"(": ")", "[": "]", "{": "}"}
 ENTRY = re.compile(r"(start|read|step|tx|try) \d")
 ITEM = re.compile(r'\w+ \w+ "')
+# The lines that say how often, and the place of that word.
+TIMES_AT = {"turn": 2, "ic": 1, "gc": 2}
 # A body with more ways through it than this is not followed: then its callees are known only where a line names them.
 MOST_PATHS = 5000
 
@@ -209,12 +211,22 @@ class Event:
     @property
     def text_of_one(self):
         """The line of this event alone."""
-        return " ".join(self.text.split(" ")[:2 if self.word == "turn" else 1]) if self.word in ("turn", "ic") else self.text
+        return " ".join(self.text.split(" ")[:TIMES_AT.get(self.word)])
+
+    @property
+    def collector(self):
+        """The log collector that makes these turns."""
+        return int(self.text.split(" ")[1]) if self.word in ("gc", "sweep") else None
+
+    @property
+    def may_remove(self):
+        """Whether rows may have gone: that of a sweep is not told."""
+        return self.answer == "removed" or self.word == "sweep"
 
     @property
     def is_silent(self):
         """Whether it may have made an entry that it does not tell."""
-        return self.word == "settle" or (self.answer == "dropped" and self.word != "halt")
+        return self.word == "settle" or (self.answer == "dropped" and self.word not in ("halt", "ic", "gc"))
 
 
 class Session:
@@ -262,7 +274,7 @@ class Session:
             if self.peek().startswith("refused "):
                 return
             words = text.split(" ")
-            at = {"turn": 2, "ic": 1}.get(words[0], len(words))
+            at = TIMES_AT.get(words[0], len(words))
             for _ in range(int(words[at]) if at < len(words) and words[at].isdigit() else 1):
                 if not self.peek():
                     return
@@ -281,7 +293,8 @@ class Session:
             self.listing("== book", ENTRY)
         else:
             self.take()
-        while word == "settle" and self.peek().startswith("run "):
+        # (what follows `run R` tells it from the answer of a later `restart`)
+        while word == "settle" and re.match(r"run \d+ ", self.peek()):
             event.waits.append(self.take())
         ended = re.match(r"acted step (\d+) over$", event.answer)
         if ended and self.peek().startswith(f"reply {ended[1]} "):

@@ -17,8 +17,9 @@ def write(path, text):
     if os.path.isfile(path) and read(path) == text:
         return False
     os.makedirs(os.path.dirname(path), exist_ok=True)
-    with open(path, "w", encoding="utf-8") as it:
+    with open(f"{path}.new", "w", encoding="utf-8") as it:
         it.write(text)
+    os.replace(f"{path}.new", path)  # another folder may have a hard link to the file
     return True
 
 
