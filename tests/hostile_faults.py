@@ -1,6 +1,7 @@
 """What fails in mid-session, for tests/hostile: reads of the source and writes of the text, calls of the disk below a file of rows, and the
 program itself, which is killed. What was written is a front of the whole text, and over a file what was told is there again."""
 import errno
+import fcntl
 import os
 import random
 import shutil
@@ -101,7 +102,7 @@ class System:
     def ended(self, words, source, kind, **how):
         """The status of the program, and what it wrote on both streams; `how` says which calls fail, and with which error."""
         about = {"LD_PRELOAD": f"{self.place}/shim.so", "FAIL_KIND": kind, "COUNT_TO": f"{self.place}/count", **{it: str(n) for it, n in how.items()}}
-        done = subprocess.run([PROGRAM, *words], input=bytes_of(source), capture_output=True, env=about, timeout=6 * LIMIT, check=False)
+        done = subprocess.run([PROGRAM, *words], input=bytes_of(source), capture_output=True, env=about, timeout=LIMIT, check=False)
         self.runs += 1
         return done.returncode, done.stdout + done.stderr
 
@@ -191,8 +192,10 @@ def is_whole(text):
 
 
 def killed(source, count):
-    """What a reader has of a program that was killed once it had so many bytes, and how that ended."""
+    """What a reader has of a program that was killed once it had so many bytes, and how that ended. The program is never more than a page ahead
+    of its reader, so it is killed in mid-text, and mostly in mid-line, however fast either is."""
     with subprocess.Popen([PROGRAM, "run"], stdin=subprocess.PIPE, stdout=subprocess.PIPE) as process:
+        fcntl.fcntl(process.stdout, fcntl.F_SETPIPE_SZ, 4096)
         process.stdin.write(source)
         process.stdin.close()
         text = process.stdout.read(count)
@@ -209,7 +212,7 @@ def cut():
 
 def cut_at(name, source):
     """The same of one source."""
-    done = subprocess.run([PROGRAM, "run"], input=source, capture_output=True, timeout=6 * LIMIT, check=False)
+    done = subprocess.run([PROGRAM, "run"], input=source, capture_output=True, timeout=LIMIT, check=False)
     whole, draw, halves = done.stdout, random.Random("cut").random, 0
     same(f"{name} that is not cut", (done.returncode, is_whole(whole)), (0, True))
     for at in range(KILLS):
@@ -304,7 +307,7 @@ def with_rows(path):
         it.execute("CREATE TABLE beldi (k BLOB PRIMARY KEY NOT NULL, v BLOB NOT NULL) STRICT")
     it.close()
     source = f"{WRITES}{requests(MADE, 4000)}".encode()
-    done = subprocess.run([PROGRAM, "--db", path, "run"], input=source, capture_output=True, timeout=60 * LIMIT, check=False)
+    done = subprocess.run([PROGRAM, "--db", path, "run"], input=source, capture_output=True, timeout=10 * LIMIT, check=False)
     same("rows of an earlier session", (done.returncode, done.stdout.count(b"\nsettled ")), (0, MADE))
 
 
@@ -479,7 +482,7 @@ class Failing:
         """The status of a session whose table fails these calls, and its text."""
         self.runs += 1
         line = [self.program, "--fail", " ".join(map(str, calls)), *words]
-        done = subprocess.run(line, input=bytes_of(source), capture_output=True, timeout=6 * LIMIT, check=False)
+        done = subprocess.run(line, input=bytes_of(source), capture_output=True, timeout=LIMIT, check=False)
         return done.returncode, (done.stdout + done.stderr).decode(errors="replace")
 
     def count(self, words, source, whole):
