@@ -1,6 +1,7 @@
 """What comes to tests/hostile over a socket: each limit of a request at its number and one past it, and hostile clients beside good ones."""
 import json
 import re
+import resource
 import socket
 import struct
 import threading
@@ -183,3 +184,31 @@ def clients():
     given_up = [at for at, it in enumerate(found) if it == "fault"][1:]
     before = found[: min(given_up, default=0)].count("200")
     counts.true("good clients are answered before the first hostile one is given up", before >= GOOD, f"{before} are")
+
+
+# ---- as many clients as there may be
+HELD = 960
+
+
+def crowd():
+    """As many connections as are held at once, which send nothing, and one more: that one waits until one of them is given up."""
+    most = resource.getrlimit(resource.RLIMIT_NOFILE)
+    if most[1] != resource.RLIM_INFINITY and most[1] < 2 * HELD:
+        print("a process may have too few files: the crowd is left out")
+        return
+    resource.setrlimit(resource.RLIMIT_NOFILE, (2 * HELD, most[1]))
+    service, idle = serve.Service(WIRE, HELD + 2), []
+    try:
+        idle += [serve.connected(service.port) for _ in range(HELD - 1)]
+        same("a crowd: one beside 959", service.ask(NEW_TICKET), serve.ticket(1))
+        idle += [serve.connected(service.port)]
+        same("a crowd: one beside 960", service.ask(NEW_TICKET), serve.ticket(2))
+        status, text, said = service.end()
+    finally:
+        for it in idle:
+            it.close()
+        resource.setrlimit(resource.RLIMIT_NOFILE, most)
+    same("a crowd: its status and standard error", (status, said), (0, b""))
+    found = [line.split()[2] for line in text.split(b"== tables\n")[0].splitlines()]
+    same("a crowd: how often it answers, and gives up", (found.count(b"200"), found.count(b"fault"), len(found)), (2, HELD, HELD + 2))
+    same("a crowd: the first one waits for nobody, and the second one does", [found[0], found[1]], [b"200", b"fault"])

@@ -91,7 +91,8 @@ REPEATED = [
     ("lost 1", always("no-run\n")), ("crash 1", always("no-run\n")), ("restart 1 f", answers_to("run #", LIVE, f"crowded {LIVE}")),
     ("restart 1/2/3/4 f", answers_to("run #", LIVE, f"crowded {LIVE}")), ("ic", always("round\n")), ("settle 4000000000", always("settled 0\n")),
     ("tick 1", answers_to("now #", MOST, "")), ("reply 1", always("reply 1 unknown\n")), ("rows", always("rows 0\n")),
-    ("tables", always("== tables\n")), ("book", always("== book\n")),
+    ("tables", always("== tables\n")), ("book", always("== book\n")), ("gc 7", always("round\n")), ("sweep 0 1", always("swept 1\n")),
+    ("halt", always("halted\n")),
 ]
 # a line of up to 16 MiB: what it begins with, what is repeated in it, what it ends with, and what it is answered or refused as
 ENDLESS = [
@@ -288,16 +289,24 @@ def costs():
 
 
 # ---- a host that is busy
-# a turn that copies a long list so often in each of 9,000 turns of loops takes far longer than the patience of the service
-COPIES = int(os.environ.get("COPIES", "100"))
-BUSY = f"life 1000000;\nfunction busy(x) {{ repeat 9 {{ repeat 999 {{ {'set y = x; ' * COPIES}}} }} return 1; }}\nfunction f(x) {{ return x; }}\n"
+# one turn of `busy` copies a long list so often in each of 9,000 turns of loops
+def busy_with(copies):
+    return f"life 1000000;\nfunction busy(x) {{ repeat 9 {{ repeat 999 {{ {'set y = x; ' * copies}}} }} return 1; }}\nfunction f(x) {{ return x; }}\n"
+
+
+def long_enough(place):
+    """The same with as many copies as take some three times the patience of the service, by the seconds that ten take."""
+    source = f"{busy_with(10)}script\nticket\nrequest 1 busy {LONG_LIST}\nsettle 10\n"
+    status, text, seconds, _ = measured(["run"], source.encode(), place)
+    same("a turn of ten copies", (status, b"\nreply 1 value 1\n" in text), (0, True))
+    return busy_with(max(10, int(10 * 3 * serve.PATIENCE / max(seconds, 0.06))))
 
 
 def late(port, pieces, pause):
     """What a client gets that sends these pieces, and how long it took; it waits as long as it takes."""
     began = time.monotonic()
     with serve.connected(port) as link:
-        link.settimeout(60 * LIMIT)
+        link.settimeout(10 * LIMIT)
         for piece in pieces:
             link.sendall(piece)
             time.sleep(pause)
@@ -326,7 +335,8 @@ def late_clients(port):
 def busy():
     """One turn that takes long holds up all clients, but whoever sent all in ten seconds is answered after it: one that had begun before it,
     one that came while it went on; and one that sent half is given up."""
-    service = serve.Service(BUSY, 6)
+    with tempfile.TemporaryDirectory() as place:
+        service = serve.Service(long_enough(place), 6)
     same("two tickets", [service.ask(NEW_TICKET), service.ask(NEW_TICKET)], [serve.ticket(1), serve.ticket(2)])
     found = late_clients(service.port)
     same("a busy host: the turn that takes long", found["busy"][0], serve.value(1))
