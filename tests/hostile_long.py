@@ -408,7 +408,7 @@ def three_asked(port):
 
 
 def starved_service(place, **how):
-    """A service of three requests: its status, none where it goes on to serve; what each client got; and what it wrote."""
+    """A service of three requests: its status, none where it does not end; what each client got; and what it wrote."""
     port = serve.free_port()
     words = [PROGRAM, "serve", *serve.words_of(port, len(TRIPLE))]
     with subprocess.Popen(
@@ -417,7 +417,7 @@ def starved_service(place, **how):
         serve.give(process, WIRE)
         got = three_asked(port) if process.stderr.readline() else []
         try:
-            status = process.wait(1 if b"" in got else LIMIT)
+            status = process.wait(LIMIT)
         except subprocess.TimeoutExpired:
             status = None
             process.kill()
@@ -435,10 +435,7 @@ def is_served(status, got, text):
         return False
     if status == 1:
         return not listings and told == answers[: len(told)]
-    if status == 0:
-        return len(said) == len(TRIPLE) and told == answers and (listings.startswith(b'f t "k" 7\n') or serve.value("7") not in got)
-    # a connection that finds no memory is closed, and is none of the three
-    return status is None and b"" in got and len(said) < len(TRIPLE) and told == answers
+    return status == 0 and len(said) == len(TRIPLE) and told == answers and (listings.startswith(b'f t "k" 7\n') or serve.value("7") not in got)
 
 
 def short_service(place):

@@ -11,6 +11,9 @@ use std::collections::VecDeque;
 // The most connections that are held: a process may mostly have 1,024 files open, and has others too.
 const MAX_PEERS: usize = 960;
 
+// A key that no connection has: it stands for one that was lost.
+const LOST: usize = usize::MAX;
+
 /// The connections that are held.
 #[derive(Drop)]
 pub(crate) struct Peers {
@@ -18,6 +21,8 @@ pub(crate) struct Peers {
     slots: Slab<Peer>,
     // Each key is here once at most.
     ready: VecDeque<usize>,
+    // How many were dropped as memory was short, and are still to be opened: each of them breaks at once.
+    lost: usize,
 }
 
 impl Peers {
@@ -27,6 +32,7 @@ impl Peers {
             alloc,
             slots: Slab::new(alloc),
             ready: VecDeque::new(alloc),
+            lost: 0,
         }
     }
 
@@ -40,27 +46,40 @@ impl Peers {
 
     /// Whether a connection is ready to be opened.
     pub(crate) fn has_ready(&self) -> bool {
-        !self.ready.is_empty()
+        0 < self.lost || !self.ready.is_empty()
     }
 
-    /// The key of the connection that has been ready longest. It is ready no more.
+    /// The key of the connection that has been ready longest, and after all of them of one that was lost. It is ready no more.
     pub(crate) fn next_ready(&mut self) -> Option<usize> {
+        if self.ready.is_empty() && 0 < self.lost {
+            self.lost -= 1;
+            return Some(LOST);
+        }
         self.ready.pop_front()
     }
 
-    /// Takes up a connection that was accepted now. Where the system or memory is short of what it needs, it is dropped.
+    /// Takes up a connection that was accepted now. Where the system or memory is short of what it needs, it is lost.
     pub(crate) fn admit(&mut self, registry: &Registry, mut stream: TcpStream, now: u64) {
         let key = self.slots.vacant_key();
         let _ = stream.set_nodelay(true);
         let watched = registry.register(&mut stream, Token(key), Interest::READABLE);
         if watched.is_err() {
             drop(stream);
+            self.lose();
             return;
         }
         match self.slots.insert(Peer::new(self.alloc, stream, now)) {
             Ok(_) => self.go_on(key, now),
-            Err(refused) => drop(refused),
+            Err(refused) => {
+                drop(refused);
+                self.lose();
+            }
         }
+    }
+
+    // Counts a connection that was dropped.
+    fn lose(&mut self) {
+        self.lost = self.lost.saturating_add(1);
     }
 
     /// Lets a connection do what its socket is ready for.
@@ -135,6 +154,7 @@ impl Peers {
             Next::Open => {
                 if self.ready.push_back(key).is_err() {
                     drop(self.slots.try_remove(key));
+                    self.lose();
                 }
             }
             Next::Drop => drop(self.slots.try_remove(key)),

@@ -12,7 +12,8 @@ use std::time;
 /// A link over TCP on 127.0.0.1 that holds up to 960 connections and reads from all of them, so that none waits for a
 /// client that is slow. `accept` opens the connection that has been ready longest: its request is whole, as far as its
 /// bytes tell, or the client sends no more. A client has ten seconds for its request, else its connection is opened and
-/// breaks behind the bytes that came; and ten seconds to take its response, else it is dropped.
+/// breaks behind the bytes that came; and ten seconds to take its response, else it is dropped. One for which memory is
+/// short is dropped as it comes, and opened all the same, after those that are ready: it breaks at once.
 #[derive(Drop)]
 pub struct ReadyLink<'a, R: Net + time::Clock, W: Write + Drop> {
     alloc: Global,
