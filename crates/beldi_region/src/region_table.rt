@@ -57,18 +57,23 @@ fn follows(row: &Row, place: Option<&Place>) -> Option<u32>
     let Row::Cell(cell) = row else {
         return None;
     };
+    // A last row is not searched for the place.
+    let Some(next) = cell.next else {
+        return None;
+    };
     match place {
-        None => cell.next,
+        None => Some(next),
         Some(place) => match cell.log.find(place) {
             Some(_) => None,
-            None => cell.next,
+            None => Some(next),
         },
     }
 }
 
 // Whether an act is a look, which makes nothing.
 fn is_look(act: &Act) -> bool
-    ensures { (now : ℕ) → result ≡ true → (off act.now now).0 ≡ None }
+    ensures look { result ≡ true → act.now ≡ acts.Look }
+    ensures none { (now : ℕ) → result ≡ true → (off act.now now).0 ≡ None }
 {
     matches!(act, Act::Look)
 }
