@@ -7,6 +7,7 @@ ghost use Rattle.std.specs.Option.{option_copied};
 ghost use Rattle.std.specs.FinMap as map;
 ghost use Rattle.std.specs.declared.cmp.Ordering.TheVariants.{Equal};
 ghost use Rattle.beldi_row.specs.Act.{drops, off, removes, said_by};
+ghost use Rattle.beldi_row.specs.declared.act.Act.TheVariants as acts;
 ghost use Rattle.beldi_row.specs.declared.row.Row as row_data;
 ghost use Rattle.beldi_row.specs.Table.{entry_of, next_row, Acted, LeadsOn, Went};
 ghost use Rattle.beldi_row.specs.declared.table.TableErr.TheVariants.{OutOfMemory};
@@ -171,6 +172,14 @@ impl RegionTable {
         }
         self.forget(id, key);
         Change::Did
+    }
+
+    // What a look at the row with this key comes to, which leaves it as it is.
+    fn looked(&self, key: &RowKey, act: &Act, now: u64) -> Change
+        requires { act.now ≡ acts.Look }
+        ensures { ChangedOn act.now now key.now self.now.room (rows_of self.now) (rows_of self.now) (map.get (rows_of self.now) key.now) (Ok result) }
+    {
+        Change::Row
     }
 
     // The row in this slot, where a change tells what lies in it.
@@ -382,6 +391,14 @@ impl Table for RegionTable {
         match self.find(&key, hint) {
             Ok(id) => {
                 self.hints.set(hint, id);
+                // A look is not handed on, as where no row is.
+                if is_look(&act) {
+                    let change = self.looked(&key, &act, now);
+                    drop(act);
+                    let row = self.row_told(id, &key, change);
+                    drop(key);
+                    return Ok(tell(row, change));
+                }
                 if drops(&act) {
                     let change = self.drop_row(id, &key, act, now);
                     drop(key);

@@ -7,4 +7,4 @@ pub returns-then-is_look-clause-rows : goal.returns-then-is_look-clause-rows
 returns-then-is_look-clause-rows c =
     let t = c.args.self.now in
     none_added c.args.act c.args.now c.args.key t.room (rows_of t) (rows_of t) c.missing-said.result
-    refl (no_row t.region (ids_of t.index) c.args.key (place_of t.index c.args.spot) t.held c.requires.gap) (c.is_look.ensures c.args.now (search rules)) (c.missing-said.ensures c.args.now)
+    refl (no_row t.region (ids_of t.index) c.args.key (place_of t.index c.args.spot) t.held c.requires.gap) (c.is_look.ensures.none c.args.now (search rules)) (c.missing-said.ensures c.args.now)
