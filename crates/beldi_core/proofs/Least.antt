@@ -1,5 +1,6 @@
 -- The least number past another, of the entries of a map.
 use Rattle.beldi_core.proofs.Names.{Bool, Bor, Equal-is, IsLeastPast, IsSome, IsStrictlySortedBy, List, MatchOption, MatchOrdering, None, Option, Run, RunMap, Some, T, [], ap, arith, below_all, cond, entries_rows, entries_sorted, false, filter, find, first_past, ge_from_not_lt, get-entries, if◌then◌else◌, is_eq, is_lt, is_sorted, keys_of, le-ltb, lt-ltb, nat_cmp, nat_cmp-IsAntisymmetric, nat_cmp_total, nat_lt, option_map, ranks, refl, subst, sym, tied_itself, true, ℕ, ◌&&◌, ◌<◌, ◌∙◌, ◌∷◌, ◌≡◌, ◌≤◌}
+use Rattle.std.proofs.Common.{slice_get}
 use Rattle.beldi_core.proofs.Truths.{first, second, test_true, less}
 use Rattle.beldi_core.proofs.Names.map
 
@@ -80,3 +81,19 @@ pub next_first : (i : ℕ) (es list new : List (ℕ × Run)) (r : Option (Bor �
 next_first i es list new r sorted e h m o is next =
     let all : map.entries m ≡ es = ap map.entries (sym is) ∙ entries_rows nat_cmp_total nat_cmp-IsAntisymmetric es sorted in
     sym next ∙ sym (first_is i es list new r e h) ∙ heads i es ∙ ap (first_past i) (sym all)
+
+-- the first of all runs, past a number
+head_past : (i : ℕ) (es : List (ℕ × Run)) (k : ℕ) (r : Run) → slice_get es 0 ≡ Some (k, r) → i < k → first_past i es ≡ Some k
+head_past i [] k r at more = cc
+head_past i (e ∷ es) k r at more =
+    let same : e ≡ (k, r) = cc in
+    let key : e.0 ≡ k = ap (λ (p : ℕ × Run). p.0) same in
+    ap (λ b. if b then Some e.0 else first_past i es) (lt-ltb i e.0 (subst (λ n. i < n) (sym key) more)) ∙ ap Some key
+
+pub first_of_all : (i : ℕ) (es : List (ℕ × Run)) (k : ℕ) (r : Run) → IsStrictlySortedBy nat_cmp (keys_of es) → slice_get es 0 ≡ Some (k, r) → i < k → (m : RunMap) → map.from_entries es ≡ m → IsLeastPast i m (Some k) × (Some k ≡ first_past i (map.entries m))
+first_of_all i es k r sorted at more m is =
+    let all : map.entries m ≡ es = ap map.entries (sym is) ∙ entries_rows nat_cmp_total nat_cmp-IsAntisymmetric es sorted in
+    let next : first_past i (map.entries m) ≡ Some k = ap (first_past i) all ∙ head_past i es k r at more in (
+      of_map i m (Some k) (subst (LeastIn i (map.entries m)) (heads i (map.entries m) ∙ next) (least i (map.entries m) (entries_sorted m))),
+      sym next,
+    )

@@ -1,5 +1,5 @@
 // The live runs of a host, by number.
-ghost use Rattle.std.specs.Prelude.{◌≡◌, ℕ, ◌+◌, ◌-◌, ◌^◌, ◌<◌, ◌≤◌, IsSome, IfOk, IfErr, OnOk, OnErr, option_copied};
+ghost use Rattle.std.specs.Prelude.{◌≡◌, ℕ, ◌+◌, ◌-◌, ◌^◌, ◌<◌, ◌≤◌, Some, IsSome, IfOk, IfErr, IfSome, OnOk, OnErr, option_copied};
 ghost use Rattle.std.specs.FinMap as map;
 ghost use Rattle.beldi_walk.specs.Query.{told_of};
 ghost use Rattle.beldi_core.specs.Runs.{map_of, IsLeastPast, started, withdrawn, ends_run, settled, uncounted, settled_counts, AllKept, asked_of, RunTold, walked_in};
@@ -203,6 +203,32 @@ impl Runs {
     pub fn get(&self, number: u64) -> Option<&Run>
         ensures { option_copied result ≡ map.get self.now.runs number }
     {
+        // The first of all is asked for most.
+        match self.first_run(number) {
+            Some(run) => Some(run),
+            None => self.find(number),
+        }
+    }
+
+    // The run of this number, where that is the first of all: it is there without a search.
+    fn first_run(&self, number: u64) -> Option<&Run>
+        ensures { IfSome result (λ r. map.get self.now.runs number ≡ Some r.now) }
+    {
+        match self.live.first_key_value() {
+            Some((first, run)) => {
+                if *first == number {
+                    Some(run.get())
+                } else {
+                    None
+                }
+            }
+            None => None,
+        }
+    }
+
+    fn find(&self, number: u64) -> Option<&Run>
+        ensures { option_copied result ≡ map.get self.now.runs number }
+    {
         match self.live.get(&number) {
             Some(run) => Some(run.get()),
             None => None,
@@ -221,9 +247,32 @@ impl Runs {
         ensures least { IsLeastPast number self.now.runs result }
         ensures first { result ≡ first_past number (map.entries self.now.runs) }
     {
+        match self.first_after(number) {
+            Some(first) => Some(first),
+            None => self.find_after(number),
+        }
+    }
+
+    fn find_after(&self, number: u64) -> Option<u64>
+        ensures least { IsLeastPast number self.now.runs result }
+        ensures first { result ≡ first_past number (map.entries self.now.runs) }
+    {
         let past = (Bound::Excluded(&number), Bound::Unbounded);
         match self.live.range(past).next() {
             Some((next, _)) => Some(*next),
+            None => None,
+        }
+    }
+
+    // The first of all live runs, where it is past this number: it is there without a search.
+    fn first_after(&self, number: u64) -> Option<u64>
+        ensures least { IfSome result (λ n. IsLeastPast number self.now.runs (Some n)) }
+        ensures first { IfSome result (λ n. Some n ≡ first_past number (map.entries self.now.runs)) }
+    {
+        // Its contract says that the runs are in order.
+        let _count = self.live.len();
+        match self.live.first_key_value() {
+            Some((first, _)) => { if *first > number { Some(*first) } else { None } }
             None => None,
         }
     }

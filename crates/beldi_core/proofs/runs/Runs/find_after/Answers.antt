@@ -1,5 +1,5 @@
 use Rattle.beldi_core.proofs.{Names.Bor, Names.Numbered, Names.Run, Names.ap, Names.option_map, Names.ℕ, Least.next_is, Least.next_first}
-use Rattle.beldi_core.proofs.runs.Runs.next_after.Goals as goal
+use Rattle.beldi_core.proofs.runs.Runs.find_after.Goals as goal
 
 pub returns-in-Some-clause-least : goal.returns-in-Some-clause-least
 returns-in-Some-clause-least c = next_is c.args.number c.self.inside.live.entries c.range.result c.next.new.self c.next.result c.range.ensures.ordered (c.range.ensures.between tt) c.next.ensures.steps c.args.self.now.runs _

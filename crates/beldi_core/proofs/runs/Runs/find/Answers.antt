@@ -1,6 +1,6 @@
 use Rattle.beldi_core.proofs.Names.{Numbered, Some, ap, get_rows, nat_cmp-IsAntisymmetric, nat_cmp_total, option_copied, sym, ◌∙◌}
 use Rattle.beldi_core.proofs.Names.map
-use Rattle.beldi_core.proofs.runs.Runs.get.Goals as goal
+use Rattle.beldi_core.proofs.runs.Runs.find.Goals as goal
 
 pub returns-in-Some : goal.returns-in-Some
 returns-in-Some c =
