@@ -1,5 +1,6 @@
 -- An event that was planned, and then followed, is one step.
-use Rattle.beldi_step.specs.Host.{counted}
+use Rattle.std.proofs.lemmas.List.{append-nil}
+use Rattle.beldi_step.specs.{Host.counted, Run.plain_says}
 use Rattle.beldi_core.proofs.Names.{AllocError, Asked, Bool, Came, Copied, Copies, Core, Deployment, Err, Event, Followed, Lost, Mark, NoMemory, None, Numbered, Ok, Option, OutOfMemory, Pending, Plan, Planned, PlannedOf, Query, Result, Run, RunMap, RunTold, Seen, Some, StepBy, Stepped, TableErr, TableState, TellsTurn, Told, Turn, TurnSays, after_turn, ap, asks, at_once, base, count_changes, crash_plan, ended_run, entered, event_of, false, if◌then◌else◌, mark_told, marked, nat_lt, no_run, plan, plan_of, reads_all, refl, remove_put, run_asks, run_next, run_plan, run_told, subst, sym, true, turn_event, unasked, unheard_next, ℕ, ◌∙◌, ◌≡◌}
 use Rattle.beldi_core.proofs.Names.map
 
@@ -45,6 +46,12 @@ turned_by d c a i t n (Some r) x h name =
 turned : (d : Deployment) (c k : Core) (a : RunMap) (i : ℕ) (t : Told) (n : Copies) (x : TurnSays) (z : Core × Seen) → RunTold d (count_changes c.book) c.runs a i (map.get c.runs i) t (Ok x) → Copied n (map.get c.runs i) → k ≡ record c { runs = a; book = marked c.book n.id x.mark }
     → z ≡ after_turn k n.callee n.id x x.wait → z ≡ run_next d c i t (map.get c.runs i)
 turned d c k a i t n x z h name at is = is ∙ ap (λ q. after_turn q n.callee n.id x x.wait) at ∙ turned_by d c a i t n (map.get c.runs i) x h name
+
+-- .. where it says no more than whether the run is over
+pub plain_turn : (c : Core) (i : ℕ) (n : Copies) (x : TurnSays) (b : Bool) → x ≡ plain_says None b → TellsTurn c i n x c (Ok (Seen.Acted None None b None))
+plain_turn c i n x b is =
+    subst (λ (y : TurnSays). TellsTurn c i n y c (Ok (Seen.Acted None None b None))) (sym is)
+    (λ j. (record c { book = sym (append-nil c.book) j }, Seen.Acted None None b None))
 
 -- .. which is told, or there is no memory for that
 pub told_turn : (d : Deployment) (c k z : Core) (a : RunMap) (i : ℕ) (t : Told) (n : Copies) (x : TurnSays) (r : Result Seen AllocError) → RunTold d (count_changes c.book) c.runs a i (map.get c.runs i) t (Ok x) → Copied n (map.get c.runs i)

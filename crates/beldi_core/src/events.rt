@@ -1,5 +1,5 @@
 // What an event asks of the table, and what follows of what the table told. Nothing here touches a table.
-ghost use Rattle.std.specs.Prelude.{◌≡◌, ◌++◌, ◌+◌, ◌-◌, ◌≤◌, ◌<◌, ◌^◌, if◌then◌else◌, Ok, Some, None, IfOk, OnOk, OnErr, IsSome, option_to_list};
+ghost use Rattle.std.specs.Prelude.{◌≡◌, ◌++◌, ◌+◌, ◌-◌, ◌≤◌, ◌<◌, ◌^◌, if◌then◌else◌, Ok, Some, None, IfOk, IfSome, OnOk, OnErr, IsSome, option_to_list};
 ghost use Rattle.std.specs.Option.{option_map};
 ghost use Rattle.std.specs.FinMap as map;
 ghost use Rattle.beldi_walk.specs.Query.{told_of};
@@ -7,6 +7,7 @@ ghost use Rattle.beldi_intent.specs.Intent.{bind_asks};
 ghost use Rattle.beldi_step.specs.declared.event.Event.TheVariants as events;
 ghost use Rattle.beldi_step.specs.declared.run.Wait.TheVariants as waits;
 ghost use Rattle.beldi_tree.specs.declared.deployment.Deployment.{Deployment};
+ghost use Rattle.beldi_step.specs.Run.{plain_says};
 ghost use Rattle.beldi_step.specs.Host.{collected as collected_of, launched, passed, Core, Followed, acted as acted_by, after_turn as after_turn_of, may_start as may_start_of, started, at_once, asks, crash_plan, tick_plan, new_run as new_run_of, entry_of as entry_by, no_run as no_run_of, refused, refused_by, ticket_next, unbound, is_halt, halt_next};
 ghost use Rattle.beldi_core.specs.declared.events.Planned.TheVariants as planned;
 ghost use Rattle.beldi_core.specs.Parts.{as_seen, core_in, Planned as IsPlanned, PlannedBy, PlannedOf, Ready, HasPlace, event_of, base, BoundBy, Copied, TellsTurn, acted_unless, mark_told, turn_event, turn_pending, WalkTold, strode};
@@ -24,7 +25,7 @@ use beldi_turn::{may_stride, walking};
 use beldi_value::{Apart, IntentId, Outcome, Value, or_drop};
 use beldi_walk::{Heard, Query};
 use std::alloc::{AllocError, Global};
-use std::mem::replace;
+use std::mem::{forget, replace};
 
 /// How many events a host takes.
 pub const MOST_EVENTS: u64 = 1 << 62;
@@ -230,6 +231,22 @@ fn copy_entry(
     match mark {
         Some(mark) => Ok(Some(entry_of(id.copy(alloc)?, mark.copy(alloc)?))),
         None => Ok(None),
+    }
+}
+
+// Whether a run is over, where its turn says no more than that.
+fn plainly(says: &TurnSays) -> Option<bool>
+    ensures { IfSome result (λ over. says.now ≡ plain_says None over) }
+{
+    match says {
+        TurnSays {
+            mark: None,
+            over,
+            starts: false,
+            wait: None,
+            reply: None,
+        } => Some(*over),
+        _ => None,
     }
 }
 
@@ -615,8 +632,28 @@ impl HostCore {
         }
     }
 
-    // A turn was made: its entry is in the book, also where there is no memory to tell of it. Then the run is over.
+    // A turn was made. Most turns say no more than whether the run is over: what is handed on for all others is not made for them.
     fn tell(&mut self, run: u64, copies: Copies, says: TurnSays) -> Result<Seen, AllocError>
+        requires spare { 1 ≤ self.old.book.spare }
+        requires given { self.old.runs.given < self.old.taken }
+        ensures { TellsTurn (core_in self.old) run copies says (core_in self.new) result }
+    {
+        if let Some(over) = plainly(&says) {
+            drop(copies);
+            // It owns nothing.
+            forget(says);
+            return Ok(Seen::Acted {
+                entry: None,
+                started: None,
+                over,
+                reply: None,
+            });
+        }
+        return self.tell_all(run, copies, says);
+    }
+
+    // A turn was made: its entry is in the book, also where there is no memory to tell of it. Then the run is over.
+    fn tell_all(&mut self, run: u64, copies: Copies, says: TurnSays) -> Result<Seen, AllocError>
         requires spare { 1 ≤ self.old.book.spare }
         requires given { self.old.runs.given < self.old.taken }
         ensures { TellsTurn (core_in self.old) run copies says (core_in self.new) result }
