@@ -30,7 +30,7 @@ use beldi_row::{
 use beldi_table::{is_open, room_in, switches};
 use beldi_value::{Place, or_drop};
 use std::alloc::{AllocError, Global};
-use std::mem::replace;
+use std::mem::{forget, replace};
 
 /// A table in memory that never fails. It tells its rows, and counts no calls. The memory for its rows is taken by `ready`, so
 /// no act and no step is out of memory. For each row of its room it takes some 400 bytes, 64 of
@@ -205,9 +205,9 @@ impl RegionTable {
         ensures never { IsErrOf result OutOfMemory → ⊥ }
     {
         let said = missing(&act);
-        // A look is not handed on: what it would make has a row's size.
+        // A look is not handed on: what it would make has a row's size. It owns nothing.
         if is_look(&act) {
-            drop(act);
+            forget(act);
             drop(key);
             return Ok(said);
         }
@@ -394,7 +394,8 @@ impl Table for RegionTable {
                 // A look is not handed on, as where no row is.
                 if is_look(&act) {
                     let change = self.looked(&key, &act, now);
-                    drop(act);
+                    // It owns nothing.
+                    forget(act);
                     let row = self.row_told(id, &key, change);
                     drop(key);
                     return Ok(tell(row, change));
