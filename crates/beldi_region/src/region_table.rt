@@ -7,6 +7,7 @@ ghost use Rattle.std.specs.Option.{option_copied};
 ghost use Rattle.std.specs.FinMap as map;
 ghost use Rattle.std.specs.declared.cmp.Ordering.TheVariants.{Equal};
 ghost use Rattle.beldi_row.specs.Act.{drops, off, removes, said_by};
+ghost use Rattle.beldi_row.specs.Log.{note_at};
 ghost use Rattle.beldi_row.specs.declared.act.Act.TheVariants as acts;
 ghost use Rattle.beldi_row.specs.declared.row.Row as row_data;
 ghost use Rattle.beldi_row.specs.Table.{entry_of, next_row, Acted, LeadsOn, Went};
@@ -24,8 +25,8 @@ use crate::opened::follow;
 use crate::order::{Entry, Order, side};
 use crate::region::{Region, SlotId};
 use beldi_row::{
-    Act, Change, Opens, Row, RowKey, Said, Table, TableErr, apply, drops, is_of_row, made, missing,
-    removes, tell,
+    Act, Change, Log, Opens, Row, RowKey, Said, Table, TableErr, apply, drops, is_of_row, made,
+    missing, removes, tell,
 };
 use beldi_table::{is_open, room_in, switches};
 use beldi_value::{Place, or_drop};
@@ -64,11 +65,32 @@ fn follows(row: &Row, place: Option<&Place>) -> Option<u32>
     };
     match place {
         None => Some(next),
-        Some(place) => match cell.log.find(place) {
-            Some(_) => None,
-            None => Some(next),
-        },
+        Some(place) => {
+            if lacks(&cell.log, place) {
+                Some(next)
+            } else {
+                None
+            }
+        }
     }
+}
+
+// Whether a log is seen to have no entry of a place.
+fn lacks(log: &Log, place: &Place) -> bool
+    ensures { result ≡ true → note_at log.now place.now ≡ None }
+{
+    let entries = log.as_slice();
+    for index in 0..entries.len() {
+        let entry = &entries[index];
+        // Most entries have another step, or another ticket where one step of a function is all that writes the item.
+        if entry.place.step == place.step
+            && entry.place.intent.ticket == place.intent.ticket
+            && entry.place == *place
+        {
+            return false;
+        }
+    }
+    true
 }
 
 // Whether an act is a look, which makes nothing.
