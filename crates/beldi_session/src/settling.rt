@@ -1,6 +1,8 @@
 // Settling: each live run is given turns until all that are left wait, and an intent that has no run is given one.
-ghost use Rattle.std.specs.Prelude.{◌≡◌, ◌<◌, ◌++◌, ◌∷◌, [], ℕ, List, Option, IfOk, OnOk, flat_map};
+ghost use Rattle.std.specs.Prelude.{◌≡◌, ◌<◌, ◌≤◌, ◌+◌, ◌++◌, ◌∷◌, [], ℕ, List, Option, IfOk, IfSome, OnOk, flat_map};
 ghost use Rattle.beldi_host.specs.Host.{core_of};
+ghost use Rattle.beldi_host.specs.Stride.{Strides};
+ghost use Rattle.beldi_step.specs.Host.{most_events};
 ghost use Rattle.beldi_host.specs.Right.{IsWhole};
 ghost use Rattle.beldi_step.specs.declared.event.Event.TheVariants as event;
 ghost use Rattle.beldi_schedule.specs.Settle.{HasTurns, WasTaken, first_at, go_on, next_of, restless, turn_heard, turns_in};
@@ -96,6 +98,7 @@ fn give_turns<T: Table>(
     budget: u64,
     at: At,
     run: u64,
+    at_last: bool,
 ) -> Result<Standing, Stop>
     requires { at.turns < budget }
     ensures does { (s : At) (held : Option (List ℕ)) (faults : ℕ) → next_of (core_of host.old) s ≡ Turn at run → DoesTo (Settle budget (Goes s) ∷ []) (left_by budget result) (sight host.old out.old held faults) (sight host.new out.new held faults) result }
@@ -103,10 +106,26 @@ fn give_turns<T: Table>(
     ensures taken { IfOk result (λ next. WasTaken (core_of host.old) (core_of host.new) next) }
     ensures led { (s : At) → next_of (core_of host.old) s ≡ Turn at run → IfOk result (λ next. Led host.old.code budget (Goes s) next (core_of host.old) (core_of host.new) (T.state host.old.table) (T.state host.new.table)) }
 {
-    match host.stride(run, budget - at.turns) {
+    match stride(host, run, budget - at.turns, at_last) {
         0 => give_turn(alloc, host, out, budget, at, run),
         turns => Ok(strode(budget, at, turns)),
     }
+}
+
+// Sets a run that walks forward over many rows at once. Not where that was done just now: then it is at the last of them.
+fn stride<T: Table>(host: &mut Host<T>, run: u64, most: u64, at_last: bool) -> u64
+    ensures strides { 0 < result → IfSome (T.state host.old.table).rows (Strides host.old.code (T.state host.old.table).room (T.state host.old.table).faults run result (core_of host.old) (core_of host.new)) }
+    ensures most { result ≤ most }
+    ensures taken { (core_of host.new).taken ≡ (core_of host.old).taken + result }
+    ensures few { 0 < result → (core_of host.new).taken ≤ most_events }
+    ensures none { result ≡ 0 → host.new ≡ host.old }
+    ensures table { host.new.table ≡ host.old.table }
+    ensures code { host.new.code ≡ host.old.code }
+{
+    if at_last {
+        return 0;
+    }
+    host.stride(run, most)
 }
 
 // Sets the intent collector past rows that are of no open intent, and gives it a turn.
@@ -128,13 +147,14 @@ fn collect<T: Table>(host: &mut Host<T>, budget: u64, at: At) -> Result<Standing
     }
 }
 
-// One event, and what is done before it.
+// One event, and what is done before it; `at_last` says that a run went over many rows at once just now.
 fn advance<T: Table>(
     alloc: Global,
     host: &mut Host<T>,
     out: &mut Str,
     budget: u64,
     at: At,
+    at_last: bool,
 ) -> Result<Standing, Stop>
     requires { at.turns < budget }
     ensures does { (held : Option (List ℕ)) (faults : ℕ) → DoesTo (Settle budget (Goes at) ∷ []) (left_by budget result) (sight host.old out.old held faults) (sight host.new out.new held faults) result }
@@ -143,12 +163,20 @@ fn advance<T: Table>(
     ensures led { IfOk result (λ next. Led host.old.code budget (Goes at) next (core_of host.old) (core_of host.new) (T.state host.old.table) (T.state host.new.table)) }
 {
     match next_of(host, at) {
-        Next::Turn(at, run) => give_turns(alloc, host, out, budget, at, run),
+        Next::Turn(at, run) => give_turns(alloc, host, out, budget, at, run, at_last),
         Next::Collect(at) => collect(host, budget, at),
         Next::Reset(at) => {
             host.ic_reset();
             collect(host, budget, begun(at))
         }
+    }
+}
+
+// Whether a settling that had counted so many turns has counted more than one since, as where a run went over many rows at once.
+fn counted_more(turns: u64, next: &Standing) -> bool {
+    match next {
+        Standing::Goes(at) => at.turns.saturating_sub(turns) > 1,
+        Standing::Over(_) => false,
     }
 }
 
@@ -220,12 +248,19 @@ pub fn settle<T: Table>(
     settlings_after_sessions_are_as_promised();
     host.keeps_rules();
     let mut standing = go_on(budget, first_at(alloc));
+    let mut at_last = false;
     loop {
         match standing {
-            Standing::Goes(at) => match advance(alloc, host, out, budget, at) {
-                Ok(next) => standing = next,
-                Err(stop) => return Err(stop),
-            },
+            Standing::Goes(at) => {
+                let turns = at.turns;
+                match advance(alloc, host, out, budget, at, at_last) {
+                    Ok(next) => {
+                        at_last = counted_more(turns, &next);
+                        standing = next;
+                    }
+                    Err(stop) => return Err(stop),
+                }
+            }
             Standing::Over(settled) => {
                 return match tell_settled(alloc, host, out, budget, &settled) {
                     Ok(()) => Ok(settled),

@@ -18,19 +18,19 @@ returns-in_default-clause-does g c = λ s held faults is.
     let t = g.T.Table in
     let e = c.stride.ensures in
     let a = sight c.args.host.now c.args.out.now held faults in
-    let b = sight c.stride.new.self c.args.out.now held faults in
+    let b = sight c.stride.new.host c.args.out.now held faults in
     let some : 0 < c.stride.result = search rules in
     let fits : c.args.at.turns + c.stride.result ≤ c.args.budget = search rules in
     subst (λ z. DoesTo (Settle c.args.budget (Goes s) ∷ []) (Settle c.args.budget z ∷ []) a b (Ok z)) (sym c.strode.ensures.next)
-    (strides_do c.args.budget c.args.run c.stride.result s c.args.at some fits a b refl refl e.code (ap t.state e.table) refl is e.strides)
+    (strides_do c.args.budget c.args.run c.stride.result s c.args.at some fits a b refl refl e.code (ap t.state e.table) refl is (e.strides some))
 
 pub returns-in_default-clause-led : goal.returns-in_default-clause-led
 returns-in_default-clause-led g c = λ s is.
     let t = g.T.Table in
     let e = c.stride.ensures in
     let old = c.args.host.now in
-    let new = c.stride.new.self in
+    let new = c.stride.new.host in
     let some : 0 < c.stride.result = search rules in
     let fits : c.args.at.turns + c.stride.result ≤ c.args.budget = search rules in
     subst (λ z. Led old.code c.args.budget (Goes s) z (core_of old) (core_of new) (t.state old.table) (t.state new.table)) (sym c.strode.ensures.next)
-    (strides_led c.args.budget c.args.run c.stride.result s c.args.at some fits old.code (core_of old) (core_of new) (t.state old.table) (t.state new.table) (ap t.state e.table) is e.strides)
+    (strides_led c.args.budget c.args.run c.stride.result s c.args.at some fits old.code (core_of old) (core_of new) (t.state old.table) (t.state new.table) (ap t.state e.table) is (e.strides some))
