@@ -1,17 +1,19 @@
 // Settling: each live run is given turns until all that are left wait, and an intent that has no run is given one.
-ghost use Rattle.std.specs.Prelude.{◌≡◌, ◌<◌, ◌≤◌, ◌+◌, ◌++◌, ◌∷◌, [], ℕ, List, Option, IfOk, IfSome, OnOk, flat_map};
+ghost use Rattle.std.specs.Prelude.{◌≡◌, ◌<◌, ◌≤◌, ◌+◌, ◌++◌, ◌∷◌, [], true, ℕ, List, Option, IfOk, IfSome, OnOk, flat_map};
 ghost use Rattle.beldi_host.specs.Host.{core_of};
 ghost use Rattle.beldi_host.specs.Stride.{Strides};
 ghost use Rattle.beldi_step.specs.Host.{most_events};
 ghost use Rattle.beldi_host.specs.Right.{IsWhole};
 ghost use Rattle.beldi_step.specs.declared.event.Event.TheVariants as event;
-ghost use Rattle.beldi_schedule.specs.Settle.{HasTurns, WasTaken, first_at, go_on, next_of, restless, turn_heard, turns_in};
+ghost use Rattle.beldi_schedule.specs.Settle.{HasTurns, WasTaken, counted, first_at, go_on, next_of, restless, turn_heard, turns_in};
+ghost use Rattle.beldi_schedule.specs.declared.machine.At.{At};
 ghost use Rattle.beldi_schedule.specs.declared.machine.Next.TheVariants.{Turn, Collect};
 ghost use Rattle.beldi_schedule.specs.declared.machine.Standing.TheVariants.{Goes, Over};
 ghost use Rattle.beldi_upkeep.specs.Checked.{StartsAreOfIt};
 ghost use Rattle.beldi_book.specs.declared.entry.Entry.{Entry};
 ghost use Rattle.beldi_joined.specs.Joined.{IsWholeAfter, joined};
 ghost use Rattle.beldi_session.specs.Script.{Action, Settle};
+ghost use Rattle.beldi_session.specs.Answer.{reply_told};
 ghost use Rattle.beldi_session.specs.Session.{Does, DoesTo, left_by, sight};
 ghost use Rattle.beldi_session.specs.Settling.{Collected, Heard, KeepsPromises, KeepsPromisesAfter, Led};
 ghost use Rattle.beldi_session.specs.Settled.{settled_text, wait_text};
@@ -30,6 +32,7 @@ use beldi_schedule::{
 use beldi_step::{Event, Seen};
 use beldi_value::Str;
 use std::alloc::{AllocError, Global};
+use std::mem::forget;
 
 // All live runs wait: they are given turns again where a turn was counted meanwhile.
 fn restless<T: Table>(host: &Host<T>, at: At) -> Next
@@ -59,6 +62,20 @@ fn next_of<T: Table>(host: &Host<T>, at: At) -> Next
     }
 }
 
+// Whether a turn was made of which there is no more to tell: it is counted, and adds no text.
+fn is_plain(seen: &Seen) -> bool
+    ensures { (budget : ℕ) (at : At) (run : ℕ) → result ≡ true → (turn_heard budget at run seen.now ≡ counted budget at) × (reply_told seen.now ≡ []) }
+{
+    matches!(
+        seen,
+        Seen::Acted {
+            entry: None,
+            reply: None,
+            ..
+        }
+    )
+}
+
 // ---- events
 // Gives a run a turn, and appends the line of a reply.
 fn give_turn<T: Table>(
@@ -76,16 +93,23 @@ fn give_turn<T: Table>(
     ensures heard { IfOk result (λ next. Heard host.old.code (event.Turn run) (λ c x. turn_heard budget at run x) (core_of host.old) (core_of host.new) (T.state host.old.table) (T.state host.new.table) next) }
 {
     match host.event(Event::Turn(run)) {
-        Ok(seen) => match write_reply_told(alloc, &seen, out) {
-            Ok(()) => match turn_heard(budget, at, run, seen) {
-                Ok(next) => Ok(next),
-                Err(_) => Err(Stop::OutOfMemory),
-            },
-            Err(_) => {
-                drop(seen);
-                Err(Stop::OutOfMemory)
+        Ok(seen) => {
+            if is_plain(&seen) {
+                // It owns nothing.
+                forget(seen);
+                return Ok(strode(budget, at, 1));
             }
-        },
+            match write_reply_told(alloc, &seen, out) {
+                Ok(()) => match turn_heard(budget, at, run, seen) {
+                    Ok(next) => Ok(next),
+                    Err(_) => Err(Stop::OutOfMemory),
+                },
+                Err(_) => {
+                    drop(seen);
+                    Err(Stop::OutOfMemory)
+                }
+            }
+        }
         Err(_) => Err(Stop::OutOfMemory),
     }
 }

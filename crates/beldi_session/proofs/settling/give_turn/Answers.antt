@@ -1,4 +1,5 @@
-use Rattle.beldi_session.proofs.Names.{Err, Event, Goes, Ok, OutOfMemory, Settle, Turn, [], core_of, refl, sight, turn_heard, was_taken, ◌∷◌}
+use Rattle.beldi_session.proofs.Names.{Err, Event, Goes, Ok, OutOfMemory, Settle, Turn, [], ap, append-nil, core_of, refl, sight, sym, turn_heard, was_taken, ◌++◌, ◌∙◌, ◌∷◌}
+use Rattle.std.proofs.Common.{rules}
 use Rattle.beldi_session.proofs.SettleEvents.{turn_taken, settling_answered, settling_broke}
 use Rattle.beldi_session.proofs.settling.give_turn.Goals as goal
 
@@ -39,3 +40,27 @@ returns-in-Err-clause-does g c = λ s held faults is.
 
 pub returns-in-Ok-turn_heard-clause-heard : goal.returns-in-Ok-turn_heard-clause-heard
 returns-in-Ok-turn_heard-clause-heard g c = record { answer = c.in-Ok.seen; step = c.in-Ok.ensures.step; follows_so = c.in-Ok-turn_heard.ensures.heard }
+
+-- a turn of which there is no more to tell
+pub returns-then-is_plain-clause-does : goal.returns-then-is_plain-clause-does
+returns-then-is_plain-clause-does g c = λ s held faults is.
+    let e = c.in-Ok.ensures in
+    let x = c.in-Ok.seen in
+    let plain = c.is_plain.ensures c.args.budget c.args.at c.args.run (search rules) in
+    settling_answered c.args.budget (sight c.args.host.now c.args.out.now held faults) (sight c.event.new.self c.args.out.now held faults) refl refl e.code (Event.Turn c.args.run) s (Turn c.args.at c.args.run) is
+    (turn_heard c.args.budget c.args.at c.args.run x) x (Ok c.strode.result) (refl, refl) e.step (c.strode.ensures.next ∙ sym plain.0, sym (append-nil c.args.out.now) ∙ ap (λ t. c.args.out.now ++ t) (sym plain.1)) (λ y. cc)
+
+pub returns-then-is_plain-clause-taken : goal.returns-then-is_plain-clause-taken
+returns-then-is_plain-clause-taken g c =
+    let t = g.T.Table in
+    let old = c.args.host.now in
+    let new = c.event.new.self in
+    let x = c.in-Ok.seen in
+    let plain = c.is_plain.ensures c.args.budget c.args.at c.args.run (search rules) in
+    turn_taken (core_of old) (core_of new) c.args.budget c.args.at c.args.run x c.strode.result (c.strode.ensures.next ∙ sym plain.0)
+    (was_taken old.code (Event.Turn c.args.run) (core_of old) (core_of new) (t.state old.table) (t.state new.table) x c.in-Ok.ensures.step)
+
+pub returns-then-is_plain-clause-heard : goal.returns-then-is_plain-clause-heard
+returns-then-is_plain-clause-heard g c =
+    let plain = c.is_plain.ensures c.args.budget c.args.at c.args.run (search rules) in
+    record { answer = c.in-Ok.seen; step = c.in-Ok.ensures.step; follows_so = c.strode.ensures.next ∙ sym plain.0 }
