@@ -35,7 +35,7 @@ abbrev begun_in : Begun → RunAt → Begun
 begun_in h (Begins g) = g
 begun_in h at = h
 
-same_begun : (at : RunAt) (h g : Begun) → at ≡ Begins h → at ≡ Begins g → h ≡ g
+pub same_begun : (at : RunAt) (h g : Begun) → at ≡ Begins h → at ≡ Begins g → h ≡ g
 same_begun at h g this that = ap (begun_in h) (sym this ∙ that)
 
 -- ---- the end of a transaction

@@ -10,7 +10,7 @@ ghost use Rattle.beldi_step.specs.declared.run.Stage.TheVariants as stages;
 use beldi_lang::{Answer, Deployment, Effect, Machine};
 use beldi_row::Body;
 use beldi_stage::{first_stage, place_of};
-use beldi_step::{Begun, OpenTx, RunTx, Stage};
+use beldi_step::{Begun, OpenTx, RunAt, RunTx, Stage};
 use beldi_value::{Apart, Cause, IntentId, TxId, or_drop};
 use std::alloc::{AllocError, Global};
 use std::mem::replace;
@@ -75,14 +75,15 @@ fn keep_cause(alloc: Global, answer: &Answer, tx: &mut Option<RunTx>) -> Result<
     Ok(())
 }
 
-/// A run that has this body, and stands nowhere yet.
-pub fn begun_with(
+/// Sets where a run stands: it has this body, and stands nowhere in it yet. It is made where it stays, as it is large.
+pub fn begin_with(
     alloc: Global,
+    run_at: &mut RunAt,
     code: &Deployment,
     func: u16,
     body: Body,
-) -> Result<Begun, AllocError>
-    ensures { IfOk result (λ g. g ≡ record { machine = machine_begun code.now func body.args (is_some body.tx); caller = body.from; tx = within_of body.tx; stage = stages.Close }) }
+) -> Result<(), AllocError>
+    ensures { OnOk result (run_at.new ≡ at.Begins (record { machine = machine_begun code.now func body.args (is_some body.tx); caller = body.from; tx = within_of body.tx; stage = stages.Close })) }
 {
     let Body {
         func: _,
@@ -91,14 +92,23 @@ pub fn begun_with(
         from: caller,
     } = body;
     let inherited = tx.is_some();
-    let machine = or_drop!(Machine::new(alloc, code, func, args, inherited); tx, caller);
-    let tx = within(tx);
-    Ok(Begun {
-        machine,
-        caller,
-        tx,
-        stage: Stage::Close,
-    })
+    match Machine::new(alloc, code, func, args, inherited) {
+        Ok(machine) => {
+            let begun = RunAt::Begins(Begun {
+                machine,
+                caller,
+                tx: within(tx),
+                stage: Stage::Close,
+            });
+            drop(replace(run_at, begun));
+            Ok(())
+        }
+        Err(error) => {
+            drop(tx);
+            drop(caller);
+            Err(error)
+        }
+    }
 }
 
 /// The machine and the transaction that it is in, after an answer.

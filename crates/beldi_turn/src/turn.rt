@@ -11,7 +11,7 @@ ghost use Rattle.beldi_step.specs.declared.run.RunAt.{RunAt};
 ghost use Rattle.beldi_step.specs.declared.run.RunAt.TheVariants as at;
 ghost use Rattle.beldi_lang.specs.declared.effect.Effect.TheVariants as effects;
 
-use crate::begun::{begun_with, go_to, stand, take};
+use crate::begun::{begin_with, go_to, stand, take};
 use beldi_call::CallAt;
 use beldi_intent::{open_body, register_query};
 use beldi_lang::{Answer, Deployment, Effect};
@@ -245,30 +245,21 @@ fn begin_body(
         drop(body);
         return Ok(plain(None, true));
     }
-    let begun = begun_with(alloc, code, run.func, body)?;
-    enter(alloc, run, code, begun)
+    begin_with(alloc, &mut run.at, code, run.func, body)?;
+    enter(alloc, run, code)
 }
 
 // The first effect of its body.
-fn enter(
-    alloc: Global,
-    run: &mut Run,
-    code: &Deployment,
-    begun: Begun,
-) -> Result<TurnSays, AllocError>
-    ensures begun { IfOk result (λ x. (at : RunAt) → followed run.new x ≡ goes_to code.now (record run.old { at = at }) (begun.machine, begun.tx) begun.caller None) }
+fn enter(alloc: Global, run: &mut Run, code: &Deployment) -> Result<TurnSays, AllocError>
+    ensures begun { (g : Begun) → run.old.at ≡ at.Begins g → IfOk result (λ x. (at : RunAt) → followed run.new x ≡ goes_to code.now (record run.old { at = at }) (g.machine, g.tx) g.caller None) }
     ensures id { run.new.id ≡ run.old.id }
 {
-    let mut begun = begun;
-    match go_to(alloc, &mut begun, code, &run.id) {
-        Ok(over) => {
-            drop(replace(&mut run.at, RunAt::Begins(begun)));
-            Ok(plain(None, over))
-        }
-        Err(error) => {
-            drop(begun);
-            Err(error)
-        }
+    let RunAt::Begins(begun) = &mut run.at else {
+        return Ok(plain(None, true));
+    };
+    match go_to(alloc, begun, code, &run.id) {
+        Ok(over) => Ok(plain(None, over)),
+        Err(error) => Err(error),
     }
 }
 
