@@ -10,7 +10,7 @@ use Rattle.beldi_chain.specs.{Chain.Chain, Chain.chain, Chain.content, Chain.mos
 use Rattle.beldi_links.specs.Links.{At, FitsAt, IsLinked, LeadsTo, Linked, Meets, Passed, ReadsAt, SeesAt, StandsAt}
 use Rattle.beldi_links.proofs.{Meets.last_is_last, Meets.next_is_read, Meets.none_noted, Meets.noted_is_noted, Meets.walks_end, Ways.content_is, Ways.few, Ways.one_cell, Ways.same_or}
 use Rattle.beldi_daal.specs.{Cell.cell_goes, Cell.done_note, Cell.got_or_held, Cell.in_the_way, Cell.last_row, Cell.op_act, Cell.read_goes, Cell.write_asks, Cell.write_goes, Logged.at_of, declared.cell.CellOp.CellOp, declared.cell.FullRow.FullRow, declared.cell.ReadGoes.ReadGoes, declared.cell.WriteAt.WriteAt, declared.cell.WriteAt.TheVariants.Append, declared.cell.WriteAt.TheVariants.Link, declared.cell.WriteAt.TheVariants.Make, declared.cell.WriteAt.TheVariants.Try, declared.cell.WriteGoes.WriteGoes}
-use Rattle.beldi_txn.specs.Visited.{RowsStay}
+use Rattle.beldi_txn.specs.Visited.{RowsStay, SeesFreeing}
 use Rattle.beldi_bound.specs.Visits.{chain_length, put_left}
 use Rattle.beldi_bound.proofs.Lengths.{all_below, counts_row, is_counted, length_some, linked_by}
 
@@ -215,45 +215,54 @@ module _ (e m : Rows) (now : ℕ) (head : RowKey) (first : at_row head 0 ≡ hea
       by_last true = tt
       by_last false = omega arith
 
-  on_row : (r : ℕ) (x : Cell) → SeesAt f p (At.Try r) → f r ≡ Some (Row.Cell x) → RowsStay (late (Try r)) e → Tried r true (act (op_act p who op) now (Some (Row.Cell x))).1
-  on_row r x sees is stay = cell_tells (Tried r true) p who now x op (record {
-    its = λ w note. note_counts f l r x sees.0 is p w sees.1 note;
-    goes = λ k to. goes k (next_stands f l r x k is to);
-    waits = λ o none last other older waits. record {
-      other = subst (λ z. other_owner who z ≡ Some o) (owner_counts f l r x sees.0 is last) other;
-      note = none_counts f l r x sees.0 is p sees.1 last none;
-      older = older;
-      waits = waits;
-    };
-    full = full_goes_on r x.value x.owner;
-    once = once op r (put_left c true (Try r)) (put_left c (there (late (Try r))));
-  })
+  -- .. a next one leaves less
+  goes_on : (r : ℕ) (x : Cell) → f r ≡ Some (Row.Cell x) → RowsStay (late (Try r)) e → (k : ℕ) → x.next ≡ Some k → suc (put_left c (there (late (Try r))) (Try k)) ≤ put_left c true (Try r)
+  goes_on r x is stay k to = goes (next_stands f (linked_by f (f 0) r (Row.Cell x) linked is) r x k is to)
     where
-      l : Linked f
-      l = linked_by f (f 0) r (Row.Cell x) linked is
-
       stays : RowsStay m e
       stays k h = stay k (there_stays (asks (Try r)) (write_spares head p who op (Try r)) now m k h)
 
       still : there (late (Try r)) ≡ true
       still = there_stays (asks (Try r)) (write_spares head p who op (Try r)) now m head (first_row r (Row.Cell x) is)
 
-      goes : (k : ℕ) → (k ≡ r + 1) × Meets f k × (y : Row) × (f k ≡ Some y) → suc (put_left c (there (late (Try r))) (Try k)) ≤ put_left c true (Try r)
-      goes k (at, meets, y, row) =
-          let few = is_counted e m head k y stays linked row (meets_few f l k meets) in
+      goes : (k ≡ r + 1) × Meets f k × (y : Row) × (f k ≡ Some y) → suc (put_left c (there (late (Try r))) (Try k)) ≤ put_left c true (Try r)
+      goes (at, meets, y, row) =
+          let few = is_counted e m head k y stays linked row (meets_few f (linked_by f (f 0) r (Row.Cell x) linked is) k meets) in
           let less = ap (λ b. put_left c b (Try k)) still in
           omega (arith, at, few, less)
 
-  tries : (r : ℕ) → SeesAt f p (At.Try r) → RowsStay (late (Try r)) e → Turns (Try r)
-  tries r sees stay = by_row (f r) refl sees.2
+  -- .. and the first one is made where there is none
+  abbrev Makes : ℕ → Type 0
+  Makes r = suc (put_left c (there (late (Try r))) Make) ≤ put_left c (there m) (Try r)
+
+  -- what is told at a row where a walk may stand, by what is so of each
+  by_stand : (r : ℕ) (P : Bool → Tell → Type 0) → StandsAt (f r) r → (Makes r → P (there m) no_row) → ((x : Cell) → f r ≡ Some (Row.Cell x) → P true (act (op_act p who op) now (Some (Row.Cell x))).1) → P (there m) (act (op_act p who op) now (f r)).1
+  by_stand r P stands makes on_row = by_row (f r) refl stands
     where
-      by_row : (o : Option Row) → f r ≡ o → StandsAt o r → Tried r (there m) (act (op_act p who op) now (f r)).1
+      by_row : (o : Option Row) → f r ≡ o → StandsAt o r → P (there m) (act (op_act p who op) now (f r)).1
       by_row None none zero =
           let absent : there m ≡ false = ap (λ k. is_some (map.get m k)) (sym first) ∙ ap (λ k. is_some (f k)) (sym zero) ∙ ap is_some none in
           let less = ap (λ b. put_left c b (Try r)) absent in
-          subst (λ y. Tried r (there m) (act (op_act p who op) now y).1) (sym none) (none_tells (Tried r (there m)) p who now op (omega (arith, less, zero, some)))
-      by_row (Some (Row.Cell x)) is stands = subst (λ y. Tried r (there m) (act (op_act p who op) now y).1) (sym is) (subst (λ b. Tried r b (act (op_act p who op) now (Some (Row.Cell x))).1) (sym (first_row r (Row.Cell x) is)) (on_row r x sees is stay))
+          subst (λ y. P (there m) (act (op_act p who op) now y).1) (sym none) (none_tells (P (there m)) p who now op (makes (omega (arith, less, zero, some))))
+      by_row (Some (Row.Cell x)) is stands = subst (λ y. P (there m) (act (op_act p who op) now y).1) (sym is) (subst (λ b. P b (act (op_act p who op) now (Some (Row.Cell x))).1) (sym (first_row r (Row.Cell x) is)) (on_row x is))
       by_row (Some y) is stands = absurd (subst FitsAt is ((linked_by f (f 0) r y linked is).fits r))
+
+  tries : (r : ℕ) → SeesAt f p (At.Try r) → RowsStay (late (Try r)) e → Turns (Try r)
+  tries r sees stay = by_stand r (Tried r) sees.2 (λ less. less) on_row
+    where
+      on_row : (x : Cell) → f r ≡ Some (Row.Cell x) → Tried r true (act (op_act p who op) now (Some (Row.Cell x))).1
+      on_row x is = let l : Linked f = linked_by f (f 0) r (Row.Cell x) linked is in cell_tells (Tried r true) p who now x op (record {
+        its = λ w note. note_counts f l r x sees.0 is p w sees.1 note;
+        goes = goes_on r x is stay;
+        waits = λ o none last other older waits. record {
+          other = subst (λ z. other_owner who z ≡ Some o) (owner_counts f l r x sees.0 is last) other;
+          note = none_counts f l r x sees.0 is p sees.1 last none;
+          older = older;
+          waits = waits;
+        };
+        full = full_goes_on r x.value x.owner;
+        once = once op r (put_left c true (Try r)) (put_left c (there (late (Try r))));
+      })
 
   -- .. or where it makes one ..
   makes : Turns Make
@@ -303,6 +312,58 @@ module _ (e m : Rows) (now : ℕ) (head : RowKey) (first : at_row head 0 ≡ hea
   put_turn Make sees stay = makes
   put_turn (Append n t) sees stay = appends n t sees stay
   put_turn (Link n) sees stay = links n sees stay
+
+-- ---- the turn of a walk that gives an item back
+-- where it goes less is left of it
+abbrev pub Freed : (WriteAt → ℕ) → ℕ → WriteGoes → Type 0
+Freed after n (WriteGoes.On w) = suc (after w) ≤ n
+Freed after n WriteGoes.Stays = ⊥
+Freed after n (WriteGoes.Held o) = ⊥
+Freed after n g = Unit {0}
+
+module _ (e m : Rows) (now : ℕ) (head : RowKey) (first : at_row head 0 ≡ head) (p : Place) (who : Owner) (u : Option Value) (linked : IsLinked (chain m head)) where
+  abbrev frees_late : WriteAt → Rows
+  frees_late w = rows_after (write_asks head p who (CellOp.Free u) w) now m
+
+  abbrev Frees : WriteAt → Type 0
+  Frees w = Freed (put_left (chain_length e head) (is_some (map.get (frees_late w) head))) (put_left (chain_length e head) (is_some (map.get m head)) w) (write_goes Note.Freed w (told_by (write_asks head p who (CellOp.Free u) w) now m))
+
+  -- it is the turn of a write ..
+  frees_by : (after : WriteAt → ℕ) (n : ℕ) (g : WriteGoes) → Turned after n (chain m head) p who (CellOp.Free u) g → Freed after n g
+  frees_by after n (WriteGoes.On w) h = h
+  frees_by after n WriteGoes.Stays h = h
+  frees_by after n (WriteGoes.Held o) h = h.waits
+  frees_by after n g h = tt
+
+  frees_seen : (w : WriteAt) → SeesAt (chain m head) p (at_of w) → RowsStay (frees_late w) e → Frees w
+  frees_seen w sees stay = frees_by (put_left (chain_length e head) (is_some (map.get (frees_late w) head))) (put_left (chain_length e head) (is_some (map.get m head)) w) (write_goes Note.Freed w (told_by (write_asks head p who (CellOp.Free u) w) now m))
+      (put_turn e m now head first p who (CellOp.Free u) linked w sees stay)
+
+  -- .. but at a row it needs not to know which rows have its place
+  module _ (r : ℕ) where
+    abbrev after : WriteAt → ℕ
+    after = put_left (chain_length e head) (is_some (map.get (frees_late (Try r)) head))
+
+    abbrev Tries : Bool → Tell → Type 0
+    Tries b t = Freed after (put_left (chain_length e head) b (Try r)) (write_goes Note.Freed (Try r) (said t))
+
+    full_frees : (b : Bool) (v : Value) (o : Option Owner) → Freed after (put_left (chain_length e head) true (Try r)) (if b then WriteGoes.Worn else WriteGoes.On (Append (r + 1) (record { value = v; owner = o })))
+    full_frees true v o = tt
+    full_frees false v o = omega arith
+
+    frees_tries : ReadsAt (chain m head) r → RowsStay (frees_late (Try r)) e → Frees (Try r)
+    frees_tries reads stay = by_stand e m now head first p who (CellOp.Free u) linked r Tries reads.1 (λ less. less)
+        (λ x is. cell_tells (Tries true) p who now x (CellOp.Free u) (record {
+          its = λ w note. tt;
+          goes = goes_on e m now head first p who (CellOp.Free u) linked r x is stay;
+          waits = λ o none last other older waits. absurd waits;
+          full = full_frees (r == last_row) x.value x.owner;
+          once = (tt, tt);
+        }))
+
+  pub free_turn : (own : Bool) (w : WriteAt) → SeesFreeing own (chain m head) p w → RowsStay (frees_late w) e → Frees w
+  free_turn own (Try r) sees stay = frees_tries r sees.0 stay
+  free_turn own w sees stay = frees_seen w sees stay
 
 -- ---- the turn of a read
 abbrev pub ReadOn : ℕ → ℕ → Option Owner → Chain → ReadGoes → Type 0

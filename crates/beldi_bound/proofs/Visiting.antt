@@ -11,13 +11,13 @@ use Rattle.beldi_lang.specs.declared.effect.Effect.{Effect}
 use Rattle.beldi_row.specs.{Act.act, Act.kept_tell, Key.RowKey, Key.key_cmp, KeyOrder.key_total, Table.IsNext, Table.Rows, Table.next_row, declared.act.Act.Act, declared.key.Kind.Kind, declared.notes.Note.Note, declared.row.Row.Row}
 use Rattle.beldi_row.proofs.Least.{next_row_least}
 use Rattle.beldi_walk.specs.{Query.rows_after, Query.said, Query.told_by, declared.query.Query.Query}
-use Rattle.beldi_chain.specs.Chain.{Chain, chain}
-use Rattle.beldi_links.specs.Links.{IsLinked, ReadsAt, SeesAt}
-use Rattle.beldi_daal.specs.{Cell.cell_key, Cell.read_goes, Cell.shadow_key, Cell.write_asks, Cell.write_goes, Logged.at_of, declared.cell.CellOp.CellOp, declared.cell.ReadGoes.ReadGoes, declared.cell.WriteAt.WriteAt, declared.cell.WriteAt.TheVariants.Try, declared.cell.WriteGoes.WriteGoes}
+use Rattle.beldi_chain.specs.Chain.{chain}
+use Rattle.beldi_links.specs.Links.{IsLinked, ReadsAt}
+use Rattle.beldi_daal.specs.{Cell.cell_key, Cell.read_goes, Cell.shadow_key, Cell.write_asks, Cell.write_goes, declared.cell.CellOp.CellOp, declared.cell.ReadGoes.ReadGoes, declared.cell.WriteAt.WriteAt, declared.cell.WriteAt.TheVariants.Try, declared.cell.WriteGoes.WriteGoes}
 use Rattle.beldi_lock.specs.{Lock.lockset_key, Lockset.item_after, Lockset.lockset_after}
 use Rattle.beldi_lock.proofs.Last.{split_front}
 use Rattle.beldi_txn.specs.End.{at_calls, back_from, call_goes, calls_after, calls_goes, counts, decide_goes, end_goes, first_visit, free_first, free_place, freed_goes, last_goes, moved, next_goes, value_goes, visit_asks, visited_by}
-use Rattle.beldi_txn.specs.{Invokes.IsAfter, Invokes.call_after, Invokes.call_key, Invokes.invokes_after, Visited.IsFrom, Visited.IsMember, Visited.RowsStay, Visited.StartsWithin, Visited.Visited, Way.Member, Way.is_owner, declared.end.EndAt.EndAt, declared.end.EndGoes.EndGoes, declared.end.Visit.Visit, declared.end_walk.EndWalk.EndWalk, declared.way.Called.Called}
+use Rattle.beldi_txn.specs.{Invokes.IsAfter, Invokes.call_after, Invokes.call_key, Invokes.invokes_after, Visited.IsFrom, Visited.IsMember, Visited.RowsStay, Visited.SeesFreeing, Visited.StartsWithin, Visited.Visited, Visited.is_own, Visited.item_in, Way.Member, Way.is_owner, declared.end.EndAt.EndAt, declared.end.EndGoes.EndGoes, declared.end.Visit.Visit, declared.end_walk.EndWalk.EndWalk, declared.way.Called.Called}
 use Rattle.beldi_txn.proofs.{Calls.call_past, Calls.is_call, Levels.ends_in, Locks.Item, Locks.is_item}
 use Rattle.beldi_step.specs.{Host.Core, Run.decided_says, Run.asks_at, Run.own_tx, Run.run_asks, Run.stage_asks, Run.stage_says, Run.visit_says, Tables.decision_key, declared.run.Begun.Begun, declared.run.Mark.Mark, declared.run.Run.Run, declared.run.RunAt.RunAt, declared.run.RunTx.RunTx, declared.run.RunTx.TheVariants.Own, declared.run.Stage.Stage}
 use Rattle.beldi_book.specs.Order.{count_changes}
@@ -25,7 +25,7 @@ use Rattle.beldi_laws.specs.{OneAnswer.IsBegun, Right.AtStage, Right.Knows, Righ
 use Rattle.beldi_upkeep.specs.Checked.{next_says}
 use Rattle.beldi_upkeep.proofs.Notes.{decisions_are_own, knows}
 use Rattle.beldi_bound.specs.{Ends.Sound, Left.SaysLower, Left.decided_visit, Left.left_at, Visits.at_left, Visits.call_ahead, Visits.call_is_ahead, Visits.call_cost, Visits.call_turns, Visits.chain_length, Visits.end_row_cost, Visits.freed_length, Visits.freed_there, Visits.is_ahead, Visits.is_call_ahead, Visits.is_lock_ahead, Visits.is_within, Visits.last_left, Visits.lock_ahead, Visits.lock_cost, Visits.lock_is_ahead, Visits.lock_past, Visits.lock_turns, Visits.put_left, Visits.row_left, Visits.steps_of, Visits.steps_to, Visits.sum_by, Visits.visit_left, Visits.way_left}
-use Rattle.beldi_bound.proofs.{Facts.GoesOn, Lengths.freed_some, Lengths.length_some, Puts.ReadOn, Puts.Turned, Puts.put_falls, Puts.put_some, Puts.put_turn, Puts.read_turn, Puts.there_stays}
+use Rattle.beldi_bound.proofs.{Facts.GoesOn, Lengths.freed_some, Lengths.length_some, Puts.Freed, Puts.ReadOn, Puts.free_turn, Puts.put_falls, Puts.put_some, Puts.read_turn, Puts.there_stays}
 use Rattle.beldi_bound.proofs.Sums.{sum_less, sum_lower}
 use Rattle.beldi_bound.proofs.Ahead.{calls_more, locks_more, calls_pushed, locks_pushed, calls_popped, locks_popped, call_here, call_above, lock_here, steps_more, steps_here}
 
@@ -327,13 +327,13 @@ module _ (t : TxId) (end : ℕ) (commit : Bool) (e : Rows) where
     abbrev its_rows : ℕ
     its_rows = freed_length e (visited_by t cs) (Some j)
 
-    freed_falls : (f : Chain) (p : Place) (who : Owner) (w : WriteAt) (g : WriteGoes) → Turned (put_left its_rows (there n)) (put_left its_rows (there m) w) f p who (CellOp.Free u) g → Falls m n (at_item (EndAt.Free w)) (freed_goes g)
-    freed_falls f p who w (WriteGoes.On x) h = omega (arith, h)
-    freed_falls f p who w WriteGoes.Stays h = absurd h
-    freed_falls f p who w (WriteGoes.Done y first) h = let some = put_some its_rows (there m) w (freed_some e (visited_by t cs) (Some j)) in omega (arith, some)
-    freed_falls f p who w WriteGoes.NotOwner h = let some = put_some its_rows (there m) w (freed_some e (visited_by t cs) (Some j)) in omega (arith, some)
-    freed_falls f p who w (WriteGoes.Held o) h = absurd h.waits
-    freed_falls f p who w WriteGoes.Worn h = tt
+    freed_falls : (w : WriteAt) (g : WriteGoes) → Freed (put_left its_rows (there n)) (put_left its_rows (there m) w) g → Falls m n (at_item (EndAt.Free w)) (freed_goes g)
+    freed_falls w (WriteGoes.On x) h = omega (arith, h)
+    freed_falls w WriteGoes.Stays h = absurd h
+    freed_falls w (WriteGoes.Done y first) h = let some = put_some its_rows (there m) w (freed_some e (visited_by t cs) (Some j)) in omega (arith, some)
+    freed_falls w WriteGoes.NotOwner h = let some = put_some its_rows (there m) w (freed_some e (visited_by t cs) (Some j)) in omega (arith, some)
+    freed_falls w (WriteGoes.Held o) h = absurd h
+    freed_falls w WriteGoes.Worn h = tt
 
   module _ (now : ℕ) (m : Rows) (cs : List Called) (af : Option ℕ) (j : Item) (u : Option Value) where
     abbrev item_key : RowKey
@@ -342,10 +342,10 @@ module _ (t : TxId) (end : ℕ) (commit : Bool) (e : Rows) where
     abbrev aside_key : RowKey
     aside_key = shadow_key (visited_by t cs).1 t j.0 j.1
 
-    frees_fall : (who : Owner) (p : Place) (w : WriteAt) → IsLinked (chain m item_key) → SeesAt (chain m item_key) p (at_of w) → let q = write_asks item_key p who (CellOp.Free u) w in RowsStay (rows_after q now m) e
+    frees_fall : (who : Owner) (p : Place) (own : Bool) (w : WriteAt) → IsLinked (chain m item_key) → SeesFreeing own (chain m item_key) p w → let q = write_asks item_key p who (CellOp.Free u) w in RowsStay (rows_after q now m) e
         → Falls m (rows_after q now m) (at cs af (Some j) u (EndAt.Free w)) (freed_goes (write_goes Note.Freed w (told_by q now m)))
-    frees_fall who p w linked sees stay = let q = write_asks item_key p who (CellOp.Free u) w in
-        freed_falls m (rows_after q now m) cs af j u (chain m item_key) p who w (write_goes Note.Freed w (told_by q now m)) (put_turn e m now item_key refl p who (CellOp.Free u) linked w sees stay)
+    frees_fall who p own w linked sees stay = let q = write_asks item_key p who (CellOp.Free u) w in
+        freed_falls m (rows_after q now m) cs af j u w (write_goes Note.Freed w (told_by q now m)) (free_turn e m now item_key refl p who u linked own w sees stay)
 
     -- a row of the shadow is looked at, and then the next one, or the item is given back
     shadow_falls : (r : ℕ) → IsLinked (chain m aside_key) → ReadsAt (chain m aside_key) r → let q = visit_asks t end commit cs af (Some j) u (EndAt.Shadow r) in RowsStay (rows_after q now m) e
@@ -397,7 +397,7 @@ module _ (t : TxId) (end : ℕ) (commit : Bool) (e : Rows) where
         let p = visited_by t cs in let k = lockset_after p.1 p.0 t.begin i in locks_fall m keys cs v.member af i u (next_row m k) (next_row_least m k) (item_after p.1 p.0 t.begin (next_row m k)) refl
     turn_falls cs af (Some j) u (EndAt.Shadow r) past v keys = shadow_falls now m cs af j u r (v.linked (visited_by t cs).1 j).1 v.sees keys
     turn_falls cs af None u (EndAt.Shadow r) past v keys = let none = v.item in cc
-    turn_falls cs af (Some j) u (EndAt.Free w) past v keys = frees_fall now m cs af j u (Owner.Tx t) (free_place t end cs) w (v.linked (visited_by t cs).1 j).0 v.sees keys
+    turn_falls cs af (Some j) u (EndAt.Free w) past v keys = frees_fall now m cs af j u (Owner.Tx t) (free_place t end cs) (is_own (walk first_visit) (item_in (visited_by t cs).1 m j)) w (v.linked (visited_by t cs).1 j).0 v.sees keys
     turn_falls cs af None u (EndAt.Free w) past v keys = let none = v.item in cc
     turn_falls cs af i u EndAt.Stamp past v keys = stamp_falls m (after (at cs af i u EndAt.Stamp)) cs af i u v.begins
 

@@ -3,9 +3,9 @@ use Rattle.std.specs.FinMap as map
 use Rattle.std.specs.Ordering.{is_eq}
 use Rattle.std.proofs.Common.{◌≡◌, ◌⊎◌, ℕ, zero, suc, Bool, true, false, cond, List, [], ◌∷◌, ◌++◌, Option, None, Some, nat_lt, if◌then◌else◌, inl, inr, refl, ap, sym, ◌∙◌, subst, append-nil}
 use Rattle.beldi_value.specs.{Id.age_of, Passes.passes, declared.place.Owner.Owner, declared.place.Place.Place, declared.value.Value.Value}
-use Rattle.beldi_row.specs.declared.act.Act.TheVariants.{Look, Issue, Bind, Register, End, Stamp, PutRead, OpenInvoke, CallBack, NoteRegistered, PutLockset, MakeCell, WriteCell, CondCell, LockCell, FreeCell, LinkCell, DropIntent, DropRow}
-use Rattle.beldi_row.specs.Act.{Tell, act, drops, removes, stays_unless, gone, did, held, died, no_row, tested, not_owner, next, packed, not_full, on, on_intent, on_invoke, on_cell, bind_to, end_with, stamp_with, call_back_to, register_to, noted_or, next_or, held_or, waits_for, owned_or, at_tail, unless_held, if_owned, if_room, is_full, link_to, owns, given_or, other_owner, entered, write_at, cond_at, lock_at, free_at}
-use Rattle.beldi_row.{specs.Key.RowKey, specs.Key.at_row, specs.Key.key_cmp, specs.Table.Rows, specs.Table.after_act, proofs.Gets.got, proofs.Gets.key_same, proofs.Removed.not_removed, specs.declared.act.Act.Act, specs.declared.notes.Note.Note, specs.declared.notes.Note.TheVariants.Wrote, specs.declared.notes.Note.TheVariants.Cond, specs.declared.notes.Note.TheVariants.Got, specs.declared.notes.Note.TheVariants.Died, specs.declared.notes.Note.TheVariants.Freed, specs.declared.row.Cell.Cell, specs.declared.row.IntentRow.IntentRow, specs.declared.row.InvokeRow.InvokeRow, specs.declared.row.Row.Row, specs.Log.note_at, specs.Log.place_eq}
+use Rattle.beldi_row.specs.declared.act.Act.TheVariants.{Look, Issue, Bind, Register, End, Stamp, PutRead, OpenInvoke, CallBack, NoteRegistered, PutLockset, MakeCell, WriteCell, CondCell, LockCell, FreeCell, LinkCell, DropIntent, DropRow, MarkCell, SkipCell, DangleCell, DropCell}
+use Rattle.beldi_row.specs.Act.{Tell, act, prunes, removes, stays_unless, gone, did, held, died, no_row, tested, not_owner, next, packed, not_full, on, on_intent, on_invoke, on_cell, bind_to, end_with, stamp_with, call_back_to, register_to, noted_or, next_or, held_or, waits_for, owned_or, at_tail, unless_held, if_owned, if_room, is_full, link_to, owns, given_or, other_owner, entered, write_at, cond_at, lock_at, free_at}
+use Rattle.beldi_row.{specs.Key.RowKey, specs.Key.at_row, specs.Key.key_cmp, specs.Table.Rows, specs.Table.after_act, proofs.Gets.got, proofs.Gets.key_same, proofs.Removed.not_removed, proofs.Removed.spares, specs.declared.act.Act.Act, specs.declared.notes.Note.Note, specs.declared.notes.Note.TheVariants.Wrote, specs.declared.notes.Note.TheVariants.Cond, specs.declared.notes.Note.TheVariants.Got, specs.declared.notes.Note.TheVariants.Died, specs.declared.notes.Note.TheVariants.Freed, specs.declared.row.Cell.Cell, specs.declared.row.IntentRow.IntentRow, specs.declared.row.InvokeRow.InvokeRow, specs.declared.row.Row.Row, specs.Log.note_at, specs.Log.place_eq}
 use Rattle.beldi_chain.specs.{Chain.Chain, Chain.above, Chain.chain, Chain.content, Chain.most_rows, Chain.next_of, Chain.notes_from, Chain.on_next, Chain.tail_from, Content.held_in, Content.log_of, Laws.NotesStay}
 
 front_note : (es fs : List (Place × Note)) (p : Place) (n : Note) → note_at es p ≡ Some n → note_at (es ++ fs) p ≡ Some n
@@ -137,30 +137,34 @@ on_cells f t h (Row.ReadLog v) = tt
 on_cells f t h (Row.Invoke i) = tt
 on_cells f t h Row.Lockset = tt
 
-act_on : (a : Act) (now : ℕ) (r : Row) → RowGrows (Some r) (Some (on a now r).0)
-act_on Look now r = stays r
-act_on Issue now r = stays r
-act_on (Bind f v) now r = on_intents (λ i. bind_to f v i i.body) gone r
-act_on (Register b) now r = stays r
-act_on (End o s) now r = on_intents (λ i. end_with o s now i i.outcome) gone r
-act_on Stamp now r = on_intents (λ i. stamp_with now i i.finish) gone r
-act_on (PutRead v) now r = stays r
-act_on (OpenInvoke f) now r = stays r
-act_on (CallBack o) now r = on_calls (λ i. call_back_to o i i.result) gone r
-act_on NoteRegistered now r = on_calls (λ i. register_to i i.registered) gone r
-act_on PutLockset now r = stays r
-act_on (MakeCell v o l) now r = stays r
-act_on (WriteCell p w v) now r = on_cells (write_at p w v) no_row (λ c. unheld c p w Wrote v c.owner did) r
-act_on (CondCell p w k o v) now r = on_cells (cond_at p w k o v) no_row (λ c. let b = passes c.value k o in unheld c p w (Cond b) (if b then v else c.value) c.owner (tested b)) r
-act_on (LockCell p w s) now r = on_cells (lock_at p w) no_row (λ c. locked c p w) r
-act_on (FreeCell p w v) now r = on_cells (free_at p w v) no_row (λ c. owned c p w Freed (given_or v c.value) None did) r
-act_on (LinkCell n) now r = on_cells (link_to n) no_row (λ c. linked c n) r
-act_on (DropIntent l) now r = stays r
-act_on DropRow now r = stays r
+act_on : (a : Act) (now : ℕ) (r : Row) → prunes a ≡ false → RowGrows (Some r) (Some (on a now r).0)
+act_on Look now r keeps = stays r
+act_on Issue now r keeps = stays r
+act_on (Bind f v) now r keeps = on_intents (λ i. bind_to f v i i.body) gone r
+act_on (Register b) now r keeps = stays r
+act_on (End o s) now r keeps = on_intents (λ i. end_with o s now i i.outcome) gone r
+act_on Stamp now r keeps = on_intents (λ i. stamp_with now i i.finish) gone r
+act_on (PutRead v) now r keeps = stays r
+act_on (OpenInvoke f) now r keeps = stays r
+act_on (CallBack o) now r keeps = on_calls (λ i. call_back_to o i i.result) gone r
+act_on NoteRegistered now r keeps = on_calls (λ i. register_to i i.registered) gone r
+act_on PutLockset now r keeps = stays r
+act_on (MakeCell v o l) now r keeps = stays r
+act_on (WriteCell p w v) now r keeps = on_cells (write_at p w v) no_row (λ c. unheld c p w Wrote v c.owner did) r
+act_on (CondCell p w k o v) now r keeps = on_cells (cond_at p w k o v) no_row (λ c. let b = passes c.value k o in unheld c p w (Cond b) (if b then v else c.value) c.owner (tested b)) r
+act_on (LockCell p w s) now r keeps = on_cells (lock_at p w) no_row (λ c. locked c p w) r
+act_on (FreeCell p w v) now r keeps = on_cells (free_at p w v) no_row (λ c. owned c p w Freed (given_or v c.value) None did) r
+act_on (LinkCell n) now r keeps = on_cells (link_to n) no_row (λ c. linked c n) r
+act_on (DropIntent l) now r keeps = cc
+act_on DropRow now r keeps = cc
+act_on MarkCell now r keeps = cc
+act_on (SkipCell f t) now r keeps = cc
+act_on DangleCell now r keeps = cc
+act_on (DropCell l) now r keeps = cc
 
-act_grows : (a : Act) (now : ℕ) (r : Option Row) → drops a ≡ false → RowGrows r (act a now r).0
+act_grows : (a : Act) (now : ℕ) (r : Option Row) → prunes a ≡ false → RowGrows r (act a now r).0
 act_grows a now None keeps = tt
-act_grows a now (Some r) keeps = subst (λ b. RowGrows (Some r) (stays_unless b (on a now r)).0) (sym (not_removed a now r keeps)) (act_on a now r)
+act_grows a now (Some r) keeps = subst (λ b. RowGrows (Some r) (stays_unless b (on a now r)).0) (sym (not_removed a now r (spares a keeps))) (act_on a now r keeps)
 
 -- ---- on a chain
 -- each of its rows grows
@@ -217,7 +221,7 @@ chain_keeps f g p n grows is =
     ∙ keeps f g p n grows most_rows 0 (ap (λ es. note_at es p) (sym (notes_are (tail_from most_rows f 0) (notes_from most_rows f 0))) ∙ is)
 
 -- the rows of a chain grow by an act, on whatever row
-rows_grow : (a : Act) → drops a ≡ false → (now : ℕ) (l head : RowKey) (m : Rows) → ChainGrows (chain m head) (chain (after_act a now l m) head)
+rows_grow : (a : Act) → prunes a ≡ false → (now : ℕ) (l head : RowKey) (m : Rows) → ChainGrows (chain m head) (chain (after_act a now l m) head)
 rows_grow a keeps now l head m i = let k = at_row head i in
     subst (RowGrows (map.get m k)) (sym (got m l k (act a now (map.get m l)).0)) (by_key (is_eq (key_cmp k l)) refl)
   where

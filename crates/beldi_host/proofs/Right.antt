@@ -1,7 +1,8 @@
 -- Why the calls of a host keep it and its rows right, and what they tell of the run of the book.
 use Rattle.beldi_row.specs.declared.row.Row.TheVariants.{Intent}
 use Rattle.beldi_book.specs.declared.entry.Entry.{Entry}
-use Rattle.beldi_step.{proofs.Prunes.over_rows as pruned_over_rows, specs.declared.event.Pruned.TheVariants.Removed}
+use Rattle.beldi_step.proofs.Prunes.{over_rows as pruned_over_rows}
+use Rattle.beldi_kept.specs.Safe.{changes}
 use Rattle.beldi_host.proofs.Names.{[], after_event, AllocError, answers_stay, AnswersStay, ap, arith, begins_early, begins_kept, begins_upkept, Body, BodyMatches, Bool, Core, Deployment, EndsLate, Err, Event, EventOn, EventsKeepSafe, expires, false, first_core, Gone, greatest, has_ended, HasKept, HasNoReply, HasNoRows, IfOk, IfSome, if◌then◌else◌, inl, inr, IntentMatches, is_gone, is_some, is_unknown, IsHighWater, IsLegal, IsSafe, IsSome, keeps_upkeep, kept_answers, kept_are_legal, kept_listing, kept_stand, key_cmp, latest_of, len-empty, len-entries, List, listing_of, max, nat_le, nat_lt, nat_tests, nil_from_length, None, Ok, one_answer, OneAnswerLess, OneAnswerPerStep, OnOk, opened_core, OpenErr, Option, Outcome, outcome_known, outcome_of, outcome_seen, over_rows, PlainState, Pruned, Prunes, PrunesOn, prunings_keep_safe, prunings_keep_whole, Reads, refl, reply_of, reply_seen, ReplySeen, Result, Right, right_stands, root_key, root_of, Row, row_seen, RowKey, Rows, RowsStandFor, RowsStandLess, run_of, safe_at_cursor, safe_at_first, SaidOf, same_run, Seen, seen_by, Some, Stands, StandsLess, Stepped, subst, sym, tables_text, TableState, Tells, tells_map, true, Unknown, Upkeep, with_runs, ℕ, ◌&&◌, ◌++◌, ◌∙◌, ◌≡◌, ◌⊎◌}
 use Rattle.beldi_host.proofs.Names.map
 
@@ -78,8 +79,8 @@ module _ (d : Deployment) (k : ℕ) (c b : Core) (old new : TableState) (x : Res
   pruning_keeps = subst (λ (z : Deployment). IfSome old.rows (IsSafe d c) → IfSome new.rows (IsSafe z b)) (sym code)
       (tells_so {R = Pruned_on} (λ o u. IfSome o (IsSafe d c) → IfSome u (IsSafe d b)) (λ h. tt) (λ m n h u. (prunings_keep_safe d old.faults new.faults k c b m n x u h).0) old.rows new.rows (pruned_over_rows d k c b old new x s))
 
-  -- where it removed no row, all rows are there that were
-  pub pruning_keeps_whole : IfSome old.rows (Upkeep d c) → (x ≡ Ok Removed → ⊥) → IfSome new.rows (Upkeep l b)
+  -- where it changed no row, all rows are there that were
+  pub pruning_keeps_whole : IfSome old.rows (Upkeep d c) → IfOk x (λ y. changes y ≡ false) → IfSome new.rows (Upkeep l b)
   pruning_keeps_whole h none = subst (λ (z : Deployment). IfSome new.rows (Upkeep z b)) (sym code)
       (tells_so {R = Pruned_on} (λ o u. IfSome o (Upkeep d c) → IfSome u (Upkeep d b)) (λ h. tt) (λ m n h u. prunings_keep_whole d old.faults new.faults k c b m n x h none u) old.rows new.rows (pruned_over_rows d k c b old new x s) h)
 
@@ -166,7 +167,7 @@ by_left d book t false o p (inl same) said = subst (λ (z : Option Row). SaidOf 
 by_left d book t false o p (inr none) said = subst (λ (z : Option Row). SaidOf d book t (row_seen z)) (sym none) tt
 
 pub said_less : (d : Deployment) (c : Core) (m : Rows) → HasKept d c m → (t : ℕ) → SaidOf d c.book t (reply_seen c.newest t m)
-said_less d c m h t = elim (h.less.rows (root_key t)) [
+said_less d c m h t = elim (h.less.rows (root_key t) refl) [
   | inl same ↦ by_row (inl same)
   | inr off ↦ by_row (inr off.0)
 ]

@@ -1,5 +1,5 @@
 // The host: the one place where an event touches the table.
-ghost use Rattle.std.specs.Prelude.{◌≡◌, ◌+◌, ◌++◌, ◌≤◌, ◌^◌, ◌↔◌, IsTrue, true, false, Ok, IfOk, IfErr, IfSome, OnOk, OnErr};
+ghost use Rattle.std.specs.Prelude.{◌≡◌, ◌+◌, ◌++◌, ◌≤◌, ◌^◌, ◌↔◌, IsTrue, true, false, Ok, IfOk, IfErr, IfSome, OnOk, OnErr, length};
 ghost use Rattle.beldi_step.specs.Prunes.{pruned_by};
 
 use crate::survey::{OpenErr, ReplySeen, ahead, find_newest, list_tables, prepare, read_reply};
@@ -29,7 +29,7 @@ impl<T: Table> Host<T> {
     ghost use Rattle.beldi_check.specs.Keeps.{KeepsRules};
     ghost use Rattle.beldi_step.specs.Host.{StepBy, Stepped, last_moment, most_events, reads_all};
     ghost use Rattle.beldi_step.specs.declared.event.Event.TheVariants as events;
-    ghost use Rattle.beldi_step.specs.declared.event.Pruned.TheVariants.{Removed};
+    ghost use Rattle.beldi_kept.specs.Safe.{changes};
     ghost use Rattle.beldi_step.specs.Prunes.{Prunes};
     ghost use Rattle.beldi_step.specs.Tables.{tables_text};
     ghost use Rattle.beldi_host.specs.Survey.{Opened, PassesToldOpen, Refused, NewestAt, Reads, reply_seen, is_unknown};
@@ -97,12 +97,14 @@ impl<T: Table> Host<T> {
         &self.code
     }
 
-    /// What holds of every host: its deployment keeps every rule, and its moment is at most the last one.
+    /// What holds of every host: its deployment keeps every rule, its moment is at most the last one, and it has eight log collectors.
     pub fn keeps_rules(&self)
         ensures rules { KeepsRules self.now.code.funcs }
         ensures early { self.entry.now.core.now ≤ last_moment }
+        ensures eight { length self.now.core.collectors ≡ 8 }
     {
         let _code = self.code.code();
+        self.core.collectors.are_eight();
     }
 
     /// The book. A right host's is legal: each of its transactions is one entry, `Tx` whole, `Try` without a trace in the items.
@@ -296,7 +298,7 @@ impl<T: Table> Host<T> {
         ensures prunes { Prunes self.old.code number (core_of self.old) (core_of self.new) (T.state self.old.table) (T.state self.new.table) result }
         ensures code { self.new.code ≡ self.old.code }
         ensures right { IsRight self.old → IsRight self.new }
-        ensures whole { IsWhole self.old → (result ≡ Ok Removed → ⊥) → IsWhole self.new }
+        ensures whole { IsWhole self.old → IfOk result (λ y. changes y ≡ false) → IsWhole self.new }
     {
         self.collect(number)
     }
@@ -391,6 +393,9 @@ fn pruned(said: Result<GcSays, TableErr>) -> Result<Pruned, AllocError>
 {
     match said {
         Ok(GcSays::Going) => Ok(Pruned::Going),
+        Ok(GcSays::Marked) => Ok(Pruned::Marked),
+        Ok(GcSays::Skipped) => Ok(Pruned::Skipped),
+        Ok(GcSays::Dangled) => Ok(Pruned::Dangled),
         Ok(GcSays::Removed) => Ok(Pruned::Removed),
         Ok(GcSays::Round) => Ok(Pruned::Round),
         Err(TableErr::OutOfMemory) => Err(AllocError),

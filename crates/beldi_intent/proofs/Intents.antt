@@ -1,6 +1,6 @@
 -- Intents are put once, and stay.
 use Rattle.beldi_row.specs.declared.act.Act.{Act}
-use Rattle.beldi_intent.proofs.Names.{Bind, BodiesAreSetOnce, Body, Bool, BoundBy, BoundOn, CalleesArePutOnce, DropIntent, DropRow, End, EndedBy, EndedOn, FinishesAreSetOnce, GoesOn, IntentGoesOn, IntentRow, IntentsAreTold, IntentsStay, Issue, IssuedOn, Look, None, Option, Outcome, OutcomesAreSetOnce, Register, RegisteredOn, RootsArePutOnce, Row, RowKey, Rows, Some, Stamp, StampedBy, StampedOn, Value, act, at_each, bind_asks, bind_to, binding_of, bound_before, bound_by, end_asks, end_with, false, finish_at, if◌then◌else◌, intent_in, intent_key, intent_of, is_added, issue_asks, look_asks, looked, option_map, other, outcome_tell, promised, put_of, read_as, refl, register_asks, root_key, said, same_value, set_row, stamp_asks, stamp_with, subst, sym, true, unchanged, ℕ, ◌&&◌, ◌==◌, ◌∙◌, ◌≡◌, drops}
+use Rattle.beldi_intent.proofs.Names.{Bind, BodiesAreSetOnce, Body, Bool, BoundBy, BoundOn, CalleesArePutOnce, DropIntent, DropRow, End, EndedBy, EndedOn, FinishesAreSetOnce, GoesOn, IntentGoesOn, IntentRow, IntentsAreTold, IntentsStay, Issue, IssuedOn, Look, None, Option, Outcome, OutcomesAreSetOnce, Register, RegisteredOn, RootsArePutOnce, Row, RowKey, Rows, Some, Stamp, StampedBy, StampedOn, Value, act, at_each, bind_asks, bind_to, binding_of, bound_before, bound_by, end_asks, end_with, false, finish_at, if◌then◌else◌, intent_in, intent_key, intent_of, is_added, issue_asks, look_asks, looked, option_map, other, outcome_tell, promised, put_of, read_as, refl, register_asks, root_key, said, same_value, set_row, stamp_asks, stamp_with, subst, sym, true, unchanged, ℕ, ◌&&◌, ◌==◌, ◌∙◌, ◌≡◌, prunes}
 use Rattle.beldi_intent.proofs.Names.map
 
 -- ---- an intent is told
@@ -99,7 +99,7 @@ stamp_goes : (now : ℕ) (i : IntentRow) (f : Option ℕ) → i.finish ≡ f →
 stamp_goes now i None none = record { issued = refl; body = λ b is. is; outcome = λ o is. is; finish = λ t is. let clash = sym none ∙ is in cc }
 stamp_goes now i (Some f) is = as_was i
 
-act_goes : (a : Act) (now : ℕ) (i : IntentRow) → drops a ≡ false → (j : IntentRow) × (intent_in (act a now (Some (Row.Intent i))).0 ≡ Some j) × GoesOn i j
+act_goes : (a : Act) (now : ℕ) (i : IntentRow) → prunes a ≡ false → (j : IntentRow) × (intent_in (act a now (Some (Row.Intent i))).0 ≡ Some j) × GoesOn i j
 act_goes (Bind f v) now i keeps = ((bind_to f v i i.body).0, refl, bind_goes f v i i.body refl)
 act_goes (End o s) now i keeps = ((end_with o s now i i.outcome).0, refl, end_goes o s now i i.outcome refl)
 act_goes Stamp now i keeps = ((stamp_with now i i.finish).0, refl, stamp_goes now i i.finish refl)
@@ -110,7 +110,7 @@ act_goes a now i keeps = (i, refl, as_was i)
 inside : (i j : IntentRow) → intent_in (Some (Row.Intent i)) ≡ Some j → i ≡ j
 inside i j is = cc
 
-goes_from : (a : Act) (now : ℕ) (r : Option Row) → drops a ≡ false → IntentGoesOn r (act a now r).0
+goes_from : (a : Act) (now : ℕ) (r : Option Row) → prunes a ≡ false → IntentGoesOn r (act a now r).0
 goes_from a now (Some (Row.Intent i)) keeps j is = subst (λ o. (l : IntentRow) × (intent_in (act a now (Some (Row.Intent i))).0 ≡ Some l) × GoesOn o l) (inside i j is) (act_goes a now i keeps)
 goes_from a now None keeps j is = cc
 goes_from a now (Some r) keeps j is = cc

@@ -2,7 +2,7 @@
 use Rattle.std.specs.FinMap as map
 use Rattle.std.proofs.Common.{◌≡◌, ℕ, Bool, true, false, Option, None, Some, refl, sym, ◌∙◌, subst, is_some}
 use Rattle.beldi_value.specs.declared.outcome.Outcome.{Outcome}
-use Rattle.beldi_row.{specs.Key.RowKey, specs.declared.row.InvokeRow.InvokeRow, specs.declared.row.Row.Row, specs.declared.act.Act.Act, specs.declared.act.Act.TheVariants.Look, specs.declared.act.Act.TheVariants.OpenInvoke, specs.declared.act.Act.TheVariants.CallBack, specs.declared.act.Act.TheVariants.NoteRegistered, specs.declared.act.Act.TheVariants.DropIntent, specs.declared.act.Act.TheVariants.DropRow, specs.Act.act, specs.Act.drops, specs.Act.call_back_to, specs.Act.register_to, specs.Table.Rows, specs.Table.set_row, proofs.Unchanged.unchanged, proofs.Unchanged.looked}
+use Rattle.beldi_row.{specs.Key.RowKey, specs.declared.row.InvokeRow.InvokeRow, specs.declared.row.Row.Row, specs.declared.act.Act.Act, specs.declared.act.Act.TheVariants.Look, specs.declared.act.Act.TheVariants.OpenInvoke, specs.declared.act.Act.TheVariants.CallBack, specs.declared.act.Act.TheVariants.NoteRegistered, specs.declared.act.Act.TheVariants.DropIntent, specs.declared.act.Act.TheVariants.DropRow, specs.Act.act, specs.Act.prunes, specs.Act.call_back_to, specs.Act.register_to, specs.Table.Rows, specs.Table.set_row, proofs.Unchanged.unchanged, proofs.Unchanged.looked}
 use Rattle.beldi_walk.{specs.Query.said, proofs.Promises.promised, proofs.Promises.at_each}
 use Rattle.beldi_invokelog.specs.InvokeLog.{invoke_key, call_in, call_at, result_in, open_asks, result_asks, back_asks, registered_asks, invoked_of, result_of, back_of, OpenedOn, SetBy, SetOn, GoesOn, CallGoesOn, CallsArePutOnce, ResultsAreTold, ResultsAreSetOnce, RegistrationsAreSetOnce, CallsStay}
 
@@ -66,7 +66,7 @@ mark_goes : (i : InvokeRow) (b : Bool) → i.registered ≡ b → GoesOn i (regi
 mark_goes i false is = record { func = refl; result = λ o was. was; registered = λ was. refl }
 mark_goes i true is = as_was i
 
-act_goes : (a : Act) (now : ℕ) (i : InvokeRow) → drops a ≡ false → (j : InvokeRow) × (call_in (act a now (Some (Row.Invoke i))).0 ≡ Some j) × GoesOn i j
+act_goes : (a : Act) (now : ℕ) (i : InvokeRow) → prunes a ≡ false → (j : InvokeRow) × (call_in (act a now (Some (Row.Invoke i))).0 ≡ Some j) × GoesOn i j
 act_goes (CallBack o) now i keeps = ((call_back_to o i i.result).0, refl, back_goes o i i.result refl)
 act_goes NoteRegistered now i keeps = ((register_to i i.registered).0, refl, mark_goes i i.registered refl)
 act_goes (DropIntent l) now i keeps = cc
@@ -76,7 +76,7 @@ act_goes a now i keeps = (i, refl, as_was i)
 inside : (i j : InvokeRow) → call_in (Some (Row.Invoke i)) ≡ Some j → i ≡ j
 inside i j is = cc
 
-goes_from : (a : Act) (now : ℕ) (r : Option Row) → drops a ≡ false → CallGoesOn r (act a now r).0
+goes_from : (a : Act) (now : ℕ) (r : Option Row) → prunes a ≡ false → CallGoesOn r (act a now r).0
 goes_from a now (Some (Row.Invoke i)) keeps j is = subst (λ o. (l : InvokeRow) × (call_in (act a now (Some (Row.Invoke i))).0 ≡ Some l) × GoesOn o l) (inside i j is) (act_goes a now i keeps)
 goes_from a now None keeps j is = cc
 goes_from a now (Some r) keeps j is = cc

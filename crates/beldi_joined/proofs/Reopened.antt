@@ -59,6 +59,7 @@ module _ (d : Deployment) (c : Core) (m : Rows) (h : HasKept d c m) where
     latest = h.latest;
     over = h.over;
     spared = λ n r i is. absurd (no_run n r is);
+    ahead = λ n r is. absurd (no_run n r is);
     newest = h.newest;
   }
 

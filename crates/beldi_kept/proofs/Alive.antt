@@ -11,6 +11,8 @@ use Rattle.beldi_plain.specs.{Holds.holds, Item.Item, Operation.OnItem, Operatio
 use Rattle.beldi_order.specs.Txs.{effect_after, or_own, tx_by, tx_now, txs_after}
 use Rattle.beldi_row.specs.{Key.RowKey, Key.at_row, Log.note_at, Table.Rows, declared.row.IntentRow.IntentRow, declared.row.Row.Row}
 use Rattle.beldi_chain.specs.Chain.{chain, content, tail}
+use Rattle.beldi_splice.specs.Laws.{IsAlike}
+use Rattle.beldi_splice.proofs.Alike.{contents_are_alike}
 use Rattle.beldi_readlog.specs.ReadLog.{given_in, log_key}
 use Rattle.beldi_intent.specs.Intent.{intent_key}
 use Rattle.beldi_invokelog.specs.InvokeLog.{call_in, invoke_key, result_in}
@@ -22,7 +24,7 @@ use Rattle.beldi_laws.specs.Inside.{has_finish}
 use Rattle.beldi_laws.proofs.Cases.{false_by}
 use Rattle.beldi_upkeep.specs.{Callees.belongs_to, Callees.owner_key, Work.finish_in}
 use Rattle.beldi_upkeep.proofs.{Frees.returns_hold_none, FromRight.finished_over, PastOwn.WasOwner, PastOwn.got_owner}
-use Rattle.beldi_kept.specs.{Kept.HasKept, Kept.IsOld, Kept.IsUnbound, Less.IsGone}
+use Rattle.beldi_kept.specs.{Kept.HasKept, Kept.IsOld, Kept.IsUnbound, Less.IsGone, Less.is_item}
 use Rattle.beldi_kept.proofs.{Gone.done_there, Gone.known_home, Gone.old_finished, Gone.one_row, Gone.unbound_bare, Gone.unbound_none, Gone.unbound_root, Less.IsBare, Less.there_kept}
 
 -- a root that is known has a body
@@ -33,8 +35,8 @@ bound_root true (Some r) q f bare = absurd bare
 bound_root false r q f bare = absurd (subst IsBare f bare)
 
 module _ (d : Deployment) (c : Core) (m : Rows) (h : HasKept d c m) where
-  pub same_row : (k : RowKey) → (IsGone h.gone (belongs_to k.kind) → ⊥) → map.get m k ≡ map.get h.kept k
-  same_row k alive = elim (h.less.rows k) [
+  pub same_row : (k : RowKey) → is_item k.kind ≡ false → (IsGone h.gone (belongs_to k.kind) → ⊥) → map.get m k ≡ map.get h.kept k
+  same_row k other alive = elim (h.less.rows k other) [
     | inl same ↦ same
     | inr off ↦ absurd (alive off.1)
   ]
@@ -45,7 +47,7 @@ module _ (d : Deployment) (c : Core) (m : Rows) (h : HasKept d c m) where
   alive_there home i w there fresh = false_by (h.gone i) (λ off. not_over off (h.over i off).home (h.over i off).over)
     where
       row : map.get h.kept (key_in home i) ≡ Some (Row.Intent w)
-      row = there_kept h.gone m h.kept h.less (key_in home i) (Row.Intent w) there
+      row = there_kept h.gone m h.kept h.less (key_in home i) (Row.Intent w) refl there
 
       not_over : h.gone i ≡ true → (room : ℕ) → IsOld d.life h.latest (finish_in (map.get h.kept (key_in room i))) ⊎ IsUnbound c.newest i (map.get m (key_in room i)) (map.get h.kept (key_in room i)) → ⊥
       not_over off room (inl old) =
@@ -106,17 +108,17 @@ module _ (d : Deployment) (c : Core) (m : Rows) (h : HasKept d c m) where
   pub alive_key : (i : IntentId) → h.gone i ≡ false → h.gone i ≡ true → ⊥
   alive_key i alive off = let clash = sym off ∙ alive in cc
 
-  pub same_item : (x : Item) → chain m (head_key x) ≡ chain h.kept (head_key x)
-  same_item x = λ j n. same_row (at_row (head_key x) n) (λ off. off) j
+  pub alike_item : (x : Item) → IsAlike h.gone (chain m (head_key x)) (chain h.kept (head_key x))
+  alike_item x = contents_are_alike h.gone (chain m (head_key x)) (chain h.kept (head_key x)) (h.upkeep.right.rows.chains x) (h.less.cells x) (h.less.threads x)
 
-  pub same_content : (x : Item) → content_of m x ≡ content_of h.kept x
-  same_content x = ap content (same_item x)
+  pub same_owner : (x : Item) → (content_of m x).owner ≡ (content_of h.kept x).owner
+  same_owner x = (alike_item x).owner
 
   pub same_shadow : (t : TxId) (x : Item) → h.gone t.intent ≡ false → shadow_chain m t x ≡ shadow_chain h.kept t x
-  same_shadow t x alive = λ j n. same_row (at_row (shadow_key t x) n) (alive_key t.intent alive) j
+  same_shadow t x alive = λ j n. same_row (at_row (shadow_key t x) n) refl (alive_key t.intent alive) j
 
   pub same_decision : (t : TxId) → h.gone t.intent ≡ false → map.get m (decision_key t) ≡ map.get h.kept (decision_key t)
-  same_decision t alive = same_row (decision_key t) (alive_key t.intent alive)
+  same_decision t alive = same_row (decision_key t) refl (alive_key t.intent alive)
 
   -- ---- what is listed
   listed_alike : (x : Item) (o : Option Owner) (v : Value) → ((t : TxId) → o ≡ Some (Tx t) → h.gone t.intent ≡ false) → listed_under m x o v ≡ listed_under h.kept x o v
@@ -125,41 +127,41 @@ module _ (d : Deployment) (c : Core) (m : Rows) (h : HasKept d c m) where
   listed_alike x None v alive = refl
 
   pub same_listed : (x : Item) → listed m x ≡ listed h.kept x
-  same_listed x = ap (λ z. listed_under m x z.owner z.value) (same_content x) ∙ listed_alike x (content_of h.kept x).owner (content_of h.kept x).value (λ t owned. holder_alive t x owned)
+  same_listed x = (λ i. listed_under m x ((alike_item x).owner i) ((alike_item x).value i)) ∙ listed_alike x (content_of h.kept x).owner (content_of h.kept x).value (λ t owned. holder_alive t x owned)
 
   -- ---- the answers that the rows hold
-  note_alike : (p : Place) (func : ℕ) (o : Option OnItem) → held_note m p func o ≡ held_note h.kept p func o
-  note_alike p func None = refl
-  note_alike p func (Some o) = ap (λ z. option_and_then noted_answer (note_at z.notes p)) (same_content (item_in func o))
-
-  lock_alike : (p : Place) (x : Item) → note_of_lock m p x ≡ note_of_lock h.kept p x
-  lock_alike p x = ap (λ z. note_at z.notes p) (same_content x)
-
   module _ (p : Place) (alive : h.gone p.intent ≡ false) (func : ℕ) where
+    note_alike : (o : Option OnItem) → held_note m p func o ≡ held_note h.kept p func o
+    note_alike None = refl
+    note_alike (Some o) = ap (option_and_then noted_answer) ((alike_item (item_in func o)).notes p alive)
+
+    lock_alike : (x : Item) → note_of_lock m p x ≡ note_of_lock h.kept p x
+    lock_alike x = (alike_item x).notes p alive
+
     log_alike : map.get m (log_key func p) ≡ map.get h.kept (log_key func p)
-    log_alike = same_row (log_key func p) (alive_key p.intent alive)
+    log_alike = same_row (log_key func p) refl (alive_key p.intent alive)
 
     call_alike : map.get m (invoke_key func p) ≡ map.get h.kept (invoke_key func p)
-    call_alike = same_row (invoke_key func p) (alive_key p.intent alive)
+    call_alike = same_row (invoke_key func p) refl (alive_key p.intent alive)
 
     outside_alike : (e : Effect) → held_outside m p func e ≡ held_outside h.kept p func e
     outside_alike (Effect.Read t k) = ap (λ r. option_map Answer.Value (option_map given_in r)) log_alike
     outside_alike (Effect.Call f v) = ap (λ r. option_map answer_of (result_in (call_in r))) call_alike
     outside_alike (Effect.Async f v) = ap (λ r. option_map (λ i. Answer.Done) (call_in r)) call_alike
-    outside_alike e = note_alike p func (op_of e)
+    outside_alike e = note_alike (op_of e)
 
     module _ (t : TxId) (live : h.gone t.intent ≡ false) where
       aside_alike : (x : Item) → answer_aside m t p x ≡ answer_aside h.kept t p x
       aside_alike x = ap (λ z. option_and_then noted_answer (note_at (content z).notes p)) (same_shadow t x live)
 
       told_alike : (x : Item) → told_by p (note_of_lock m p x) (answer_aside m t p x) ≡ told_by p (note_of_lock h.kept p x) (answer_aside h.kept t p x)
-      told_alike x = λ j. told_by p (lock_alike p x j) (aside_alike x j)
+      told_alike x = λ j. told_by p (lock_alike x j) (aside_alike x j)
 
       inside_alike : (e : Effect) → held_inside m t p func e ≡ held_inside h.kept t p func e
       inside_alike Effect.Begin = refl
       inside_alike Effect.Abort = refl
       inside_alike (Effect.End y) = ap (λ r. option_and_then (decides y) (option_map given_in r)) (same_decision t live)
-      inside_alike (Effect.Read u k) = λ j. told_by p (lock_alike p (record { func = func; table = u; key = k }) j) (option_map Answer.Value (option_map given_in (log_alike j)))
+      inside_alike (Effect.Read u k) = λ j. told_by p (lock_alike (record { func = func; table = u; key = k }) j) (option_map Answer.Value (option_map given_in (log_alike j)))
       inside_alike (Effect.Write u k v) = told_alike (record { func = func; table = u; key = k })
       inside_alike (Effect.CondWrite u k r o v) = told_alike (record { func = func; table = u; key = k })
       inside_alike e = outside_alike e

@@ -11,7 +11,7 @@ use Rattle.beldi_lock.proofs.Firsts.{by_parts, items, level, parts, rest}
 use Rattle.beldi_txn.specs.{declared.way.Called.Called, Invokes.call_after, Invokes.call_key, Invokes.call_of, Invokes.func_called, Invokes.invokes_after, Invokes.invokes_asks, Invokes.invokes_found}
 use Rattle.beldi_txn.proofs.{Calls.by_steps, Calls.is_call, Calls.steps, Locks.is_item}
 use Rattle.beldi_upkeep.specs.Callees.{belongs_to}
-use Rattle.beldi_kept.specs.Less.{IsGone, Less}
+use Rattle.beldi_kept.specs.Less.{IsGone, Less, is_item as of_item}
 use Rattle.beldi_kept.proofs.NextAlike.{next_alike}
 
 -- what is past a key is not below it
@@ -53,10 +53,17 @@ module _ (home : ℕ) (id : IntentId) (begin : ℕ) where
     lock_alive : (e : RowKey × Row) (x : ℕ × List ℕ) → item_after home id begin (Some e) ≡ Some x → IsGone gone (belongs_to e.0.kind) → ⊥
     lock_alive e x is off = let clash = sym (subst (λ (z : RowKey). IsGone gone (belongs_to z.kind)) (is_item home id begin e.0.home e.0.kind x is) off) ∙ alive in cc
 
+    lock_items : (q : RowKey) (s : Row) → of_item q.kind ≡ true → item_after home id begin (Some (q, s)) ≡ None
+    lock_items q s item = at_kind q.kind refl item
+      where
+        at_kind : (kind : Kind) → q.kind ≡ kind → of_item kind ≡ true → item_of home id begin q kind ≡ None
+        at_kind (Kind.Data v n r) e item = refl
+        at_kind kind e item = cc
+
     pub same_lock : (after : Option (ℕ × List ℕ)) → lockset_found home id begin (told_by (lockset_asks home id begin after) 0 m) ≡ lockset_found home id begin (told_by (lockset_asks home id begin after) 0 kept)
-    same_lock (Some at) = next_alike gone m kept less (lk at.0 at.1) (item_after home id begin) refl lock_alive
+    same_lock (Some at) = next_alike gone m kept less (lk at.0 at.1) (item_after home id begin) refl lock_alive lock_items
         (λ e x is q s next up off. locks_between at.0 x.0 at.1 x.1 q (not_below (lk at.0 at.1) q next.0) (ap (key_cmp q) (sym (is_item home id begin e.0.home e.0.kind x is)) ∙ up) off)
-    same_lock None = next_alike gone m kept less (lockset_after home id begin None) (item_after home id begin) refl lock_alive
+    same_lock None = next_alike gone m kept less (lockset_after home id begin None) (item_after home id begin) refl lock_alive lock_items
         (λ e x is q s next up off. locks_between 0 x.0 [] x.1 q (first (Some (q, s)) next).0 (ap (key_cmp q) (sym (is_item home id begin e.0.home e.0.kind x is)) ∙ up) off)
 
 -- ---- calls
@@ -87,8 +94,15 @@ module _ (home : ℕ) (id : IntentId) where
     call_alive : (e : RowKey × Row) (x : Called) → call_after home id (Some e) ≡ Some x → IsGone gone (belongs_to e.0.kind) → ⊥
     call_alive e x is off = let clash = sym (subst (λ (z : RowKey). IsGone gone (belongs_to z.kind)) (is_call home id e.0.home e.0.kind e.1 x is).0 off) ∙ alive in cc
 
+    call_items : (q : RowKey) (s : Row) → of_item q.kind ≡ true → call_after home id (Some (q, s)) ≡ None
+    call_items q s item = at_kind q.kind refl item
+      where
+        at_kind : (kind : Kind) → q.kind ≡ kind → of_item kind ≡ true → call_of home id q kind s ≡ None
+        at_kind (Kind.Data v n r) e item = refl
+        at_kind kind e item = cc
+
     pub same_call : (after : Option ℕ) → invokes_found home id (told_by (invokes_asks home id after) 0 m) ≡ invokes_found home id (told_by (invokes_asks home id after) 0 kept)
-    same_call (Some a) = next_alike gone m kept less (ck a) (call_after home id) refl call_alive
+    same_call (Some a) = next_alike gone m kept less (ck a) (call_after home id) refl call_alive call_items
         (λ e x is q s next up off. calls_between a x.step q s (not_below (ck a) q next.0) (ap (key_cmp q) (sym (is_call home id e.0.home e.0.kind e.1 x is).0) ∙ up) off)
-    same_call None = next_alike gone m kept less (invokes_after home id None) (call_after home id) refl call_alive
+    same_call None = next_alike gone m kept less (invokes_after home id None) (call_after home id) refl call_alive call_items
         (λ e x is q s next up off. calls_between 0 x.step q s (first (Some (q, s)) next).0 (ap (key_cmp q) (sym (is_call home id e.0.home e.0.kind e.1 x is).0) ∙ up) off)

@@ -14,7 +14,7 @@ use Rattle.beldi_known.specs.{Matches.has_ended, Rows.CalleeBodyMatches, Rows.In
 use Rattle.beldi_laws.proofs.{Cases.false_by, Returns.root_is}
 use Rattle.beldi_upkeep.specs.{Callees.seat_of, Work.finish_in}
 use Rattle.beldi_kept.specs.{Kept.HasKept, Kept.IsLater, Kept.IsOld, Kept.IsRowOfOld, Laws.IntentDropsKeep, Laws.RowDropsKeep}
-use Rattle.beldi_kept.proofs.{Gone.root_home, Less.there_kept, Removals.removals_keep, Removals.unbound_may_go}
+use Rattle.beldi_kept.proofs.{Gone.root_home, Less.not_item, Less.there_kept, Removals.removals_keep, Removals.unbound_may_go}
 
 -- what has a body, and no finish that is old, is not old
 bare_of : (life now issued : ℕ) (b : Option Body) (f : Option ℕ) → ((not (is_some b) && is_past life now (Some issued)) || is_past life now f) ≡ true → is_past life now f ≡ false → b ≡ None
@@ -80,7 +80,7 @@ module _ (d : Deployment) (c : Core) (m : Rows) (h : HasKept d c m) where
 
     module _ (w : IntentRow) (there : map.get m k ≡ Some (Row.Intent w)) where
       kept : map.get h.kept k ≡ Some (Row.Intent w)
-      kept = there_kept h.gone m h.kept h.less k (Row.Intent w) there
+      kept = there_kept h.gone m h.kept h.less k (Row.Intent w) refl there
 
       at_home : has_no_hops i.hops ≡ true → home ≡ 0
       at_home root = root_home d c h.kept h.upkeep.right i home root (ap is_some kept)
@@ -116,7 +116,7 @@ module _ (d : Deployment) (c : Core) (m : Rows) (h : HasKept d c m) where
   -- ---- a row beside that of an intent that is gone or old
   pub left_goes : (k : RowKey) → IsRowOfOld d.life c.now h.gone h.kept k → (r : Row) → map.get m k ≡ Some r → is_left_row r ≡ true → Keeps (set_row m k None)
   left_goes k w r there left = removals_keep d c m h k w (false_by (is_eq (key_cmp (root_key c.newest) k)) (λ e.
-      let kept : map.get h.kept (root_key c.newest) ≡ Some r = ap (map.get h.kept) (key_same (root_key c.newest) k e) ∙ there_kept h.gone m h.kept h.less k r there in
+      let kept : map.get h.kept (root_key c.newest) ≡ Some r = ap (map.get h.kept) (key_same (root_key c.newest) k e) ∙ there_kept h.gone m h.kept h.less k r (not_item k.kind (Some w.intent) w.belongs refl) there in
       no_left r (map.get h.upkeep.right.known (root_of c.newest)) (subst (λ o. RootMatches true o (map.get h.upkeep.right.known (root_of c.newest))) kept (h.upkeep.right.rows.keys (root_key c.newest))) left))
 
 pub intent_drops_keep : IntentDropsKeep

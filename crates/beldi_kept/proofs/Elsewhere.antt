@@ -1,21 +1,21 @@
--- A run at a visit may stand at another one, where that has what a visit has.
+-- A run may stand at another stage of its effect, where what has to be so there is.
 use Rattle.std.specs.Ordering.{is_eq, nat_cmp}
 use Rattle.std.proofs.Common.{cond}
-use Rattle.beldi_laws.proofs.Names.{AtStage, Begins, Begun, Bool, Core, Deployment, Effect, IntentId, Knows, KnowsAt, Own, OpenTx, Rows, Run, RunAt, Some, Stage, Visited, ap, at_stage, end_walk, false, inl, inr, is_past, is_some, key_in, put_got, put_run, refl, same_some, subst, sym, true, ℕ, ◌<◌, ◌∙◌, ◌≡◌, ◌≤◌}
+use Rattle.beldi_laws.proofs.Names.{AtStage, Begins, Begun, Bool, Core, Deployment, IntentId, Knows, KnowsAt, Rows, Run, RunAt, Some, Stage, ap, at_stage, false, inl, inr, is_some, key_in, put_got, put_run, refl, same_some, subst, sym, true, ℕ, ◌<◌, ◌∙◌, ◌≡◌, ◌≤◌}
 use Rattle.beldi_laws.proofs.Names.map
 use Rattle.beldi_laws.proofs.{Lives.runs_put, Moves.with_runs}
-use Rattle.beldi_txn.specs.declared.end.Visit.{Visit}
-use Rattle.beldi_upkeep.specs.{Callees.RunOwes, Passed.MayPass, Deadlines.IsNear, Upkeep.Upkeep, Work.IsWorkedFor, Work.WorksFor, Work.finish_in}
-use Rattle.beldi_upkeep.proofs.Quiet.{not_async}
+use Rattle.beldi_value.specs.Id.{child_of}
+use Rattle.beldi_upkeep.specs.{Callees.HasPut, Callees.HasTold, Callees.RunOwes, Passed.MayPass, Deadlines.IsNear, Upkeep.Upkeep, Work.IsWorkedFor, Work.WorksFor, Work.finish_in}
+use Rattle.beldi_upkeep.proofs.Quiet.{is_async, not_async}
 use Rattle.beldi_step.specs.Host.{last_of}
 
 same_begun : (a b : Begun) → Begins a ≡ Begins b → a ≡ b
 same_begun a b h = cc
 
-module _ (d : Deployment) (c : Core) (m : Rows) (u : Upkeep d c m) (i : ℕ) (r : Run) (g : Begun) (v w : Visit) (live : map.get c.runs i ≡ Some r) (at : r.at ≡ Begins g) (stage : g.stage ≡ Stage.End v)
-    (o : OpenTx) (tx : g.tx ≡ Some (Own o)) (commit : Bool) (ends : g.machine.effect ≡ Effect.End commit) (past : is_past w.at ≡ true) (there : Visited (end_walk r.id r.func o g.machine.steps commit w) m) where
+module _ (d : Deployment) (c : Core) (m : Rows) (u : Upkeep d c m) (i : ℕ) (r : Run) (g : Begun) (w : Stage) (live : map.get c.runs i ≡ Some r) (at : r.at ≡ Begins g) (quiet : is_async w ≡ false) (told : HasTold w g.caller m) (put : HasPut w g.machine.effect (child_of r.id g.machine.steps) m)
+    (here : (k : Knows d u.right.known r g) → AtStage m u.right.plain c.book k w g.machine.effect g.tx) where
   abbrev next : Run
-  next = record r { at = Begins (at_stage g (Stage.End w)) }
+  next = record r { at = Begins (at_stage g w) }
 
   abbrev core : Core
   core = record c { runs = put_run c.runs i (Some next) }
@@ -23,11 +23,8 @@ module _ (d : Deployment) (c : Core) (m : Rows) (u : Upkeep d c m) (i : ℕ) (r 
   before : KnowsAt d m u.right.plain c.book u.right.known r (Begins g)
   before = subst (KnowsAt d m u.right.plain c.book u.right.known r) at (subst (RunAt d m u.right.plain c.book u.right.known) live (u.right.runs.runs i))
 
-  stands : (k : Knows d u.right.known r g) → AtStage m u.right.plain c.book k (Stage.End w) g.machine.effect g.tx
-  stands k = subst (λ e. AtStage m u.right.plain c.book k (Stage.End w) e g.tx) (sym ends) (subst (λ x. AtStage m u.right.plain c.book k (Stage.End w) (Effect.End commit) x) (sym tx) (past, there))
-
   knows : KnowsAt d m u.right.plain c.book u.right.known next next.at
-  knows = (before.0, record { here = stands before.0; released = before.1.released; row = before.1.row })
+  knows = (before.0, record { here = here before.0; released = before.1.released; row = before.1.row })
 
   -- what is so of each run and of this one
   each : (P : ℕ → Run → Type 0) → ((n : ℕ) (s : Run) → map.get c.runs n ≡ Some s → P n s) → ((n : ℕ) → P n next) → (n : ℕ) (s : Run) → map.get (put_run c.runs i (Some next)) n ≡ Some s → P n s
@@ -40,7 +37,7 @@ module _ (d : Deployment) (c : Core) (m : Rows) (u : Upkeep d c m) (i : ℕ) (r 
   as_before : (j : IntentId) → WorksFor next next.at j → WorksFor r (Begins g) j
   as_before j (inl own) = inl own
   as_before j (inr (inl of)) = inr (inl of)
-  as_before j (inr (inr to)) = absurd (not_async next g.machine.steps g.machine.effect (Stage.End w) j refl to)
+  as_before j (inr (inr to)) = absurd (not_async next g.machine.steps g.machine.effect w j quiet to)
 
   -- it works for whom it worked for
   pub works_still : (n : ℕ) (s : Run) (j : IntentId) → map.get (put_run c.runs i (Some next)) n ≡ Some s → WorksFor s s.at j → IsWorkedFor c s.deadline j
@@ -51,9 +48,9 @@ module _ (d : Deployment) (c : Core) (m : Rows) (u : Upkeep d c m) (i : ℕ) (r 
   stands_elsewhere = record {
     right = with_runs u.right core refl refl (runs_put d m u.right.plain c.book u.right.known c.runs c.last_run i (Some next) (ap is_some live) knows u.right.runs);
     seats = u.seats;
-    owe = record { each = λ n s b is begun. each (λ n s. (b : Begun) → s.at ≡ Begins b → RunOwes m s.id b) (λ n s is b. u.owe.each n s b is) (λ n b begun. subst (RunOwes m r.id) (same_begun (at_stage g (Stage.End w)) b begun) (let o = u.owe.each i r g live at in record { told = tt; put = tt; closed = o.closed })) n s is b begun };
+    owe = record { each = λ n s b is begun. each (λ n s. (b : Begun) → s.at ≡ Begins b → RunOwes m s.id b) (λ n s is b. u.owe.each n s b is) (λ n b begun. subst (RunOwes m r.id) (same_begun (at_stage g w) b begun) (let o = u.owe.each i r g live at in record { told = told; put = put; closed = o.closed })) n s is b begun };
     past = u.past;
-    passes = record { each = λ n s b is begun. each (λ n s. (b : Begun) → s.at ≡ Begins b → (k : ℕ) → k < b.machine.steps → MayPass m s.id k) (λ n s is b. u.passes.each n s b is) (λ n b begun. subst (λ (z : Begun). (k : ℕ) → k < z.machine.steps → MayPass m r.id k) (same_begun (at_stage g (Stage.End w)) b begun) (u.passes.each i r g live at)) n s is b begun };
+    passes = record { each = λ n s b is begun. each (λ n s. (b : Begun) → s.at ≡ Begins b → (k : ℕ) → k < b.machine.steps → MayPass m s.id k) (λ n s is b. u.passes.each n s b is) (λ n b begun. subst (λ (z : Begun). (k : ℕ) → k < z.machine.steps → MayPass m r.id k) (same_begun (at_stage g w) b begun) (u.passes.each i r g live at)) n s is b begun };
     near = record {
       soon = each (λ n s. s.deadline ≤ last_of c.now d.life) u.near.soon (λ n. u.near.soon i r live);
       near = λ n s j home is works. each (λ n s. (j : IntentId) (home : ℕ) → WorksFor s s.at j → IsNear d.life s.deadline (finish_in (map.get m (key_in home j)))) (λ n s is j home works. u.near.near n s j home is works)

@@ -19,7 +19,7 @@ use Rattle.beldi_step.specs.Told.{entries_told, told_outcome}
 use Rattle.beldi_step.specs.Run.{Turned, run_asks, run_told}
 use Rattle.beldi_step.specs.declared.{event.Event.Event, event.Seen.Seen, run.Run.Run}
 use Rattle.beldi_step.proofs.Runs.{either, of_plan, same_some}
-use Rattle.beldi_kept.specs.{Kept.HasKept, Laws.IsOfKept, Laws.IsQuiet}
+use Rattle.beldi_kept.specs.{Kept.HasKept, Less.is_item, Laws.IsOfKept, Laws.IsQuiet}
 use Rattle.beldi_kept.proofs.{Newest.same_newest, Less.GoesOn, Less.act_both, Less.stays_on, Less.told_both, Step.Step, Step.by_event, Step.by_rest, Step.elsewhere, Step.gone_issued, Step.issued, Turn.SameTurn}
 
 -- it is this event over the kept rows that leaves this core, with this answer
@@ -57,7 +57,7 @@ bind_rows m q f a now none = unchanged m q (act (Act.Bind f a) now (map.get m q)
 not_some : (b : Core) → ◌≡◌ {A = Option Core} None (Some b) → ⊥
 not_some b h = cc
 
-few : nat_lt 0 most_events ≡ true
+pub few : nat_lt 0 most_events ≡ true
 few = lt-ltb 0 most_events (omega arith)
 
 module _ (d : Deployment) (c : Core) (m : Rows) (h : HasKept d c m) (room old new : ℕ) (b : Core) (n : Rows) (x : Result Seen AllocError) where
@@ -129,19 +129,19 @@ module _ (d : Deployment) (c : Core) (m : Rows) (h : HasKept d c m) (room old ne
     asked s = by_told s.0 x refl s.1 s.2 s.3
 
   -- an act at a key where the two agree
-  act_asked : (e : Event) (q : RowKey) (a : Act) → map.get m q ≡ map.get h.kept q → ((live most : ℕ) → (b, x) ≡ refused e k (TableErr.Full live most) → n ≡ m → Sim e (asks (Query.Act q a))) → Goal e (asks (Query.Act q a))
-  act_asked e q a agree full = let told = told_both h.gone m h.kept h.less q a c.now agree in
-      asked e (Query.Act q a) (ap (no_memory d e k) told) (act_both h.gone m h.kept h.less q a c.now agree) (λ y is f rows on. on (f ∙ ap (heard d e k) told)) full
+  act_asked : (e : Event) (q : RowKey) → is_item q.kind ≡ false → (a : Act) → map.get m q ≡ map.get h.kept q → ((live most : ℕ) → (b, x) ≡ refused e k (TableErr.Full live most) → n ≡ m → Sim e (asks (Query.Act q a))) → Goal e (asks (Query.Act q a))
+  act_asked e q other a agree full = let told = told_both h.gone m h.kept h.less q a c.now agree in
+      asked e (Query.Act q a) (ap (no_memory d e k) told) (act_both h.gone m h.kept h.less q other a c.now agree) (λ y is f rows on. on (f ∙ ap (heard d e k) told)) full
 
   -- ---- a ticket: its row is in neither
   ticket_agrees : map.get m (root_key (c.newest + 1)) ≡ map.get h.kept (root_key (c.newest + 1))
-  ticket_agrees = elim (h.less.rows (root_key (c.newest + 1))) [
+  ticket_agrees = elim (h.less.rows (root_key (c.newest + 1)) refl) [
     | inl same ↦ same
     | inr off ↦ let low = issued d c m h (c.newest + 1) (gone_issued d c m h (c.newest + 1) off.1) in absurd (omega (arith, low))
   ]
 
   ticket : Goal Event.Ticket (plan_of d Event.Ticket k)
-  ticket = either (Goal Event.Ticket) (c.newest == 2 ^ 32 - 1) _ _ (λ last. once Event.Ticket k Seen.NoTicket) (λ t. act_asked Event.Ticket (root_key (c.newest + 1)) Act.Issue ticket_agrees (λ live most is same. inr (full_only Event.Ticket live most is same refl)))
+  ticket = either (Goal Event.Ticket) (c.newest == 2 ^ 32 - 1) _ _ (λ last. once Event.Ticket k Seen.NoTicket) (λ t. act_asked Event.Ticket (root_key (c.newest + 1)) refl Act.Issue ticket_agrees (λ live most is same. inr (full_only Event.Ticket live most is same refl)))
 
   -- ---- a request: where the root is gone, it is told so
   request_gone : (t f : ℕ) (a : Value) (q : RowKey) → map.get m q ≡ None → Goal (Event.Request t f a) (asks (Query.Act q (Act.Bind f a)))
@@ -161,8 +161,8 @@ module _ (d : Deployment) (c : Core) (m : Rows) (h : HasKept d c m) (room old ne
 
   request : (t f : ℕ) (a : Value) → Goal (Event.Request t f a) (plan_of d (Event.Request t f a) k)
   request t f a = either (Goal (Event.Request t f a)) ((t == 0) || nat_lt c.newest t) _ _ (λ u. once (Event.Request t f a) k (Seen.Unknown t)) (λ u.
-      either (Goal (Event.Request t f a)) (is_crowded c) _ _ (λ u. once (Event.Request t f a) k Seen.Crowded) (λ u. elim (h.less.rows (root_key t)) [
-        | inl same ↦ act_asked (Event.Request t f a) (root_key t) (Act.Bind f a) same (λ live most is same. inr (full_only (Event.Request t f a) live most is same refl))
+      either (Goal (Event.Request t f a)) (is_crowded c) _ _ (λ u. once (Event.Request t f a) k Seen.Crowded) (λ u. elim (h.less.rows (root_key t) refl) [
+        | inl same ↦ act_asked (Event.Request t f a) (root_key t) refl (Act.Bind f a) same (λ live most is same. inr (full_only (Event.Request t f a) live most is same refl))
         | inr off ↦ request_gone t f a (root_key t) off.0
       ]))
 

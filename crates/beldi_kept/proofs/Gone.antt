@@ -1,7 +1,7 @@
 -- Who is gone, by the kept rows: its rows stand in one home, where it has its finish, or no body.
 use Rattle.std.specs.FinMap as map
 use Rattle.std.proofs.lemmas.Bool.{lt-ltb}
-use Rattle.std.proofs.Common.{◌≡◌, ◌⊎◌, inl, inr, ℕ, ◌+◌, ◌<◌, ◌≤◌, ◌==◌, Bool, true, false, ltb-true, Option, Some, None, is_some, if◌then◌else◌, eqb-true, refl, ap, sym, ◌∙◌, subst, arith}
+use Rattle.std.proofs.Common.{◌≡◌, ◌⊎◌, inl, inr, ℕ, ◌+◌, ◌≤◌, ◌==◌, Bool, true, false, ltb-true, Option, Some, None, is_some, if◌then◌else◌, eqb-true, refl, ap, sym, ◌∙◌, subst, arith}
 use Rattle.beldi_value.specs.{Id.has_no_hops, declared.id.IntentId.IntentId}
 use Rattle.beldi_tree.specs.declared.deployment.Deployment.{Deployment}
 use Rattle.beldi_plain.specs.Plain.{Instance}

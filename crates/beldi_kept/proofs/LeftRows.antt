@@ -19,7 +19,7 @@ use Rattle.beldi_upkeep.specs.Callees.{HasBody}
 use Rattle.beldi_upkeep.proofs.{FromRight.body_known, PastOwn.called_owner}
 use Rattle.beldi_kept.specs.{Kept.HasKept, Kept.IsOld, Stands.AnswersLess, Stands.IsFresh, Stands.KeptAnswers, Stands.KeptListing, Stands.KeptStand, Stands.OneAnswerLess, Stands.StandsLater, Stands.StandsLess, Stands.TellsDecision}
 use Rattle.beldi_kept.proofs.{Gone.old_still, Less.there_kept}
-use Rattle.beldi_kept.proofs.Alive.{alive_there, holder_alive, known_alive, owner_alive, same_content, same_decision, same_held, same_item, same_listed, same_row, same_shadow}
+use Rattle.beldi_kept.proofs.Alive.{alive_there, holder_alive, known_alive, owner_alive, same_decision, same_held, same_listed, same_owner, same_row, same_shadow}
 
 -- who has not ended has no finish
 no_finish : (i : IntentRow) → is_ended i ≡ false → i.finish ≡ None
@@ -48,14 +48,14 @@ module _ (d : Deployment) (c : Core) (m : Rows) (h : HasKept d c m) where
   -- ---- the decision of a transaction
   place_kept : (o : Option TxId) → has_place m o ≡ true → has_place h.kept o ≡ true
   place_kept None place = refl
-  place_kept (Some t) place = elim (h.less.rows (decision_key t)) [
+  place_kept (Some t) place = elim (h.less.rows (decision_key t) refl) [
     | inl same ↦ ap is_committed (sym same) ∙ place
     | inr off ↦ let clash = sym (ap is_committed off.0) ∙ place in cc
   ]
 
   told_same : (t : TxId) → TellsDecision d.life h.latest m t → map.get m (decision_key t) ≡ map.get h.kept (decision_key t)
   told_same t (inr w) = same_decision d c m h t (alive_there d c m h (intent_key t.intent t.func).home t.intent w.row w.there w.fresh)
-  told_same t (inl there) = elim (h.less.rows (decision_key t)) [
+  told_same t (inl there) = elim (h.less.rows (decision_key t) refl) [
     | inl same ↦ same
     | inr off ↦ let clash = sym (ap is_some off.0) ∙ there in cc
   ]
@@ -63,7 +63,7 @@ module _ (d : Deployment) (c : Core) (m : Rows) (h : HasKept d c m) where
   -- ---- who has not ended
   module _ (home : ℕ) (id : IntentId) (i : IntentRow) (b : Body) (there : map.get m (key_in home id) ≡ Some (Row.Intent i)) (body : i.body ≡ Some b) (place : has_place m b.tx ≡ true) (open_still : is_ended i ≡ false) where
     own : map.get h.kept (key_in home id) ≡ Some (Row.Intent i)
-    own = there_kept h.gone m h.kept h.less (key_in home id) (Row.Intent i) there
+    own = there_kept h.gone m h.kept h.less (key_in home id) (Row.Intent i) refl there
 
     has : HasBody h.kept home id i b
     has = record { there = own; body = body }
@@ -96,31 +96,31 @@ module _ (d : Deployment) (c : Core) (m : Rows) (h : HasKept d c m) where
       let w = stood.open_roots t q made open_still in
       let k = known_of d p h.upkeep.right.known h.upkeep.right.beside (root_of t) q made in
       let alive = known_alive d c m h (root_of t) k.instance k.is (λ fin. let clash = sym (ap is_some (no_finish w.row w.not_ended)) ∙ sym (ap has_finish w.there) ∙ fin in cc) in
-      record { row = w.row; there = same_row d c m h (root_key t) (λ off. let clash = sym off ∙ alive in cc) ∙ w.there; not_ended = w.not_ended }
+      record { row = w.row; there = same_row d c m h (root_key t) refl (λ off. let clash = sym off ∙ alive in cc) ∙ w.there; not_ended = w.not_ended }
 
   -- ---- items that a transaction owns
   owner_there : (x : Item) (t : TxId) → (content_of m x).owner ≡ Some (Tx t) → IsUndecided d m p t ⊎ IsGivingBack m t
   owner_there x t owned =
-      let was = ap (λ z. z.owner) (sym (same_content d c m h x)) ∙ owned in
+      let was = sym (same_owner d c m h x) ∙ owned in
       let alive = holder_alive d c m h t x was in
       elim (stood.owned x t was) [
         | inl u ↦ inl (record { owner = u.owner; undecided = same_decision d c m h t alive ∙ u.undecided })
         | inr g ↦ inr (record {
           decided = ap is_some (same_decision d c m h t alive) ∙ g.decided;
-          owner = record { row = g.owner.row; there = same_row d c m h (intent_key t.intent t.func) (λ off. let clash = sym off ∙ alive in cc) ∙ g.owner.there; not_ended = g.owner.not_ended };
+          owner = record { row = g.owner.row; there = same_row d c m h (intent_key t.intent t.func) refl (λ off. let clash = sym off ∙ alive in cc) ∙ g.owner.there; not_ended = g.owner.not_ended };
         })
       ]
 
   stands_less : StandsLess d h.latest m p
   stands_less = record {
     items = λ x. same_listed d c m h x ∙ stood.items x;
-    made = λ home id i b there body place. stood.made home id i b (there_kept h.gone m h.kept h.less (key_in home id) (Row.Intent i) there) body (place_kept b.tx place);
-    unmade = λ home id i b t there body inner tells none. stood.unmade home id i b (there_kept h.gone m h.kept h.less (key_in home id) (Row.Intent i) there) body (ap (has_place h.kept) inner ∙ sym (ap is_committed (told_same t tells)) ∙ none);
+    made = λ home id i b there body place. stood.made home id i b (there_kept h.gone m h.kept h.less (key_in home id) (Row.Intent i) refl there) body (place_kept b.tx place);
+    unmade = λ home id i b t there body inner tells none. stood.unmade home id i b (there_kept h.gone m h.kept h.less (key_in home id) (Row.Intent i) refl there) body (ap (has_place h.kept) inner ∙ sym (ap is_committed (told_same t tells)) ∙ none);
     held = λ home id i b there body place open_still q made n a at. held_there home id i b there body place open_still q made n a at;
     open_roots = open_root;
-    locks = λ x j. ap (λ z. is_owner z.owner (Intent j)) (same_content d c m h x) ∙ stood.locks x j;
+    locks = λ x j. ap (λ z. is_owner z (Intent j)) (same_owner d c m h x) ∙ stood.locks x j;
     owned = owner_there;
-    linked = λ x. subst IsLinked (sym (same_item d c m h x)) (stood.linked x);
+    threads = h.less.threads;
     shadows = λ t x w. subst IsLinked (sym (same_shadow d c m h t x (alive_there d c m h (intent_key t.intent t.func).home t.intent w.row w.there w.fresh))) (stood.shadows t x);
   }
 
@@ -177,6 +177,6 @@ stands_later d early late m p later h = record {
   open_roots = h.open_roots;
   locks = h.locks;
   owned = h.owned;
-  linked = h.linked;
+  threads = h.threads;
   shadows = λ t x w. h.shadows t x (fresh_then d early late later m (intent_key t.intent t.func) w);
 }

@@ -12,6 +12,8 @@ use Rattle.beldi_row.proofs.{Gets.got, Gets.key_same}
 use Rattle.beldi_chain.specs.{Chain.Chain, Chain.chain, Chain.content, Chain.next_of, Content.Content, Content.content_in}
 use Rattle.beldi_links.specs.Links.{IsLinked, LeadsTo, Linked, LinkedFrom}
 use Rattle.beldi_links.proofs.Ways.{content_is, none_next, one_cell}
+use Rattle.beldi_splice.specs.Splice.{LeadsPast}
+use Rattle.beldi_splice.proofs.Pruned.{is_of}
 use Rattle.beldi_walk.specs.{declared.query.Query.Query, Query.rows_after}
 use Rattle.beldi_txn.specs.Closed.{ClosedArePassed}
 use Rattle.beldi_step.specs.{Host.Core, Host.EventOn, Run.run_asks, declared.event.Event.Event, declared.event.Seen.Seen}
@@ -19,19 +21,19 @@ use Rattle.beldi_known.specs.{Contents.content_of, Contents.head_key, Stands.key
 use Rattle.beldi_upkeep.specs.Callees.{HasIntentRow, owner_key}
 use Rattle.beldi_upkeep.proofs.Shapes.{shape}
 use Rattle.beldi_kept.specs.{Kept.HasKept, Safe.OwnersComeWithRows, Safe.OwnersHaveTheirRows, Safe.owner_at}
-use Rattle.beldi_kept.proofs.Alive.{alive_key, holder_alive, lock_alive, same_content, same_item, same_row}
+use Rattle.beldi_kept.proofs.Alive.{alive_key, holder_alive, lock_alive, same_owner, same_row}
 use Rattle.beldi_kept.proofs.Collecting.{events_keep_safe}
 
 -- ---- items
 module _ (d : Deployment) (c : Core) (m : Rows) (h : HasKept d c m) where
   owner_there : (o : Owner) (x : Item) → (content_of h.kept x).owner ≡ Some o → HasIntentRow m o
-  owner_there (Tx t) x owned = ap is_some (same_row d c m h (owner_key t) (alive_key d c m h t.intent (holder_alive d c m h t x owned))) ∙ h.upkeep.seats.owner_has_row (Tx t) x owned
+  owner_there (Tx t) x owned = ap is_some (same_row d c m h (owner_key t) refl (alive_key d c m h t.intent (holder_alive d c m h t x owned))) ∙ h.upkeep.seats.owner_has_row (Tx t) x owned
   owner_there (Intent j) x owned =
       let there = h.upkeep.seats.owner_has_row (Intent j) x owned in
-      (there.0, ap is_some (same_row d c m h (key_in there.0 j) (alive_key d c m h j (lock_alive d c m h j x owned))) ∙ there.1)
+      (there.0, ap is_some (same_row d c m h (key_in there.0 j) refl (alive_key d c m h j (lock_alive d c m h j x owned))) ∙ there.1)
 
   item_owner : (o : Owner) (x : Item) → (content_of m x).owner ≡ Some o → HasIntentRow m o
-  item_owner o x owned = owner_there o x (sym (ap (λ (z : Content). z.owner) (same_content d c m h x)) ∙ owned)
+  item_owner o x owned = owner_there o x (sym (same_owner d c m h x) ∙ owned)
 
 pub owners_have_rows : OwnersHaveTheirRows
 owners_have_rows d c m h = item_owner d c m h.has
@@ -143,11 +145,19 @@ owners_come may_pass d room old new e c b m n x h s o y i owned = by_row (map.ge
     g : HasKept d b n
     g = (events_keep_safe may_pass d room old new e c b m n x h s).0.has
 
-    linked : IsLinked (chain n (head_key y))
-    linked = subst IsLinked (sym (same_item d b n g y)) (g.upkeep.right.rows.chains y)
+    -- a row that leads nowhere is of a kept one that none follows
+    none_follows : (j : ℕ) (p q : Option ℕ) → LeadsPast g.gone (chain g.kept (head_key y)) j p q → p ≡ None → q ≡ None
+    none_follows j None None l none = refl
+    none_follows j None (Some z) l none = absurd l
+    none_follows j (Some z) q l none = cc
+
+    kept_owner : (w : Cell) → map.get n (at_row (head_key y) i) ≡ Some (Row.Cell w) → w.next ≡ None → w.owner ≡ (content_of g.kept y).owner
+    kept_owner w at ends =
+        let was = is_of g.gone (chain n (head_key y)) (chain g.kept (head_key y)) (g.less.cells y) i w at in
+        was.less.owner ∙ open_owner (chain g.kept (head_key y)) (g.upkeep.right.rows.chains y) i was.kept was.there (none_follows i w.next was.kept.next was.less.next ends)
 
     by_cell : (w : Cell) → map.get n (at_row (head_key y) i) ≡ Some (Row.Cell w) → w.owner ≡ Some o → (next : Option ℕ) → w.next ≡ next → (owner_at m y i ≡ Some o) ⊎ HasIntentRow n o
-    by_cell w at is None ends = inr (item_owner d b n g o y (sym (open_owner (chain n (head_key y)) linked i w at ends) ∙ is))
+    by_cell w at is None ends = inr (owner_there d b n g o y (sym (kept_owner w at ends) ∙ is))
     by_cell w at is (Some j) next = inl (sym (event_leaves d room old new e c b m n x s (at_row (head_key y) i) j (ap next_of at ∙ next)) ∙ owned)
 
     by_row : (r : Option Row) → map.get n (at_row (head_key y) i) ≡ r → owner_in r ≡ Some o → (owner_at m y i ≡ Some o) ⊎ HasIntentRow n o

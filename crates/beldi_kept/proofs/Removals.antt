@@ -11,13 +11,14 @@ use Rattle.beldi_order.proofs.Operations.{id_same}
 use Rattle.beldi_intent.specs.Intent.{root_key}
 use Rattle.beldi_step.specs.{Host.Core, declared.run.Run.Run}
 use Rattle.beldi_known.specs.Stands.{key_in}
+use Rattle.beldi_known.proofs.Acts.{item_apart}
 use Rattle.beldi_upkeep.specs.{Callees.belongs_to, Callees.seat_of, Deadlines.IsNear, Work.WorksFor, Work.finish_in}
 use Rattle.beldi_upkeep.proofs.NewWork.{work_bound}
 use Rattle.beldi_kept.specs.{Less.and_gone, Kept.HasKept, Kept.IsLater, Kept.IsOld, Kept.IsOver, Kept.IsUnbound, Laws.RemovalsKeep, Laws.UnboundMayGo}
-use Rattle.beldi_kept.proofs.{Gone.old_still, Gone.unbound_none, Less.goes, Less.gone_more}
+use Rattle.beldi_kept.proofs.{Gone.old_still, Gone.unbound_none, Less.goes, Less.gone_more, Less.not_item, Less.off_item, Staying.for_run, Staying.same_chains}
 
 -- no deadline that is near a finish is in time once that is old
-too_late : (life now deadline : ℕ) (f : Option ℕ) → IsNear life deadline f → IsOld life now f → now ≤ deadline → ⊥
+pub too_late : (life now deadline : ℕ) (f : Option ℕ) → IsNear life deadline f → IsOld life now f → now ≤ deadline → ⊥
 too_late life now deadline None near old in_time = cc
 too_late life now deadline (Some f) near old in_time = let was = ltb-true (f + life) now old in omega (arith, near, was, in_time)
 
@@ -71,6 +72,7 @@ module _ (d : Deployment) (c : Core) (m : Rows) (h : HasKept d c m) (k : RowKey)
       less = goes h.gone m h.kept h.less k i of;
       over = λ j. by_id j (λ b. b ≡ true → IsOver d.life c.newest latest n h.kept j) (λ is e. subst (IsOver d.life c.newest latest n h.kept) (sym is) over) (λ e. still_over j (h.over j e));
       spared = λ s r j live in_time works. by_id j (λ b. b ≡ false) (λ is. absurd (spared s r live in_time (subst (WorksFor r r.at) is works))) (h.spared s r j live in_time works);
+      ahead = λ s r live in_time. for_run d.life m n r (same_chains d.life r.deadline m n (λ x. item_apart m k None x (off_item k (not_item k.kind (Some i) of refl) x))) r.at (h.ahead s r live in_time);
       newest = newest_there h.newest;
     }
 
@@ -123,7 +125,7 @@ module _ (d : Deployment) (c : Core) (m : Rows) (h : HasKept d c m) (t : ℕ) (w
       (without d c m h (root_key t) (root_of t) refl over_root nobody apart, later d c m h (root_key t) (root_of t) refl over_root nobody apart)
 
 pub unbound_may_go : UnboundMayGo
-unbound_may_go d c m h t w there bare below = elim (h.less.rows (root_key t)) [
+unbound_may_go d c m h t w there bare below = elim (h.less.rows (root_key t) refl) [
   | inl same ↦ root_goes d c m h t w (sym same ∙ there) bare below
   | inr off ↦ let clash = sym there ∙ off.0 in cc
 ]

@@ -7,7 +7,7 @@ use Rattle.std.proofs.Common.{◌≡◌, ◌⊎◌, inl, inr, ℕ, zero, suc, �
 use borrow.Author.Tests.{le-leb, leb-true}
 use Rattle.beldi_value.specs.{Id.has_no_hops, Id.root_of, declared.id.IntentId.IntentId}
 use Rattle.beldi_tree.specs.declared.deployment.Deployment.{Deployment}
-use Rattle.beldi_row.specs.{Act.act, Act.drops, Key.RowKey, Table.Rows, declared.act.Act.Act, declared.row.Row.Row}
+use Rattle.beldi_row.specs.{Act.act, Act.prunes, Key.RowKey, Table.Rows, declared.act.Act.Act, declared.row.Row.Row}
 use Rattle.beldi_walk.{proofs.Promises.row_there, specs.declared.query.Query.Query}
 use Rattle.beldi_intent.specs.Intent.{root_key}
 use Rattle.beldi_step.specs.Host.{Core, EventOn, Plan, asks, at_once, counted, plan, reads_all}
@@ -17,8 +17,8 @@ use Rattle.beldi_known.specs.Stands.{key_in}
 use Rattle.beldi_laws.proofs.Moves.{with_runs}
 use Rattle.beldi_upkeep.specs.{Upkeep.Upkeep, Work.IsUnfinished, Work.IsWorkedFor, Work.WorksFor, Work.finish_in}
 use Rattle.beldi_upkeep.proofs.{Kept.PlanKeeps, Kept.event_keeps, NewWork.new_work, NewWork.work_bound, Together.keeps_upkeep}
-use Rattle.beldi_kept.specs.{Kept.HasKept, Kept.IsLater, Kept.IsOld, Kept.IsOver, Kept.IsUnbound}
-use Rattle.beldi_kept.proofs.{Gone.done_there, Gone.finished, Gone.old_finished, Gone.old_still, Gone.root_home, Gone.unbound_bare, Gone.unbound_none, Gone.unbound_root, Less.GoesOn, Less.IsBare, Less.bare_there, Less.dates_stay}
+use Rattle.beldi_kept.specs.{Ahead.StaysAhead, Kept.HasKept, Kept.IsLater, Kept.IsOld, Kept.IsOver, Kept.IsUnbound}
+use Rattle.beldi_kept.proofs.{Gone.done_there, Gone.finished, Gone.old_finished, Gone.old_still, Gone.root_home, Gone.unbound_bare, Gone.unbound_none, Gone.unbound_root, Less.GoesOn, Less.IsBare, Less.bare_there, Less.dates_stay, Less.was_there}
 
 -- the host, but for where the intent collector stands, the events that were taken, and whether it is shut
 abbrev pub elsewhere : Core → RowKey → ℕ → Bool → Core
@@ -38,7 +38,7 @@ pub record Step (d : Deployment) (c b : Core) (gone : IntentId → Bool) (m kept
 
 -- ---- what every event keeps
 -- what is so of a row stays so, where no act removes it
-keeps_plan : (P : RowKey → Option Row → Type 0) → ((a : Act) → drops a ≡ false → (now : ℕ) (k : RowKey) (r : Option Row) → P k r → P k (act a now r).0) → (z : Core) (p : Plan) → plan_removes p ≡ false → PlanKeeps P z p
+keeps_plan : (P : RowKey → Option Row → Type 0) → ((a : Act) → prunes a ≡ false → (now : ℕ) (k : RowKey) (r : Option Row) → P k r → P k (act a now r).0) → (z : Core) (p : Plan) → plan_removes p ≡ false → PlanKeeps P z p
 keeps_plan P acts z (at_once y w) keeps = tt
 keeps_plan P acts z (asks (Query.Act k a)) keeps = λ r h. acts a keeps z.now k r h
 keeps_plan P acts z (asks (Query.After k)) keeps = tt
@@ -106,10 +106,7 @@ unbound_below newest i (Some s) r u = absurd u
 module _ (d : Deployment) (c : Core) (m : Rows) (h : HasKept d c m) where
   -- what the table has was kept
   pub was_kept : (k : RowKey) → is_some (map.get m k) ≡ true → is_some (map.get h.kept k) ≡ true
-  was_kept k there = elim (h.less.rows k) [
-    | inl same ↦ sym (ap is_some same) ∙ there
-    | inr off ↦ let clash = sym there ∙ ap is_some off.0 in cc
-  ]
+  was_kept k there = was_there h.gone m h.kept h.less k there
 
   -- a root that has its kept row was issued
   pub issued : (t : ℕ) → is_some (map.get h.kept (root_key t)) ≡ true → t ≤ c.newest
@@ -178,7 +175,7 @@ module _ (d : Deployment) (c b : Core) (m n : Rows) (h : HasKept d c m) (s : Ste
   -- ---- the newest ticket
   -- a ticket that is newer has its row
   newer : (t : ℕ) → is_some (map.get s.after (root_key t)) ≡ true → is_some (map.get h.kept (root_key t)) ≡ false → is_some (map.get n (root_key t)) ≡ true
-  newer t there new = elim (s.goes.less.rows (root_key t)) [
+  newer t there new = elim (s.goes.less.rows (root_key t) refl) [
     | inl same ↦ ap is_some same ∙ there
     | inr off ↦ let clash = sym new ∙ gone_issued d c m h t off.1 in cc
   ]
@@ -196,13 +193,14 @@ module _ (d : Deployment) (c b : Core) (m n : Rows) (h : HasKept d c m) (s : Ste
       let same : c.newest ≡ suc t = omega (arith, low, rise, is) in
       inr (stay (root_key (suc t)) (subst (λ z. is_some (map.get m (root_key z)) ≡ true) same there))
 
-  pub has_kept : HasKept d b n
-  has_kept = record { kept = s.after; upkeep = s.upkeep; gone = h.gone; less = s.goes.less; latest = h.latest; over = over_now; spared = spared; newest = newest_there h.newest b.newest refl (is_some (map.get h.kept (root_key b.newest))) refl }
+  module _ (ahead : (k : ℕ) (r : Run) → map.get b.runs k ≡ Some r → b.now ≤ r.deadline → StaysAhead d.life n r r.at) where
+    pub has_kept : HasKept d b n
+    has_kept = record { kept = s.after; upkeep = s.upkeep; gone = h.gone; less = s.goes.less; latest = h.latest; over = over_now; spared = spared; ahead = ahead; newest = newest_there h.newest b.newest refl (is_some (map.get h.kept (root_key b.newest))) refl }
 
-  pub is_later : IsLater h has_kept
-  unfolding has_kept
-  is_later = record { moment = later; ticket = newest_rises; rows = s.stay; finishes = s.dates; gone = λ i off. off; latest = omega arith }
+    pub is_later : IsLater h has_kept
+    unfolding has_kept
+    is_later = record { moment = later; ticket = newest_rises; rows = s.stay; finishes = s.dates; gone = λ i off. off; latest = omega arith }
 
-  pub same_latest : has_kept.latest ≡ h.latest
-  unfolding has_kept
-  same_latest = refl
+    pub same_latest : has_kept.latest ≡ h.latest
+    unfolding has_kept
+    same_latest = refl

@@ -7,7 +7,7 @@ use Rattle.beldi_tree.specs.Names.{func_at}
 use Rattle.beldi_lang.specs.declared.effect.Effect.{Effect}
 use Rattle.beldi_book.specs.Order.{count_changes}
 use Rattle.beldi_known.proofs.Cases.{by_option}
-use Rattle.beldi_row.specs.{Act.act, Act.call_back_to, Act.drops, Key.RowKey, Table.Rows, declared.act.Act.Act, declared.row.Row.Row}
+use Rattle.beldi_row.specs.{Act.act, Act.call_back_to, Act.prunes, Key.RowKey, Table.Rows, declared.act.Act.Act, declared.row.Row.Row}
 use Rattle.beldi_walk.specs.{declared.query.Query.Query, Query.Told, Query.said, Query.told_by, Query.rows_after}
 use Rattle.beldi_invokelog.specs.InvokeLog.{call_at, call_in, invoke_key, result_in, back_of}
 use Rattle.beldi_invokelog.specs.declared.invoke_log.Back as back
@@ -19,9 +19,14 @@ use Rattle.beldi_step.specs.declared.run.RunAt as standing
 use Rattle.beldi_known.specs.Stands.{key_in}
 use Rattle.beldi_laws.specs.{Inside.has_finish, Right.Right}
 use Rattle.beldi_upkeep.specs.{Callees.belongs_to, Checked.is_visit, Work.AsksSo, Work.CalledBy, Work.IsApart, Work.IsCaller, Work.IsOfOther, Work.WorksFor, Work.is_visiting}
-use Rattle.beldi_kept.specs.Less.{IsGone, Less}
-use Rattle.beldi_kept.proofs.{Gone.IsDone, Gone.done_there, Gone.one_row, Less.GoesOn, Less.IsBare, Less.act_both, Less.act_gone, Less.binds, Less.told_both}
+use Rattle.beldi_kept.specs.Less.{IsGone, Less, is_item}
+use Rattle.beldi_kept.proofs.{Gone.IsDone, Gone.done_there, Gone.one_row, Less.GoesOn, Less.IsBare, Less.act_both, Less.act_gone, Less.binds, Less.not_item, Less.told_both}
 use Rattle.beldi_upkeep.proofs.{Asking.asks_for_work, GivenBack.given_back, NewWork.work_bound}
+
+-- whether a row of an item is asked for
+abbrev pub asks_item : Query → Bool
+asks_item (Query.Act k a) = is_item k.kind
+asks_item (Query.After k) = false
 
 -- ---- a turn
 pub record SameTurn (d : Deployment) (c : Core) (gone : IntentId → Bool) (m kept : Rows) (r : Run) (q : Query) : Type 0 where
@@ -41,13 +46,13 @@ module _ (d : Deployment) (c : Core) (gone : IntentId → Bool) (m kept : Rows) 
     (spared : (n : ℕ) (r : Run) (i : IntentId) → map.get c.runs n ≡ Some r → c.now ≤ r.deadline → WorksFor r r.at i → gone i ≡ false)
     (n : ℕ) (r : Run) (live : map.get c.runs n ≡ Some r) (in_time : c.now ≤ r.deadline) where
   -- where the rows agree
-  alike : (k : RowKey) (a : Act) → map.get m k ≡ map.get kept k → SameTurn d c gone m kept r (Query.Act k a)
-  alike k a same = record { turned = ap (run_told d (count_changes c.book) r) (told_both gone m kept less k a c.now same); rows = act_both gone m kept less k a c.now same }
+  alike : (k : RowKey) → is_item k.kind ≡ false → (a : Act) → map.get m k ≡ map.get kept k → SameTurn d c gone m kept r (Query.Act k a)
+  alike k other a same = record { turned = ap (run_told d (count_changes c.book) r) (told_both gone m kept less k a c.now same); rows = act_both gone m kept less k other a c.now same }
 
-  -- a query that is of items, or of whom the run works for
-  plainly : (q : Query) → ((k : RowKey) (a : Act) → q ≡ Query.Act k a → IsApart r r.at k a → ⊥) → is_visiting r.at ≡ false → AsksSo r r.at q → SameTurn d c gone m kept r q
-  plainly (Query.Act k a) none off so = elim (less.rows k) [
-    | inl same ↦ alike k a same
+  -- a query of whom the run works for
+  plainly : (q : Query) → asks_item q ≡ false → ((k : RowKey) (a : Act) → q ≡ Query.Act k a → IsApart r r.at k a → ⊥) → is_visiting r.at ≡ false → AsksSo r r.at q → SameTurn d c gone m kept r q
+  plainly (Query.Act k a) other none off so = elim (less.rows k other) [
+    | inl same ↦ alike k other a same
     | inr gone_here ↦ by_of (belongs_to k.kind) refl gone_here.1
   ]
     where
@@ -57,17 +62,17 @@ module _ (d : Deployment) (c : Core) (gone : IntentId → Bool) (m kept : Rows) 
         | inl works ↦ let clash = sym of ∙ spared n r i live in_time works in cc
         | inr x ↦ absurd (none k a refl x)
       ]
-  plainly (Query.After k) none off so = let clash = sym off ∙ so in cc
+  plainly (Query.After k) other none off so = let clash = sym off ∙ so in cc
 
   -- where the rows differ, at a key of who is gone
   at_key : (k : RowKey) (a : Act) (i : IntentId) → belongs_to k.kind ≡ Some i → (map.get m k ≡ None → gone i ≡ true → SameTurn d c gone m kept r (Query.Act k a)) → SameTurn d c gone m kept r (Query.Act k a)
-  at_key k a i of apart = elim (less.rows k) [
-    | inl same ↦ alike k a same
+  at_key k a i of apart = elim (less.rows k (not_item k.kind (Some i) of refl)) [
+    | inl same ↦ alike k (not_item k.kind (Some i) of refl) a same
     | inr off ↦ apart off.0 (subst (IsGone gone) of off.1)
   ]
 
   -- an act that adds nothing, where whatever is told leads on alike
-  leads : (k : RowKey) (a : Act) (i : IntentId) → belongs_to k.kind ≡ Some i → map.get m k ≡ None → gone i ≡ true → (act a c.now None).0 ≡ None → drops a ≡ false → binds a ≡ false
+  leads : (k : RowKey) (a : Act) (i : IntentId) → belongs_to k.kind ≡ Some i → map.get m k ≡ None → gone i ≡ true → (act a c.now None).0 ≡ None → prunes a ≡ false → binds a ≡ false
       → run_told d (count_changes c.book) r (said (act a c.now None).1) ≡ run_told d (count_changes c.book) r (told_by (Query.Act k a) c.now kept) → SameTurn d c gone m kept r (Query.Act k a)
   leads k a i of none off adds keeps free same = record {
     turned = ap (λ o. run_told d (count_changes c.book) r (said (act a c.now o).1)) none ∙ same;
@@ -136,23 +141,23 @@ module _ (d : Deployment) (c : Core) (gone : IntentId → Bool) (m kept : Rows) 
     abbrev At : Stage → Type 0
     At s = SameTurn d c gone m kept r (stage_asks r.id r.func g.caller g.tx g.machine.steps g.machine.effect s)
 
-    elsewhere : (s : Stage) → g.stage ≡ s → is_visit s ≡ false → ((k : RowKey) → IsOfOther r g.caller g.tx s k → ⊥) → At s
-    elsewhere s is off none = plainly (stage_asks r.id r.func g.caller g.tx g.machine.steps g.machine.effect s)
+    elsewhere : (s : Stage) → g.stage ≡ s → asks_item (stage_asks r.id r.func g.caller g.tx g.machine.steps g.machine.effect s) ≡ false → is_visit s ≡ false → ((k : RowKey) → IsOfOther r g.caller g.tx s k → ⊥) → At s
+    elsewhere s is other off none = plainly (stage_asks r.id r.func g.caller g.tx g.machine.steps g.machine.effect s) other
         (λ k a e x. none k (subst (λ w. IsOfOther r g.caller g.tx w k) is (subst (λ y. IsApart r y k a) at x)))
         (ap is_visiting at ∙ ap is_visit is ∙ off)
         (subst (λ w. AsksSo r r.at (stage_asks r.id r.func g.caller g.tx g.machine.steps g.machine.effect w)) is (subst (λ y. AsksSo r r.at (asks_at r y)) at (asks_for_work r)))
 
-    by_stage : (s : Stage) → g.stage ≡ s → is_visit s ≡ false → At s
-    by_stage Stage.Back is off = gives_back is g.caller g.machine.effect refl
-    by_stage Stage.Tell is off = tells is g.caller
-    by_stage (Stage.End v) is off = cc
-    by_stage s is off = elsewhere s is off (λ k x. x)
+    by_stage : (s : Stage) → g.stage ≡ s → asks_item (stage_asks r.id r.func g.caller g.tx g.machine.steps g.machine.effect s) ≡ false → is_visit s ≡ false → At s
+    by_stage Stage.Back is other off = gives_back is g.caller g.machine.effect refl
+    by_stage Stage.Tell is other off = tells is g.caller
+    by_stage (Stage.End v) is other off = cc
+    by_stage s is other off = elsewhere s is other off (λ k x. x)
 
-  -- a turn over the table's rows is that turn over the kept ones
-  pub same_turn : is_visiting r.at ≡ false → SameTurn d c gone m kept r (run_asks r)
-  same_turn off = by_at r.at refl
+  -- a turn that asks for no row of an item is that turn over the kept ones
+  pub same_turn : asks_item (run_asks r) ≡ false → is_visiting r.at ≡ false → SameTurn d c gone m kept r (run_asks r)
+  same_turn other off = by_at r.at refl
     where
       by_at : (at : standing.RunAt) → r.at ≡ at → SameTurn d c gone m kept r (asks_at r at)
       by_at Looks at = looks at
-      by_at (Registers b) at = plainly (asks_at r (Registers b)) (λ k a e x. subst (λ y. IsApart r y k a) at x) off (subst (λ y. AsksSo r r.at (asks_at r y)) at (asks_for_work r))
-      by_at (Begins g) at = by_stage g at g.stage refl (sym (ap is_visiting at) ∙ off)
+      by_at (Registers b) at = plainly (asks_at r (Registers b)) refl (λ k a e x. subst (λ y. IsApart r y k a) at x) off (subst (λ y. AsksSo r r.at (asks_at r y)) at (asks_for_work r))
+      by_at (Begins g) at = by_stage g at g.stage refl (sym (ap (λ y. asks_item (asks_at r y)) at) ∙ other) (sym (ap is_visiting at) ∙ off)

@@ -13,7 +13,7 @@ use Rattle.beldi_step.specs.Host.{Core}
 use Rattle.beldi_step.specs.Run.{end_by_says, end_here_says, own_tx, run_told, stage_says, told_at, turned_by, visit_says}
 use Rattle.beldi_step.specs.declared.run.{Begun.Begun, OpenTx.OpenTx, Run.Run, RunAt.TheVariants.Begins, RunTx.TheVariants.Own, Stage.Stage}
 use Rattle.beldi_upkeep.specs.{Callees.belongs_to}
-use Rattle.beldi_kept.specs.Less.{IsGone, Less}
+use Rattle.beldi_kept.specs.Less.{IsGone, Less, is_item}
 use Rattle.beldi_kept.proofs.{Between.same_call, Between.same_lock, Less.act_both, Less.act_gone, Less.stays_on, Less.told_both, Turn.SameTurn}
 
 module _ (d : Deployment) (c : Core) (gone : IntentId → Bool) (m kept : Rows) (less : Less gone m kept) (r : Run) (g : Begun) (v : Visit)
@@ -39,9 +39,9 @@ module _ (d : Deployment) (c : Core) (gone : IntentId → Bool) (m kept : Rows) 
   says_at a is u = says u ∙ ap (λ z. turned_by d r g (visit_says commit v (end_goes t g.machine.steps commit v.way z u))) is
 
   -- a row of the run's own, or of nobody
-  pub act_alike : (k : RowKey) (a : Act) → (IsGone gone (belongs_to k.kind) → ⊥) → SameTurn d c gone m kept r (Query.Act k a)
-  act_alike k a none = elim (less.rows k) [
-    | inl same ↦ record { turned = ap (run_told d (count_changes c.book) r) (told_both gone m kept less k a c.now same); rows = act_both gone m kept less k a c.now same }
+  pub act_alike : (k : RowKey) → is_item k.kind ≡ false → (a : Act) → (IsGone gone (belongs_to k.kind) → ⊥) → SameTurn d c gone m kept r (Query.Act k a)
+  act_alike k other a none = elim (less.rows k other) [
+    | inl same ↦ record { turned = ap (run_told d (count_changes c.book) r) (told_both gone m kept less k a c.now same); rows = act_both gone m kept less k other a c.now same }
     | inr off ↦ absurd (none off.1)
   ]
 
@@ -59,7 +59,7 @@ module _ (d : Deployment) (c : Core) (gone : IntentId → Bool) (m kept : Rows) 
 
   -- who is gone has its finish, and is not stamped again; whatever is told, the visit goes back
   pub stamps : v.at ≡ EndAt.Stamp → SameTurn d c gone m kept r (q EndAt.Stamp)
-  stamps is = elim (less.rows (intent_key p.0 p.1)) [
-    | inl same ↦ record { turned = ap (run_told d (count_changes c.book) r) (told_both gone m kept less (intent_key p.0 p.1) Act.Stamp c.now same); rows = act_both gone m kept less (intent_key p.0 p.1) Act.Stamp c.now same }
+  stamps is = elim (less.rows (intent_key p.0 p.1) refl) [
+    | inl same ↦ record { turned = ap (run_told d (count_changes c.book) r) (told_both gone m kept less (intent_key p.0 p.1) Act.Stamp c.now same); rows = act_both gone m kept less (intent_key p.0 p.1) refl Act.Stamp c.now same }
     | inr off ↦ record { turned = says_at EndAt.Stamp is _ ∙ sym (says_at EndAt.Stamp is _); rows = act_gone gone m kept less (intent_key p.0 p.1) Act.Stamp c.now off.0 off.1 refl refl refl }
   ]

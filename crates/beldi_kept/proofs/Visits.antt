@@ -3,32 +3,39 @@
 use Rattle.std.specs.FinMap as map
 use Rattle.std.specs.Prelude.{IfOk, Ok, Result}
 use Rattle.std.specs.declared.alloc.AllocError.{AllocError}
-use Rattle.std.proofs.Common.{◌≡◌, inl, inr, ℕ, ◌+◌, ◌-◌, ◌≤◌, Bool, true, false, List, [], ◌∷◌, ◌++◌, Option, Some, None, is_some, refl, ap, sym, ◌∙◌, subst}
+use Rattle.beldi_plain.specs.Item.{Item}
+use Rattle.std.proofs.Common.{◌≡◌, ◌⊎◌, inl, inr, ℕ, ◌+◌, ◌≤◌, Bool, true, false, List, [], ◌∷◌, ◌++◌, Option, Some, None, is_some, refl, ap, sym, ◌∙◌, subst}
 use Rattle.std.proofs.lemmas.List.{append-nil}
 use Rattle.std.specs.Option.{option_map}
 use Rattle.beldi_value.specs.{Id.has_callees, Id.has_no_hops, declared.id.IntentId.IntentId, declared.place.Owner.Owner, declared.place.Place.Place, declared.place.TxId.TxId, declared.value.Value.Value}
 use Rattle.beldi_tree.specs.declared.deployment.Deployment.{Deployment}
 use Rattle.beldi_lang.specs.declared.effect.Effect.{Effect}
 use Rattle.beldi_book.specs.Order.{count_changes}
-use Rattle.beldi_row.specs.{Key.RowKey, Key.at_row, Log.blank, Table.IsNext, Table.Rows, Table.next_row, declared.act.Act.Act, declared.row.Row.Row}
+use Rattle.beldi_row.specs.{Key.RowKey, Key.at_row, Log.note_at, Table.IsNext, Table.Rows, Table.next_row, declared.act.Act.Act, declared.row.Cell.Cell, declared.row.Row.Row}
 use Rattle.beldi_row.proofs.Least.{next_row_least}
 use Rattle.beldi_walk.specs.{declared.query.Query.Query, Query.Told, Query.found, Query.told_by, Query.rows_after}
-use Rattle.beldi_daal.specs.{Cell.cell_key, Cell.shadow_key, declared.cell.CellOp.CellOp, declared.cell.WriteAt.WriteAt, Cell.op_act}
+use Rattle.beldi_daal.specs.{Cell.cell_key, Cell.shadow_key, declared.cell.CellOp.CellOp, declared.cell.WriteAt.WriteAt, Logged.at_of}
 use Rattle.beldi_intent.specs.Intent.{intent_key}
+use Rattle.beldi_chain.specs.Chain.{Chain, chain}
+use Rattle.beldi_links.specs.Links.{At, SeesAt}
+use Rattle.beldi_splice.proofs.Alike.{reads_go_further}
 use Rattle.beldi_lock.specs.{Lock.lockset_key, Lockset.item_after, Lockset.lockset_after}
-use Rattle.beldi_txn.specs.{Closed.ClosedArePassed, Closed.Passes, End.call_goes, End.calls_goes, End.end_goes, End.free_asks, End.free_first, End.free_place, End.next_goes, End.shadow_asks, End.visit_asks, End.visited_by, Invokes.call_after, Invokes.func_called, Invokes.invokes_after, Visited.IsPassed, Visited.IsWithin, Visited.Levels, Visited.Visited, Visited.called_at, Visited.is_closed, Visited.row_closed, Way.Member, Way.callee_of, Way.member_at, declared.end.EndAt.EndAt, declared.end.Visit.Visit, declared.way.Called.Called}
+use Rattle.beldi_txn.specs.{Closed.ClosedArePassed, Visited.SeesFreeing, Visited.is_own, Visited.item_in, Visited.lock_row, Closed.Passes, End.call_goes, End.calls_goes, End.end_goes, End.free_first, End.free_place, End.next_goes, End.shadow_asks, End.visit_asks, End.visited_by, Invokes.call_after, Invokes.func_called, Invokes.invokes_after, Visited.IsPassed, Visited.IsWithin, Visited.Levels, Visited.Visited, Visited.called_at, Visited.is_closed, Visited.row_closed, Way.Member, Way.callee_of, Way.member_at, declared.end.EndAt.EndAt, declared.end.Visit.Visit, declared.way.Called.Called}
 use Rattle.beldi_txn.proofs.{Calls.is_call, Locks.is_item, Visited.FindsFirstCall, Visited.FindsFirstLock}
 use Rattle.beldi_step.specs.Host.{Core, asks, counted, put_run, turn_next, turned_core}
 use Rattle.beldi_step.specs.Told.{entries_told, told_outcome}
 use Rattle.beldi_step.specs.Run.{Turned, asks_at, end_by_asks, end_here_asks, own_tx, run_asks, run_told, stage_asks, turned_by, visit_says}
 use Rattle.beldi_step.specs.declared.{event.Event.Event, event.Seen.Seen, run.Begun.Begun, run.OpenTx.OpenTx, run.Run.Run, run.RunAt.TheVariants.Begins, run.RunTx.RunTx, run.RunTx.TheVariants.Own, run.Says.Says, run.Stage.Stage}
-use Rattle.beldi_known.specs.{Known.tx_end, Stands.key_in}
-use Rattle.beldi_laws.specs.{Inside.end_walk, Inside.has_finish, Right.AtStage, Right.KnowsAt, Right.RunAt, Right.is_past}
+use Rattle.beldi_step.specs.Stride.{stage_to, write_walking}
+use Rattle.beldi_known.specs.{Contents.head_key, Known.tx_end, Stands.key_in}
+use Rattle.beldi_laws.specs.{Inside.end_walk, Inside.has_finish, Right.AtStage, Right.Knows, Right.KnowsAt, Right.RunAt, Right.is_past}
+use Rattle.beldi_laws.proofs.Cases.{false_by}
 use Rattle.beldi_laws.proofs.{Members.members_joined, Members.part_below, Members.took_part, Others.decided_past, Widths.finds_first}
 use Rattle.beldi_upkeep.specs.{Callees.belongs_to, Work.WorksFor}
 use Rattle.beldi_upkeep.proofs.EndRows.{tx_is_ended}
-use Rattle.beldi_kept.specs.{Kept.HasKept, Kept.IsOver, Less.IsGone}
+use Rattle.beldi_kept.specs.{Ahead.StaysAhead, Ahead.StaysAtStage, Ahead.StaysFor, Kept.HasKept, Kept.IsOver, Less.IsGone, Less.is_item as of_item}
 use Rattle.beldi_kept.proofs.{Elsewhere.stands_elsewhere, Elsewhere.works_still, Events.Goal, Events.as_were, Events.core_of, Events.turns_alike, Events.turns_by, Gone.done_there, Gone.old_finished, Gone.one_row, Gone.unbound_root, Less.stays_on, Less.there_kept, Less.GoesOn, Step.Step, Step.upkeep_elsewhere, Turn.SameTurn}
+use Rattle.beldi_kept.proofs.{ItemStages.at_stage_is, ItemStages.kept_links, ItemStages.says_is, ItemStages.sees_then, ItemStages.walks_is, ItemWrites.IsNumbered, ItemWrites.numbered_of, ItemWrites.writes}
 use Rattle.beldi_kept.proofs.VisitAlike as alike
 
 -- ---- rows of who is visited
@@ -36,6 +43,10 @@ finish_closes : (r : Option Row) → has_finish r ≡ true → row_closed r ≡ 
 finish_closes None fin = cc
 finish_closes (Some (Row.Intent w)) fin = fin
 finish_closes (Some r) fin = refl
+
+there_row : {P : Type 0} (m : Rows) (k : RowKey) (o : Option Row) → map.get m k ≡ o → is_some o ≡ true → ((r : Row) → map.get m k ≡ Some r → P) → P
+there_row m k (Some r) is some f = f r is
+there_row m k None is some f = cc
 
 -- of who calls nobody, all calls are passed
 none_called : (m : Rows) (p : Member) (At Past Then : ℕ → Type 0) (cs : List Called) → has_callees (member_at p cs).0 ≡ false → Levels m p At cs Past → Levels m p At cs Then
@@ -45,11 +56,11 @@ none_called m p At Past Then (c ∷ cs) off l = (l.0, none_called m (callee_of p
 module _ (d : Deployment) (c : Core) (m : Rows) (h : HasKept d c m) (p : Member) where
   found_call : (k : RowKey) (f : Option (RowKey × Row)) → IsNext m k f → (x : Called) → call_after p.1 p.0 f ≡ Some x → called_at h.kept p x.step ≡ Some x.func
   found_call k None next x is = cc
-  found_call k (Some e) next x is = let q = is_call p.1 p.0 e.0.home e.0.kind e.1 x is in ap (λ z. option_map func_called (map.get h.kept z)) (sym q.0) ∙ ap (option_map func_called) (there_kept h.gone m h.kept h.less e.0 e.1 next.1) ∙ ap Some q.1
+  found_call k (Some e) next x is = let q = is_call p.1 p.0 e.0.home e.0.kind e.1 x is in ap (λ z. option_map func_called (map.get h.kept z)) (sym q.0) ∙ ap (option_map func_called) (there_kept h.gone m h.kept h.less e.0 e.1 (ap (λ (z : RowKey). of_item z.kind) q.0) next.1) ∙ ap Some q.1
 
   found_lock : (begin : ℕ) (k : RowKey) (f : Option (RowKey × Row)) → IsNext m k f → (x : ℕ × List ℕ) → item_after p.1 p.0 begin f ≡ Some x → is_some (map.get h.kept (lockset_key p.1 p.0 begin x.0 x.1)) ≡ true
   found_lock begin k None next x is = cc
-  found_lock begin k (Some e) next x is = ap (λ z. is_some (map.get h.kept z)) (sym (is_item p.1 p.0 begin e.0.home e.0.kind x is)) ∙ ap is_some (there_kept h.gone m h.kept h.less e.0 e.1 next.1)
+  found_lock begin k (Some e) next x is = ap (λ z. is_some (map.get h.kept z)) (sym (is_item p.1 p.0 begin e.0.home e.0.kind x is)) ∙ ap is_some (there_kept h.gone m h.kept h.less e.0 e.1 (ap (λ (z : RowKey). of_item z.kind) (is_item p.1 p.0 begin e.0.home e.0.kind x is)) next.1)
 
   -- who is gone and has hops is closed
   gone_closed : has_no_hops p.0.hops ≡ false → h.gone p.0 ≡ true → is_closed h.kept p ≡ true
@@ -70,7 +81,7 @@ module _ (d : Deployment) (c : Core) (m : Rows) (h : HasKept d c m) (p : Member)
 
 -- ---- a turn
 module _ (may_pass : ClosedArePassed) (d : Deployment) (c : Core) (m : Rows) (h : HasKept d c m) (room old new : ℕ) (b : Core) (n : Rows) (x : Result Seen AllocError) (i : ℕ) (r : Run) (live : map.get c.runs i ≡ Some r) (in_time : c.now ≤ r.deadline)
-    (g : Begun) (at : r.at ≡ Begins g) (o : OpenTx) (tx : g.tx ≡ Some (Own o)) (commit : Bool) (ends : g.machine.effect ≡ Effect.End commit) where
+    (g : Begun) (at : r.at ≡ Begins g) (ahead : StaysAhead d.life m r (Begins g)) (o : OpenTx) (tx : g.tx ≡ Some (Own o)) (commit : Bool) (ends : g.machine.effect ≡ Effect.End commit) where
   abbrev t : TxId
   t = own_tx r.id r.func o
 
@@ -107,12 +118,15 @@ module _ (may_pass : ClosedArePassed) (d : Deployment) (c : Core) (m : Rows) (h 
       abbrev left : Turned
       left = turned_by d r g (Says.On (Stage.End w) None)
 
+      stands : (k : Knows d h.upkeep.right.known r g) → AtStage h.kept h.upkeep.right.plain c.book k (Stage.End w) g.machine.effect g.tx
+      stands k = subst (λ e. AtStage h.kept h.upkeep.right.plain c.book k (Stage.End w) e g.tx) (sym ends) (subst (λ x. AtStage h.kept h.upkeep.right.plain c.book k (Stage.End w) (Effect.End commit) x) (sym tx) (on, there))
+
       leaves : b ≡ turned_core (counted c) i r.id left → n ≡ m → Step d c b h.gone m h.kept n
       leaves is same = subst (λ z. Step d c z h.gone m h.kept n) (sym (is ∙ ap (λ z. record (counted c) { runs = put_run c.runs i left.next; book = z }) (append-nil c.book))) (record {
         after = h.kept;
-        upkeep = upkeep_elsewhere d (record c { runs = put_run c.runs i left.next }) c.cursor (c.taken + 1) c.shut h.kept (stands_elsewhere d c h.kept h.upkeep i r g v w live at stage o tx commit ends on there);
+        upkeep = upkeep_elsewhere d (record c { runs = put_run c.runs i left.next }) c.cursor (c.taken + 1) c.shut h.kept (stands_elsewhere d c h.kept h.upkeep i r g (Stage.End w) live at refl tt tt stands);
         goes = as_were d c m h room old new b n x same;
-        works = λ k s j is works. inl (works_still d c h.kept h.upkeep i r g v w live at stage o tx commit ends on there k s j is works);
+        works = λ k s j is works. inl (works_still d c h.kept h.upkeep i r g (Stage.End w) live at refl tt tt stands k s j is works);
         stay = λ k there. there;
         dates = λ k f is. is;
       })
@@ -236,19 +250,12 @@ module _ (may_pass : ClosedArePassed) (d : Deployment) (c : Core) (m : Rows) (h 
     abbrev Alike : Query → Type 0
     Alike z = SameTurn d c h.gone m h.kept r z
 
-    row_alike : (k : RowKey) (a : Act) → (IsGone h.gone (belongs_to k.kind) → ⊥) → Alike (Query.Act k a)
+    row_alike : (k : RowKey) → of_item k.kind ≡ false → (a : Act) → (IsGone h.gone (belongs_to k.kind) → ⊥) → Alike (Query.Act k a)
     row_alike = alike.act_alike d c h.gone m h.kept h.less r g v at stage alive o tx commit ends
 
     shadow : (f : Member) (row : ℕ) (z : Option (ℕ × List ℕ)) → is_some z ≡ true → Alike (shadow_asks t f row z)
     shadow f row None there = cc
-    shadow f row (Some z) there = row_alike (at_row (shadow_key f.1 t z.0 z.1) row) Act.Look (λ off. let clash = sym off ∙ alive in cc)
-
-    free : (f : Member) (place : Place) (y : Option Value) (a : WriteAt) (z : Option (ℕ × List ℕ)) → is_some z ≡ true → Alike (free_asks t f place y a z)
-    free f place y a None there = cc
-    free f place y (WriteAt.Try j) (Some z) there = row_alike (at_row (cell_key f.1 z.0 z.1) j) (op_act place (Owner.Tx t) (CellOp.Free y)) (λ off. off)
-    free f place y WriteAt.Make (Some z) there = row_alike (cell_key f.1 z.0 z.1) (Act.MakeCell Value.Null None blank) (λ off. off)
-    free f place y (WriteAt.Append j told) (Some z) there = row_alike (at_row (cell_key f.1 z.0 z.1) j) (Act.MakeCell told.value told.owner blank) (λ off. off)
-    free f place y (WriteAt.Link j) (Some z) there = row_alike (at_row (cell_key f.1 z.0 z.1) (j - 1)) (Act.LinkCell j) (λ off. off)
+    shadow f row (Some z) there = row_alike (at_row (shadow_key f.1 t z.0 z.1) row) refl Act.Look (λ off. let clash = sym off ∙ alive in cc)
 
   abbrev VisitOf : List Called → Option ℕ → Option (ℕ × List ℕ) → Option Value → EndAt → Visit
   VisitOf way after item value a = record { way = way; after = after; item = item; value = value; at = a }
@@ -258,6 +265,84 @@ module _ (may_pass : ClosedArePassed) (d : Deployment) (c : Core) (m : Rows) (h 
 
   finds : (v : Visit) → Finds v.way v
   finds v stage past visited = finds_first d c h.kept h.upkeep.right t (step, commit) (has v stage past visited) v.way visited.member
+
+  ahead_free : (way : List Called) (after : Option ℕ) (z : ℕ × List ℕ) (value : Option Value) (wr : WriteAt) → g.stage ≡ Stage.End (VisitOf way after (Some z) value (EndAt.Free wr)) → StaysFor d.life r.deadline (chain m (cell_key (visited_by t way).1 z.0 z.1)) (at_of wr)
+  ahead_free way after z value wr stage = subst (λ s. StaysAtStage d.life r.deadline m r.id r.func s g.machine.effect (Some (Own o))) stage (subst (StaysAtStage d.life r.deadline m r.id r.func g.stage g.machine.effect) tx ahead)
+
+  -- ---- an item is given back
+  module _ (way : List Called) (after : Option ℕ) (z : ℕ × List ℕ) (value : Option Value) (wr : WriteAt) (stage : g.stage ≡ Stage.End (VisitOf way after (Some z) value (EndAt.Free wr))) (past : is_past (EndAt.Free wr) ≡ true)
+      (visited : Visited (end_walk r.id r.func o step commit (VisitOf way after (Some z) value (EndAt.Free wr))) h.kept) where
+    abbrev its : Item
+    its = record { func = (visited_by t way).1; table = z.0; key = z.1 }
+
+    abbrev f : Chain
+    f = chain h.kept (head_key its)
+
+    abbrev place : Place
+    place = free_place t step way
+
+    abbrev FreeAt : WriteAt → Visit
+    FreeAt w = VisitOf way after (Some z) value (EndAt.Free w)
+
+    abbrev own : Bool
+    own = is_own (end_walk r.id r.func o step commit (FreeAt wr)) (item_in (visited_by t way).1 h.kept z)
+
+    numbered : (w : WriteAt) → SeesFreeing own f place w → IsNumbered (at_of w)
+    numbered (WriteAt.Try row) sees = tt
+    numbered WriteAt.Make sees = tt
+    numbered (WriteAt.Append k v) sees = numbered_of f place (At.Append k v.value v.owner) sees
+    numbered (WriteAt.Link k) sees = numbered_of f place (At.Link k) sees
+
+    -- while it is the transaction's, who is visited is not gone
+    owner_there : own ≡ true → h.gone place.intent ≡ false
+    owner_there owned = by_way way refl
+      where
+        by_way : (cs : List Called) → way ≡ cs → h.gone (free_place t step cs).intent ≡ false
+        by_way [] is = alive
+        by_way (e ∷ es) is = false_by (h.gone (visited_by t (e ∷ es)).0) (λ off.
+            let seen = subst (λ cs. Visited (end_walk r.id r.func o step commit (VisitOf cs after (Some z) value (EndAt.Free wr))) h.kept) is visited in
+            let shut = closed e es after value off (Some z) (EndAt.Free wr) (stage ∙ ap (λ cs. Stage.End (VisitOf cs after (Some z) value (EndAt.Free wr))) is) refl seen in
+            let free = there_row h.kept (lock_row (end_walk r.id r.func o step commit (FreeAt wr)) (visited_by t (e ∷ es)) z) _ refl seen.asked ((seen.released e es seen.member shut).0 z) in
+            let clash = sym owned ∙ ap (λ cs. is_own (end_walk r.id r.func o step commit (FreeAt wr)) (item_in (visited_by t cs).1 h.kept z)) is ∙ free in cc)
+
+    -- where it was led past rows it sees at the row that it comes to what it has to
+    seen_at : (w : WriteAt) → wr ≡ w → SeesFreeing own f place w → own ≡ true → SeesAt f place (at_of wr)
+    seen_at (WriteAt.Try row) is sees owned = subst (λ w. SeesAt f place (at_of w)) (sym is) (sees.0.0, sees.1 owned, sees.0.1)
+    seen_at WriteAt.Make is sees owned = subst (λ w. SeesAt f place (at_of w)) (sym is) tt
+    seen_at (WriteAt.Append k v) is sees owned = subst (λ w. SeesAt f place (at_of w)) (sym is) sees
+    seen_at (WriteAt.Link k) is sees owned = subst (λ w. SeesAt f place (at_of w)) (sym is) sees
+
+    comes : (row j : ℕ) (u : Cell) → map.get m (at_row (head_key its) row) ≡ Some (Row.Cell u) → u.next ≡ Some j → (wr ≡ WriteAt.Try row → note_at u.log place ≡ None) → (wr ≡ WriteAt.Try row) ⊎ (wr ≡ WriteAt.Link (row + 1)) → SeesFreeing own f place (WriteAt.Try j)
+    comes row j u is to none where_at = (
+      reads_go_further h.gone (chain m (head_key its)) f (kept_links d c m h room old new b n x i r live in_time g at its row u is) (h.less.cells its) row j u is to,
+      λ owned. (sees_then d c m h room old new b n x i r live in_time g at its place wr (owner_there owned) (seen_at wr refl visited.sees owned) row j u is to none where_at).1,
+    )
+
+    there_then : (j : ℕ) → SeesFreeing own f place (WriteAt.Try j) → Visited (end_walk r.id r.func o step commit (FreeAt (WriteAt.Try j))) h.kept
+    there_then j sees = record {
+      decided = visited.decided;
+      item = visited.item;
+      begins = visited.begins;
+      from = visited.from;
+      member = visited.member;
+      gives = visited.gives;
+      sees = sees;
+      asked = visited.asked;
+      callees = visited.callees;
+      freed = visited.freed;
+      released = visited.released;
+      marked = visited.marked;
+      linked = visited.linked;
+    }
+
+    gives_back : StaysFor d.life r.deadline (chain m (head_key its)) (at_of wr) → Turns
+    gives_back stays = writes d c m h room old new b n x i r live in_time g at its place (Owner.Tx t) (CellOp.Free value) wr
+        (asks_is (FreeAt wr) stage past visited) stays (numbered wr visited.sees)
+        (λ row is. walks_is d c m h room old new b n x i r live in_time g at (Stage.End (FreeAt wr)) stage (Effect.End commit) ends (Some (Own o)) tx ∙ ap (λ w. write_walking place (cell_key its.func z.0 z.1) w) is)
+        (λ j. Stage.End (FreeAt (WriteAt.Try j))) (λ row j is. ap (stage_to j) stage ∙ ap (λ w. stage_to j (Stage.End (FreeAt w))) is)
+        (λ l k j is told. says_is d c m h room old new b n x i r live in_time g at (Stage.End (FreeAt wr)) stage (Effect.End commit) ends (Some (Own o)) tx (told_by (run_asks r) c.now l) ∙ ap (λ y. turned_by d r g (visit_says commit (FreeAt wr) (end_goes t step commit way (EndAt.Free wr) y))) told)
+        (λ j. refl) (λ j. tt) (λ j. tt)
+        (λ row j u is to none where_at. at_stage_is d c m h room old new b n x i r live in_time g at (Stage.End (FreeAt wr)) stage (Effect.End commit) ends (Some (Own o)) tx (Stage.End (FreeAt (WriteAt.Try j))) (λ k. (past, there_then j (comes row j u is to none where_at))))
 
   by_visit : (way : List Called) (after : Option ℕ) (item : Option (ℕ × List ℕ)) (value : Option Value) (a : EndAt) → g.stage ≡ Stage.End (VisitOf way after item value a) → is_past a ≡ true → Visited (end_walk r.id r.func o step commit (VisitOf way after item value a)) h.kept → Turns
   by_visit way after item value EndAt.Decide stage past visited = cc
@@ -280,15 +365,15 @@ module _ (may_pass : ClosedArePassed) (d : Deployment) (c : Core) (m : Rows) (h 
       (λ off. locks_gone e es after value off item stage visited (item_after (visited_by t (e ∷ es)).1 (visited_by t (e ∷ es)).0 t.begin (next_row m (lockset_after (visited_by t (e ∷ es)).1 (visited_by t (e ∷ es)).0 t.begin item))) refl)
   by_visit way after item value (EndAt.Shadow row) stage past visited =
       let v = VisitOf way after item value (EndAt.Shadow row) in same_turn v stage past visited (EndAt.Shadow row) refl (shadow v stage (visited_by t way) row item visited.item)
-  by_visit way after item value (EndAt.Free a) stage past visited =
-      let v = VisitOf way after item value (EndAt.Free a) in same_turn v stage past visited (EndAt.Free a) refl (free v stage (visited_by t way) (free_place t step way) value a item visited.item)
+  by_visit way after None value (EndAt.Free a) stage past visited = cc
+  by_visit way after (Some z) value (EndAt.Free a) stage past visited = gives_back way after z value a stage past visited (ahead_free way after z value a stage)
   by_visit way after item value EndAt.Stamp stage past visited =
       let v = VisitOf way after item value EndAt.Stamp in same_turn v stage past visited EndAt.Stamp refl (alike.stamps d c h.gone m h.kept h.less r g v at stage alive o tx commit ends refl)
 
 -- by the effect and the transaction of the run
-pub visit_turns : ClosedArePassed → (d : Deployment) (c : Core) (m : Rows) (h : HasKept d c m) (room old new : ℕ) (b : Core) (n : Rows) (x : Result Seen AllocError) (i : ℕ) (r : Run) → map.get c.runs i ≡ Some r → c.now ≤ r.deadline → (g : Begun) → r.at ≡ Begins g → (v : Visit) → g.stage ≡ Stage.End v
+pub visit_turns : ClosedArePassed → (d : Deployment) (c : Core) (m : Rows) (h : HasKept d c m) (room old new : ℕ) (b : Core) (n : Rows) (x : Result Seen AllocError) (i : ℕ) (r : Run) → map.get c.runs i ≡ Some r → c.now ≤ r.deadline → (g : Begun) → r.at ≡ Begins g → StaysAhead d.life m r (Begins g) → (v : Visit) → g.stage ≡ Stage.End v
     → Goal d c m h room old new b n x (Event.Turn i) (asks (run_asks r)) × Goal d c m h room old new b n x (Event.Lost i) (asks (run_asks r))
-visit_turns may_pass d c m h room old new b n x i r live in_time g at v stage =
+visit_turns may_pass d c m h room old new b n x i r live in_time g at ahead v stage =
     by_effect g.machine.effect refl g.tx refl (subst (λ s. AtStage h.kept h.upkeep.right.plain c.book knows.0 s g.machine.effect g.tx) stage knows.1.here)
   where
     knows : KnowsAt d h.kept h.upkeep.right.plain c.book h.upkeep.right.known r (Begins g)
@@ -296,5 +381,5 @@ visit_turns may_pass d c m h room old new b n x i r live in_time g at v stage =
 
     by_effect : (e : Effect) → g.machine.effect ≡ e → (o : Option RunTx) → g.tx ≡ o → AtStage h.kept h.upkeep.right.plain c.book knows.0 (Stage.End v) e o
         → Goal d c m h room old new b n x (Event.Turn i) (asks (run_asks r)) × Goal d c m h room old new b n x (Event.Lost i) (asks (run_asks r))
-    by_effect (Effect.End commit) ends (Some (Own o)) tx here = by_visit may_pass d c m h room old new b n x i r live in_time g at o tx commit ends v.way v.after v.item v.value v.at stage here.0 here.1
+    by_effect (Effect.End commit) ends (Some (Own o)) tx here = by_visit may_pass d c m h room old new b n x i r live in_time g at ahead o tx commit ends v.way v.after v.item v.value v.at stage here.0 here.1
     by_effect e ends o tx here = absurd here

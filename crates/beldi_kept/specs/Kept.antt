@@ -8,7 +8,7 @@ use Rattle.beldi_intent.specs.Intent.{root_key}
 use Rattle.beldi_step.specs.{Host.Core, declared.run.Run.Run}
 use Rattle.beldi_known.specs.Stands.{key_in}
 use Rattle.beldi_upkeep.specs.{Callees.belongs_to, Callees.seat_of, Upkeep.Upkeep, Work.WorksFor, Work.finish_in}
-use Rattle.beldi_kept.specs.Less.{Less}
+use Rattle.beldi_kept.specs.{Ahead.StaysAhead, Less.Less}
 
 -- ---- moments
 -- a finish more than a life ago
@@ -37,6 +37,8 @@ pub record HasKept (d : Deployment) (c : Core) (m : Rows) : Type 0 where
   pub over : (i : IntentId) → gone i ≡ true → IsOver d.life c.newest latest m kept i
   -- no run that may act works for one that is gone
   pub spared : (n : ℕ) (r : Run) (i : IntentId) → map.get c.runs n ≡ Some r → c.now ≤ r.deadline → WorksFor r r.at i → gone i ≡ false
+  -- and the rows of items that its walk is led to stay until its deadline
+  pub ahead : (n : ℕ) (r : Run) → map.get c.runs n ≡ Some r → c.now ≤ r.deadline → StaysAhead d.life m r r.at
   -- the newest ticket has its row in the table
   pub newest : (c.newest ≡ 0) ⊎ (is_some (map.get m (root_key c.newest)) ≡ true)
 

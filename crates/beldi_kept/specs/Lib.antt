@@ -1,3 +1,4 @@
+pub mod Ahead
 pub mod Kept
 pub mod Laws
 pub mod Less

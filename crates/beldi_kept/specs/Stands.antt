@@ -8,11 +8,13 @@ use Rattle.beldi_lang.specs.declared.effect.Answer.{Answer}
 use Rattle.beldi_plain.specs.{Holds.holds, Item.Item, Legal.run_of, Listing.listing_of, Plain.Instance, Plain.PlainState, Plain.effect_before, Plain.value_at}
 use Rattle.beldi_order.specs.Txs.{tx_at}
 use Rattle.beldi_row.specs.{Key.RowKey, Table.Rows, declared.row.Body.Body, declared.row.IntentRow.IntentRow, declared.row.Row.Row}
+use Rattle.beldi_chain.specs.Chain.{chain}
 use Rattle.beldi_links.specs.Links.{IsLinked}
+use Rattle.beldi_splice.specs.Splice.{IsThreaded}
 use Rattle.beldi_intent.specs.Intent.{intent_key, is_ended, root_key}
 use Rattle.beldi_step.specs.{Host.Core, Tables.decision_key, Tables.tables_text}
 use Rattle.beldi_step.specs.declared.run.{Begun.Begun, Run.Run}
-use Rattle.beldi_known.specs.{Beside.Beside, Known.Known, Contents.IsLinkedItem, Contents.content_of, Contents.is_owner, Contents.shadow_chain, Listed.listed, Stands.HasNotEnded, Stands.IsGivingBack, Stands.IsMade, Stands.IsUndecided, Stands.has_place, Stands.held_answer, Stands.key_in}
+use Rattle.beldi_known.specs.{Beside.Beside, Known.Known, Contents.content_of, Contents.head_key, Contents.is_owner, Contents.shadow_chain, Listed.listed, Stands.HasNotEnded, Stands.IsGivingBack, Stands.IsMade, Stands.IsUndecided, Stands.has_place, Stands.held_answer, Stands.key_in}
 use Rattle.beldi_laws.specs.OneAnswer.{HasAnswers, IsBegun, WasGiven}
 use Rattle.beldi_kept.specs.Kept.{HasKept, IsOld}
 
@@ -38,10 +40,11 @@ pub record StandsLess (d : Deployment) (latest : ℕ) (m : Rows) (p : PlainState
       → (q : Instance) → map.get p.made id ≡ Some q → (n : ℕ) (a : Answer) → slice_get q.answers n ≡ Some a → held_answer m id q.func n (tx_at d id q n) (effect_before d q n) ≡ Some a
   -- each root without outcome has its row, which has not ended
   pub open_roots : (t : ℕ) (q : Instance) → map.get p.made (root_of t) ≡ Some q → q.outcome ≡ None → HasNotEnded m (root_key t)
-  -- items are owned as in rows that are all there, and their rows are linked; and so are those of the shadows of which the rows tell
+  -- items are owned as in rows that are all there, and the rows of an item lead to its last one; those of the shadows of which the rows tell
+  -- are linked
   pub locks : (x : Item) (j : IntentId) → is_owner (content_of m x).owner (Intent j) ≡ holds d x (map.get p.made j)
   pub owned : (x : Item) (t : TxId) → (content_of m x).owner ≡ Some (Tx t) → IsUndecided d m p t ⊎ IsGivingBack m t
-  pub linked : (x : Item) → IsLinkedItem m x
+  pub threads : (x : Item) → is_some (map.get m (head_key x)) ≡ true → IsThreaded (chain m (head_key x))
   pub shadows : (t : TxId) (x : Item) → IsFresh d.life latest m (intent_key t.intent t.func) → IsLinked (shadow_chain m t x)
 
 -- where the moment is later, they tell no more

@@ -22,11 +22,14 @@
 //!   (`the_cursor_is_free`).
 //!
 //! Proved of the host's log collectors (`specs/Safe`: `IsSafe`, the invariant, and of each collector what it found of a row that it has
-//! begun): it holds where none has begun a row (`idle_collectors_are_safe`); every event and every turn of a collector keeps it, also one
+//! begun: that its intent is gone or old; or of an item's, that each entry is of such an intent, that it is marked and the row that is looked at
+//! on the way to it, or that no row leads to it): it holds where none has begun a row (`idle_collectors_are_safe`); every event and every turn of a collector keeps it, also one
 //! that the table failed (`an_event_keeps_the_collectors_safe`, `a_pruning_keeps_all_safe`), and so does moving the intent collector
-//! (`the_cursor_is_nothing_to_collectors`). A row that a turn removed was old, or of who is gone or old (`only_old_rows_go`). A turn of a
+//! (`the_cursor_is_nothing_to_collectors`). A row that a turn removed was old, an item's and long adrift, or of who is gone or old
+//! (`only_old_rows_go`). A turn of a
 //! collector leaves all of the host but the count of events and where the collectors stand (`a_pruning_moves_only_collectors`), and where
-//! it removed no row all rows are there that were (`a_pruning_without_a_removal_keeps_all_rows`). The owner of an item has its intent's
+//! it said no change all rows are there that were (`a_pruning_without_a_change_keeps_all_rows`), also where it said no mark and no removal
+//! (`a_pruning_without_a_mark_keeps_all_rows`). The owner of an item has its intent's
 //! row in the table, so no collector takes it (`owners_have_their_rows`), and no event gives a row of an item an owner whose intent has
 //! none (`owners_come_with_their_rows`).
 //!
@@ -45,8 +48,10 @@
 //! - Lemmas (`proofs/`): `Less` one row set in both; `Gone` the home of who is gone; `Begins`, `Removals`, `Drops` the
 //!   acts that may remove a row; `Step` what is to be so of the kept rows after an event; `Turn` a turn that is the same over both;
 //!   `NextAlike`, `Between` what the next row tells, `VisitAlike` a visit that is the same, `Elsewhere` a run at another visit, `Visits`
-//!   those of who is gone; `Newest` the newest ticket; `Events` each event; `Keeps` all of it; `Collecting` log
-//!   collectors; `Alive` whose rows the table has, `Owned` that owners are among them, `LeftRows` what these tell; `Telling`.
+//!   those of who is gone; `Newest` the newest ticket; `Events` each event; `Keeps` all of it; `Passing` what collectors found
+//!   stays so, `Seated` whose entries rows have, `Declared` who is old is gone, `CellSets` a row of an item is marked, led past, left adrift or
+//!   removed, `Turns` a turn of a collector, `Looks` and `Finds` what it found by it, `Collecting` the host's collectors, `WholeTurns` those over
+//!   rows that are all there; `Alive` whose rows the table has, `Owned` that owners are among them, `LeftRows` what these tell; `Telling`.
 #![tactic(auto)]
 
 mod laws;
@@ -62,9 +67,9 @@ pub use laws::{
 };
 pub use safe::{
     a_pruning_keeps_all_safe, a_pruning_moves_only_collectors,
-    a_pruning_without_a_removal_keeps_all_rows, an_event_keeps_the_collectors_safe,
-    idle_collectors_are_safe, only_old_rows_go, owners_come_with_their_rows,
-    owners_have_their_rows, the_cursor_is_nothing_to_collectors,
+    a_pruning_without_a_change_keeps_all_rows, a_pruning_without_a_mark_keeps_all_rows,
+    an_event_keeps_the_collectors_safe, idle_collectors_are_safe, only_old_rows_go,
+    owners_come_with_their_rows, owners_have_their_rows, the_cursor_is_nothing_to_collectors,
 };
 pub use stands::{
     fresh_intents_have_one_answer, rows_stand_by_later_moments, rows_that_are_left_list_the_run,

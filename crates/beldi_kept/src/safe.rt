@@ -1,9 +1,10 @@
 // The laws of the log collectors beside the kept rows.
-ghost use Rattle.beldi_kept.specs.Safe.{EventsKeepSafe, OnlyOldRowsGo, OwnersComeWithRows, OwnersHaveTheirRows, PruningsKeepSafe, PruningsKeepWhole, PruningsMoveCollectors, SafeAtCursor, SafeAtFirst};
+ghost use Rattle.beldi_kept.specs.Safe.{EventsKeepSafe, OnlyOldRowsGo, OwnersComeWithRows, OwnersHaveTheirRows, PruningsKeepSafe, PruningsKeepWhole, PruningsLeaveWhole, PruningsMoveCollectors, SafeAtCursor, SafeAtFirst};
 
 use beldi_txn::the_closed_are_passed;
 
-/// Where the rows that are there were kept, and no collector has begun a row, none is about to remove a row but one of who is gone or old.
+/// Where the rows that are there were kept, and no collector has begun a row, none is about to remove a row but one of who is gone or old, nor to
+/// mark, lead past or leave adrift a row but one whose every entry is of these.
 pub fn idle_collectors_are_safe()
     ensures { SafeAtFirst }
 {}
@@ -15,7 +16,8 @@ pub fn an_event_keeps_the_collectors_safe()
     the_closed_are_passed();
 }
 
-/// Every turn of a log collector keeps all of it, also one that the table failed. Where no row went, the rows are as before.
+/// Every turn of a log collector keeps all of it, also one that the table failed. Where it did not say that a row was changed, the rows are as
+/// before; and where it did not say that one was marked or removed, nobody more is gone.
 pub fn a_pruning_keeps_all_safe()
     ensures { PruningsKeepSafe }
 {}
@@ -30,13 +32,20 @@ pub fn a_pruning_moves_only_collectors()
     ensures { PruningsMoveCollectors }
 {}
 
-/// Where it removed no row, all rows that were kept are there still.
-pub fn a_pruning_without_a_removal_keeps_all_rows()
+/// Where it did not say that a row was changed, all rows that were kept are there still.
+pub fn a_pruning_without_a_change_keeps_all_rows()
     ensures { PruningsKeepWhole }
 {}
 
+/// Where no collector has begun a row that is not as the invariant has it, it is enough that it did not say that one was marked or removed: of
+/// rows that are all there none is marked, so none is led past.
+pub fn a_pruning_without_a_mark_keeps_all_rows()
+    ensures { PruningsLeaveWhole }
+{}
+
 /// A row that a turn of a log collector removed was that of an intent, but of no root of the newest ticket, which had finished more than a
-/// life ago, or was issued then and never bound; or a row of an intent that is gone, or had finished so. Others may have acted in between.
+/// life ago, or was issued then and never bound; or a row of an item that was adrift for more than a life; or another row, of an intent that is
+/// gone, or had finished so. Others may have acted in between.
 pub fn only_old_rows_go()
     ensures { OnlyOldRowsGo }
 {}

@@ -1,9 +1,10 @@
 -- A death is noted and told only where another has the lock.
+use Rattle.std.specs.Prelude.{nat_lt, not, ◌&&◌, is_some}
 use Rattle.std.proofs.Common.{◌≡◌, ℕ, Bool, true, false, List, [], ◌∷◌, ◌++◌, Option, None, Some, ap, if◌then◌else◌, refl, subst, sym, ◌∙◌}
 use Rattle.std.proofs.lemmas.Option.{same_Some}
 use Rattle.beldi_value.specs.{Id.age_of, Id.is_older, Passes.passes, declared.id.IntentId.IntentId, declared.place.Owner.Owner, declared.place.Place.Place, declared.place.TxId.TxId, declared.spare.Spare.Spare, declared.value.Value.Value}
-use Rattle.beldi_row.specs.declared.act.Act.TheVariants.{Look, Issue, Bind, Register, End, Stamp, PutRead, OpenInvoke, CallBack, NoteRegistered, PutLockset, MakeCell, WriteCell, CondCell, LockCell, FreeCell, LinkCell, DropIntent, DropRow}
-use Rattle.beldi_row.specs.Act.{Tell, act, removes, stays_unless, at_tail, bind_to, call_back_to, cond_at, did, died, end_with, entered, free_at, given_or, gone, held, held_or, if_owned, if_room, is_full, link_to, lock_at, next, next_or, no_row, not_full, not_owner, noted as said_noted, noted_or, off, on, on_cell, on_intent, on_invoke, other_owner, owned_or, owns, packed, register_to, stamp_with, tested, unless_held, write_at}
+use Rattle.beldi_row.specs.declared.act.Act.TheVariants.{Look, Issue, Bind, Register, End, Stamp, PutRead, OpenInvoke, CallBack, NoteRegistered, PutLockset, MakeCell, WriteCell, CondCell, LockCell, FreeCell, LinkCell, DropIntent, DropRow, MarkCell, SkipCell, DangleCell, DropCell}
+use Rattle.beldi_row.specs.Act.{Tell, act, removes, stays_unless, at_tail, bind_to, call_back_to, cond_at, dangle_at, dangle_by, did, died, end_with, entered, free_at, given_or, gone, held, held_or, if_owned, if_room, is_full, leads_from, link_to, lock_at, mark_by, marked, next, next_or, no_row, not_full, not_owner, not_so, noted as said_noted, noted_or, off, on, on_cell, on_intent, on_invoke, other_owner, owned_or, owns, packed, register_to, skip_by, skip_to, stamp_with, tested, unless_held, write_at}
 use Rattle.beldi_row.{proofs.Logs.place_same, specs.declared.act.Act.Act, specs.declared.notes.Note.Note, specs.declared.notes.Note.TheVariants.Wrote, specs.declared.notes.Note.TheVariants.Cond, specs.declared.notes.Note.TheVariants.Got, specs.declared.notes.Note.TheVariants.Died, specs.declared.notes.Note.TheVariants.Freed, specs.declared.row.Cell.Cell, specs.declared.row.IntentRow.IntentRow, specs.declared.row.InvokeRow.InvokeRow, specs.declared.row.Row.Row, specs.Log.note_at, specs.Log.owner_eq, specs.Log.place_eq}
 use Rattle.beldi_walk.{proofs.Lent.only_transactions_die, specs.Query.is_death, specs.Query.may_die}
 use Rattle.beldi_chain.specs.Content.{content_in}
@@ -138,6 +139,22 @@ module _ (c : Cell) where
       by None = h
       by (Some o) = stays (held o)
 
+  -- what leads past it enters nothing
+  same_log : (d : Cell) (t : Tell) → d.log ≡ c.log → Lives (d, t)
+  same_log d t same p age none is = let clash = sym none ∙ ap (λ l. note_at l p) (sym same) ∙ is in cc
+
+  marks : (n : Option ℕ) → Lives (mark_by n c)
+  marks None = stays not_so
+  marks (Some n) = same_log (mark_by (Some n) c).0 (marked n) refl
+
+  skips : (t : ℕ) (b : Bool) → Lives (skip_by b t c)
+  skips t false = stays not_so
+  skips t true = same_log (skip_by true t c).0 did refl
+
+  dangles : (now : ℕ) (b : Bool) → Lives (dangle_by b now c)
+  dangles now false = stays not_so
+  dangles now true = same_log (dangle_by true now c).0 did refl
+
 abbrev LivesOn : Option Row → Option Row → Type 0
 LivesOn r s = (p : Place) (age : IntentId) → note_at (content_in r).notes p ≡ None → note_at (content_in s).notes p ≡ Some (Died age) → ⊥
 
@@ -181,6 +198,10 @@ row_lives (FreeCell p w v) now r h = on_cells (free_at p w v) no_row (λ c. let 
 row_lives (LinkCell n) now r h = on_cells (link_to n) no_row (λ c. linked c n) r
 row_lives (DropIntent l) now r h = row_stays (Some r)
 row_lives DropRow now r h = row_stays (Some r)
+row_lives MarkCell now r h = on_cells (λ c. mark_by c.next c) not_so (λ c. marks c c.next) r
+row_lives (SkipCell f t) now r h = on_cells (skip_to f t) not_so (λ c. skips c t (not c.marked && leads_from f c.next && nat_lt f t)) r
+row_lives DangleCell now r h = on_cells (dangle_at now) not_so (λ c. dangles c now (c.marked && not (is_some c.dangled))) r
+row_lives (DropCell l) now r h = row_stays (Some r)
 
 none_lives : (a : Act) (now : ℕ) → LivesOn None (off a now).0
 none_lives Look now p age none is = cc

@@ -17,7 +17,7 @@ pub use Rattle.beldi_order.{proofs.Ends.at_of, proofs.Foreign.entries_touch, pro
 pub use Rattle.beldi_order.specs.Sane as plain
 pub use Rattle.beldi_order.proofs.Entries.{after_grows, enabled_step, free_at_operation, grown_answer, grown_end, grows_at, grows_new, grows_self, grows_through, opened_grows, run_grows, runs_on}
 pub use Rattle.beldi_order.proofs.Maps as maps
-pub use Rattle.beldi_row.specs.Act.{Tell, act, bind_to, call_back_to, drops, end_with, finish_at, given_or, off, on, other, outcome_tell, register_to}
+pub use Rattle.beldi_row.specs.Act.{Tell, act, bind_to, call_back_to, prunes, end_with, finish_at, given_or, off, on, other, outcome_tell, register_to}
 pub use Rattle.beldi_row.specs.declared.act.Act.TheVariants.{Bind, CallBack, Issue, Look, MakeCell, NoteRegistered, OpenInvoke, PutLockset, PutRead, Register}
 pub use Rattle.beldi_row.{proofs.Logs.note_here, proofs.Unchanged.looked, proofs.Unchanged.unchanged, specs.Key.at_row, specs.Key.kind_at, specs.Key.least_key, specs.Key.row_of as number_of, specs.KeyOrder.key_exact, specs.KeyOrder.key_total, specs.Log.blank, specs.Table.Rose, specs.Table.TableState, specs.Table.after_act, specs.declared.act.Act.Act, specs.declared.act.Act.Act as RowAct, specs.declared.notes.Note.TheVariants.Cond, specs.declared.notes.Note.TheVariants.Died, specs.declared.notes.Note.TheVariants.Got, specs.declared.notes.Note.TheVariants.Wrote, specs.declared.table.TableErr.TableErr, specs.declared.table.TableErr.TheVariants.Failed, specs.declared.table.TableErr.TheVariants.Full, specs.declared.table.TableErr.TheVariants.OutOfMemory}
 pub use Rattle.beldi_walk.specs.Query.{CameOn, Told, lends, may_remove, query_adds, rows_after, said, told_by}

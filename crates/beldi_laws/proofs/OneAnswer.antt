@@ -1,7 +1,7 @@
 -- Where the host and its rows are right, each step of an instance has one answer; and it stays, whatever comes.
 use Rattle.beldi_known.specs.Stands.{told_by}
-use Rattle.beldi_laws.proofs.Names.{drops, false, Abort, Act, Answer, AnswersOf, AnswersStay, Async, Begin, Begins, Begun, Call, CallGoesOn, CondWrite, Core, Deployment, Died, Done, Effect, End, GoesOn, Got, HeldAnswersStay, Instance, IntentId, InvokeRow, Item, Knows, KnowsAt, None, Note, OnItem, OneAnswerPerStep, OneRowChanged, Option, Outcome, Place, Read, Right, RightHasOneAnswer, Row, RowKey, Rows, Run, RunAt, Some, TxId, Value, WasGiven, Write, act, after_act, answer_aside, answer_of, ap, arith, at_each, call_in, calls_stay, chain, content, decides, given, given_in, head_key, held_answer, held_inside, held_note, held_outside, inl, inr, invoke_key, item_in, log_key, note_at, note_of_lock, noted_answer, notes_stay, on, op_of, option_and_then, option_map, refl, result_in, shadow_key, subst, sym, ℕ, ◌∙◌, ◌≡◌, Query}
-use Rattle.beldi_row.proofs.Removed.{act_stays}
+use Rattle.beldi_laws.proofs.Names.{prunes, false, Abort, Act, Answer, AnswersOf, AnswersStay, Async, Begin, Begins, Begun, Call, CallGoesOn, CondWrite, Core, Deployment, Died, Done, Effect, End, GoesOn, Got, HeldAnswersStay, Instance, IntentId, InvokeRow, Item, Knows, KnowsAt, None, Note, OnItem, OneAnswerPerStep, OneRowChanged, Option, Outcome, Place, Read, Right, RightHasOneAnswer, Row, RowKey, Rows, Run, RunAt, Some, TxId, Value, WasGiven, Write, act, after_act, answer_aside, answer_of, ap, arith, at_each, call_in, calls_stay, chain, content, decides, given, given_in, head_key, held_answer, held_inside, held_note, held_outside, inl, inr, invoke_key, item_in, log_key, note_at, note_of_lock, noted_answer, notes_stay, on, op_of, option_and_then, option_map, refl, result_in, shadow_key, subst, sym, ℕ, ◌∙◌, ◌≡◌, Query}
+use Rattle.beldi_row.proofs.Removed.{act_stays, spares}
 use Rattle.beldi_laws.proofs.{OneEvent.one_row, Standing.held_here, Standing.same_run}
 use Rattle.beldi_laws.proofs.Names.map
 
@@ -31,9 +31,9 @@ given_stays r a now = grind arith
 of_note : (o : Option Note) (x : Answer) → option_and_then noted_answer o ≡ Some x → (n : Note) × (o ≡ Some n)
 of_note o x is = grind arith
 
-value_stays : (f : Option Value → Option Answer) → f None ≡ None → (a : Act) (now : ℕ) (x : Answer) (o : Option Row) → drops a ≡ false → f (option_map given_in o) ≡ Some x → f (option_map given_in (act a now o).0) ≡ Some x
+value_stays : (f : Option Value → Option Answer) → f None ≡ None → (a : Act) (now : ℕ) (x : Answer) (o : Option Row) → prunes a ≡ false → f (option_map given_in o) ≡ Some x → f (option_map given_in (act a now o).0) ≡ Some x
 value_stays f none a now x None keeps is = let clash = sym none ∙ is in grind arith
-value_stays f none a now x (Some r) keeps is = ap (λ z. f (option_map given_in z.0)) (act_stays a now r keeps) ∙ ap (λ v. f (Some v)) (given_stays r a now) ∙ is
+value_stays f none a now x (Some r) keeps is = ap (λ z. f (option_map given_in z.0)) (act_stays a now r (spares a keeps)) ∙ ap (λ v. f (Some v)) (given_stays r a now) ∙ is
 
 -- what a call gave back
 back_stays : (x : Answer) (o u : Option Row) → CallGoesOn o u → option_map answer_of (result_in (call_in o)) ≡ Some x → option_map answer_of (result_in (call_in u)) ≡ Some x
@@ -49,9 +49,9 @@ back_stays x o u goes held = by_call (call_in o) refl held
 call_stays : (x : Answer) (o u : Option Row) → CallGoesOn o u → option_map (λ i. Done) (call_in o) ≡ Some x → option_map (λ i. Done) (call_in u) ≡ Some x
 call_stays x o u goes held = grind arith
 
-module _ (a : Act) (keeps : drops a ≡ false) (now : ℕ) (k : RowKey) (m : Rows) where
+module _ (a : Act) (keeps : prunes a ≡ false) (now : ℕ) (k : RowKey) (m : Rows) where
   -- what every act that removes none keeps of a row
-  at_key : (P : Option Row → Type 0) → ((b : Act) (t : ℕ) (o : Option Row) → drops b ≡ false → P o → P (act b t o).0) → (l : RowKey) → P (map.get m l) → P (map.get (after_act a now k m) l)
+  at_key : (P : Option Row → Type 0) → ((b : Act) (t : ℕ) (o : Option Row) → prunes b ≡ false → P o → P (act b t o).0) → (l : RowKey) → P (map.get m l) → P (map.get (after_act a now k m) l)
   at_key P stays l = at_each (λ o u. P o → P u) (λ o held. held) stays (Query.Act k a) keeps now m l
 
   -- a note that is there stays, and so does what is told by one

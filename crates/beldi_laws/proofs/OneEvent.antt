@@ -4,7 +4,7 @@ use Rattle.std.proofs.Common.{nat_lt}
 use Rattle.std.proofs.lemmas.List.{append-nil}
 use Rattle.beldi_walk.specs.declared.query.Query.TheVariants.{Act}
 use Rattle.beldi_collect.specs.declared.cursor.Found.{Found}
-use Rattle.beldi_row.specs.Act.{drops}
+use Rattle.beldi_row.specs.Act.{prunes}
 use Rattle.beldi_walk.specs.Query.{may_remove}
 use Rattle.beldi_step.proofs.{Runs.of_plan, Spares.plan_removes, Spares.plan_spares}
 use Rattle.beldi_step.specs.{declared.run.RunAt.RunAt, Run.callee_of, Host.at_once}
@@ -16,7 +16,7 @@ use Rattle.beldi_laws.proofs.Names.map
 same_rows : (c : Core) (m n : Rows) → n ≡ m → OneRowChanged c m n
 same_rows c m n same = record { key = least_key; rows = inl same; others = λ x apart. ap (λ l. content_of l x) same }
 
-one_act : (c : Core) (m n : Rows) (k : RowKey) (a : RowAct) → drops a ≡ false → n ≡ after_act a c.now k m → OneRowChanged c m n
+one_act : (c : Core) (m n : Rows) (k : RowKey) (a : RowAct) → prunes a ≡ false → n ≡ after_act a c.now k m → OneRowChanged c m n
 one_act c m n k a keeps is = record { key = k; rows = inr (a, keeps, is); others = λ x apart. ap (λ l. content_of l x) is ∙ ap content (chain_off m (after_act a c.now k m) k (head_key x) (set_others m k (act a c.now (map.get m k)).0) (item_head x) apart) }
 
 by_query : (c : Core) (q : Query) (m n : Rows) → may_remove q ≡ false → n ≡ rows_after q c.now m → OneRowChanged c m n

@@ -7,7 +7,7 @@ use Rattle.beldi_tree.specs.declared.deployment.Deployment.{Deployment}
 use Rattle.beldi_book.specs.declared.entry.Entry.{Entry}
 use Rattle.beldi_plain.specs.{Item.Item, Plain.PlainState, Legal.IsLegal, Legal.run_of, Listing.listing_of, Replies.starts_of, Replies.HasNoReply, Replies.HasReply}
 use Rattle.beldi_order.specs.Grown.{Grows}
-use Rattle.beldi_row.specs.{Act.drops, Key.RowKey, declared.act.Act.Act, Table.Rows, Table.TableState, Table.Rose, Table.after_act}
+use Rattle.beldi_row.specs.{Act.prunes, Key.RowKey, declared.act.Act.Act, Table.Rows, Table.TableState, Table.Rose, Table.after_act}
 use Rattle.beldi_step.specs.{declared.event.Event.Event, declared.event.Seen.Seen, Host.Core, Host.Stepped, Host.EventOn, Host.first_core, Told.is_lost, Told.is_dropped, Told.told_outcome, Told.bound_of, Told.entries_told, Tables.tables_text}
 use Rattle.beldi_known.specs.{Stands.Stands, Contents.head_key, Contents.content_of}
 use Rattle.beldi_chain.specs.Chain.{is_row_of}
@@ -84,7 +84,7 @@ HeldAnswersStay = (d : Deployment) (room old new : ℕ) (e : Event) (c b : Core)
 -- at most the row of this key changes, by one act, which removes no row; and an item that it is no row of has the content that it had
 pub record OneRowChanged (c : Core) (m n : Rows) : Type 0 where
   pub key : RowKey
-  pub rows : (n ≡ m) ⊎ ((a : Act) × (drops a ≡ false) × (n ≡ after_act a c.now key m))
+  pub rows : (n ≡ m) ⊎ ((a : Act) × (prunes a ≡ false) × (n ≡ after_act a c.now key m))
   pub others : (x : Item) → is_row_of (head_key x) key ≡ false → content_of n x ≡ content_of m x
 
 abbrev pub ChangesOneRow : Type 0

@@ -9,7 +9,7 @@ use Rattle.beldi_links.proofs.Ways.{before_join, content_is, few, join, none_nex
 
 -- ---- ways from one row
 -- from one on a way to a later one
-between : (f : Chain) (a : ℕ) (ks : List ℕ) (r : ℕ) (js : List ℕ) (n : ℕ) → Steps f a ks r → Steps f a js n → r < n → LeadsTo f r n
+pub between : (f : Chain) (a : ℕ) (ks : List ℕ) (r : ℕ) (js : List ℕ) (n : ℕ) → Steps f a ks r → Steps f a js n → r < n → LeadsTo f r n
 between f a [] r js n way more less = (js, subst (λ z. Steps f z js n) way more)
 between f a (k ∷ ks) r [] n (c, is, next, rise, way) more less = let w : a ≡ n = more in let m = few f k ks r way in absurd (omega (arith, w, m, rise, less))
 between f a (k ∷ ks) r (j ∷ js) n (c, is, next, rise, way) (d, at, to, more, all) less =

@@ -53,6 +53,9 @@ module _ (P : ℕ × Value → Type 0) where
   sweep_asks : (k budget n : ℕ) (x : Pruned) → AsksSo (sweep_heard k budget n x)
   sweep_asks k budget n Pruned.Round = tt
   sweep_asks k budget n Pruned.Going = sweep_at_asks k budget (n + 1)
+  sweep_asks k budget n Pruned.Marked = sweep_at_asks k budget (n + 1)
+  sweep_asks k budget n Pruned.Skipped = sweep_at_asks k budget (n + 1)
+  sweep_asks k budget n Pruned.Dangled = sweep_at_asks k budget (n + 1)
   sweep_asks k budget n Pruned.Removed = sweep_at_asks k budget (n + 1)
   sweep_asks k budget n Pruned.Dropped = sweep_at_asks k budget (n + 1)
   sweep_asks k budget n Pruned.Shut = sweep_at_asks k budget (n + 1)

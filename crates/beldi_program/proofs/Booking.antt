@@ -1,30 +1,30 @@
--- The responses of a session, each with the book and the rows after it, and with when a row was removed last.
+-- The responses of a session, each with the book and the rows after it, and with when a collector changed a row last.
 use Rattle.beldi_session.specs.Response.{PruneAnswered, PruneBroke, Whole}
 use Rattle.beldi_session.specs.Script.{Prune, Sweep, TellSwept}
 use Rattle.beldi_serve.proofs.Leading.{leads_so}
 use Rattle.beldi_program.proofs.Names.{Action, Answered, AreTo, AtFirst, Booked, BrokeOff, Call, Carry, Collect, Core, CountRows, Deployment, Follows, Goes, Hosted, IsStep, IsTo, IsToSettling, Leads, LeadsTo, Leaves, List, ListBook, ListTables, Next, None, Option, Over, Refuse, ReplyAlone, Reported, Reset, Response, Rows, Session, Settle, SettlingLeaves, Some, State, Steps, StepsTo, TellReply, Turn, Went, WentBack, WentOn, [], ap, is_turn, next_of, opened_at, refl, responses_in, responses_text, subst, sym, ℕ, ◌∙◌, ◌∷◌, ◌≡◌, ◌≤◌}
-use Rattle.beldi_program.specs.Hosted.{SessionsArePlainRuns, removed_by}
+use Rattle.beldi_program.specs.Hosted.{SessionsArePlainRuns, changed_by}
 
 -- a response, with what there is after it
 abbrev pub booked_at : Option ℕ → Response → State → State → Booked
-booked_at was y s t = record { response = y; book = t.core.book; rows = t.rows; removed = removed_by s.core.now was y }
+booked_at was y s t = record { response = y; book = t.core.book; rows = t.rows; changed = changed_by s.core.now was y }
 
 abbrev pub booked : (d : Deployment) (was : Option ℕ) (ys : List Response) (s t : State) → Leads (IsStep d d.room) ys s t → List Booked
 booked d was [] s t x = []
-booked d was (y ∷ ys) s t x = booked_at was y s x.0 ∷ booked d (removed_by s.core.now was y) ys x.0 t x.2
+booked d was (y ∷ ys) s t x = booked_at was y s x.0 ∷ booked d (changed_by s.core.now was y) ys x.0 t x.2
 
 pub booked_back : (d : Deployment) (was : Option ℕ) (ys : List Response) (s t : State) (x : Leads (IsStep d d.room) ys s t) → responses_in (booked d was ys s t x) ≡ ys
 booked_back d was [] s t x = refl
-booked_back d was (y ∷ ys) s t x = ap (λ z. y ∷ z) (booked_back d (removed_by s.core.now was y) ys x.0 t x.2)
+booked_back d was (y ∷ ys) s t x = ap (λ z. y ∷ z) (booked_back d (changed_by s.core.now was y) ys x.0 t x.2)
 
 pub leads_to : (d : Deployment) (was : Option ℕ) (ys : List Response) (s t : State) (x : Leads (IsStep d d.room) ys s t) → LeadsTo d was (booked d was ys s t x) s t
 leads_to d was [] s t x = x
-leads_to d was (y ∷ ys) s t x = (x.0, record { step = x.1; book = refl; rows = refl; removed = refl }, leads_to d (removed_by s.core.now was y) ys x.0 t x.2)
+leads_to d was (y ∷ ys) s t x = (x.0, record { step = x.1; book = refl; rows = refl; changed = refl }, leads_to d (changed_by s.core.now was y) ys x.0 t x.2)
 
 steps_to : (d : Deployment) (was : Option ℕ) (ys : List Response) (fs more : List Action) (s t : State) (x : Steps (IsStep d d.room) ys fs more s t) → StepsTo d was (booked d was ys s t (leads_so (IsStep d d.room) ys fs more s t x)) fs more s t
 unfolding leads_so
 steps_to d was [] fs more s t x = x
-steps_to d was (y ∷ ys) fs more s t x = (x.0, x.1, record { step = x.2; book = refl; rows = refl; removed = refl }, x.3, steps_to d (removed_by s.core.now was y) ys x.1 more x.0 t x.4)
+steps_to d was (y ∷ ys) fs more s t x = (x.0, x.1, record { step = x.2; book = refl; rows = refl; changed = refl }, x.3, steps_to d (changed_by s.core.now was y) ys x.1 more x.0 t x.4)
 
 -- ---- what the responses are to
 is_to_settling : (budget : ℕ) (c : Core) (n : Next) (y : Response) (left : List Action) → SettlingLeaves budget c n y left → IsToSettling budget y left

@@ -5,17 +5,17 @@ use Rattle.beldi_plain.specs.{Legal.run_of, Listing.listing_of, Plain.PlainState
 use Rattle.beldi_row.specs.Table.{HasCause}
 use Rattle.beldi_step.specs.{Host.first_core, Prunes.PrunesOn, Tables.tables_text, Told.told_outcome, declared.event.Pruned.Pruned}
 use Rattle.beldi_upkeep.{proofs.Together.begins_upkept, proofs.Together.keeps_upkeep, specs.Upkeep.Upkeep}
-use Rattle.beldi_kept.specs.{Kept.HasKept, Kept.IsLater, Safe.EventsKeepSafe, Safe.IsSafe, Stands.StandsLess, Told.KeptOutcomes, Told.KeptReplies}
+use Rattle.beldi_kept.specs.{Safe.changes, Safe.takes, Kept.HasKept, Kept.IsLater, Safe.EventsKeepSafe, Safe.IsSafe, Stands.StandsLess, Told.KeptOutcomes, Told.KeptReplies}
 use Rattle.beldi_kept.proofs.{Begins.begins_kept, Begins.begins_early, Collecting.prunings_keep_safe, Collecting.prunings_keep_whole, Collecting.prunings_move, Collecting.safe_at_cursor, Collecting.upkept, LeftRows.kept_listing, LeftRows.kept_stand, LeftRows.stands_later, Telling.kept_are_legal}
 use Rattle.beldi_host.specs.Survey.{latest_of, opened_core, reply_seen}
 use Rattle.beldi_host.proofs.Right.{said_less, reply_there}
 use Rattle.beldi_joined.specs.Joined.{behind, joined, raised_answer, raised_seen}
 use Rattle.beldi_joined.proofs.{After.told_same, Books.joined_nothing, Books.starts_joined, RaisedEvents.step_behind, RaisedPrunes.prunes_behind, Reopened.behind_nothing, Reopened.opened_safe, Reopened.opened_upkept}
 use Rattle.beldi_session.specs.Response.{PruneAnswered, PruneBroke, Share, SweptIs}
-use Rattle.beldi_program.proofs.Names.{AllocError, Answered, BookGrew, BookIs, Booked, BrokeOff, Core, Deployment, Entry, Err, Event, EventOn, Gone, HasReply, IsLegal, IsPlainRun, IsReport, IsReportSo, IsSo, IsStep, LeadsTo, LineRefused, List, Moment, Moments, None, Ok, Option, Outcome, Reply, ReplyIs, ReplySeen, Report, Reported, Response, Result, RowKey, Rows, RowsAre, RowsStandFor, SaidOf, Seen, SettledIs, Some, State, TablesAre, TellOutcomes, Unchanged, Unknown, Value, Waiting, WentBack, WentOn, [], ap, append-nil, append_assoc, arith, at_key, book_grew, bound_by, bound_by_event, bound_in, entries_in, false, last_book, least_key, loses, opened_at, outcome_in, refl, responses_in, right_stands, same_Some, starts_bound, starts_of, subst, sym, true, ℕ, ◌++◌, ◌+◌, ◌∙◌, ◌∷◌, ◌≡◌, ◌≤◌}
+use Rattle.beldi_program.proofs.Names.{IfOk, AllocError, Answered, BookGrew, BookIs, Booked, BrokeOff, Core, Deployment, Entry, Err, Event, EventOn, Gone, HasReply, IsLegal, IsPlainRun, IsReport, IsReportSo, IsSo, IsStep, LeadsTo, LineRefused, List, Moment, Moments, None, Ok, Option, Outcome, Reply, ReplyIs, ReplySeen, Report, Reported, Response, Result, RowKey, Rows, RowsAre, RowsStandFor, SaidOf, Seen, SettledIs, Some, State, TablesAre, TellOutcomes, Unchanged, Unknown, Value, Waiting, WentBack, WentOn, [], ap, append-nil, append_assoc, arith, at_key, book_grew, bound_by, bound_by_event, bound_in, entries_in, false, last_book, least_key, loses, opened_at, outcome_in, refl, responses_in, right_stands, same_Some, starts_bound, starts_of, subst, sym, true, ℕ, ◌++◌, ◌+◌, ◌∙◌, ◌∷◌, ◌≡◌, ◌≤◌}
 use Rattle.beldi_program.proofs.Names.map
-use Rattle.beldi_program.specs.PlainRun.{StandsBy, alone, last_removed, later, removes}
-use Rattle.beldi_program.specs.Hosted.{Left, SessionsArePlainRuns, StepTo, no_session, one_more, removed_by}
+use Rattle.beldi_program.specs.PlainRun.{StandsBy, alone, last_changed, later, changes_row}
+use Rattle.beldi_program.specs.Hosted.{Left, SessionsArePlainRuns, StepTo, no_session, one_more, changed_by}
 
 abbrev Bound : Type 0
 Bound = List (ℕ × (ℕ × Value))
@@ -60,17 +60,17 @@ behind_lifts d base = record {
   now = λ c. refl;
 }
 
--- ---- when a row was removed last: where none was, all rows are there; else who is gone was old then
-abbrev Removed : (d : Deployment) → Option ℕ → (c : Core) (m : Rows) → HasKept d c m → Type 0
-Removed d None c m h = Upkeep d c m × (h.latest ≡ 0)
-Removed d (Some l) c m h = h.latest ≤ l
+-- ---- when a collector changed a row last: where none did, all rows are there; else who is gone was old then
+abbrev Changed : (d : Deployment) → Option ℕ → (c : Core) (m : Rows) → HasKept d c m → Type 0
+Changed d None c m h = Upkeep d c m × (h.latest ≡ 0)
+Changed d (Some l) c m h = h.latest ≤ l
 
--- .. and where a row is removed now
-removed_now : (d : Deployment) (gone was : Option ℕ) (c b : Core) (m n : Rows) (h : HasKept d c m) (g : HasKept d b n) (now : ℕ) → Removed d (later gone was) c m h → g.latest ≤ max h.latest now → Removed d (later gone (later was (Some now))) b n g
-removed_now d None None c b m n h g now so up = let none = so.1 in omega (arith, none, up)
-removed_now d None (Some a) c b m n h g now so up = omega (arith, so, up)
-removed_now d (Some a) None c b m n h g now so up = omega (arith, so, up)
-removed_now d (Some a) (Some b') c b m n h g now so up = omega (arith, so, up)
+-- .. and where one is changed now
+changed_now : (d : Deployment) (gone was : Option ℕ) (c b : Core) (m n : Rows) (h : HasKept d c m) (g : HasKept d b n) (now : ℕ) → Changed d (later gone was) c m h → g.latest ≤ max h.latest now → Changed d (later gone (later was (Some now))) b n g
+changed_now d None None c b m n h g now so up = let none = so.1 in omega (arith, none, up)
+changed_now d None (Some a) c b m n h g now so up = omega (arith, so, up)
+changed_now d (Some a) None c b m n h g now so up = omega (arith, so, up)
+changed_now d (Some a) (Some b') c b m n h g now so up = omega (arith, so, up)
 
 -- the laws that are called
 record Laws : Type 0 where
@@ -79,10 +79,10 @@ record Laws : Type 0 where
   stay : KeptOutcomes
 
 module _ (laws : Laws) (d : Deployment) (lift : Core → Core) (history : List Entry → List Entry) (lifts : Lifts d lift history) (gone : Option ℕ) where
-  -- a host with its rows, that is right with its history; `was` is when a row was removed last in this session
+  -- a host with its rows, that is right with its history; `was` is when a collector changed a row last in this session
   record RightFor (was : Option ℕ) (c : Core) (m : Rows) : Type 0 where
     safe : IsSafe d (lift c) m
-    so : Removed d (later gone was) (lift c) m safe.has
+    so : Changed d (later gone was) (lift c) m safe.has
 
   abbrev RightAt : Option ℕ → State → Type 0
   RightAt was s = RightFor was s.core s.rows
@@ -123,14 +123,14 @@ module _ (laws : Laws) (d : Deployment) (lift : Core → Core) (history : List E
   lifted e s t r o = lifts.event d.room s.faults t.faults e s.core t.core s.rows t.rows r o
 
   event_right : (was : Option ℕ) (e : Event) (s t : State) (r : Result Seen AllocError) → RightAt was s → EventOn d d.room s.faults t.faults e s.core s.rows t.core t.rows r → RightAt was t
-  event_right was e s t r h o = record { safe = g.0; so = by_removed (later gone was) h.so }
+  event_right was e s t r h o = record { safe = g.0; so = by_changed (later gone was) h.so }
     where
       g : (g : IsSafe d (lift t.core) t.rows) × IsLater h.safe.has g.has × (g.has.latest ≡ h.safe.has.latest)
       g = laws.keep d d.room s.faults t.faults e (lift s.core) (lift t.core) s.rows t.rows (lifts.answer r) h.safe (lifted e s t r o)
 
-      by_removed : (l : Option ℕ) → Removed d l (lift s.core) s.rows h.safe.has → Removed d l (lift t.core) t.rows g.0.has
-      by_removed None so = (keeps_upkeep d d.room s.faults t.faults e (lift s.core) (lift t.core) s.rows t.rows (lifts.answer r) so.0 (lifted e s t r o), g.2 ∙ so.1)
-      by_removed (Some l) so = subst (λ z. z ≤ l) (sym g.2) so
+      by_changed : (l : Option ℕ) → Changed d l (lift s.core) s.rows h.safe.has → Changed d l (lift t.core) t.rows g.0.has
+      by_changed None so = (keeps_upkeep d d.room s.faults t.faults e (lift s.core) (lift t.core) s.rows t.rows (lifts.answer r) so.0 (lifted e s t r o), g.2 ∙ so.1)
+      by_changed (Some l) so = subst (λ z. z ≤ l) (sym g.2) so
 
   kept_event : (was : Option ℕ) (e : Event) (s t : State) (r : Result Seen AllocError) → RightAt was s → EventOn d d.room s.faults t.faults e s.core s.rows t.core t.rows r → Kept was s t (bound_by_event e r)
   kept_event was e s t r h o = record {
@@ -149,66 +149,69 @@ module _ (laws : Laws) (d : Deployment) (lift : Core → Core) (history : List E
     abbrev on : PrunesOn d s.faults t.faults k (lift s.core) s.rows (lift t.core) t.rows r
     on = lifts.prune s.faults t.faults k s.core t.core s.rows t.rows r o
 
-    after : (g : IsSafe d (lift t.core) t.rows) × IsLater h.safe.has g.has × (g.has.latest ≤ max h.safe.has.latest (lift s.core).now) × ((r ≡ Ok Pruned.Removed → ⊥) → (t.rows ≡ s.rows) × (g.has.latest ≡ h.safe.has.latest))
+    after : (g : IsSafe d (lift t.core) t.rows) × IsLater h.safe.has g.has × (g.has.latest ≤ max h.safe.has.latest (lift s.core).now) × (IfOk r (λ y. changes y ≡ false) → t.rows ≡ s.rows) × (IfOk r (λ y. takes y ≡ false) → g.has.latest ≡ h.safe.has.latest)
     after = prunings_keep_safe d s.faults t.faults k (lift s.core) (lift t.core) s.rows t.rows r h.safe on
 
     same_book : t.core.book ≡ s.core.book
     same_book = let moves = prunings_move d s.faults t.faults k s.core t.core s.rows t.rows r o in ap (λ (c : Core). c.book) moves.is
 
-    -- it removed no row
-    kept_still : (r ≡ Ok Pruned.Removed → ⊥) → Kept was s t []
-    kept_still none = kept_by was s t same_book (record { safe = after.0; so = by_removed (later gone was) h.so })
+    -- it changed no row
+    kept_still : IfOk r (λ y. changes y ≡ false) → IfOk r (λ y. takes y ≡ false) → Kept was s t []
+    kept_still none stays = kept_by was s t same_book (record { safe = after.0; so = by_changed (later gone was) h.so })
       where
-        by_removed : (l : Option ℕ) → Removed d l (lift s.core) s.rows h.safe.has → Removed d l (lift t.core) t.rows after.0.has
-        by_removed None so = (prunings_keep_whole d s.faults t.faults k (lift s.core) (lift t.core) s.rows t.rows r on none so.0, (after.3 none).1 ∙ so.1)
-        by_removed (Some l) so = subst (λ z. z ≤ l) (sym (after.3 none).1) so
+        by_changed : (l : Option ℕ) → Changed d l (lift s.core) s.rows h.safe.has → Changed d l (lift t.core) t.rows after.0.has
+        by_changed None so = (prunings_keep_whole d s.faults t.faults k (lift s.core) (lift t.core) s.rows t.rows r on none so.0, after.4 stays ∙ so.1)
+        by_changed (Some l) so = subst (λ z. z ≤ l) (sym (after.4 stays)) so
 
-    -- it removed one
+    -- it changed one
     kept_less : Kept (later was (Some s.core.now)) s t []
-    kept_less = kept_by (later was (Some s.core.now)) s t same_book (record { safe = after.0; so = removed_now d gone was (lift s.core) (lift t.core) s.rows t.rows h.safe.has after.0.has s.core.now h.so (subst (λ z. after.0.has.latest ≤ max h.safe.has.latest z) (lifts.now s.core) after.2) })
+    kept_less = kept_by (later was (Some s.core.now)) s t same_book (record { safe = after.0; so = changed_now d gone was (lift s.core) (lift t.core) s.rows t.rows h.safe.has after.0.has s.core.now h.so (subst (λ z. after.0.has.latest ≤ max h.safe.has.latest z) (lifts.now s.core) after.2) })
 
-  kept_prune : (was : Option ℕ) (share : Share) (k : ℕ) (s t : State) (x : Pruned) → RightAt was s → PrunesOn d s.faults t.faults k s.core s.rows t.core t.rows (Ok x) → Kept (removed_by s.core.now was (PruneAnswered share k x)) s t []
+  kept_prune : (was : Option ℕ) (share : Share) (k : ℕ) (s t : State) (x : Pruned) → RightAt was s → PrunesOn d s.faults t.faults k s.core s.rows t.core t.rows (Ok x) → Kept (changed_by s.core.now was (PruneAnswered share k x)) s t []
+  kept_prune was share k s t Pruned.Marked h o = kept_less was k s t (Ok Pruned.Marked) h o
+  kept_prune was share k s t Pruned.Skipped h o = kept_less was k s t (Ok Pruned.Skipped) h o
+  kept_prune was share k s t Pruned.Dangled h o = kept_less was k s t (Ok Pruned.Dangled) h o
   kept_prune was share k s t Pruned.Removed h o = kept_less was k s t (Ok Pruned.Removed) h o
-  kept_prune was share k s t Pruned.Going h o = kept_still was k s t (Ok Pruned.Going) h o (λ e. cc)
-  kept_prune was share k s t Pruned.Round h o = kept_still was k s t (Ok Pruned.Round) h o (λ e. cc)
-  kept_prune was share k s t Pruned.Dropped h o = kept_still was k s t (Ok Pruned.Dropped) h o (λ e. cc)
-  kept_prune was share k s t Pruned.Shut h o = kept_still was k s t (Ok Pruned.Shut) h o (λ e. cc)
-  kept_prune was share k s t Pruned.Spent h o = kept_still was k s t (Ok Pruned.Spent) h o (λ e. cc)
+  kept_prune was share k s t Pruned.Going h o = kept_still was k s t (Ok Pruned.Going) h o refl refl
+  kept_prune was share k s t Pruned.Round h o = kept_still was k s t (Ok Pruned.Round) h o refl refl
+  kept_prune was share k s t Pruned.Dropped h o = kept_still was k s t (Ok Pruned.Dropped) h o refl refl
+  kept_prune was share k s t Pruned.Shut h o = kept_still was k s t (Ok Pruned.Shut) h o refl refl
+  kept_prune was share k s t Pruned.Spent h o = kept_still was k s t (Ok Pruned.Spent) h o refl refl
 
   -- ---- the intent collector was set to a key
   kept_at : (was : Option ℕ) (k : RowKey) (s t : State) → RightAt was s → t ≡ record s { core = at_key k s.core } → Kept was s t []
   kept_at was k s t h o = subst (λ z. Kept was s z []) (sym o) (kept_by was s (record s { core = at_key k s.core }) refl moved)
     where
-      by_removed : (l : Option ℕ) → Removed d l (lift s.core) s.rows h.safe.has → Removed d l (at_key k (lift s.core)) s.rows (safe_at_cursor d (lift s.core) s.rows h.safe k).0.has
-      by_removed None so = (upkept d (lift s.core) s.rows so.0 k (lift s.core).taken (lift s.core).collectors, (safe_at_cursor d (lift s.core) s.rows h.safe k).1 ∙ so.1)
-      by_removed (Some l) so = subst (λ z. z ≤ l) (sym (safe_at_cursor d (lift s.core) s.rows h.safe k).1) so
+      by_changed : (l : Option ℕ) → Changed d l (lift s.core) s.rows h.safe.has → Changed d l (at_key k (lift s.core)) s.rows (safe_at_cursor d (lift s.core) s.rows h.safe k).0.has
+      by_changed None so = (upkept d (lift s.core) s.rows so.0 k (lift s.core).taken (lift s.core).collectors, (safe_at_cursor d (lift s.core) s.rows h.safe k).1 ∙ so.1)
+      by_changed (Some l) so = subst (λ z. z ≤ l) (sym (safe_at_cursor d (lift s.core) s.rows h.safe k).1) so
 
-      at_lift : (c : Core) → at_key k (lift s.core) ≡ c → (g : IsSafe d c s.rows) × Removed d (later gone was) c s.rows g.has
-      at_lift c is = subst (λ z. (g : IsSafe d z s.rows) × Removed d (later gone was) z s.rows g.has) is ((safe_at_cursor d (lift s.core) s.rows h.safe k).0, by_removed (later gone was) h.so)
+      at_lift : (c : Core) → at_key k (lift s.core) ≡ c → (g : IsSafe d c s.rows) × Changed d (later gone was) c s.rows g.has
+      at_lift c is = subst (λ z. (g : IsSafe d z s.rows) × Changed d (later gone was) z s.rows g.has) is ((safe_at_cursor d (lift s.core) s.rows h.safe k).0, by_changed (later gone was) h.so)
 
       moved : RightFor was (at_key k s.core) s.rows
       moved = let g = at_lift (lift (at_key k s.core)) (sym (lifts.cursor k s.core)) in record { safe = g.0; so = g.1 }
 
-  kept_step : (was : Option ℕ) (s t : State) (y : Response) → RightAt was s → IsStep d d.room s t y → Kept (removed_by s.core.now was y) s t (bound_by y)
+  kept_step : (was : Option ℕ) (s t : State) (y : Response) → RightAt was s → IsStep d d.room s t y → Kept (changed_by s.core.now was y) s t (bound_by y)
   kept_step was s t (Answered share e x) h o = kept_event was e s t (Ok x) h o.0
   kept_step was s t WentBack h o = kept_at was least_key s t h o
   kept_step was s t (WentOn k) h o = kept_at was k s t h o.1
   kept_step was s t (BrokeOff None) h o = kept_same was s t h o
   kept_step was s t (BrokeOff (Some e)) h o = kept_event was e s t (Err (record {})) h o.0
   kept_step was s t (PruneAnswered share k x) h o = kept_prune was share k s t x h o.0
-  kept_step was s t (PruneBroke k) h o = kept_still was k s t (Err (record {})) h o.0 (λ e. cc)
+  kept_step was s t (PruneBroke k) h o = kept_still was k s t (Err (record {})) h o.0 tt tt
   kept_step was s t (Reported r) h o = kept_same was s t h o.0
 
   -- with the book, the rows and the moment that the response has
-  kept_to : (was : Option ℕ) (s u : State) (y : Booked) → RightAt was s → StepTo d was s u y → Kept y.removed s u (bound_by y.response)
-  kept_to was s u y h o = subst (λ z. Kept z s u (bound_by y.response)) (sym o.removed) (kept_step was s u y.response h o.step)
+  kept_to : (was : Option ℕ) (s u : State) (y : Booked) → RightAt was s → StepTo d was s u y → Kept y.changed s u (bound_by y.response)
+  kept_to was s u y h o = subst (λ z. Kept z s u (bound_by y.response)) (sym o.changed) (kept_step was s u y.response h o.step)
 
-  kept_all : (ys : List Booked) (was : Option ℕ) (s t : State) → RightAt was s → LeadsTo d was ys s t → Kept (last_removed was ys) s t (bound_in (responses_in ys))
+  kept_all : (ys : List Booked) (was : Option ℕ) (s t : State) → RightAt was s → LeadsTo d was ys s t → Kept (last_changed was ys) s t (bound_in (responses_in ys))
   kept_all [] was s t h x = subst (λ z. Kept was s z []) (sym x) (kept_by was s s refl h)
-  kept_all (y ∷ ys) was s t h x = let k = kept_to was s x.0 y h x.1 in kept_then (last_removed y.removed ys) s x.0 t (bound_by y.response) (bound_in (responses_in ys)) y.removed k (kept_all ys y.removed x.0 t k.right x.2)
+  kept_all (y ∷ ys) was s t h x = let k = kept_to was s x.0 y h x.1 in kept_then (last_changed y.changed ys) s x.0 t (bound_by y.response) (bound_in (responses_in ys)) y.changed k (kept_all ys y.changed x.0 t k.right x.2)
 
   -- ---- the moment after a step
-  whole_told : (was : Option ℕ) (s : State) (n : ℕ) (l : Option ℕ) (h : RightAt was s) → Removed d l (lift s.core) s.rows h.safe.has → reply_seen (lift s.core).newest n s.rows ≡ Gone → is_some l ≡ true
+  whole_told : (was : Option ℕ) (s : State) (n : ℕ) (l : Option ℕ) (h : RightAt was s) → Changed d l (lift s.core) s.rows h.safe.has → reply_seen (lift s.core).newest n s.rows ≡ Gone → is_some l ≡ true
   whole_told was s n None h so gone = absurd (reply_there d (lift s.core) s.rows so.0.right n gone)
   whole_told was s n (Some l) h so gone = refl
 
@@ -228,35 +231,35 @@ module _ (laws : Laws) (d : Deployment) (lift : Core → Core) (history : List E
   report_so was s t (LineRefused x) h o = tt
 
   stands_for : (was : Option ℕ) (t : State) → RightAt was t → RowsStandFor d (later gone was) t.rows (history t.core.book)
-  stands_for was t h p is = by_removed (later gone was) h.so
+  stands_for was t h p is = by_changed (later gone was) h.so
     where
-      by_removed : (l : Option ℕ) → Removed d l (lift t.core) t.rows h.safe.has → StandsBy d l t.rows p
-      by_removed None so = right_stands d (lift t.core) t.rows p so.0.right (to_history (λ b. run_of d b ≡ Some p) t is)
-      by_removed (Some l) so = stands_later d h.safe.has.latest l t.rows p so (kept_stand d (lift t.core) t.rows p h.safe.has (to_history (λ b. run_of d b ≡ Some p) t is))
+      by_changed : (l : Option ℕ) → Changed d l (lift t.core) t.rows h.safe.has → StandsBy d l t.rows p
+      by_changed None so = right_stands d (lift t.core) t.rows p so.0.right (to_history (λ b. run_of d b ≡ Some p) t is)
+      by_changed (Some l) so = stands_later d h.safe.has.latest l t.rows p so (kept_stand d (lift t.core) t.rows p h.safe.has (to_history (λ b. run_of d b ≡ Some p) t is))
 
   legal_at : (was : Option ℕ) (t : State) → RightAt was t → IsLegal d (history t.core.book)
   legal_at was t h = of_history (IsLegal d) t (kept_are_legal d (lift t.core) t.rows h.safe.has)
 
   -- what is after a response
   abbrev at_moment : Option ℕ → State → State → Response → Booked
-  at_moment was s t y = record { response = y; book = t.core.book; rows = t.rows; removed = removed_by s.core.now was y }
+  at_moment was s t y = record { response = y; book = t.core.book; rows = t.rows; changed = changed_by s.core.now was y }
 
-  still_by : (was : Option ℕ) (now : ℕ) (y : Response) → removes y ≡ false → removed_by now was y ≡ was
+  still_by : (was : Option ℕ) (now : ℕ) (y : Response) → changes_row y ≡ false → changed_by now was y ≡ was
   still_by was now y none = ap (λ b. if b then later was (Some now) else was) none
 
   -- one that makes no entry
-  quiet : (was : Option ℕ) (s t : State) (y : Response) → t.core.book ≡ s.core.book → (loses y ≡ false → [] ≡ entries_in y) → RightAt (removed_by s.core.now was y) t → IsSo d history gone t.core.book (removed_by s.core.now was y) y → Moment d history gone s.core.book was (at_moment was s t y)
+  quiet : (was : Option ℕ) (s t : State) (y : Response) → t.core.book ≡ s.core.book → (loses y ≡ false → [] ≡ entries_in y) → RightAt (changed_by s.core.now was y) t → IsSo d history gone t.core.book (changed_by s.core.now was y) y → Moment d history gone s.core.book was (at_moment was s t y)
   quiet was s t y same told right so = record {
     entry = None;
     grew = same ∙ sym (append-nil s.core.book);
     told = told;
     still = still_by was s.core.now y;
-    legal = legal_at (removed_by s.core.now was y) t right;
-    tables = stands_for (removed_by s.core.now was y) t right;
+    legal = legal_at (changed_by s.core.now was y) t right;
+    tables = stands_for (changed_by s.core.now was y) t right;
     so = so;
   }
 
-  moment : (was : Option ℕ) (s t : State) (y : Response) → RightAt was s → IsStep d d.room s t y → RightAt (removed_by s.core.now was y) t → Moment d history gone s.core.book was (at_moment was s t y)
+  moment : (was : Option ℕ) (s t : State) (y : Response) → RightAt was s → IsStep d d.room s t y → RightAt (changed_by s.core.now was y) t → Moment d history gone s.core.book was (at_moment was s t y)
   moment was s t (Answered share e x) h o right =
       let g = book_grew d d.room s.faults t.faults e s.core t.core s.rows t.rows (Ok x) o.0 in
       record {
@@ -289,7 +292,7 @@ module _ (laws : Laws) (d : Deployment) (lift : Core → Core) (history : List E
 
   moment_to : (was : Option ℕ) (s u : State) (y : Booked) → RightAt was s → StepTo d was s u y → Moment d history gone s.core.book was y
   moment_to was s u y h o =
-      let same : at_moment was s u y.response ≡ y = λ i. record { response = y.response; book = o.book i; rows = o.rows i; removed = sym o.removed i } in
+      let same : at_moment was s u y.response ≡ y = λ i. record { response = y.response; book = o.book i; rows = o.rows i; changed = sym o.changed i } in
       subst (Moment d history gone s.core.book was) same (moment was s u y.response h o.step (kept_step was s u y.response h o.step).right)
 
   -- ---- outcomes
@@ -299,21 +302,21 @@ module _ (laws : Laws) (d : Deployment) (lift : Core → Core) (history : List E
   reply_tells book u n Gone o s is = cc
   reply_tells book u n Waiting o s is = cc
 
-  tells : (book : List Entry) (removed : Option ℕ) (y : Response) (n : ℕ) (o : Outcome) → IsSo d history gone book removed y → outcome_in y ≡ Some (n, o) → HasReply d (history book) n o
-  tells book removed (Answered share e x) n o s is = s n o is
-  tells book removed WentBack n o s is = cc
-  tells book removed (WentOn k) n o s is = cc
-  tells book removed (BrokeOff e) n o s is = cc
-  tells book removed (PruneAnswered share k x) n o s is = cc
-  tells book removed (PruneBroke k) n o s is = cc
-  tells book removed (Reported (ReplyIs u (Some x))) n o s is = reply_tells (history book) u n x o s.0 is
-  tells book removed (Reported (ReplyIs u None)) n o s is = cc
-  tells book removed (Reported (RowsAre k)) n o s is = cc
-  tells book removed (Reported (TablesAre lines)) n o s is = cc
-  tells book removed (Reported (BookIs lines)) n o s is = cc
-  tells book removed (Reported (SettledIs r)) n o s is = cc
-  tells book removed (Reported (SweptIs r)) n o s is = cc
-  tells book removed (Reported (LineRefused x)) n o s is = cc
+  tells : (book : List Entry) (changed : Option ℕ) (y : Response) (n : ℕ) (o : Outcome) → IsSo d history gone book changed y → outcome_in y ≡ Some (n, o) → HasReply d (history book) n o
+  tells book changed (Answered share e x) n o s is = s n o is
+  tells book changed WentBack n o s is = cc
+  tells book changed (WentOn k) n o s is = cc
+  tells book changed (BrokeOff e) n o s is = cc
+  tells book changed (PruneAnswered share k x) n o s is = cc
+  tells book changed (PruneBroke k) n o s is = cc
+  tells book changed (Reported (ReplyIs u (Some x))) n o s is = reply_tells (history book) u n x o s.0 is
+  tells book changed (Reported (ReplyIs u None)) n o s is = cc
+  tells book changed (Reported (RowsAre k)) n o s is = cc
+  tells book changed (Reported (TablesAre lines)) n o s is = cc
+  tells book changed (Reported (BookIs lines)) n o s is = cc
+  tells book changed (Reported (SettledIs r)) n o s is = cc
+  tells book changed (Reported (SweptIs r)) n o s is = cc
+  tells book changed (Reported (LineRefused x)) n o s is = cc
 
   -- ---- a session
   told_all : (ys : List Booked) (was : Option ℕ) (s t : State) → RightAt was s → LeadsTo d was ys s t → TellOutcomes d (history t.core.book) (responses_in ys)
@@ -321,19 +324,19 @@ module _ (laws : Laws) (d : Deployment) (lift : Core → Core) (history : List E
   told_all (y ∷ ys) was s t h x =
       let after = (kept_to was s x.0 y h x.1).right in
       let so = (moment_to was s x.0 y h x.1).so in
-      (λ n o is. (kept_all ys y.removed x.0 t after x.2).keeps n o (subst (λ b. HasReply d (history b) n o) (sym x.1.book) (tells y.book y.removed y.response n o so is)), told_all ys y.removed x.0 t after x.2)
+      (λ n o is. (kept_all ys y.changed x.0 t after x.2).keeps n o (subst (λ b. HasReply d (history b) n o) (sym x.1.book) (tells y.book y.changed y.response n o so is)), told_all ys y.changed x.0 t after x.2)
 
   last_is : (ys : List Booked) (was : Option ℕ) (s t : State) → LeadsTo d was ys s t → last_book s.core.book ys ≡ t.core.book
   last_is [] was s t x = ap (λ (z : State). z.core.book) (sym x)
-  last_is (y ∷ ys) was s t x = ap (λ b. last_book b ys) (sym x.1.book) ∙ last_is ys y.removed x.0 t x.2
+  last_is (y ∷ ys) was s t x = ap (λ b. last_book b ys) (sym x.1.book) ∙ last_is ys y.changed x.0 t x.2
 
   moments : (ys : List Booked) (was : Option ℕ) (s t : State) → RightAt was s → LeadsTo d was ys s t → Moments d history gone s.core.book was ys
   moments [] was s t h x = tt
-  moments (y ∷ ys) was s t h x = (moment_to was s x.0 y h x.1, subst (λ b. Moments d history gone b y.removed ys) x.1.book (moments ys y.removed x.0 t (kept_to was s x.0 y h x.1).right x.2))
+  moments (y ∷ ys) was s t h x = (moment_to was s x.0 y h x.1, subst (λ b. Moments d history gone b y.changed ys) x.1.book (moments ys y.changed x.0 t (kept_to was s x.0 y h x.1).right x.2))
 
   -- over rows for which the host is right, with its history, its steps are a run without crashes
   module _ (ys : List Booked) (m : Rows) (now opened : ℕ) (t : State) (x : LeadsTo d None ys (opened_at m now opened) t) (h : RightAt None (opened_at m now opened)) where
-    end_right : RightAt (last_removed None ys) t
+    end_right : RightAt (last_changed None ys) t
     end_right = (kept_all ys None (opened_at m now opened) t h x).right
 
     book_is : t.core.book ≡ last_book [] ys
@@ -344,10 +347,10 @@ module _ (laws : Laws) (d : Deployment) (lift : Core → Core) (history : List E
         let k = kept_all ys None (opened_at m now opened) t h x in
         record {
           moments = moments ys None (opened_at m now opened) t h x;
-          legal = subst (λ b. IsLegal d (history b)) book_is (legal_at (last_removed None ys) t k.right);
+          legal = subst (λ b. IsLegal d (history b)) book_is (legal_at (last_changed None ys) t k.right);
           bound = ap (λ b. starts_of (history b)) (sym book_is) ∙ lifts.starts t.core.book ∙ ap (λ z. starts_of (history []) ++ z) k.starts;
           replies = subst (λ b. TellOutcomes d (history b) (responses_in ys)) book_is (told_all ys None (opened_at m now opened) t h x);
-          tables = subst (λ b. RowsStandFor d (later gone (last_removed None ys)) t.rows (history b)) book_is (stands_for (last_removed None ys) t k.right);
+          tables = subst (λ b. RowsStandFor d (later gone (last_changed None ys)) t.rows (history b)) book_is (stands_for (last_changed None ys) t k.right);
         }
 
     listing_so : (p : PlainState) → run_of d (history t.core.book) ≡ Some p → tables_text d t.rows ≡ listing_of d p
@@ -357,17 +360,17 @@ module _ (laws : Laws) (d : Deployment) (lift : Core → Core) (history : List E
 module _ (laws : Laws) (d : Deployment) where
   -- a host that is opened over kept rows, behind the books that they are of
   abbrev OpensAt : Option ℕ → Core → Rows → Type 0
-  OpensAt l c m = (g : IsSafe d c m) × Removed d l c m g.has
+  OpensAt l c m = (g : IsSafe d c m) × Changed d l c m g.has
 
-  opens : (l : Option ℕ) (c : Core) (m : Rows) (now : ℕ) (h : HasKept d c m) → Removed d l c m h → OpensAt l (behind c.book (opened_core m now)) m
-  opens l c m now h so = (g.0, by_removed l so)
+  opens : (l : Option ℕ) (c : Core) (m : Rows) (now : ℕ) (h : HasKept d c m) → Changed d l c m h → OpensAt l (behind c.book (opened_core m now)) m
+  opens l c m now h so = (g.0, by_changed l so)
     where
       g : (g : IsSafe d (behind c.book (opened_core m now)) m) × (g.has.latest ≡ h.latest)
       g = opened_safe d c m h now
 
-      by_removed : (l : Option ℕ) → Removed d l c m h → Removed d l (behind c.book (opened_core m now)) m g.0.has
-      by_removed None so = (opened_upkept d c m now so.0, g.1 ∙ so.1)
-      by_removed (Some l) so = subst (λ z. z ≤ l) (sym g.1) so
+      by_changed : (l : Option ℕ) → Changed d l c m h → Changed d l (behind c.book (opened_core m now)) m g.0.has
+      by_changed None so = (opened_upkept d c m now so.0, g.1 ∙ so.1)
+      by_changed (Some l) so = subst (λ z. z ≤ l) (sym g.1) so
 
   begins : (now : ℕ) → OpensAt None (behind [] (opened_core map.empty now)) map.empty
   begins now = opens None (first_core 0 0) map.empty now (begins_kept d 0) (begins_upkept d 0, begins_early d 0)
@@ -380,9 +383,9 @@ module _ (laws : Laws) (d : Deployment) where
   reopens no_session now = begins now
   reopens (one_more first gone k left before opened ys t x) now =
       let first_right = reopens left before in
-      let begun : RightFor laws d (behind first) (joined first) (behind_lifts d first) gone None (opened_core k before) k = record { safe = first_right.0; so = subst (λ l. Removed d l (behind first (opened_core k before)) k first_right.0.has) (sym (no_more gone)) first_right.1 } in
+      let begun : RightFor laws d (behind first) (joined first) (behind_lifts d first) gone None (opened_core k before) k = record { safe = first_right.0; so = subst (λ l. Changed d l (behind first (opened_core k before)) k first_right.0.has) (sym (no_more gone)) first_right.1 } in
       let right = end_right laws d (behind first) (joined first) (behind_lifts d first) gone ys k before opened t x begun in
-      opens (later gone (last_removed None ys)) (behind first t.core) t.rows now right.safe.has right.so
+      opens (later gone (last_changed None ys)) (behind first t.core) t.rows now right.safe.has right.so
 
 pub plain_runs : EventsKeepSafe → KeptReplies → KeptOutcomes → SessionsArePlainRuns
 plain_runs keep reply stay d ys m now opened t x = (
@@ -404,4 +407,4 @@ plain_runs keep reply stay d ys m now opened t x = (
     behind_right : (base : List Entry) (gone : Option ℕ) → Left d base gone m → RightFor laws d (behind base) (joined base) (behind_lifts d base) gone None (opened_core m now) m
     behind_right base gone left =
         let g = reopens laws d left now in
-        record { safe = g.0; so = subst (λ l. Removed d l (behind base (opened_core m now)) m g.0.has) (sym (no_more laws d gone)) g.1 }
+        record { safe = g.0; so = subst (λ l. Changed d l (behind base (opened_core m now)) m g.0.has) (sym (no_more laws d gone)) g.1 }

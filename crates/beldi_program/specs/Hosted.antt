@@ -11,40 +11,40 @@ use Rattle.beldi_joined.specs.Joined.{joined}
 use Rattle.beldi_host.specs.Survey.{opened_core}
 use Rattle.beldi_schedule.specs.Settles.{State}
 use Rattle.beldi_session.specs.{Response.Response, Script.Action, Session.IsStep, Session.Follows}
-use Rattle.beldi_program.specs.PlainRun.{Booked, IsPlainRun, alone, last_removed, later, removes}
+use Rattle.beldi_program.specs.PlainRun.{Booked, IsPlainRun, alone, last_changed, later, changes_row}
 
 -- the host over rows, once it was open, at this moment or the greatest one of the rows, with the table's count of failures then
 abbrev pub opened_at : Rows → ℕ → ℕ → State
 opened_at m now f = record { core = opened_core m now; rows = m; faults = f }
 
--- when a row was removed last, after a response that came at this moment
-abbrev pub removed_by : ℕ → Option ℕ → Response → Option ℕ
-removed_by now was y = if removes y then later was (Some now) else was
+-- when a collector changed a row last, after a response that came at this moment
+abbrev pub changed_by : ℕ → Option ℕ → Response → Option ℕ
+changed_by now was y = if changes_row y then later was (Some now) else was
 
 -- a step to a response: the book and the rows are those of the host after it
 pub record StepTo (d : Deployment) (was : Option ℕ) (s u : State) (y : Booked) : Type 0 where
   pub step : IsStep d d.room s u y.response
   pub book : u.core.book ≡ y.book
   pub rows : u.rows ≡ y.rows
-  pub removed : y.removed ≡ removed_by s.core.now was y.response
+  pub changed : y.changed ≡ changed_by s.core.now was y.response
 
 -- one step after another, to the first of the actions that are left
 abbrev pub StepsTo : Deployment → Option ℕ → List Booked → List Action → List Action → State → State → Type 0
 StepsTo d was [] actions more s t = (t ≡ s) × (actions ≡ more)
-StepsTo d was (y ∷ ys) actions more s t = (u : State) × (left : List Action) × StepTo d was s u y × Follows actions s.core u.core y.response left × StepsTo d y.removed ys left more u t
+StepsTo d was (y ∷ ys) actions more s t = (u : State) × (left : List Action) × StepTo d was s u y × Follows actions s.core u.core y.response left × StepsTo d y.changed ys left more u t
 
 -- one step after another, where no actions are given
 abbrev pub LeadsTo : Deployment → Option ℕ → List Booked → State → State → Type 0
 LeadsTo d was [] s t = t ≡ s
-LeadsTo d was (y ∷ ys) s t = (u : State) × StepTo d was s u y × LeadsTo d y.removed ys u t
+LeadsTo d was (y ∷ ys) s t = (u : State) × StepTo d was s u y × LeadsTo d y.changed ys u t
 
--- rows that sessions left, one after another from no rows on, the joined book of these sessions, and when a row was removed last. A session
+-- rows that sessions left, one after another from no rows on, the joined book of these sessions, and when a collector changed a row last. A session
 -- may end after any of its responses, so the rows that a host had when it was stopped are such rows, and those that it had before its
 -- answer was told.
 pub data Left (d : Deployment) : List Entry → Option ℕ → Rows → Type 0 where
   no_session : Left d [] None map.empty
   one_more : (base : List Entry) (gone : Option ℕ) (m : Rows) → Left d base gone m → (now opened : ℕ) (ys : List Booked) (t : State) → LeadsTo d None ys (opened_at m now opened) t
-      → Left d (joined base t.core.book) (later gone (last_removed None ys)) t.rows
+      → Left d (joined base t.core.book) (later gone (last_changed None ys)) t.rows
 
 -- from the rows m to the rows n, by these responses to the actions, but for `more`. The numbers f and g are the table's count of failures
 -- before and after, and `opened` is the count once the host was open. Where it began over rows that sessions left, it is with these a run

@@ -6,7 +6,7 @@ use Rattle.beldi_tree.specs.declared.deployment.Deployment.{Deployment}
 use Rattle.beldi_book.specs.{Text.book_text, declared.entry.Entry.Entry}
 use Rattle.beldi_plain.specs.{Plain.PlainState, Legal.IsLegal, Legal.run_of, Listing.listing_of, Replies.starts_of, Replies.HasReply}
 use Rattle.beldi_row.specs.Table.{Rows}
-use Rattle.beldi_step.specs.declared.event.Pruned.TheVariants.{Removed}
+use Rattle.beldi_kept.specs.Safe.{changes}
 use Rattle.beldi_step.specs.Told.{bound_of, entries_told, is_dropped, is_lost, told_outcome}
 use Rattle.beldi_known.specs.Stands.{Stands}
 use Rattle.beldi_kept.specs.Stands.{StandsLess}
@@ -26,19 +26,19 @@ loses (Answered share e x) = is_lost e && is_dropped x
 loses (BrokeOff o) = true
 loses y = false
 
--- a log collector removed a row
-abbrev pub removes : Response → Bool
-removes (PruneAnswered share k Removed) = true
-removes y = false
+-- a log collector changed a row: it marked it, led past it, left it adrift, or removed it
+abbrev pub changes_row : Response → Bool
+changes_row (PruneAnswered share k x) = changes x
+changes_row y = false
 
--- ---- moments at which rows were removed, none where none was
+-- ---- moments at which collectors changed rows, none where none did
 -- the later one
 abbrev pub later : Option ℕ → Option ℕ → Option ℕ
 later None r = r
 later (Some a) None = Some a
 later (Some a) (Some b) = Some (max a b)
 
--- the rows stand for a plain state: where none was removed, each tells of it; else as rows do of which some of old intents were removed
+-- the rows stand for a plain state: where no collector changed one, each tells of it; else as rows do of which some of old intents were changed
 -- up to this moment
 abbrev pub StandsBy : Deployment → Option ℕ → Rows → PlainState → Type 0
 StandsBy d None rows p = Stands d rows p
@@ -46,58 +46,58 @@ StandsBy d (Some l) rows p = StandsLess d l rows p
 
 -- .. for that of the run of the book
 abbrev pub RowsStandFor : Deployment → Option ℕ → Rows → List Entry → Type 0
-RowsStandFor d removed rows book = (p : PlainState) → run_of d book ≡ Some p → StandsBy d removed rows p
+RowsStandFor d changed rows book = (p : PlainState) → run_of d book ≡ Some p → StandsBy d changed rows p
 
--- a response, with the book and the rows after it, and the latest moment at which a row was removed in this session
+-- a response, with the book and the rows after it, and the latest moment at which a collector changed a row in this session
 pub record Booked : Type 0 where
   pub response : Response
   pub book : List Entry
   pub rows : Rows
-  pub removed : Option ℕ
+  pub changed : Option ℕ
 
 -- the history of a session that is the first over its rows: its own book
 abbrev pub alone : List Entry → List Entry
 alone book = book
 
--- by the history that the session's book is the last part of, and the latest moment at which a row was removed before the session
+-- by the history that the session's book is the last part of, and the latest moment at which a collector changed a row before the session
 module _ (d : Deployment) (history : List Entry → List Entry) (gone : Option ℕ) where
-  -- a ticket is gone only where a row was removed
+  -- a ticket is gone only where a collector changed a row
   abbrev pub IsReportSo : List Entry → Option ℕ → Report → Type 0
-  IsReportSo book removed (ReplyIs t (Some x)) = SaidOf d (history book) t x × (x ≡ Gone → is_some (later gone removed) ≡ true)
-  IsReportSo book removed (TablesAre (Some lines)) = (p : PlainState) → run_of d (history book) ≡ Some p → lines ≡ listing_of d p
-  IsReportSo book removed (BookIs lines) = lines ≡ book_text d book
-  IsReportSo book removed r = Unit {0}
+  IsReportSo book changed (ReplyIs t (Some x)) = SaidOf d (history book) t x × (x ≡ Gone → is_some (later gone changed) ≡ true)
+  IsReportSo book changed (TablesAre (Some lines)) = (p : PlainState) → run_of d (history book) ≡ Some p → lines ≡ listing_of d p
+  IsReportSo book changed (BookIs lines) = lines ≡ book_text d book
+  IsReportSo book changed r = Unit {0}
 
   -- what a response says is so in the run of the history
   abbrev pub IsSo : List Entry → Option ℕ → Response → Type 0
-  IsSo book removed (Answered share e x) = (t : ℕ) (o : Outcome) → told_outcome x ≡ Some (t, o) → HasReply d (history book) t o
-  IsSo book removed (Reported r) = IsReportSo book removed r
-  IsSo book removed y = Unit {0}
+  IsSo book changed (Answered share e x) = (t : ℕ) (o : Outcome) → told_outcome x ≡ Some (t, o) → HasReply d (history book) t o
+  IsSo book changed (Reported r) = IsReportSo book changed r
+  IsSo book changed y = Unit {0}
 
-  -- the book got at most one entry, the one that the response tells, unless the answer was lost; only where a collector removed a row, one
-  -- was removed; the history is legal; what is said is so in its run; and the rows stand for that run
+  -- the book got at most one entry, the one that the response tells, unless the answer was lost; only where a collector changed a row, one
+  -- was changed; the history is legal; what is said is so in its run; and the rows stand for that run
   pub record Moment (before : List Entry) (was : Option ℕ) (y : Booked) : Type 0 where
     pub entry : Option Entry
     pub grew : y.book ≡ before ++ option_to_list entry
     pub told : loses y.response ≡ false → option_to_list entry ≡ entries_in y.response
-    pub still : removes y.response ≡ false → y.removed ≡ was
+    pub still : changes_row y.response ≡ false → y.changed ≡ was
     pub legal : IsLegal d (history y.book)
-    pub so : IsSo y.book y.removed y.response
-    pub tables : RowsStandFor d (later gone y.removed) y.rows (history y.book)
+    pub so : IsSo y.book y.changed y.response
+    pub tables : RowsStandFor d (later gone y.changed) y.rows (history y.book)
 
   -- from a book on, each of these is a moment after the one before
   abbrev pub Moments : List Entry → Option ℕ → List Booked → Type 0
   Moments before was [] = Unit {0}
-  Moments before was (y ∷ ys) = Moment before was y × Moments y.book y.removed ys
+  Moments before was (y ∷ ys) = Moment before was y × Moments y.book y.changed ys
 
--- the book after the last of them, and when a row was removed last
+-- the book after the last of them, and when a collector changed a row last
 abbrev pub last_book : List Entry → List Booked → List Entry
 last_book before [] = before
 last_book before (y ∷ ys) = last_book y.book ys
 
-abbrev pub last_removed : Option ℕ → List Booked → Option ℕ
-last_removed was [] = was
-last_removed was (y ∷ ys) = last_removed y.removed ys
+abbrev pub last_changed : Option ℕ → List Booked → Option ℕ
+last_changed was [] = was
+last_changed was (y ∷ ys) = last_changed y.changed ys
 
 abbrev pub responses_in : List Booked → List Response
 responses_in ys = map (λ (y : Booked). y.response) ys
@@ -132,7 +132,7 @@ pub record IsPlainRun (d : Deployment) (history : List Entry → List Entry) (go
   pub legal : IsLegal d (history (last_book [] ys))
   pub bound : starts_of (history (last_book [] ys)) ≡ starts_of (history []) ++ bound_in (responses_in ys)
   pub replies : TellOutcomes d (history (last_book [] ys)) (responses_in ys)
-  pub tables : RowsStandFor d (later gone (last_removed None ys)) rows (history (last_book [] ys))
+  pub tables : RowsStandFor d (later gone (last_changed None ys)) rows (history (last_book [] ys))
 
 -- ---- a session from the rows m to the rows n, with the text that was written
 -- each is a response to the first of the actions that are left before it, and `more` are left after them all

@@ -1,3 +1,12 @@
+pub mod Adrift
+pub mod Gone
+pub mod Judged
+pub mod Named
+pub mod Newest
+pub mod Order
+pub mod Passed
+pub mod Proved
+pub mod Quiet
 pub mod Right
 pub mod Said
 pub mod Tables

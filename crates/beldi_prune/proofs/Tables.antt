@@ -8,13 +8,19 @@ use Rattle.beldi_walk.specs.{Query.Told, Query.CameOn, Query.RefusedBy, Query.le
 use Rattle.beldi_walk.proofs.Lent.{refused_stand, unheard_left}
 use Rattle.beldi_prune.specs.{Prune.anew, Prune.at_asks, Prune.prune_asks, Prune.prune_next, Prune.prune_says, Laws.TablesAreTurned, Laws.TurnedOn}
 use Rattle.beldi_prune.specs.declared.{collector.LogCollector.LogCollector, collector.GcSays.GcSays}
-use Rattle.beldi_prune.specs.declared.collector.CollectorAt.{CollectorAt, TheVariants.Before, TheVariants.ToDropIntent, TheVariants.ToLook, TheVariants.ToDrop}
+use Rattle.beldi_prune.specs.declared.collector.CollectorAt.{CollectorAt, TheVariants.Before, TheVariants.ToDropIntent, TheVariants.ToLook, TheVariants.ToDrop, TheVariants.ToProve, TheVariants.ToMark, TheVariants.ToLead, TheVariants.ToSkip, TheVariants.ToDangle, TheVariants.ToDropCell}
 
 tells_no_death : (life : ℕ) (c : RowKey) (a : CollectorAt) → may_tell_death (at_asks life c a) ≡ false
 tells_no_death life c Before = refl
 tells_no_death life c (ToDropIntent k) = refl
 tells_no_death life c (ToLook k) = refl
 tells_no_death life c (ToDrop k) = refl
+tells_no_death life c (ToProve k i is) = refl
+tells_no_death life c (ToMark k) = refl
+tells_no_death life c (ToLead k to at) = refl
+tells_no_death life c (ToSkip k to at) = refl
+tells_no_death life c (ToDangle k) = refl
+tells_no_death life c (ToDropCell k) = refl
 
 -- it adds no row
 adds_none : (b : Bool) → IsTrue (b && false) → ⊥
@@ -26,6 +32,12 @@ never_full life now room live most c Before m n h = h
 never_full life now room live most c (ToDropIntent k) m n h = adds_none (not (map.contains_key m k)) h.1.more
 never_full life now room live most c (ToLook k) m n h = adds_none (not (map.contains_key m _)) h.1.more
 never_full life now room live most c (ToDrop k) m n h = adds_none (not (map.contains_key m k)) h.1.more
+never_full life now room live most c (ToProve k i is) m n h = adds_none (not (map.contains_key m _)) h.1.more
+never_full life now room live most c (ToMark k) m n h = adds_none (not (map.contains_key m k)) h.1.more
+never_full life now room live most c (ToLead k to at) m n h = adds_none (not (map.contains_key m _)) h.1.more
+never_full life now room live most c (ToSkip k to at) m n h = adds_none (not (map.contains_key m _)) h.1.more
+never_full life now room live most c (ToDangle k) m n h = adds_none (not (map.contains_key m k)) h.1.more
+never_full life now room live most c (ToDropCell k) m n h = adds_none (not (map.contains_key m k)) h.1.more
 
 module _ (newest life now : ℕ) (w x : LogCollector) where
   heard : (m n : Rows) (s : GcSays) (t : Told) → (x ≡ prune_next newest life now w t) × (s ≡ prune_says w t) → n ≡ rows_after (prune_asks life w) now m → t ≡ told_by (prune_asks life w) now m → TurnedOn newest life now w x m n (Ok s)

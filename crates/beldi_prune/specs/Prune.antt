@@ -1,17 +1,24 @@
 -- The log collector: it goes from row to row, in the order of keys, and removes rows of intents that are old.
-use Rattle.std.specs.Prelude.{ℕ, nat_lt, Bool, true, false, not, ◌&&◌, Option, Some, None, if◌then◌else◌}
+use Rattle.std.specs.Prelude.{ℕ, nat_lt, Bool, true, false, not, ◌&&◌, List, [], ◌∷◌, Option, Some, None, if◌then◌else◌}
 use Rattle.beldi_value.specs.{Id.has_no_hops, declared.id.IntentId.IntentId}
-use Rattle.beldi_row.specs.Act.{absent, here, did, is_past, is_old_row}
-use Rattle.beldi_row.specs.{Key.RowKey, Key.least_key, declared.key.Kind.Kind, declared.row.Row.Row, declared.act.Act.TheVariants.Look, declared.act.Act.TheVariants.DropIntent, declared.act.Act.TheVariants.DropRow}
+use Rattle.beldi_row.specs.Act.{absent, here, is_past, is_old_row}
+use Rattle.beldi_row.specs.declared.act.Act.TheVariants.{Look, DropIntent, DropRow, MarkCell, SkipCell, DangleCell, DropCell}
+use Rattle.beldi_row.specs.{Key.RowKey, Key.at_row, Key.least_key, Key.row_of, declared.key.Kind.Kind, declared.row.Row.Row}
 use Rattle.beldi_walk.specs.{declared.query.Query.Query, declared.query.Query.TheVariants.Act, declared.query.Query.TheVariants.After, Query.Told, Query.said, Query.found}
-use Rattle.beldi_prune.specs.Seat.{seat}
-use Rattle.beldi_prune.specs.declared.{collector.LogCollector.LogCollector, collector.GcSays.GcSays, collector.GcSays.TheVariants.Going, collector.GcSays.TheVariants.Removed, collector.GcSays.TheVariants.Round, found.Todo.Todo, found.Todo.TheVariants.Pass, found.Todo.TheVariants.DropIt, found.Todo.TheVariants.LookAt}
-use Rattle.beldi_prune.specs.declared.collector.CollectorAt.{CollectorAt, TheVariants.Before, TheVariants.ToDropIntent, TheVariants.ToLook, TheVariants.ToDrop}
+use Rattle.beldi_intent.specs.Intent.{intent_key}
+use Rattle.beldi_prune.specs.{Seat.seat, Unlink.is_did, Unlink.lead_to, Unlink.row_todo, Unlink.told_marked, Unlink.told_next}
+use Rattle.beldi_prune.specs.declared.collector.{LogCollector.LogCollector, GcSays.GcSays, GcSays.TheVariants.Going, GcSays.TheVariants.Marked, GcSays.TheVariants.Skipped, GcSays.TheVariants.Dangled, GcSays.TheVariants.Removed, GcSays.TheVariants.Round}
+use Rattle.beldi_prune.specs.declared.found.Todo.{Todo, TheVariants.Pass, TheVariants.DropIt, TheVariants.LookAt, TheVariants.DropAdrift, TheVariants.LeadPast, TheVariants.Prove}
+use Rattle.beldi_prune.specs.declared.collector.CollectorAt.{CollectorAt, TheVariants.Before, TheVariants.ToDropIntent, TheVariants.ToLook, TheVariants.ToDrop, TheVariants.ToProve, TheVariants.ToMark, TheVariants.ToLead, TheVariants.ToSkip, TheVariants.ToDangle, TheVariants.ToDropCell}
 
 -- ---- where it stands
 -- before all rows
 abbrev pub first_collector : LogCollector
 first_collector = record { cursor = least_key; at = Before }
+
+abbrev pub is_before : CollectorAt → Bool
+is_before Before = true
+is_before a = false
 
 -- past a row that it is done with
 abbrev pub past : RowKey → LogCollector
@@ -27,6 +34,12 @@ at_asks life cursor Before = After cursor
 at_asks life cursor (ToDropIntent k) = Act k (DropIntent life)
 at_asks life cursor (ToLook k) = Act (seat k) Look
 at_asks life cursor (ToDrop k) = Act k DropRow
+at_asks life cursor (ToProve k i is) = Act (intent_key i k.home) Look
+at_asks life cursor (ToMark k) = Act k MarkCell
+at_asks life cursor (ToLead k to at) = Act (at_row k at) Look
+at_asks life cursor (ToSkip k to at) = Act (at_row k at) (SkipCell (row_of k.kind) to)
+at_asks life cursor (ToDangle k) = Act k DangleCell
+at_asks life cursor (ToDropCell k) = Act k (DropCell life)
 
 abbrev pub prune_asks : ℕ → LogCollector → Query
 prune_asks life w = at_asks life w.cursor w.at
@@ -36,20 +49,31 @@ prune_asks life w = at_asks life w.cursor w.at
 abbrev pub is_newest : ℕ → IntentId → Bool
 is_newest newest i = has_no_hops i.hops && not (nat_lt i.ticket newest)
 
--- an intent's row goes where it is old, but not that of the newest ticket; a row of an item stays; of any other the intent is looked at
+-- an intent's row goes where it is old, but not that of the newest ticket; a row of an item by its cell; of any other the intent is looked at
 abbrev pub todo_of : ℕ → ℕ → ℕ → Kind → Row → Todo
 todo_of newest life now (Kind.Intent i) r = if not (is_newest newest i) && is_old_row life now r then DropIt else Pass
 todo_of newest life now (Kind.ReadLog a) r = LookAt
 todo_of newest life now (Kind.Invoke a) r = LookAt
-todo_of newest life now (Kind.Data t k n) r = Pass
+todo_of newest life now (Kind.Data t k n) r = row_todo n life now r
 todo_of newest life now (Kind.Shadow s t k n) r = LookAt
 todo_of newest life now (Kind.Lockset i b t k) r = LookAt
 
--- .. of which the cursor stands before those that are begun
+-- the cursor stands before a row that is begun
+abbrev pub stand : RowKey → CollectorAt → LogCollector
+stand cursor a = record { cursor = cursor; at = a }
+
+-- by the intents that are left to be looked at: where there is none, the row is to be marked
+abbrev pub to_prove : RowKey → List IntentId → CollectorAt
+to_prove k [] = ToMark k
+to_prove k (i ∷ is) = ToProve k i is
+
 abbrev pub begins : RowKey → RowKey → Todo → LogCollector
 begins cursor k Pass = past k
-begins cursor k DropIt = record { cursor = cursor; at = ToDropIntent k }
-begins cursor k LookAt = record { cursor = cursor; at = ToLook k }
+begins cursor k DropIt = stand cursor (ToDropIntent k)
+begins cursor k LookAt = stand cursor (ToLook k)
+begins cursor k DropAdrift = stand cursor (ToDropCell k)
+begins cursor k (LeadPast to) = stand cursor (ToLead k to 0)
+begins cursor k (Prove is) = stand cursor (to_prove k is)
 
 abbrev pub row_next : ℕ → ℕ → ℕ → RowKey → Option (RowKey × Row) → LogCollector
 row_next newest life now cursor None = first_collector
@@ -65,9 +89,21 @@ is_recyclable life now (said absent) = true
 is_recyclable life now (said (here r)) = is_past_row life now r
 is_recyclable life now t = false
 
-abbrev pub looked_next : RowKey → RowKey → Bool → LogCollector
-looked_next cursor k true = record { cursor = cursor; at = ToDrop k }
-looked_next cursor k false = past k
+-- .. then it is at this, and else it is done with the row
+abbrev pub stand_if : RowKey → RowKey → CollectorAt → Bool → LogCollector
+stand_if cursor k a true = stand cursor a
+stand_if cursor k a false = past k
+
+-- ---- what follows of the acts that lead past a row
+-- it is marked, so the rows of the item are looked at, from the first
+abbrev pub marked_next : RowKey → RowKey → Option ℕ → LogCollector
+marked_next cursor k None = past k
+marked_next cursor k (Some to) = stand cursor (ToLead k to 0)
+
+-- the row that was looked at leads on so, or is absent
+abbrev pub led_next : RowKey → RowKey → ℕ → ℕ → Option (Option ℕ) → LogCollector
+led_next cursor k to at None = past k
+led_next cursor k to at (Some next) = stand cursor (lead_to k to at next)
 
 -- ---- where it stands then, by the newest ticket, the life and the moment
 abbrev pub before_next : ℕ → ℕ → ℕ → RowKey → Told → LogCollector
@@ -77,17 +113,27 @@ before_next newest life now cursor t = first_collector
 abbrev pub at_next : ℕ → ℕ → ℕ → RowKey → CollectorAt → Told → LogCollector
 at_next newest life now cursor Before t = before_next newest life now cursor t
 at_next newest life now cursor (ToDropIntent k) t = past k
-at_next newest life now cursor (ToLook k) t = looked_next cursor k (is_recyclable life now t)
+at_next newest life now cursor (ToLook k) t = stand_if cursor k (ToDrop k) (is_recyclable life now t)
 at_next newest life now cursor (ToDrop k) t = past k
+at_next newest life now cursor (ToProve k i is) t = stand_if cursor k (to_prove k is) (is_recyclable life now t)
+at_next newest life now cursor (ToMark k) t = marked_next cursor k (told_marked t)
+at_next newest life now cursor (ToLead k to at) t = led_next cursor k to at (told_next t)
+at_next newest life now cursor (ToSkip k to at) t = stand_if cursor k (ToDangle k) (is_did t)
+at_next newest life now cursor (ToDangle k) t = past k
+at_next newest life now cursor (ToDropCell k) t = past k
 
 abbrev pub prune_next : ℕ → ℕ → ℕ → LogCollector → Told → LogCollector
 prune_next newest life now w t = at_next newest life now w.cursor w.at t
 
 -- ---- what it says
--- a row goes only where the act says that it did
-abbrev pub drop_says : Told → GcSays
-drop_says (said did) = Removed
-drop_says t = Going
+-- this, only where the act says that it did so
+abbrev pub says_if : GcSays → Bool → GcSays
+says_if s true = s
+says_if s false = Going
+
+abbrev pub mark_says : Option ℕ → GcSays
+mark_says None = Going
+mark_says (Some to) = Marked
 
 abbrev pub before_says : Told → GcSays
 before_says (found (Some e)) = Going
@@ -95,9 +141,15 @@ before_says t = Round
 
 abbrev pub at_says : CollectorAt → Told → GcSays
 at_says Before t = before_says t
-at_says (ToDropIntent k) t = drop_says t
+at_says (ToDropIntent k) t = says_if Removed (is_did t)
 at_says (ToLook k) t = Going
-at_says (ToDrop k) t = drop_says t
+at_says (ToDrop k) t = says_if Removed (is_did t)
+at_says (ToProve k i is) t = Going
+at_says (ToMark k) t = mark_says (told_marked t)
+at_says (ToLead k to at) t = Going
+at_says (ToSkip k to at) t = says_if Skipped (is_did t)
+at_says (ToDangle k) t = says_if Dangled (is_did t)
+at_says (ToDropCell k) t = says_if Removed (is_did t)
 
 abbrev pub prune_says : LogCollector → Told → GcSays
 prune_says w t = at_says w.at t

@@ -1,13 +1,17 @@
 // The log collector: what is asked of a table, and what follows.
-ghost use Rattle.std.specs.Prelude.{◌≡◌, true, IfOk, OnErr};
+ghost use Rattle.std.specs.Prelude.{◌≡◌, ℕ, true, false, IfOk, OnErr};
 ghost use Rattle.beldi_walk.specs.Query.{told_of, lends};
 ghost use Rattle.beldi_walk.specs.Walk.{Turned};
 ghost use Rattle.beldi_prune.specs.declared.collector.CollectorAt.TheVariants as at;
-ghost use Rattle.beldi_prune.specs.Prune.{first_collector, past, anew as anew_of, prune_asks, prune_next, prune_says, before_next, before_says, drop_says};
+ghost use Rattle.beldi_prune.specs.declared.collector.GcSays.TheVariants as says;
+ghost use Rattle.beldi_prune.specs.Prune.{first_collector, past, is_before, anew as anew_of, prune_asks, prune_next, prune_says, before_next, before_says, begins, to_prove as to_prove_of, stand_if, marked_next, led_next, says_if as says_if_of, mark_says as mark_says_of};
 
+use crate::asking::{ask, ask_at, ask_intent, ask_skip};
+use crate::entries::Intents;
 use crate::found::{Todo, is_recyclable, judge, seat};
-use beldi_row::{Act, RowKey, Said, Table, TableErr};
-use beldi_value::Apart;
+use crate::unlink::{is_did, lead, told_marked, told_next};
+use beldi_row::{Act, RowKey, Table, TableErr};
+use beldi_value::{Apart, IntentId, or_drop};
 use beldi_walk::{Heard, Query};
 use std::alloc::{AllocError, Global};
 use std::mem::replace;
@@ -15,8 +19,14 @@ use std::mem::replace;
 /// What a turn of a log collector says.
 #[derive(Drop)]
 pub enum GcSays {
-    /// It goes on, and removed nothing.
+    /// It goes on, and left all rows as they are.
     Going,
+    /// It marked a row of an item in this turn: that is to go.
+    Marked,
+    /// A row of an item leads past a marked one since this turn.
+    Skipped,
+    /// A marked row, which no row leads to, has the moment of this turn.
+    Dangled,
     /// It removed a row in this turn.
     Removed,
     /// No row follows the cursor. It goes back to the least key.
@@ -34,6 +44,30 @@ pub enum CollectorAt {
     ToLook(RowKey),
     /// A row that an intent left which is gone or old: it is to go.
     ToDrop(RowKey),
+    /// A row of an item, of whose entries this intent and then the rest are still to be looked at.
+    ToProve {
+        key: RowKey,
+        intent: IntentId,
+        rest: Intents,
+    },
+    /// A row of an item whose entries are of intents that are gone or old: it is to be marked.
+    ToMark(RowKey),
+    /// A marked row of an item, which the row of the number `to` comes after. The row `at` of that item is to be looked at.
+    ToLead {
+        key: RowKey,
+        to: u32,
+        at: u32,
+    },
+    /// A marked row of an item, which the row `at` leads to, and is to lead past, to the row `to`.
+    ToSkip {
+        key: RowKey,
+        to: u32,
+        at: u32,
+    },
+    /// A marked row of an item, which no row leads to: it is to have the moment of that.
+    ToDangle(RowKey),
+    /// A row of an item which no row leads to for more than a life: it is to go.
+    ToDropCell(RowKey),
 }
 
 /// A log collector. It goes from row to row, in the order of keys, and round again. A row that it has begun lies past its cursor,
@@ -61,11 +95,15 @@ impl LogCollector {
     {
         match &self.at {
             CollectorAt::Before => Query::after(alloc, self.cursor.copy(alloc)?),
-            CollectorAt::ToDropIntent(key) => {
-                Query::act(alloc, key.copy(alloc)?, Act::DropIntent { life })
-            }
+            CollectorAt::ToDropIntent(key) => ask(alloc, key, Act::DropIntent { life }),
             CollectorAt::ToLook(key) => Query::look(alloc, seat(alloc, key)?),
-            CollectorAt::ToDrop(key) => Query::act(alloc, key.copy(alloc)?, Act::DropRow),
+            CollectorAt::ToDrop(key) => ask(alloc, key, Act::DropRow),
+            CollectorAt::ToProve { key, intent, .. } => ask_intent(alloc, intent, key.home()),
+            CollectorAt::ToMark(key) => ask(alloc, key, Act::MarkCell),
+            CollectorAt::ToLead { key, at, .. } => ask_at(alloc, key, *at, Act::Look),
+            CollectorAt::ToSkip { key, to, at } => ask_skip(alloc, key, *to, *at),
+            CollectorAt::ToDangle(key) => ask(alloc, key, Act::DangleCell),
+            CollectorAt::ToDropCell(key) => ask(alloc, key, Act::DropCell { life }),
         }
     }
 
@@ -82,20 +120,32 @@ impl LogCollector {
         ensures ok { IfOk result (λ s. (self.new ≡ prune_next newest life now self.old (told_of heard.entry)) × (s ≡ prune_says self.old (told_of heard.entry))) }
         ensures err { OnErr result ((self.new ≡ self.old) × (lends (told_of heard.entry) ≡ true)) }
     {
-        match replace(&mut self.at, CollectorAt::Before) {
+        match &self.at {
             CollectorAt::Before => self.found(alloc, newest, life, now, heard),
-            CollectorAt::ToDropIntent(key) | CollectorAt::ToDrop(key) => {
-                self.go_to(key);
-                Ok(dropped(&heard))
+            _ => Ok(self.moved(&heard, life, now)),
+        }
+    }
+
+    // .. where it has begun a row.
+    fn moved(&mut self, heard: &Heard<'_>, life: u64, now: u64) -> GcSays
+        requires { is_before self.old.at ≡ false }
+        ensures moved { (newest : ℕ) → self.new ≡ prune_next newest life now self.old (told_of heard.entry.now) }
+        ensures says { result ≡ prune_says self.old (told_of heard.entry.now) }
+    {
+        match replace(&mut self.at, CollectorAt::Before) {
+            CollectorAt::Before => GcSays::Going,
+            CollectorAt::ToLook(key) => self.looked(key, is_recyclable(heard, life, now)),
+            CollectorAt::ToProve { key, intent, rest } => {
+                drop(intent);
+                self.proved(key, rest, is_recyclable(heard, life, now))
             }
-            CollectorAt::ToLook(key) => {
-                if is_recyclable(&heard, life, now) {
-                    self.begin(CollectorAt::ToDrop(key));
-                } else {
-                    self.go_to(key);
-                }
-                Ok(GcSays::Going)
-            }
+            CollectorAt::ToMark(key) => self.marked(key, told_marked(heard)),
+            CollectorAt::ToLead { key, to, at } => self.led(key, to, at, told_next(heard)),
+            CollectorAt::ToSkip { key, .. } => self.skipped(key, is_did(heard)),
+            CollectorAt::ToDangle(key) => self.done(key, GcSays::Dangled, is_did(heard)),
+            CollectorAt::ToDropIntent(key)
+            | CollectorAt::ToDrop(key)
+            | CollectorAt::ToDropCell(key) => self.done(key, GcSays::Removed, is_did(heard)),
         }
     }
 
@@ -175,14 +225,104 @@ impl LogCollector {
             self.go_to(RowKey::least(alloc));
             return Ok(GcSays::Round);
         };
-        let todo = judge(key, row, newest, life, now);
         let begun = key.copy(alloc)?;
-        match todo {
-            Todo::Pass => self.go_to(begun),
-            Todo::DropIt => self.begin(CollectorAt::ToDropIntent(begun)),
-            Todo::LookAt => self.begin(CollectorAt::ToLook(begun)),
-        }
+        let todo = or_drop!(judge(alloc, key, row, newest, life, now); begun);
+        self.begin_row(begun, todo);
         Ok(GcSays::Going)
+    }
+
+    // Begins a row, or goes past it.
+    fn begin_row(&mut self, key: RowKey, todo: Todo)
+        requires { self.old.at ≡ at.Before }
+        ensures { self.new ≡ begins self.old.cursor key todo }
+    {
+        match todo {
+            Todo::Pass => self.go_to(key),
+            Todo::DropIt => self.begin(CollectorAt::ToDropIntent(key)),
+            Todo::LookAt => self.begin(CollectorAt::ToLook(key)),
+            Todo::DropAdrift => self.begin(CollectorAt::ToDropCell(key)),
+            Todo::LeadPast(to) => self.begin(CollectorAt::ToLead { key, to, at: 0 }),
+            Todo::Prove(intents) => self.begin(to_prove(key, intents)),
+        }
+    }
+
+    // The intent of a row that it left was looked at.
+    fn looked(&mut self, key: RowKey, is_so: bool) -> GcSays
+        ensures moved { self.new ≡ stand_if self.old.cursor key (at.ToDrop key) is_so }
+        ensures says { result ≡ says.Going }
+    {
+        if is_so {
+            self.begin(CollectorAt::ToDrop(key));
+        } else {
+            self.go_to(key);
+        }
+        GcSays::Going
+    }
+
+    // The intent of some entries of a row was looked at, before the rest.
+    fn proved(&mut self, key: RowKey, rest: Intents, is_so: bool) -> GcSays
+        ensures moved { self.new ≡ stand_if self.old.cursor key (to_prove_of key rest) is_so }
+        ensures says { result ≡ says.Going }
+    {
+        if is_so {
+            self.begin(to_prove(key, rest));
+        } else {
+            drop(rest);
+            self.go_to(key);
+        }
+        GcSays::Going
+    }
+
+    // A row was marked, and this one comes after it; or it was not.
+    fn marked(&mut self, key: RowKey, next: Option<u32>) -> GcSays
+        ensures moved { self.new ≡ marked_next self.old.cursor key next }
+        ensures says { result ≡ mark_says_of next }
+    {
+        match next {
+            Some(to) => {
+                self.begin(CollectorAt::ToLead { key, to, at: 0 });
+                GcSays::Marked
+            }
+            None => {
+                self.go_to(key);
+                GcSays::Going
+            }
+        }
+    }
+
+    // The row `at` was looked at, on the way to that of the key.
+    fn led(&mut self, key: RowKey, to: u32, at: u32, next: Option<Option<u32>>) -> GcSays
+        ensures moved { self.new ≡ led_next self.old.cursor key to at next }
+        ensures says { result ≡ says.Going }
+    {
+        match next {
+            Some(next) => self.begin(lead(key, to, at, next)),
+            None => self.go_to(key),
+        }
+        GcSays::Going
+    }
+
+    // A row leads past that of the key, or it was not led so.
+    fn skipped(&mut self, key: RowKey, is_so: bool) -> GcSays
+        ensures moved { self.new ≡ stand_if self.old.cursor key (at.ToDangle key) is_so }
+        ensures says { result ≡ says_if_of says.Skipped is_so }
+    {
+        if is_so {
+            self.begin(CollectorAt::ToDangle(key));
+            GcSays::Skipped
+        } else {
+            self.go_to(key);
+            GcSays::Going
+        }
+    }
+
+    // It is done with a row. It says this, where the act did what it was asked for.
+    fn done(&mut self, key: RowKey, says: GcSays, is_so: bool) -> GcSays
+        ensures moved { self.new ≡ past key }
+        ensures says { result ≡ says_if_of says is_so }
+    {
+        self.go_to(key);
+        if is_so { says } else { GcSays::Going }
     }
 
     // Sets it past this key.
@@ -208,12 +348,16 @@ impl LogCollector {
     }
 }
 
-// What an act that may remove a row came to.
-fn dropped(heard: &Heard<'_>) -> GcSays
-    ensures { result ≡ drop_says (told_of heard.entry.now) }
+// The first of these intents is to be looked at; where there is none, the row is to be marked.
+fn to_prove(key: RowKey, intents: Intents) -> CollectorAt
+    ensures { result ≡ to_prove_of key intents }
 {
-    match heard {
-        Heard::Said(Said::Did) => GcSays::Removed,
-        _ => GcSays::Going,
+    let mut rest = intents;
+    match rest.take() {
+        Some(intent) => CollectorAt::ToProve { key, intent, rest },
+        None => {
+            drop(rest);
+            CollectorAt::ToMark(key)
+        }
     }
 }

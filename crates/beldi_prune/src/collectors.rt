@@ -1,5 +1,5 @@
 // Eight log collectors.
-ghost use Rattle.std.specs.Prelude.{◌≡◌};
+ghost use Rattle.std.specs.Prelude.{◌≡◌, length};
 ghost use Rattle.beldi_walk.specs.Walk.{Turned};
 ghost use Rattle.beldi_prune.specs.Collectors.{first_collectors, collector_at, set_collector};
 ghost use Rattle.beldi_prune.specs.Prune.{anew as anew_of, prune_asks, prune_next, prune_says};
@@ -43,6 +43,13 @@ impl Collectors {
                 LogCollector::new(alloc),
             ],
         }
+    }
+
+    /// What holds of them: there are eight.
+    pub fn are_eight(&self)
+        ensures { length self.now ≡ 8 }
+    {
+        let _all = &self.all;
     }
 
     /// One turn of the collector of this number, as `LogCollector::turn` makes it.

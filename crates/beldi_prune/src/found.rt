@@ -1,9 +1,12 @@
 // What a log collector is to do with a row, and what a look at the row of an intent tells.
 ghost use Rattle.std.specs.Prelude.{◌≡◌, IfOk};
+ghost use Rattle.beldi_row.specs.declared.key.Kind.TheVariants as kinds;
 ghost use Rattle.beldi_walk.specs.Query.{told_of};
 ghost use Rattle.beldi_prune.specs.Seat.{seat as seat_of_row};
 ghost use Rattle.beldi_prune.specs.Prune.{todo_of, is_newest as is_newest_of, is_past_row as is_past_row_of, is_recyclable as is_recyclable_of};
 
+use crate::entries::Intents;
+use crate::unlink::judge_row;
 use beldi_intent::intent_key;
 use beldi_row::{Kind, Row, RowKey, Said, is_old_row, is_past};
 use beldi_value::IntentId;
@@ -19,22 +22,39 @@ pub enum Todo {
     DropIt,
     /// It is a row that an intent left, whose own row is to be looked at.
     LookAt,
+    /// It is a row of an item that no row leads to for more than a life, and is to go.
+    DropAdrift,
+    /// It is a marked row of an item, past which its chain is to be led to the row of this number.
+    LeadPast(u32),
+    /// It is a row of an item which is to be marked once these intents were found gone or old.
+    Prove(Intents),
 }
 
 /// What is to be done with this row.
-pub(crate) fn judge(key: &RowKey, row: &Row, newest: u32, life: u64, now: u64) -> Todo
-    ensures { result ≡ todo_of newest life now key.now.kind row.now }
+pub(crate) fn judge(
+    alloc: Global,
+    key: &RowKey,
+    row: &Row,
+    newest: u32,
+    life: u64,
+    now: u64,
+) -> Result<Todo, AllocError>
+    ensures { IfOk result (λ t. t ≡ todo_of newest life now key.now.kind row.now) }
 {
     match key.kind() {
-        Kind::Intent(id) => {
-            if !is_newest(id, newest) && is_old_row(row, life, now) {
-                Todo::DropIt
-            } else {
-                Todo::Pass
-            }
-        }
-        Kind::Data { .. } => Todo::Pass,
-        _ => Todo::LookAt,
+        Kind::Intent(id) => Ok(judge_intent(id, row, newest, life, now)),
+        Kind::Data { row: number, .. } => judge_row(alloc, *number, row, life, now),
+        _ => Ok(Todo::LookAt),
+    }
+}
+
+fn judge_intent(id: &IntentId, row: &Row, newest: u32, life: u64, now: u64) -> Todo
+    ensures { result ≡ todo_of newest life now (kinds.Intent id.now) row.now }
+{
+    if !is_newest(id, newest) && is_old_row(row, life, now) {
+        Todo::DropIt
+    } else {
+        Todo::Pass
     }
 }
 

@@ -3,7 +3,7 @@ use Rattle.std.specs.Option.{option_map}
 use Rattle.std.specs.FinMap as map
 use Rattle.std.proofs.Common.{◌≡◌, ℕ, false, Option, None, Some, refl, sym, subst}
 use Rattle.beldi_value.specs.declared.value.Value.{Value}
-use Rattle.beldi_row.{specs.Key.RowKey, specs.declared.row.Row.Row, specs.declared.act.Act.Act, specs.declared.act.Act.TheVariants.Bind, specs.declared.act.Act.TheVariants.Look, specs.declared.act.Act.TheVariants.PutRead, specs.declared.act.Act.TheVariants.DropIntent, specs.declared.act.Act.TheVariants.DropRow, specs.Act.act, specs.Act.drops, specs.Table.Rows, specs.Table.set_row, proofs.Unchanged.unchanged, proofs.Unchanged.looked}
+use Rattle.beldi_row.{specs.Key.RowKey, specs.declared.row.Row.Row, specs.declared.act.Act.Act, specs.declared.act.Act.TheVariants.Bind, specs.declared.act.Act.TheVariants.Look, specs.declared.act.Act.TheVariants.PutRead, specs.declared.act.Act.TheVariants.DropIntent, specs.declared.act.Act.TheVariants.DropRow, specs.Act.act, specs.Act.prunes, specs.Table.Rows, specs.Table.set_row, proofs.Unchanged.unchanged, proofs.Unchanged.looked}
 use Rattle.beldi_walk.{specs.Query.said, proofs.Promises.promised, proofs.Promises.at_each}
 use Rattle.beldi_readlog.specs.ReadLog.{log_key, given_asks, keep_asks, given_in, given, given_of, kept_of, PutOn, GetGives, IsKept, ValuesArePutOnce, ValuesStay}
 
@@ -26,7 +26,7 @@ pub put_once : ValuesArePutOnce
 put_once home at v now = promised (keep_asks home at v) now (kept_of v) (λ m. PutOn v (log_key home at) (map.get m (log_key home at)) m) (λ m. put_at v now (log_key home at) m (map.get m (log_key home at)) refl)
 
 -- no act changes such a row, but those that may remove one
-act_keeps : (a : Act) (now : ℕ) (v : Value) → drops a ≡ false → (act a now (Some (Row.ReadLog v))).0 ≡ Some (Row.ReadLog v)
+act_keeps : (a : Act) (now : ℕ) (v : Value) → prunes a ≡ false → (act a now (Some (Row.ReadLog v))).0 ≡ Some (Row.ReadLog v)
 act_keeps (Bind f w) now v keeps = refl
 act_keeps (DropIntent l) now v keeps = cc
 act_keeps DropRow now v keeps = cc

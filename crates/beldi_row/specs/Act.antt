@@ -2,7 +2,7 @@
 use Rattle.std.specs.Prelude.{◌≡◌, ℕ, ◌+◌, Bool, true, false, not, ◌&&◌, ◌||◌, ◌==◌, nat_lt, is_some, [], ◌∷◌, ◌++◌, length, Option, Some, None, if◌then◌else◌, slice_get}
 use Rattle.std.specs.Option.{option_copied}
 use Rattle.beldi_value.specs.{declared.value.Value.Value, declared.outcome.Outcome.Outcome, declared.place.Place.Place, declared.place.Owner.Owner, declared.id.IntentId.IntentId, Id.age_of, Id.is_older, declared.rel.Rel.Rel, Passes.passes, Same.same_value}
-use Rattle.beldi_row.specs.declared.act.Act.TheVariants.{Look, Issue, Bind, Register, End, Stamp, PutRead, OpenInvoke, CallBack, NoteRegistered, PutLockset, MakeCell, WriteCell, CondCell, LockCell, FreeCell, LinkCell, DropIntent, DropRow}
+use Rattle.beldi_row.specs.declared.act.Act.TheVariants.{Look, Issue, Bind, Register, End, Stamp, PutRead, OpenInvoke, CallBack, NoteRegistered, PutLockset, MakeCell, WriteCell, CondCell, LockCell, FreeCell, LinkCell, DropIntent, DropRow, MarkCell, SkipCell, DangleCell, DropCell}
 use Rattle.beldi_row.specs.{declared.notes.Note.Note, declared.notes.Note.TheVariants.Wrote, declared.notes.Note.TheVariants.Cond, declared.notes.Note.TheVariants.Got, declared.notes.Note.TheVariants.Died, declared.notes.Note.TheVariants.Freed, declared.row.Body.Body, declared.row.IntentRow.IntentRow, declared.row.InvokeRow.InvokeRow, declared.row.Cell.Cell, declared.row.Row.Row, declared.act.Act.Act, declared.act.Said.Said, declared.act.Change.Change, Log.most_entries, Log.note_at, Log.note_of, Log.owner_eq}
 
 -- what an act says, without where it lies in memory
@@ -29,6 +29,7 @@ pub data Tell : Type 0 where
   packed : Value → Option Owner → Tell
   not_full : Tell
   not_so : Tell
+  marked : ℕ → Tell
 
 abbrev pub tell_of : Said → Tell
 tell_of Said.Absent = absent
@@ -53,6 +54,7 @@ tell_of (Said.Died a) = died a.now
 tell_of (Said.Packed v o) = packed v.now (option_copied o)
 tell_of Said.NotFull = not_full
 tell_of Said.NotSo = not_so
+tell_of (Said.Marked n) = marked n
 
 -- ---- the acts on the row of an intent
 abbrev pub outcome_tell : Option Outcome → Tell
@@ -201,21 +203,61 @@ abbrev pub is_left_row : Row → Bool
 is_left_row (Row.Intent i) = false
 is_left_row r = true
 
+-- a cell that no row leads to for more than a life
+abbrev pub is_adrift : ℕ → ℕ → Row → Bool
+is_adrift life now (Row.Cell c) = is_past life now c.dangled
+is_adrift life now r = false
+
 -- the acts that may remove the row, and whether one removes this one
 abbrev pub drops : Act → Bool
 drops (DropIntent l) = true
 drops DropRow = true
+drops (DropCell l) = true
 drops a = false
 
 abbrev pub removes : Act → ℕ → Row → Bool
 removes (DropIntent l) now r = is_old_row l now r
 removes DropRow now r = is_left_row r
+removes (DropCell l) now r = is_adrift l now r
 removes a now r = false
+
+-- the acts of log collectors: these, and those that lead past a cell
+abbrev pub prunes : Act → Bool
+prunes MarkCell = true
+prunes (SkipCell f t) = true
+prunes DangleCell = true
+prunes a = drops a
 
 -- what is said then
 abbrev pub removed_tell : Bool → Tell
 removed_tell true = did
 removed_tell false = not_so
+
+-- ---- the acts that lead past a cell: it is marked, the one before leads past it, and then it is adrift
+-- a cell that has a next is marked, and that is told
+abbrev pub mark_by : Option ℕ → Cell → Cell × Tell
+mark_by None c = (c, not_so)
+mark_by (Some n) c = (record c { marked = true }, marked n)
+
+-- a cell that is not marked leads from this row past it to a greater one
+abbrev pub leads_from : ℕ → Option ℕ → Bool
+leads_from f None = false
+leads_from f (Some n) = n == f
+
+abbrev pub skip_by : Bool → ℕ → Cell → Cell × Tell
+skip_by false t c = (c, not_so)
+skip_by true t c = (record c { next = Some t }, did)
+
+abbrev pub skip_to : ℕ → ℕ → Cell → Cell × Tell
+skip_to f t c = skip_by (not c.marked && leads_from f c.next && nat_lt f t) t c
+
+-- a marked one is adrift from now on
+abbrev pub dangle_by : Bool → ℕ → Cell → Cell × Tell
+dangle_by false now c = (c, not_so)
+dangle_by true now c = (record c { dangled = Some now }, did)
+
+abbrev pub dangle_at : ℕ → Cell → Cell × Tell
+dangle_at now c = dangle_by (c.marked && not (is_some c.dangled)) now c
 
 -- ---- the acts on a row of any kind: one that does not fit its kind changes nothing, and says this
 abbrev pub on_intent : (IntentRow → IntentRow × Tell) → Tell → Row → Row × Tell
@@ -260,6 +302,10 @@ on (FreeCell p w v) now r = on_cell (free_at p w v) no_row r
 on (LinkCell n) now r = on_cell (link_to n) no_row r
 on (DropIntent l) now r = (r, removed_tell (is_old_row l now r))
 on DropRow now r = (r, removed_tell (is_left_row r))
+on MarkCell now r = on_cell (λ c. mark_by c.next c) not_so r
+on (SkipCell f t) now r = on_cell (skip_to f t) not_so r
+on DangleCell now r = on_cell (dangle_at now) not_so r
+on (DropCell l) now r = (r, removed_tell (is_adrift l now r))
 
 -- where no row is
 abbrev pub off : Act → ℕ → Option Row × Tell
@@ -282,6 +328,10 @@ off (FreeCell p w v) now = (None, no_row)
 off (LinkCell n) now = (None, no_row)
 off (DropIntent l) now = (None, gone)
 off DropRow now = (None, not_so)
+off MarkCell now = (None, not_so)
+off (SkipCell f t) now = (None, not_so)
+off DangleCell now = (None, not_so)
+off (DropCell l) now = (None, not_so)
 
 abbrev pub stays : Row × Tell → Option Row × Tell
 stays r = (Some r.0, r.1)
@@ -352,6 +402,7 @@ said_by Change.Died r = cell_tell (λ c. died_tell c.owner) r
 said_by Change.Packed r = cell_tell (λ c. packed c.value c.owner) r
 said_by Change.NotFull r = not_full
 said_by Change.NotSo r = not_so
+said_by (Change.Marked n) r = marked n
 
 -- what stands in the way of an act on a cell is told, or else the act is done
 abbrev pub way_or : Option Change → Cell → Cell × Tell → Cell × Tell

@@ -2,17 +2,19 @@
 ghost use Rattle.std.specs.Prelude.{◌≡◌, ◌&&◌, ◌==◌, ℕ, Some, Option};
 ghost use Rattle.beldi_value.specs.Same.{same_value};
 ghost use Rattle.beldi_row.specs.declared.row.Row as row_data;
-ghost use Rattle.beldi_row.specs.Act.{bind_to, end_with, stamp_with, call_back_to, register_to, kept_tell, on_intent, on_invoke, gone, off, said_by, drops, removes, removed_tell, is_past, is_old, is_old_row, is_left_row, Changes};
+ghost use Rattle.beldi_row.specs.Act.{bind_to, end_with, stamp_with, call_back_to, register_to, kept_tell, on_intent, on_invoke, gone, off, said_by, drops, removes, removed_tell, is_past, is_old, is_old_row, is_left_row, is_adrift, Changes};
 
 use crate::cell::{free, link, lock, write, write_where};
 use crate::notes::{Blank, Note};
 use crate::row::{Body, Cell, IntentRow, InvokeRow, Row};
+use crate::unlink::{dangle, mark, skip};
 use beldi_value::{IntentId, Outcome, Owner, Place, Rel, Spare, Value};
 
 /// An act on one row. `Look` is for rows of any kind, `Issue`, `Bind`, `Register`, `End` and `Stamp` are for intents, `PutRead` for what
 /// reads were given, `OpenInvoke`, `CallBack` and `NoteRegistered` for calls, `PutLockset` for what a transaction asked the lock
-/// of. `DropIntent` and `DropRow` remove a row. The others are for cells: a cell that has the place already, or that a row follows,
-/// is left as it is, and so is a full one but for the row that follows it.
+/// of. `DropIntent`, `DropRow` and `DropCell` remove a row, and `MarkCell`, `SkipCell` and `DangleCell` lead past a cell that is to go. The
+/// others are for cells: a cell that has the place already, or that a row follows, is left as it is, and so is a full one but for the
+/// row that follows it.
 #[derive(Drop)]
 pub enum Act {
     /// Reads the row.
@@ -98,6 +100,19 @@ pub enum Act {
     /// Removes what an intent left beside its own row: what a read was given, a call, an item that the lock was asked of, or a
     /// cell of a shadow.
     DropRow,
+    /// Marks a cell that a row follows: it is to go, and that row comes after it for good.
+    MarkCell,
+    /// Leads from a cell that is not marked to the row `to`, where it led to the row `from` below that.
+    SkipCell {
+        from: u32,
+        to: u32,
+    },
+    /// Says of a marked cell, once, since when no row leads to it.
+    DangleCell,
+    /// Removes a cell that no row leads to for more than a life, in ticks.
+    DropCell {
+        life: u64,
+    },
 }
 
 /// What an act says. It lends what lies in the row.
@@ -145,8 +160,10 @@ pub enum Said<'a> {
     Packed(&'a Value, Option<&'a Owner>),
     /// The cell is not full, so no row was linked to it.
     NotFull,
-    /// The row is not one to remove, so none was.
+    /// The row is not one to remove, to mark or to lead past, so it stays as it is.
     NotSo,
+    /// The cell is marked, and this row comes after it.
+    Marked(u32),
 }
 
 /// What an act did: each says the same as the answer of `Said` with its name, but for what lies in the row.
@@ -175,6 +192,7 @@ pub enum Change {
     Packed,
     NotFull,
     NotSo,
+    Marked(u32),
 }
 
 /// What an act makes where no row is, if anything. It takes no memory.
@@ -230,7 +248,8 @@ pub fn missing(act: &Act) -> Change
         Act::OpenInvoke { .. } | Act::PutLockset | Act::MakeCell { .. } => Change::Added,
         Act::Bind { .. } | Act::End { .. } | Act::Stamp => Change::Gone,
         Act::CallBack { .. } | Act::NoteRegistered | Act::DropIntent { .. } => Change::Gone,
-        Act::DropRow => Change::NotSo,
+        Act::DropRow | Act::DropCell { .. } => Change::NotSo,
+        Act::MarkCell | Act::SkipCell { .. } | Act::DangleCell => Change::NotSo,
         Act::WriteCell { .. } | Act::CondCell { .. } => Change::NoRow,
         Act::LockCell { .. } | Act::FreeCell { .. } | Act::LinkCell { .. } => Change::NoRow,
     }
@@ -279,6 +298,10 @@ pub fn apply(row: &mut Row, act: Act, now: u64) -> Change
         Act::LinkCell { next } => link(row, next),
         Act::DropIntent { life } => removal(is_old_row(row, life, now)),
         Act::DropRow => removal(is_left_row(row)),
+        Act::MarkCell => mark(row),
+        Act::SkipCell { from, to } => skip(row, from, to),
+        Act::DangleCell => dangle(row, now),
+        Act::DropCell { life } => removal(is_adrift(row, life, now)),
     }
 }
 
@@ -286,7 +309,10 @@ pub fn apply(row: &mut Row, act: Act, now: u64) -> Change
 pub fn drops(act: &Act) -> bool
     ensures { result ≡ drops act.now }
 {
-    matches!(act, Act::DropIntent { .. } | Act::DropRow)
+    matches!(
+        act,
+        Act::DropIntent { .. } | Act::DropRow | Act::DropCell { .. }
+    )
 }
 
 /// Whether an act removes this row. Who keeps the row then takes it away.
@@ -296,6 +322,7 @@ pub fn removes(act: &Act, row: &Row, now: u64) -> bool
     match act {
         Act::DropIntent { life } => is_old_row(row, *life, now),
         Act::DropRow => is_left_row(row),
+        Act::DropCell { life } => is_adrift(row, *life, now),
         _ => false,
     }
 }
@@ -332,6 +359,16 @@ pub fn is_past(moment: Option<u64>, life: u64, now: u64) -> bool
     match moment {
         Some(moment) => moment < now && life < now - moment,
         None => false,
+    }
+}
+
+// Whether it is a cell that no row leads to for more than a life.
+fn is_adrift(row: &Row, life: u64, now: u64) -> bool
+    ensures { result ≡ is_adrift life now row.now }
+{
+    match row {
+        Row::Cell(cell) => is_past(cell.dangled, life, now),
+        _ => false,
     }
 }
 

@@ -22,8 +22,8 @@
 //!   goes (`PassesTold`); neither needs to.
 //!
 //! Files:
-//! - Code (`src/`): `key`, `row`, `notes` the log of a cell; `act` acts on one row, `cell` those on a cell, `telling` what is
-//!   said of a change; `table` the trait; `laws`.
+//! - Code (`src/`): `key`, `row`, `notes` the log of a cell; `act` acts on one row, `cell` those on a cell, `unlink` those that lead
+//!   past one, `telling` what is said of a change; `table` the trait; `laws`.
 //! - Lemmas (`proofs/`): `Found`; `Least` the row after a key; `Rows`, `Gets`, `Logs`, `Removed`, `Room`, `Tells`, `Unchanged`, also for the
 //!   crates above; `Fronts` keys by their fronts.
 #![tactic(auto)]
@@ -36,6 +36,7 @@ mod notes;
 mod row;
 mod table;
 mod telling;
+mod unlink;
 
 pub use act::{Act, Change, Said, apply, drops, is_old_row, is_past, made, missing, removes};
 pub use beldi_value::Caller;

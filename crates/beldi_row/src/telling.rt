@@ -47,6 +47,7 @@ pub fn tell(row: Option<&Row>, change: Change) -> Said<'_>
         (Change::Tested(passed), _) => Said::Tested(passed),
         (Change::NotFull, _) => Said::NotFull,
         (Change::NotSo, _) => Said::NotSo,
+        (Change::Marked(next), _) => Said::Marked(next),
     }
 }
 

@@ -212,11 +212,11 @@ module _ {T : Type 0} {G : Ghosts T} where
       (λ d room s u settled. short_after d room s u settled.0 (f ∷ []) settled.1 (TellReply t ∷ []) (Called CallSaid.NoMemory) settled.2 (inr refl))
 
   -- ---- turns were given, and what they tell is dropped
-  pub turns_given : (a b : Host T G) (fs : List Action) → Comes (Settled fs (settled_so {X = Unit {0}} tt)) a b → Comes (Passed fs (none_lost tt)) a b
-  turns_given a b fs = comes_map {P = Settled fs (settled_so {X = Unit {0}} tt)} {Q = Passed fs (none_lost tt)} {a = a} {b = b} (λ d room s u k. (k.0, subst (λ z. Steps (IsStep d room) k.0 fs z s u) k.3 k.2))
+  pub turns_given : {X : Type 0} (a b : Host T G) (fs : List Action) (x : X) → Comes (Settled fs (settled_so x)) a b → Comes (Passed fs (none_lost tt)) a b
+  turns_given a b fs x = comes_map {P = Settled fs (settled_so x)} {Q = Passed fs (none_lost tt)} {a = a} {b = b} (λ d room s u k. (k.0, subst (λ z. Steps (IsStep d room) k.0 fs z s u) k.3 k.2))
 
-  pub turns_short : (a b : Host T G) (fs : List Action) (e : Stop) (w : AllocError) → Comes (Settled fs (stopped_so (Unit {0}) e)) a b → Comes (Passed fs (lost w)) a b
-  turns_short a b fs e w = comes_map {P = Settled fs (stopped_so (Unit {0}) e)} {Q = Passed fs (lost w)} {a = a} {b = b} (λ d room s u k. (k.0, leads_so (IsStep d room) k.0 fs k.1 s u k.2))
+  pub turns_short : (X : Type 0) (a b : Host T G) (fs : List Action) (e : Stop) (w : AllocError) → Comes (Settled fs (stopped_so X e)) a b → Comes (Passed fs (lost w)) a b
+  turns_short X a b fs e w = comes_map {P = Settled fs (stopped_so X e)} {Q = Passed fs (lost w)} {a = a} {b = b} (λ d room s u k. (k.0, leads_so (IsStep d room) k.0 fs k.1 s u k.2))
 
   -- ---- ticks passed
   pub ticks_told : (a b : Host T G) (by : ℕ) (x : Seen) → Comes (Made (Event.Tick by) (Ok x)) a b → Comes (Passed (Carry (Event.Tick by) ∷ []) (none_lost tt)) a b

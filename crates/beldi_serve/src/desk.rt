@@ -157,7 +157,7 @@ impl<T: Table> HostDesk<T> {
         let given = sweep(self.alloc, &mut self.host, &mut self.told, 0, PRUNING);
         self.told.clear();
         match given {
-            Ok(()) => Ok(()),
+            Ok(_) => Ok(()),
             Err(_) => Err(AllocError),
         }
     }

@@ -14,13 +14,13 @@ use Rattle.beldi_joined.specs.{Joined.behind, Joined.with_joined, Laws.SettlesAs
 use Rattle.beldi_session.specs.Settling.{Collected, Heard, KeepsPromises, KeepsPromisesAfter, Led, state_with}
 
 -- ---- one after another
-tells_then : {P Q R : Rows → Rows → Type 0} (x y z : Option Rows) → ((m n o : Rows) → P m n → Q n o → R m o) → Tells x y P → Tells y z Q → Tells x z R
+pub tells_then : {P Q R : Rows → Rows → Type 0} (x y z : Option Rows) → ((m n o : Rows) → P m n → Q n o → R m o) → Tells x y P → Tells y z Q → Tells x z R
 tells_then {P} {Q} {R} None y z f p q = subst (λ w. Tells w z Q) p q
 tells_then (Some m) None z f p q = absurd p
 tells_then (Some m) (Some n) None f p q = absurd q
 tells_then (Some m) (Some n) (Some o) f p q = f m n o p q
 
-tells_with : {P R : Rows → Rows → Type 0} {Q : Rows → Type 0} (x y : Option Rows) → ((m n : Rows) → Q m → P m n → R m n) → IfSome x Q → Tells x y P → Tells x y R
+pub tells_with : {P R : Rows → Rows → Type 0} {Q : Rows → Type 0} (x y : Option Rows) → ((m n : Rows) → Q m → P m n → R m n) → IfSome x Q → Tells x y P → Tells x y R
 tells_with None y f q p = p
 tells_with (Some m) None f q p = p
 tells_with (Some m) (Some n) f q p = f m n q p

@@ -7,4 +7,5 @@ pub mod Responses
 mod SettleEvents
 mod Strides
 mod Sweeps
+mod SweepTurns
 pub mod Went

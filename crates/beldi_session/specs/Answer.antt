@@ -85,6 +85,9 @@ answer_text d Seen.Spent = codes "spent\n"
 -- the answer to a turn of a log collector, as a line
 abbrev pub pruned_text : Pruned → List ℕ
 pruned_text Pruned.Going = codes "going\n"
+pruned_text Pruned.Marked = codes "marked\n"
+pruned_text Pruned.Skipped = codes "skipped\n"
+pruned_text Pruned.Dangled = codes "dangled\n"
 pruned_text Pruned.Removed = codes "removed\n"
 pruned_text Pruned.Round = codes "round\n"
 pruned_text Pruned.Dropped = codes "dropped\n"

@@ -7,3 +7,4 @@ pub mod Session
 pub mod Settled
 pub mod Settling
 pub mod Source
+pub mod Sweeps

@@ -5,6 +5,7 @@ use Rattle.beldi_tree.specs.declared.deployment.Deployment.{Deployment}
 use Rattle.beldi_step.specs.declared.event.{Event.Event, Pruned.Pruned}
 use Rattle.beldi_script.specs.declared.line.Line.{Line}
 use Rattle.beldi_schedule.specs.{declared.machine.Standing.Standing, Settle.first_at, Settle.go_on}
+use Rattle.beldi_tidy.specs.Sweeping.{ends_round}
 use Rattle.beldi_session.specs.{declared.refusal.Refusal.Refusal, declared.session.Taker.Taker, declared.sweeping.Swept.Swept, declared.sweeping.Swept.TheVariants.All, declared.sweeping.Swept.TheVariants.Unswept, Source.Numbered, Source.said_at}
 
 -- carry out an event; call a function with a ticket, and see what comes of it; go on with a settling, within a budget, from where it
@@ -42,12 +43,8 @@ abbrev pub sweep_next : ℕ → ℕ → ℕ → Bool → Action
 sweep_next k budget n true = TellSwept (All (n + 1))
 sweep_next k budget n false = sweep_at k budget (n + 1)
 
-abbrev pub is_round : Pruned → Bool
-is_round Pruned.Round = true
-is_round x = false
-
 abbrev pub sweep_heard : ℕ → ℕ → ℕ → Pruned → Action
-sweep_heard k budget n x = sweep_next k budget n (is_round x)
+sweep_heard k budget n x = sweep_next k budget n (ends_round x)
 
 abbrev pub actions_of : Line → List Action
 actions_of Line.Ticket = Carry Event.Ticket ∷ []

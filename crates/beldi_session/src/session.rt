@@ -2,7 +2,7 @@
 ghost use Rattle.std.specs.Prelude.{◌≡◌, ◌∷◌, ◌++◌, [], ℕ, List, Option, IfOk, OnOk, true};
 ghost use Rattle.beldi_script.specs.Cut.{lines_of};
 ghost use Rattle.beldi_schedule.specs.Settle.{first_at, go_on};
-ghost use Rattle.beldi_session.specs.Script.{Carry, Settle, TellReply, CountRows, ListTables, ListBook, actions_of, actions_in, and_then, is_ok, is_whole, times, turn_of};
+ghost use Rattle.beldi_session.specs.Script.{Carry, Settle, TellReply, CountRows, ListTables, ListBook, actions_of, actions_in, and_then, is_ok, is_whole, times, turn_of, sweep_at};
 ghost use Rattle.beldi_book.specs.Text.{book_text};
 ghost use Rattle.beldi_session.specs.Response.{BookIs, report_text};
 ghost use Rattle.beldi_session.specs.Session.{Does, by_done, by_text, sight};
@@ -191,6 +191,22 @@ fn settle_all<T: Table>(
     }
 }
 
+// Sweeps, and appends the text of it.
+fn sweep_all<T: Table>(
+    alloc: Global,
+    host: &mut Host<T>,
+    out: &mut Str,
+    number: u8,
+    budget: u64,
+) -> Result<(), Stop>
+    ensures { (held : Option (List ℕ)) (faults : ℕ) → Does (sweep_at number budget 0 ∷ []) (sight host.old out.old held faults) (sight host.new out.new held faults) result }
+{
+    match sweep(alloc, host, out, number, budget) {
+        Ok(_) => Ok(()),
+        Err(stop) => Err(stop),
+    }
+}
+
 // Does what a line says, and appends the text of what is said of it.
 fn say<T: Table>(alloc: Global, host: &mut Host<T>, out: &mut Str, line: Line) -> Result<(), Stop>
     ensures { (held : Option (List ℕ)) (faults : ℕ) → Does (actions_of line) (sight host.old out.old held faults) (sight host.new out.new held faults) result }
@@ -212,7 +228,7 @@ fn say<T: Table>(alloc: Global, host: &mut Host<T>, out: &mut Str, line: Line) -
         Line::Book => list_book(alloc, host, out),
         Line::Blank => Ok(()),
         Line::Gc { k, times } => give_turns(alloc, host, out, Taker::LogCollector(k), times),
-        Line::Sweep { k, budget } => sweep(alloc, host, out, k, budget),
+        Line::Sweep { k, budget } => sweep_all(alloc, host, out, k, budget),
         Line::Settle { budget } => settle_all(alloc, host, out, budget),
         Line::Halt => answer(alloc, host, out, Event::Halt),
     }

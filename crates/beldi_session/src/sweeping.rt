@@ -1,15 +1,20 @@
 // Turns of a log collector, alone and in a sweep, which gives turns up to the end of a round.
-ghost use Rattle.std.specs.Prelude.{◌≡◌, ◌++◌, ◌∷◌, [], ℕ, List, Option, OnOk};
+ghost use Rattle.std.specs.Prelude.{◌≡◌, ◌++◌, ◌∷◌, [], ℕ, List, Option, IfOk, OnOk};
+ghost use Rattle.beldi_host.specs.Host.{core_of};
+ghost use Rattle.beldi_host.specs.Right.{IsRight};
+ghost use Rattle.beldi_tidy.specs.Sweeping.{ends_round};
 ghost use Rattle.beldi_session.specs.Answer.{pruned_text};
-ghost use Rattle.beldi_session.specs.Script.{Prune, Sweep, TellSwept, is_round, sweep_at};
+ghost use Rattle.beldi_session.specs.Script.{Prune, Sweep, TellSwept, sweep_at};
 ghost use Rattle.beldi_session.specs.Session.{Does, DoesTo, left_of_sweep, sight};
 ghost use Rattle.beldi_session.specs.Settled.{swept_text};
+ghost use Rattle.beldi_session.specs.Sweeps.{Given, KeepsSweepPromises};
 
 use crate::answer::write_numbered;
 use crate::session::{Stop, appended};
 use beldi_host::Host;
 use beldi_row::Table;
 use beldi_step::Pruned;
+use beldi_tidy::sweeps_are_as_promised;
 use beldi_value::Str;
 use std::alloc::{AllocError, Global};
 
@@ -27,6 +32,9 @@ fn pruned_text(pruned: Pruned) -> &'static str
 {
     match pruned {
         Pruned::Going => "going\n",
+        Pruned::Marked => "marked\n",
+        Pruned::Skipped => "skipped\n",
+        Pruned::Dangled => "dangled\n",
         Pruned::Removed => "removed\n",
         Pruned::Round => "round\n",
         Pruned::Dropped => "dropped\n",
@@ -46,8 +54,8 @@ pub fn prune<T: Table>(host: &mut Host<T>, out: &mut Str, number: u8) -> Result<
 }
 
 // It was the last turn of a round.
-fn is_round(pruned: Pruned) -> bool
-    ensures { result ≡ is_round pruned }
+fn ends_round(pruned: Pruned) -> bool
+    ensures { result ≡ ends_round pruned }
 {
     match pruned {
         Pruned::Round => true,
@@ -57,10 +65,11 @@ fn is_round(pruned: Pruned) -> bool
 
 // The next turn of a sweep after so many, which tells nothing. `true`: it ended the round.
 fn sweep_on<T: Table>(host: &mut Host<T>, number: u8, turns: u64) -> Result<bool, Stop>
-    ensures { (budget : ℕ) (text : List ℕ) (held : Option (List ℕ)) (faults : ℕ) → DoesTo (Sweep number budget turns ∷ []) (left_of_sweep number budget turns result) (sight host.old text held faults) (sight host.new text held faults) result }
+    ensures does { (budget : ℕ) (text : List ℕ) (held : Option (List ℕ)) (faults : ℕ) → DoesTo (Sweep number budget turns ∷ []) (left_of_sweep number budget turns result) (sight host.old text held faults) (sight host.new text held faults) result }
+    ensures given { IfOk result (λ over. Given host.old.code number (core_of host.old) (core_of host.new) (T.state host.old.table) (T.state host.new.table) over) }
 {
     match host.prune(number) {
-        Ok(pruned) => Ok(is_round(pruned)),
+        Ok(pruned) => Ok(ends_round(pruned)),
         Err(_) => Err(Stop::OutOfMemory),
     }
 }
@@ -86,24 +95,41 @@ fn tell_swept<T: Table>(
     appended(write_swept(alloc, swept, out))
 }
 
-/// Gives a log collector turns up to the end of its round, at most the budget, and appends how it ended.
+// .. with which the sweep ends.
+fn end<T: Table>(alloc: Global, host: &Host<T>, out: &mut Str, swept: Swept) -> Result<Swept, Stop>
+    ensures does { (held : Option (List ℕ)) (faults : ℕ) → Does (TellSwept swept ∷ []) (sight host.now out.old held faults) (sight host.now out.new held faults) result }
+    ensures so { IfOk result (λ x. x ≡ swept) }
+{
+    match tell_swept(alloc, host, out, swept) {
+        Ok(()) => Ok(swept),
+        Err(stop) => Err(stop),
+    }
+}
+
+/// Gives a log collector turns up to the end of its round, at most the budget, and appends how it ended. Of a right host it keeps its
+/// promises, once all intents are idle and where nothing keeps a turn from the rows: where its collector stood before all rows it ends
+/// after at most thirteen turns for each row and one, and leaves trimmed rows; and of trimmed ones, a life after the last row was left
+/// adrift, tidy ones.
 pub fn sweep<T: Table>(
     alloc: Global,
     host: &mut Host<T>,
     out: &mut Str,
     number: u8,
     budget: u64,
-) -> Result<(), Stop>
-    ensures { (held : Option (List ℕ)) (faults : ℕ) → Does (sweep_at number budget 0 ∷ []) (sight host.old out.old held faults) (sight host.new out.new held faults) result }
+) -> Result<Swept, Stop>
+    ensures does { (held : Option (List ℕ)) (faults : ℕ) → Does (sweep_at number budget 0 ∷ []) (sight host.old out.old held faults) (sight host.new out.new held faults) result }
+    ensures promises { IsRight host.old → IfOk result (λ x. KeepsSweepPromises host.old.code number (core_of host.old) (core_of host.new) (T.state host.old.table) (T.state host.new.table) x) }
 {
+    sweeps_are_as_promised();
+    host.keeps_rules();
     let mut turns = 0;
     while turns < budget {
         match sweep_on(host, number, turns) {
-            Ok(true) => return tell_swept(alloc, host, out, Swept::All(turns + 1)),
+            Ok(true) => return end(alloc, host, out, Swept::All(turns + 1)),
             Ok(false) => {}
             Err(stop) => return Err(stop),
         }
         turns += 1;
     }
-    tell_swept(alloc, host, out, Swept::Unswept(budget))
+    end(alloc, host, out, Swept::Unswept(budget))
 }

@@ -1,10 +1,10 @@
 -- Acts that leave the row that they find, by what they say.
 use Rattle.std.specs.FinMap as map
 use Rattle.std.specs.Prelude.{IfSome}
-use Rattle.std.proofs.Common.{◌≡◌, ℕ, Bool, true, false, not, ◌&&◌, Option, None, Some, Ok, slice_get, refl, subst, ap, sym, ◌∙◌, if◌then◌else◌}
+use Rattle.std.proofs.Common.{◌≡◌, ℕ, Bool, true, false, not, ◌&&◌, Option, None, Some, Ok, slice_get, refl, subst, ap, sym, ◌∙◌, if◌then◌else◌, nat_lt, is_some}
 use Rattle.beldi_value.specs.declared.{value.Value.Value, outcome.Outcome.Outcome, place.Place.Place, place.Owner.Owner}
 use Rattle.beldi_row.{specs.Key.RowKey, specs.KeyOrder.key_total, specs.KeyOrder.key_exact, specs.Table.Rows, specs.Table.Tells, specs.declared.row.Row.Row, specs.declared.row.Body.Body, specs.declared.row.IntentRow.IntentRow, specs.declared.row.InvokeRow.InvokeRow, specs.declared.row.Cell.Cell, specs.declared.notes.Note.Note, specs.declared.act.Act.Act, specs.declared.act.Change.Change, specs.declared.table.TableErr.TableErr, proofs.Rows.same_set}
-use Rattle.beldi_row.specs.Act.{Tell, drops, bound, did, tested, died, held, packed, Changes, on, on_intent, on_invoke, on_cell, said_by, intent_tell, cell_tell, other_tell, ended_tell, held_tell, noted_tell, bind_to, end_with, stamp_with, call_back_to, register_to, held_or, next_or, noted_or, owned_or, waits_for, owns, at_tail, other_owner, if_room, is_full, entered, cond_to, given_or}
+use Rattle.beldi_row.specs.Act.{Tell, drops, bound, did, tested, died, held, packed, marked, mark_by, skip_by, skip_to, dangle_by, dangle_at, leads_from, Changes, on, on_intent, on_invoke, on_cell, said_by, intent_tell, cell_tell, other_tell, ended_tell, held_tell, noted_tell, bind_to, end_with, stamp_with, call_back_to, register_to, held_or, next_or, noted_or, owned_or, waits_for, owns, at_tail, other_owner, if_room, is_full, entered, cond_to, given_or}
 use Rattle.beldi_row.specs.Log.{note_at, note_of}
 use Rattle.beldi_row.specs.declared.notes.Note.TheVariants.{Wrote, Got, Died, Freed}
 use Rattle.beldi_value.specs.{Id.age_of, Passes.passes}
@@ -16,6 +16,7 @@ sets bound = true
 sets did = true
 sets (tested b) = true
 sets (died a) = true
+sets (marked n) = true
 sets t = false
 
 -- ---- a change that leaves the row says nothing else
@@ -48,6 +49,7 @@ says_none Change.Bound r h = cc
 says_none Change.Did r h = cc
 says_none (Change.Tested b) r h = cc
 says_none Change.Died r h = cc
+says_none (Change.Marked n) r h = cc
 says_none Change.Row None h = refl
 says_none Change.Row (Some r) h = refl
 says_none Change.Other r h = of_intent (λ i. other_tell i.body) r (λ i. of_other i.body)
@@ -125,6 +127,18 @@ if_own : (b : Bool) (c : Cell) (t : Tell) (r : Cell × Tell) → Leaves c r → 
 if_own true c t r h = h
 if_own false c t r h = λ q. refl
 
+marks : (n : Option ℕ) (c : Cell) → Leaves c (mark_by n c)
+marks None c = λ q. refl
+marks (Some n) c = λ q. cc
+
+skips : (b : Bool) (t : ℕ) (c : Cell) → Leaves c (skip_by b t c)
+skips false t c = λ q. refl
+skips true t c = λ q. cc
+
+dangles : (b : Bool) (now : ℕ) (c : Cell) → Leaves c (dangle_by b now c)
+dangles false now c = λ q. refl
+dangles true now c = λ q. cc
+
 act_leaves : (a : Act) (now : ℕ) (r : Row) → links a ≡ false → Leaves r (on a now r)
 act_leaves (Act.Bind f v) now r n = in_intent (λ i. bind_to f v i i.body) _ r (λ i. binds f v i i.body)
 act_leaves (Act.End o s) now r n = in_intent (λ i. end_with o s now i i.outcome) _ r (λ i. ends o s now i i.outcome)
@@ -136,6 +150,9 @@ act_leaves (Act.CondCell p w k o v) now r n = in_cell _ _ r (λ c. in_tail p c _
 act_leaves (Act.LockCell p w s) now r n = in_cell _ _ r (λ c. in_tail p c _ (if_owned_by p w c (other_owner w c.owner) _ (if_fits c (entered p Got c.value (Some w) c, did) (λ q. cc))))
 act_leaves (Act.FreeCell p w v) now r n = in_cell _ _ r (λ c. in_tail p c _ (if_own (owns w c.owner) c _ _ (if_fits c (entered p Freed (given_or v c.value) None c, did) (λ q. cc))))
 act_leaves (Act.LinkCell k) now r n = cc
+act_leaves Act.MarkCell now r n = in_cell _ _ r (λ c. marks c.next c)
+act_leaves (Act.SkipCell f t) now r n = in_cell _ _ r (λ c. skips (not c.marked && leads_from f c.next && nat_lt f t) t c)
+act_leaves Act.DangleCell now r n = in_cell _ _ r (λ c. dangles (c.marked && not (is_some c.dangled)) now c)
 act_leaves a now r n = λ q. refl
 
 -- the row is there, and was left

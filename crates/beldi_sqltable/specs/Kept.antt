@@ -51,4 +51,5 @@ leaves Change.Bound = false
 leaves Change.Did = false
 leaves (Change.Tested b) = false
 leaves Change.Died = false
+leaves (Change.Marked n) = false
 leaves c = true

@@ -59,7 +59,7 @@ fn leaves(change: Change, links: bool) -> bool
     !links
         && !matches!(
             change,
-            Change::Bound | Change::Did | Change::Tested(_) | Change::Died
+            Change::Bound | Change::Did | Change::Tested(_) | Change::Died | Change::Marked(_)
         )
 }
 

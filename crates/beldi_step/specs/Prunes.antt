@@ -12,6 +12,9 @@ use Rattle.beldi_step.specs.declared.event.{Event.Event, Pruned.Pruned, Seen.See
 -- ---- what it is answered
 abbrev pub says_pruned : GcSays → Pruned
 says_pruned GcSays.Going = Pruned.Going
+says_pruned GcSays.Marked = Pruned.Marked
+says_pruned GcSays.Skipped = Pruned.Skipped
+says_pruned GcSays.Dangled = Pruned.Dangled
 says_pruned GcSays.Removed = Pruned.Removed
 says_pruned GcSays.Round = Pruned.Round
 

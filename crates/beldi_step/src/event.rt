@@ -114,8 +114,14 @@ pub enum Seen {
 /// The answers to a turn of a log collector.
 #[derive(Clone, Copy, Debug, PartialEq, Eq)]
 pub enum Pruned {
-    /// It goes on, and removed nothing.
+    /// It goes on, and changed no row.
     Going,
+    /// It marked a row of an item: every entry in it is of an intent that is over.
+    Marked,
+    /// It led the rows of an item past a marked one.
+    Skipped,
+    /// It left a marked row adrift: no row that is reached leads to it any more.
+    Dangled,
     /// It removed a row.
     Removed,
     /// No row followed: it begins anew.

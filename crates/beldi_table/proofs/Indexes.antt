@@ -58,6 +58,9 @@ opens (Act.CondCell p w l o v) now k r = sym (in_cell k _ _ r)
 opens (Act.LockCell p w s) now k r = sym (in_cell k _ _ r)
 opens (Act.FreeCell p w v) now k r = sym (in_cell k _ _ r)
 opens (Act.LinkCell n) now k r = sym (in_cell k _ _ r)
+opens Act.MarkCell now k r = sym (in_cell k _ _ r)
+opens (Act.SkipCell f t) now k r = sym (in_cell k _ _ r)
+opens Act.DangleCell now k r = sym (in_cell k _ _ r)
 opens a now k r = refl
 
 -- ---- what becomes of the keys

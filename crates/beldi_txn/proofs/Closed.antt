@@ -6,7 +6,9 @@ use Rattle.beldi_row.specs.{Table.Rows, declared.row.Row.Row}
 use Rattle.beldi_chain.specs.Chain.{chain, tail}
 use Rattle.beldi_links.proofs.Meets.{reads_begin, walks_begin}
 use Rattle.beldi_txn.specs.{Way.Member, Way.member_at, Way.callee_of, declared.way.Called.Called, declared.end.EndAt.TheVariants.Callees, declared.end.EndAt.TheVariants.Next, declared.end.EndAt.TheVariants.Stamp, declared.end_walk.EndWalk.EndWalk, End.visited_by, End.free_first, End.free_place}
-use Rattle.beldi_txn.specs.Visited.{Visited, is_closed, item_row, aside_row, lock_row, IsCall, IsWay, AreClosed, Levels, IsWithin, IsPassed, owner_of, IsReleased, given_value}
+use Rattle.beldi_daal.specs.declared.cell.WriteAt.TheVariants.{Try}
+use Rattle.beldi_txn.proofs.Freeing.{freeing_sees}
+use Rattle.beldi_txn.specs.Visited.{Visited, is_closed, is_own, item_in, item_row, aside_row, lock_row, IsCall, IsWay, AreClosed, Levels, IsWithin, IsPassed, owner_of, IsReleased, given_value}
 use Rattle.beldi_txn.specs.Closed.{visiting, Passes, ClosedArePassed}
 
 -- where all callees of who is at the end of the way are closed, any of its calls are passed
@@ -76,7 +78,7 @@ module _ (tx : TxId) (end : ℕ) (commit : Bool) (c : Called) (cs : List Called)
         record { decided = h.decided; item = refl; begins = tt; from = h.from; member = h.member; gives = is; sees = reads_begin (chain m (aside_row w p.1 j)); asked = asked; callees = h.callees; freed = λ q r there past. rel.0 q r there; released = h.released; marked = h.marked; linked = h.linked }
     any_lock false is j asked h =
         let rel : IsReleased w m p = h.released c cs h.member closed in
-        record { decided = h.decided; item = refl; begins = tt; from = h.from; member = h.member; gives = none_given commit is (tail (chain m (aside_row w p.1 j))); sees = walks_begin (chain m (item_row p.1 j)) (free_place tx end (c ∷ cs)); asked = asked; callees = h.callees; freed = λ q r there past. rel.0 q r there; released = h.released; marked = h.marked; linked = h.linked }
+        record { decided = h.decided; item = refl; begins = tt; from = h.from; member = h.member; gives = none_given commit is (tail (chain m (aside_row w p.1 j))); sees = let f = chain m (item_row p.1 j) in freeing_sees (is_own w (item_in p.1 m j)) f (free_place tx end (c ∷ cs)) (Try 0) (walks_begin f (free_place tx end (c ∷ cs))); asked = asked; callees = h.callees; freed = λ q r there past. rel.0 q r there; released = h.released; marked = h.marked; linked = h.linked }
       where
         none_given : (b : Bool) → b ≡ false → (r : Option Row) → None ≡ given_value b r
         none_given true e r = cc

@@ -1,6 +1,7 @@
 -- The end of a transaction visits all who took part, and passes all rows of their locks, one after another.
 use Rattle.beldi_txn.{specs.declared.end.EndAt.TheVariants.Shadow, proofs.TxTurn.others_set, proofs.TxTurn.here_set, proofs.TxTurn.Reads, proofs.TxTurn.reads_on, proofs.TxTurn.other_kind, proofs.TxTurn.item_kept, proofs.TxTurn.aside_kept, proofs.TxTurn.asked, proofs.Calls.by_order, proofs.Calls.next_call, proofs.Calls.first_call, proofs.Locks.Item, proofs.Locks.item_at, proofs.Locks.item_told, proofs.Locks.none_past, proofs.Locks.none_first, proofs.Locks.none_between, proofs.Locks.none_before}
-use Rattle.beldi_txn.proofs.Names.{cell_key, rows_there, write_spares, Act, AllFreed, AllGrow, AllReleased, AreClosed, AreFit, AreLinked, AreMarked, AreReleased, AtEnd, Bool, Called, Callees, CellOp, Chain, ChangedAlone, Content, Decide, DecidedAt, EndAt, EndGoes, EndSays, EndTurn, EndWalk, EndsAreVisits, Free, Frees, Gives, HasItem, HasWay, IntentId, IsAfter, IsCall, IsDecided, IsFirstFrom, IsFrom, IsLinked, IsMember, IsNext, IsNextCall, IsPassed, IsPast, IsReleased, IsWay, IsWithin, Kind, Leaves, LeftAt, Less, Levels, List, LoggedTurn, Look, Member, Next, None, Note, Option, Owner, Place, Plain, PutRead, Query, ReadGoes, Row, RowKey, Rows, RowsStay, SeesRows, Some, Stamp, StampAct, Stamps, StartsWithin, Try, TxId, Value, Visit, Visited, VisitsBegin, VisitsStand, WasAsked, WriteAt, WriteGoes, WriteSays, WriteWalk, [], act, alone_by, ap, arith, aside_head, aside_row, at_each, at_of, at_row, back_from, by_op, call_after, call_goes, call_key, called_at, callee_of, calls_after, calls_goes, chain, chain_other, child_of, content, counts, decide_goes, decision_row, false, first_from, first_visit, free_first, free_place, freed_goes, func_called, given_value, has_callees, has_no_hops, head_asked, home_of, if◌then◌else◌, inl, inr, intent_key, invokes_after, is_closed, is_eq, is_none, is_own, is_owner, is_some, item_after, item_head, item_in, item_row, key_cmp, key_exact, key_same, key_total, last_goes, left_row, lock_row, lockset_after, lockset_key, logged_at, logged_so, looked, ltb-false, ltb-true, member_at, moved, next_goes, next_row, next_row_least, no_root, note_at, of_no_item, option_map, ordering_reverse, others_grow, others_keep, owner_of, owns, rank_of, read_goes, readers_keep, reads_begin, refl, row_closed, rows_after, said, said_of, same_grow, shadow_value, split_front, stamp_with, subst, suc, sym, tail, told_by, true, turned, unless_owned, value_goes, visited_by, walk_asks, walk_goes, walk_next, walk_says, walks_begin, write_goes, zero, ℕ, ◌++◌, ◌<◌, ◌∙◌, ◌∷◌, ◌≡◌, ◌≤◌, ◌⊎◌}
+use Rattle.beldi_txn.proofs.Names.{cell_key, rows_there, write_spares, Act, AllFreed, AllGrow, AllReleased, AreClosed, AreFit, AreLinked, AreMarked, AreReleased, AtEnd, Bool, Called, Callees, CellOp, Chain, ChangedAlone, Content, Decide, DecidedAt, EndAt, EndGoes, EndSays, EndTurn, EndWalk, EndsAreVisits, Free, Frees, Gives, HasItem, HasWay, IntentId, IsAfter, IsCall, IsDecided, IsFirstFrom, IsFrom, IsLinked, IsMember, IsNext, IsNextCall, IsPassed, IsPast, IsReleased, IsWay, IsWithin, Kind, Leaves, LeftAt, Less, Levels, List, LoggedTurn, Look, Member, Next, None, Note, Option, Owner, Place, Plain, PutRead, Query, ReadGoes, Row, RowKey, Rows, RowsStay, SeesAt, SeesFreeing, SeesRows, Some, Stamp, StampAct, Stamps, StartsWithin, Try, TxId, Value, Visit, Visited, VisitsBegin, VisitsStand, WasAsked, WriteAt, WriteGoes, WriteSays, WriteWalk, [], act, alone_by, ap, arith, aside_head, aside_row, at_each, at_of, at_row, back_from, by_op, call_after, call_goes, call_key, called_at, callee_of, calls_after, calls_goes, chain, chain_other, child_of, content, counts, decide_goes, decision_row, false, first_from, first_visit, free_first, free_place, freed_goes, func_called, given_value, has_callees, has_no_hops, head_asked, home_of, if◌then◌else◌, inl, inr, intent_key, invokes_after, is_closed, is_eq, is_none, is_own, is_owner, is_some, item_after, item_head, item_in, item_row, key_cmp, key_exact, key_same, key_total, last_goes, left_row, lock_row, lockset_after, lockset_key, logged_at, logged_so, looked, ltb-false, ltb-true, member_at, moved, next_goes, next_row, next_row_least, no_root, note_at, of_no_item, option_map, ordering_reverse, others_grow, owner_of, owns, rank_of, read_goes, readers_keep, reads_begin, refl, row_closed, rows_after, said, said_of, same_grow, shadow_value, split_front, stamp_with, subst, suc, sym, tail, told_by, true, turned, unless_owned, value_goes, visited_by, walk_asks, walk_goes, walk_next, walk_says, walks_begin, write_goes, zero, ℕ, ◌++◌, ◌<◌, ◌∙◌, ◌∷◌, ◌≡◌, ◌≤◌, ◌⊎◌}
+use Rattle.beldi_txn.proofs.Freeing.{GoesPast, Passes, freeing_sees, freeing_stands, puts_or_passes}
 use Rattle.beldi_txn.proofs.Levels.{ends_in, member_more, way_more, way_front, way_last, levels_top, levels_with, levels_pushed, levels_last, levels_popped, member_fit}
 use Rattle.beldi_txn.proofs.Names.map
 
@@ -53,12 +54,13 @@ gives_stands : (a : EndAt) (i : Option Item) (w : EndWalk) (home : ℕ) (m n : R
 gives_stands (Free f) (Some j) w home m n h d = d ∙ given_same w.commit _ _ (h.asides home j)
 gives_stands a i w home m n h d = d
 
-sees_stands : (a : EndAt) (i : Option Item) (w : EndWalk) (home : ℕ) (m n : Rows) → AllGrow m n → SeesRows a w home m i → SeesRows a w home n i
-sees_stands (Shadow r) (Some j) w home m n grows d =
-    let k = aside_row w home j in readers_keep (chain m k) (chain n k) r (grows k (aside_head home w.tx j.0 j.1)) d
-sees_stands (Free f) (Some j) w home m n grows d =
-    let k = item_row home j in others_keep (chain m k) (chain n k) (free_place w.tx w.end w.visit.way) (at_of f) (grows k (item_head home j.0 j.1)) d
-sees_stands a i w home m n grows d = tt
+sees_stands : (a : EndAt) (i : Option Item) (w : EndWalk) (home : ℕ) (m n : Rows) → Leaves w m n → SeesRows a w home m i → SeesRows a w home n i
+sees_stands (Shadow r) (Some j) w home m n h d =
+    let k = aside_row w home j in readers_keep (chain m k) (chain n k) r (h.grows k (aside_head home w.tx j.0 j.1)) d
+sees_stands (Free f) (Some j) w home m n h d =
+    let k = item_row home j in
+    freeing_stands (chain m k) (chain n k) (free_place w.tx w.end w.visit.way) f (is_own w (item_in home m j)) (is_own w (item_in home n j)) (h.grows k (item_head home j.0 j.1)) (h.items home j) d
+sees_stands a i w home m n h d = tt
 
 asked_stands : (a : EndAt) (i : Option Item) (w : EndWalk) (p : Member) (m n : Rows) → RowsStay m n → WasAsked a w p m i → WasAsked a w p n i
 asked_stands (Shadow r) (Some j) w p m n stay d = stay (lock_row w p j) d
@@ -99,7 +101,7 @@ visits_stand w m n v h = record {
   from = v.from;
   member = h.way v.member;
   gives = gives_stands w.visit.at w.visit.item w p.1 m n h v.gives;
-  sees = sees_stands w.visit.at w.visit.item w p.1 m n h.grows v.sees;
+  sees = sees_stands w.visit.at w.visit.item w p.1 m n h v.sees;
   asked = asked_stands w.visit.at w.visit.item w p m n h.stay v.asked;
   callees = levels_stand w m n h w.visit.way (IsPassed w.visit.at w.visit.after) v.member v.callees;
   freed = λ q r here past. let s = row_in (map.get m (lock_row w p q)) (h.locks w.visit.way v.member q r here) in h.items p.1 q (v.freed q s.0 s.1 past);
@@ -473,6 +475,10 @@ module _ (x : TxId) (end : ℕ) (commit : Bool) where
     all_closed : (c : Called) (cs : List Called) → IsMember bare m (c ∷ cs) → is_closed m (who (c ∷ cs)) ≡ true
     all_closed c cs member = below_closed c [] (member.0, (member.1.0, tt)) (own c member.1.0 member.0) cs member.1.1
 
+  -- an item is given back from its first row on
+  free_begins : (m : Rows) (cs : List Called) (j : Item) → SeesFreeing (is_own bare (item_in (who cs).1 m j)) (chain m (item_row (who cs).1 j)) (free_place x end cs) (Try 0)
+  free_begins m cs j = let f = chain m (item_row (who cs).1 j) in freeing_sees (is_own bare (item_in (who cs).1 m j)) f (free_place x end cs) (Try 0) (walks_begin f (free_place x end cs))
+
   -- ---- the next item of who is visited
   -- a participant gets its finish next
   past_locks : (cs : List Called) (af : Option ℕ) (i : Option Item) (u : Option Value) (m : Rows) → let z = visit cs af i u Next in Visited (walk z) m → AllFreed bare m (who cs) → Moves z m (last_goes (is_owner cs))
@@ -506,7 +512,7 @@ module _ (x : TxId) (end : ℕ) (commit : Bool) where
         → is_some (map.get m (lock_row bare (who cs) j)) ≡ true → (c : Bool) → commit ≡ c → Visited (walk (visit cs af (Some j) None (free_first c))) m
     at_item i v j freed asked true is = goes_to (nz i) (visit cs af (Some j) None (Shadow 0)) m v v.decided refl tt v.from v.member is (reads_begin (chain m (aside_row bare (who cs).1 j))) asked v.callees freed
     at_item i v j freed asked false is = goes_to (nz i) (visit cs af (Some j) None (Free (Try 0))) m v v.decided refl tt v.from v.member (ap (λ c. given_value c (tail (chain m (aside_row bare (who cs).1 j)))) (sym is))
-        (walks_begin (chain m (item_row (who cs).1 j)) (free_place x end cs)) asked v.callees freed
+        (free_begins m cs j) asked v.callees freed
 
     next_turn : (i : Option Item) (now : ℕ) → Visited (walk (nz i)) m → Turns (nz i) now m
     next_turn i now v = by (item_after (who cs).1 (who cs).0 x.begin found) refl
@@ -536,7 +542,7 @@ module _ (x : TxId) (end : ℕ) (commit : Bool) where
       valued : (s : Option Value) → shadow_value (tail f) ≡ s → Moves z m (EndGoes.Value s)
       valued s is = moves z m (EndGoes.Value s) refl (λ h. cc)
           (goes_to z (visit cs af (Some j) s (Free (Try 0))) m v v.decided refl tt v.from v.member (sym is ∙ ap (λ c. given_value c (tail f)) (sym v.gives))
-          (walks_begin (chain m (item_row (who cs).1 j)) (free_place x end cs)) v.asked v.callees v.freed)
+          (free_begins m cs j) v.asked v.callees v.freed)
 
       by : (g : ReadGoes) → Reads f g → Moves z m (value_goes g)
       by (ReadGoes.On n) sees = moves z m (EndGoes.On (Shadow n)) refl (λ h. cc) (goes_to z (visit cs af (Some j) u (Shadow n)) m v v.decided refl tt v.from v.member v.gives sees v.asked v.callees v.freed)
@@ -545,6 +551,19 @@ module _ (x : TxId) (end : ℕ) (commit : Bool) where
       by g other = absurd other
 
   -- ---- an item is given back
+  module _ (cs : List Called) (af : Option ℕ) (j : Item) (u : Option Value) (f : WriteAt) (m : Rows) (v : Visited (walk (visit cs af (Some j) u (Free f))) m) where
+    -- the walk may go on to where it sees what it has to ..
+    further : (a : WriteAt) → SeesFreeing (is_own bare (item_in (who cs).1 m j)) (chain m (item_row (who cs).1 j)) (free_place x end cs) a → Visited (walk (visit cs af (Some j) u (Free a))) m
+    further a sees = goes_to (visit cs af (Some j) u (Free f)) (visit cs af (Some j) u (Free a)) m v v.decided refl tt v.from v.member v.gives sees v.asked v.callees v.freed
+
+    -- .. or past the item, which is not the transaction's
+    past_item : is_own bare (item_in (who cs).1 m j) ≡ false → Visited (walk (visit cs af (Some j) u Next)) m
+    past_item not_own = goes_to (visit cs af (Some j) u (Free f)) (visit cs af (Some j) u Next) m v v.decided tt tt v.from v.member tt tt tt v.callees
+        (λ q r here past. by_order (key_cmp (lock_row bare (who cs) q) (lock_row bare (who cs) j)) (is_own bare (item_in (who cs).1 m q) ≡ false)
+        (λ less. v.freed q r here less)
+        (λ level. subst (λ (i : Item). is_own bare (item_in (who cs).1 m i) ≡ false) (sym (ap (λ (k : RowKey). item_at k.kind) (key_exact (lock_row bare (who cs) q) (lock_row bare (who cs) j) level))) not_own)
+        (λ greater. absurd (past (key_total.antisymm (lock_row bare (who cs) j) (lock_row bare (who cs) q) ∙ ap ordering_reverse greater))))
+
   module _ (cs : List Called) (af : Option ℕ) (j : Item) (u : Option Value) (f : WriteAt) (m n : Rows) (stay : RowsStay m n) (v : Visited (walk (visit cs af (Some j) u (Free f))) m) where
     abbrev fz : Visit
     fz = visit cs af (Some j) u (Free f)
@@ -611,20 +630,15 @@ module _ (x : TxId) (end : ℕ) (commit : Bool) where
     on_item a l =
         let y = record as_free { at = a } in
         let w = stood_free y WriteSays.Going l (inl l.logs) in
-        freed_to y WriteSays.Going l (inl l.logs) (EndGoes.On (Free a)) (inl l.logs) (λ h. cc) (goes_to fz (visit cs af (Some j) u (Free a)) n w w.decided refl tt w.from w.member w.gives l.sees w.asked w.callees w.freed)
+        let sees = freeing_sees (is_own bare (item_in (who cs).1 n j)) (chain n (item_row (who cs).1 j)) place a l.sees in
+        freed_to y WriteSays.Going l (inl l.logs) (EndGoes.On (Free a)) (inl l.logs) (λ h. cc) (further cs af j u f n w a sees)
 
     again : (s : WriteSays) (l : LoggedTurn as_free as_free m n s) → item_in (who cs).1 n j ≡ item_in (who cs).1 m j → (g : EndGoes) → moved commit fz g ≡ fz → (said_of g ≡ EndSays.Done → ⊥) → Frees_to g
     again s l same g stays going = freed_to as_free s l (inl same) g (inl same) going (subst (λ z. Visited (walk z) n) (sym stays) (stood_free as_free s l (inl same)))
 
     -- .. or goes past it, as it is not the transaction's
     onward : (s : WriteSays) (l : LoggedTurn as_free as_free m n s) → Frees place (Owner.Tx x) u (item_in (who cs).1 m j) (item_in (who cs).1 n j) → is_own bare (item_in (who cs).1 n j) ≡ false → Frees_to (EndGoes.On Next)
-    onward s l left not_own =
-        let w = stood_free as_free s l (inr not_own) in
-        freed_to as_free s l (inr not_own) (EndGoes.On Next) left (λ h. cc) (goes_to fz (visit cs af (Some j) u Next) n w w.decided tt tt w.from w.member tt tt tt w.callees
-        (λ q r here past. by_order (key_cmp (lock_row bare (who cs) q) (lock_row bare (who cs) j)) (is_own bare (item_in (who cs).1 n q) ≡ false)
-        (λ less. w.freed q r here less)
-        (λ level. subst (λ (i : Item). is_own bare (item_in (who cs).1 n i) ≡ false) (sym (ap (λ (k : RowKey). item_at k.kind) (key_exact (lock_row bare (who cs) q) (lock_row bare (who cs) j) level))) not_own)
-        (λ greater. absurd (past (key_total.antisymm (lock_row bare (who cs) j) (lock_row bare (who cs) q) ∙ ap ordering_reverse greater)))))
+    onward s l left not_own = freed_to as_free s l (inr not_own) (EndGoes.On Next) left (λ h. cc) (past_item cs af j u f n (stood_free as_free s l (inr not_own)) not_own)
 
     free_by : (g : WriteGoes) → LoggedTurn as_free (logged_at as_free g) m n (logged_so g) → Frees_to (freed_goes g)
     free_by (WriteGoes.On a) l = on_item a l
@@ -638,6 +652,39 @@ module _ (x : TxId) (end : ℕ) (commit : Bool) where
     free_by WriteGoes.NotOwner l = onward WriteSays.NotOwner l (inl l.logs.2) (ap (is_own bare) l.logs.2 ∙ is_owned (owns (Owner.Tx x) (item_in (who cs).1 m j).owner) (Some WriteSays.NotOwner) l.logs.1)
     free_by (WriteGoes.Held o) l = again (WriteSays.Held o) l l.logs.2 EndGoes.Stays refl (λ h. cc)
     free_by WriteGoes.Worn l = again WriteSays.Worn l l.logs.1 EndGoes.Worn refl (λ h. cc)
+
+  -- .. by what it sees: it is the turn of a walk that puts, or passes an item that is not the transaction's
+  module _ (cs : List Called) (af : Option ℕ) (j : Item) (u : Option Value) (f : WriteAt) (now : ℕ) (m : Rows) (v : Visited (walk (visit cs af (Some j) u (Free f))) m) where
+    abbrev gz : Visit
+    gz = visit cs af (Some j) u (Free f)
+
+    abbrev gq : Query
+    gq = walk_asks (walk gz)
+
+    abbrev gk : RowKey
+    gk = item_row (who cs).1 j
+
+    puts : SeesAt (chain m gk) (free_place x end cs) (at_of f) → Turns gz now m
+    puts sees =
+        let n = rows_after gq now m in
+        let stay = rows_there gq (write_spares gk (free_place x end cs) (Owner.Tx x) (CellOp.Free u) f) now m in
+        free_by cs af j u f m n stay v (write_goes Note.Freed f (told_by gq now m)) (by_op (as_free cs af j u f m n stay v) m n now (v.linked (who cs).1 j).0 sees refl)
+
+    module _ (h : Passes gk (free_place x end cs) (Owner.Tx x) u now m f) where
+      goes_past : (g : WriteGoes) → GoesPast (chain m gk) (free_place x end cs) g → Moves gz m (freed_goes g)
+      goes_past (WriteGoes.On a) sees = moves gz m (EndGoes.On (Free a)) (inl refl) (λ e. cc) (further cs af j u f m v a (subst (λ b. SeesFreeing b (chain m gk) (free_place x end cs) a) (sym h.not_own) sees))
+      goes_past (WriteGoes.Done w false) past = moves gz m (EndGoes.On Next) (inl refl) (λ e. cc) (past_item cs af j u f m v h.not_own)
+      goes_past WriteGoes.NotOwner past = moves gz m (EndGoes.On Next) (inl refl) (λ e. cc) (past_item cs af j u f m v h.not_own)
+      goes_past g past = absurd past
+
+      passes : Turns gz now m
+      passes = let g = write_goes Note.Freed f (told_by gq now m) in subst (λ n. Leads gz gq m n (freed_goes g)) (sym h.rows) (goes_past g h.goes)
+
+    free_turn : Turns gz now m
+    free_turn = elim (puts_or_passes gk (free_place x end cs) (Owner.Tx x) u now m (v.linked (who cs).1 j).0 f v.sees) [
+      | inl sees ↦ puts sees
+      | inr past ↦ passes past
+    ]
 
   -- ---- a participant gets its finish
   module _ (front : List Called) (c : Called) (af : Option ℕ) (i : Option Item) (u : Option Value) (now : ℕ) (m : Rows) (v : Visited (walk (visit (front ++ c ∷ []) af i u Stamp)) m) where
@@ -744,11 +791,7 @@ module _ (x : TxId) (end : ℕ) (commit : Bool) where
     turns cs af (Some j) u Callees calls locks v = let clash = v.item in cc
     turns cs af i u Next calls locks v = next_turn cs af u m locks i now v
     turns cs af (Some j) u (Shadow r) calls locks v = look_turn cs af j u r now m v
-    turns cs af (Some j) u (Free f) calls locks v =
-        let q = walk_asks (walk (visit cs af (Some j) u (Free f))) in
-        let n = rows_after q now m in
-        let stay = rows_there q (write_spares (cell_key (who cs).1 j.0 j.1) (free_place x end cs) (Owner.Tx x) (CellOp.Free u) f) now m in
-        free_by cs af j u f m n stay v (write_goes Note.Freed f (told_by q now m)) (by_op (as_free cs af j u f m n stay v) m n now (v.linked (who cs).1 j).0 v.sees refl)
+    turns cs af (Some j) u (Free f) calls locks v = free_turn cs af j u f now m v
     turns cs af None u (Shadow r) calls locks v = let clash = v.item in cc
     turns cs af None u (Free f) calls locks v = let clash = v.item in cc
     turns cs af i u Stamp calls locks v =

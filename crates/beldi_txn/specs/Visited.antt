@@ -6,9 +6,9 @@ use Rattle.std.specs.FinMap as map
 use Rattle.beldi_value.specs.{declared.place.Owner.Owner, declared.place.Place.Place, declared.place.TxId.TxId, declared.value.Value.Value, Id.has_callees}
 use Rattle.beldi_row.specs.{declared.notes.Note.Note, declared.row.IntentRow.IntentRow, declared.row.Row.Row, Act.owns, Key.RowKey, Key.key_cmp, Log.note_at, Table.Rows, Table.TableState, Table.Tells}
 use Rattle.beldi_walk.specs.Walk.{Turned}
-use Rattle.beldi_chain.specs.{Chain.ChangedAlone, Chain.chain, Chain.content, Chain.tail, Content.Content}
-use Rattle.beldi_links.specs.Links.{AllGrow, IsLinked, ReadsAt, SeesAt}
-use Rattle.beldi_daal.specs.{declared.cell.CellOp.TheVariants.Free as FreeOp, Cell.cell_key, Cell.shadow_key, Logged.at_of, Logged.done_to}
+use Rattle.beldi_chain.specs.{Chain.Chain, Chain.ChangedAlone, Chain.chain, Chain.content, Chain.tail, Content.Content}
+use Rattle.beldi_links.specs.Links.{AllGrow, IsLinked, Passed, ReadsAt, SeesAt}
+use Rattle.beldi_daal.specs.{declared.cell.CellOp.TheVariants.Free as FreeOp, declared.cell.WriteAt.WriteAt, declared.cell.WriteAt.TheVariants.Try, Cell.cell_key, Cell.shadow_key, Logged.at_of, Logged.done_to}
 use Rattle.beldi_lock.specs.{Lock.lockset_key, Lockset.AreHops, Lockset.AreFit}
 use Rattle.beldi_readlog.specs.ReadLog.{log_key}
 use Rattle.beldi_intent.specs.Intent.{intent_key}
@@ -125,10 +125,16 @@ Gives (Shadow r) w home m i = w.commit ≡ true
 Gives (Free f) w home m (Some i) = w.visit.value ≡ given_value w.commit (tail (chain m (aside_row w home i)))
 Gives a w home m i = Unit {0}
 
+-- what a walk sees that gives an item back, by whether the item is still to be given back: if it is, no row that the walk passed has
+-- its place; an item that is another's, or nobody's, may have it in such a row
+abbrev pub SeesFreeing : Bool → Chain → Place → WriteAt → Type 0
+SeesFreeing own f p (Try r) = ReadsAt f r × (own ≡ true → Passed f p r)
+SeesFreeing own f p a = SeesAt f p (at_of a)
+
 -- what it sees of the rows of the shadow that it looks at, and of those of the item that it gives back
 abbrev pub SeesRows : EndAt → EndWalk → ℕ → Rows → Option (ℕ × List ℕ) → Type 0
 SeesRows (Shadow r) w home m (Some i) = ReadsAt (chain m (aside_row w home i)) r
-SeesRows (Free f) w home m (Some i) = SeesAt (chain m (item_row home i)) (free_place w.tx w.end w.visit.way) (at_of f)
+SeesRows (Free f) w home m (Some i) = SeesFreeing (is_own w (item_in home m i)) (chain m (item_row home i)) (free_place w.tx w.end w.visit.way) f
 SeesRows a w home m i = Unit {0}
 
 -- the row is there that says that the lock of the item was asked for
@@ -274,3 +280,8 @@ VisitsBegin = (tx : TxId) (end : ℕ) (commit : Bool) (m : Rows) → let w = fir
 -- a turn of another walk of the same end, wherever that walk stands, is among what an end bears
 abbrev pub OtherWalksLeave : Type 0
 OtherWalksLeave = (w x : EndWalk) (v : Visit) (m n : Rows) (s : EndSays) → EndTurn (record w { visit = v }) x m n s → Leaves w m n
+
+-- a walk that is to give an item back may stand at a further row: what it has not seen then counts only where the item is the transaction's
+abbrev pub FreesStandFurther : Type 0
+FreesStandFurther = (w : EndWalk) (m : Rows) (i : ℕ × List ℕ) (r k : ℕ) → w.visit.at ≡ Free (Try r) → w.visit.item ≡ Some i → Visited w m → let home = (visited_by w.tx w.visit.way).1 in
+    let f = chain m (item_row home i) in ReadsAt f k → (is_own w (item_in home m i) ≡ true → Passed f (free_place w.tx w.end w.visit.way) k) → Visited (record w { visit = record w.visit { at = Free (Try k) } }) m

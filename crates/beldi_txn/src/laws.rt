@@ -2,7 +2,7 @@
 ghost use Rattle.beldi_txn.specs.Closed.{ClosedArePassed};
 ghost use Rattle.beldi_txn.specs.Invokes.{CallsFollow};
 ghost use Rattle.beldi_txn.specs.TxTurn.{OperationsAreSo, OperationsBegin};
-ghost use Rattle.beldi_txn.specs.Visited.{EndsAreVisits, OtherWalksLeave, VisitsBegin, VisitsStand};
+ghost use Rattle.beldi_txn.specs.Visited.{EndsAreVisits, FreesStandFurther, OtherWalksLeave, VisitsBegin, VisitsStand};
 
 /// A turn of an operation of a transaction leaves all rows but the one, or those of the one item, that it asks for. The item changes
 /// only by the lock, and the transaction's copy of it only by this operation, or by its first row; what is answered is so of the rows.
@@ -50,4 +50,10 @@ pub fn another_walk_leaves_the_end()
 /// may go to any of them that is.
 pub fn the_closed_are_passed()
     ensures { ClosedArePassed }
+{}
+
+/// A visit that is to give an item back may stand at any further row of the item that the rows lead to. Only where the item is the
+/// transaction's, no row below may have the place at which it is given back.
+pub fn a_free_stands_further()
+    ensures { FreesStandFurther }
 {}

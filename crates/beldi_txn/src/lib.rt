@@ -34,13 +34,15 @@
 //!   (`an_end_is_a_visit`). The participants are those that the rows of calls lead to. That stands whatever else changes in the rows,
 //!   where that adds no call and no lock of those who take part, takes no finish away, and makes the transaction the owner of nothing
 //!   (`a_visit_stands`): a turn of another walk of the same end is such a change (`another_walk_leaves_the_end`). And it is so from
-//!   the start (`a_visit_begins`), and stays so where the end passes over rows of a participant that is closed (`the_closed_are_passed`).
+//!   the start (`a_visit_begins`), and stays so where the end passes over rows of a participant that is closed (`the_closed_are_passed`),
+//!   or over rows of an item that it is to give back, none of which has its place where the item is the transaction's
+//!   (`a_free_stands_further`).
 //!
 //! Files:
 //! - Code (`src/`): `tx` what an operation of a transaction asks, and what follows, for walks and runs; `tx_walk` its walk,
 //!   for calls; `end` the end of a transaction, which visits the owner and all that took part, `end_walk` its walk, `way` the
 //!   calls on the way to who is visited, `invokes` the calls of an intent; `laws`.
-//! - Lemmas (`proofs/`): `TxTurn`; `Visited`, `Levels`, `Calls`, `Locks`; `Beside` another walk of the same end; `Closed` who is passed over.
+//! - Lemmas (`proofs/`): `TxTurn`; `Visited`, `Freeing`, `Levels`, `Calls`, `Locks`; `Beside` another walk of the same end; `Closed` who is passed over.
 #![tactic(auto)]
 
 mod end;
@@ -57,8 +59,8 @@ pub use end::{
 pub use end_walk::EndWalk;
 pub use invokes::{invokes_query, invokes_told};
 pub use laws::{
-    a_visit_begins, a_visit_stands, an_end_is_a_visit, an_operation_begins, an_operation_is_so,
-    another_walk_leaves_the_end, the_closed_are_passed, the_next_call_is_found,
+    a_free_stands_further, a_visit_begins, a_visit_stands, an_end_is_a_visit, an_operation_begins,
+    an_operation_is_so, another_walk_leaves_the_end, the_closed_are_passed, the_next_call_is_found,
 };
 pub use tx::{TxAt, TxGoes, TxSays, tx_query, tx_told};
 pub use tx_walk::TxWalk;

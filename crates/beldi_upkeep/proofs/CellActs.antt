@@ -1,7 +1,9 @@
 -- Who owns an item after a turn of a walk on it.
-use Rattle.beldi_daal.specs.{Logged.DidAs, Logged.Logs, Logged.dies, Logged.done_to, declared.walk.WriteSays.WriteSays}
+use Rattle.beldi_daal.specs.{Logged.DidAs, Logged.Logs, Logged.dies, Logged.done_to, Logged.note_after, declared.walk.WriteSays.WriteSays}
 use Rattle.beldi_known.specs.Acts.{Told}
-use Rattle.beldi_laws.proofs.Names.{Bool, ByTx, CellOp, Content, IntentId, None, Note, Option, Owner, Place, Some, TxId, age_of, arith, false, held, died, inl, inr, lock_on, lock_or, note_at, noted, noted_or, refl, same_some, subst, sym, with_note, other_owner, true, if◌then◌else◌, ◌∙◌, ◌≡◌, ◌⊎◌}
+use Rattle.beldi_row.proofs.Logs.{place_same}
+use Rattle.beldi_upkeep.proofs.RowNotes.{noted_in}
+use Rattle.beldi_laws.proofs.Names.{Bool, ByTx, CellOp, Content, IntentId, None, Note, Option, Owner, Place, Some, TxId, age_of, arith, false, held, died, inl, inr, lock_on, lock_or, note_at, noted, noted_or, refl, same_some, subst, sym, with_note, other_owner, true, if◌then◌else◌, ◌∙◌, ◌≡◌, ◌⊎◌, [], ◌∷◌, ◌++◌, is_some, place_eq}
 
 -- it owns the item then
 abbrev pub OwnedIn : Owner → Content → Type 0
@@ -38,6 +40,36 @@ module _ (o : Owner) (p : Place) (c d : Content) where
   -- one whose place has its note makes nobody the owner
   pub owner_noted : (who : Owner) (op : CellOp) (s : WriteSays) (w : Note) → note_at c.notes p ≡ Some w → Logs p who op s c d → OwnedIn o d → OwnedIn o c
   owner_noted who op s w told l h = by_says who op (OwnedIn o c) (λ was. was) (λ is none. let clash = sym told ∙ none in cc) s l h
+
+-- a place that has its note then had it, or is that of the walk
+module _ (p : Place) (c d : Content) (who : Owner) (op : CellOp) where
+  abbrev pub NotedOr : Place → Type 0
+  NotedOr q = (is_some (note_at c.notes q) ≡ true) ⊎ (q ≡ p)
+
+  one_more : (w : Note) (q : Place) → is_some (note_at (c.notes ++ (p, w) ∷ []) q) ≡ true → NotedOr q
+  one_more w q has = elim (noted_in c.notes ((p, w) ∷ []) q has) [
+    | inl was ↦ inl was
+    | inr new ↦ inr (by_test (place_eq p q) refl new)
+  ]
+    where
+      by_test : (b : Bool) → place_eq p q ≡ b → is_some (if b then Some w else None) ≡ true → q ≡ p
+      by_test true same new = sym (place_same p q same)
+      by_test false same new = cc
+
+  by_done : (a : Option IntentId) → DidAs p who op a c d → (q : Place) → is_some (note_at d.notes q) ≡ true → NotedOr q
+  by_done None did q has = one_more (note_after op c.value) q (subst (λ (z : Content). is_some (note_at z.notes q) ≡ true) did.1 has)
+  by_done (Some a) did q has = one_more (Note.Died a) q (subst (λ (z : Content). is_some (note_at z.notes q) ≡ true) did has)
+
+  as_before : d ≡ c → (q : Place) → is_some (note_at d.notes q) ≡ true → NotedOr q
+  as_before same q has = inl (subst (λ (z : Content). is_some (note_at z.notes q) ≡ true) same has)
+
+  pub op_noted : (s : WriteSays) → Logs p who op s c d → (q : Place) → is_some (note_at d.notes q) ≡ true → NotedOr q
+  op_noted (WriteSays.Done n true) l = by_done (dies who op c.owner) l.1.1
+  op_noted (WriteSays.Done n false) l = as_before l.1
+  op_noted WriteSays.NotOwner l = as_before l.2
+  op_noted (WriteSays.Held w) l = as_before l.2
+  op_noted WriteSays.Going l = as_before l
+  op_noted WriteSays.Worn l = as_before l.1
 
 -- a note that was told was there
 pub told_note : (p : Place) (t : TxId) (c x : Content) (w : Note) → lock_on p t c ≡ (x, noted w) → note_at c.notes p ≡ Some w

@@ -3,13 +3,15 @@ use Rattle.beldi_value.specs.Id.{home_of}
 use Rattle.beldi_row.specs.declared.act.Act.TheVariants.{End as EndAct, Stamp}
 use Rattle.beldi_row.specs.Act.{stamp_with}
 use Rattle.beldi_order.proofs.Ends.{fits_at}
-use Rattle.beldi_laws.proofs.Names.{Begun, Body, Bool, ByTx, Called, CellOp, Core, Deployment, Effect, EndAt, Inside, Instance, IntentId, IntentRow, InvokeRow, Item, Kind, Knows, Member, None, OpenTx, Option, Outcome, Own, PutRead, Return, Right, Row, RowKey, Rows, Run, Some, Stage, TxId, Value, Visit, Visited, act, after_act, ap, append-nil, arith, call_in, child_of, content_of, decision_key, end_with, ended_by, false, finish_at, first_visit, has_finish, has_no_hops, if◌then◌else◌, intent_key, invoke_key, is_some, is_waited, key_in, length, length-append, log_key, no_decision, own_tx, place_of, refl, rows_after, same_some, set_row, subst, sym, true, tx_end, txs_after, visit_asks, visited_by, within, ℕ, ◌++◌, ◌<◌, ◌∙◌, ◌∷◌, ◌≡◌, [], List, Answer, end_walk, is_past}
+use Rattle.beldi_laws.proofs.Names.{Begun, Body, Bool, ByTx, Called, CellOp, Core, Deployment, Effect, EndAt, Inside, Instance, IntentId, IntentRow, InvokeRow, Item, Kind, Knows, Member, None, OpenTx, Option, Outcome, Own, PutRead, Return, Right, Row, RowKey, Rows, Run, Some, Stage, TxId, Value, Visit, Visited, act, after_act, ap, append-nil, arith, call_in, child_of, content_of, decision_key, end_with, ended_by, false, finish_at, first_visit, has_finish, has_no_hops, if◌then◌else◌, intent_key, invoke_key, is_some, is_waited, key_in, length, length-append, log_key, no_decision, own_tx, place_of, refl, rows_after, same_some, set_row, subst, sym, true, tx_end, txs_after, visit_asks, visited_by, within, ℕ, ◌++◌, ◌<◌, ◌∙◌, ◌∷◌, ◌≡◌, [], List, Answer, end_walk, inl, inr, is_past, WriteAt, head_key, IsMember, first_end}
 use Rattle.beldi_laws.proofs.Names.map
 use Rattle.beldi_laws.proofs.{Members.TakesPart, Members.members_joined, OpenOf.open_begun, OpenOf.own_begin, Others.end_here, Returns.at_end, Returns.returns_now, Returns.tx, Turns.all_here, Turns.at_steps, Turns.wanted_here, Turns.no_return}
 use Rattle.beldi_invokelog.specs.InvokeLog.{registered_in}
 use Rattle.beldi_upkeep.specs.Callees.{HasTold, IsPassed, RunOwes, RunsOwe, Seats, open_begin, owner_key}
-use Rattle.beldi_upkeep.proofs.{FromRight.body_known, FromRight.called_here, FromRight.call_is, Leaving.IsPassedBy, Leaving.Leaves, Leaving.leaves_looked, Leaving.leaves_op, Leaving.leaves_same, PastOwn.WasOwner, PastOwn.called_owner, PastOwn.ended_there, PastOwn.ends_there, PastOwn.got_owner, PastOwn.tx_ended, RowSets.intent_put, RowSets.unmoved, TurnRows.own_put}
+use Rattle.beldi_upkeep.proofs.{FromRight.body_known, FromRight.called_here, FromRight.call_is, FromRight.ended_has_row, FromRight.one_home, Leaving.IsPassedBy, Leaving.Leaves, Leaving.leaves_looked, Leaving.leaves_op, Leaving.leaves_same, Leaving.leaves_still, PastOwn.WasOwner, PastOwn.called_owner, PastOwn.ended_there, PastOwn.ends_there, PastOwn.got_owner, PastOwn.tx_ended, RowSets.intent_put, RowSets.unmoved, TurnRows.own_put, TurnRows.own_row}
 use Rattle.beldi_known.specs.Stands.{body_of}
+use Rattle.beldi_txn.specs.End.{free_place}
+use Rattle.beldi_txn.proofs.Freeing.{puts_or_passes}
 
 -- who was called in a transaction, or in none, has none of its own open
 none_inside : (w : Option TxId) → open_begin (within w) ≡ None
@@ -169,13 +171,39 @@ module _ (d : Deployment) (c : Core) (m : Rows) (h : Right d c m) (seats : Seats
     pub decide_leaves : Leaves c m (rows_after (visit_asks s end commit first_visit.way first_visit.after first_visit.item first_visit.value first_visit.at) c.now m)
     decide_leaves = own_put d c m h seats r g k finds (Kind.ReadLog (place_of r.id o.begin)) (PutRead (Value.Bool commit)) refl refl refl refl refl refl
 
+    -- an item is given back, or no row changes
+    module _ (cs : List Called) (af : Option ℕ) (y : ℕ × List ℕ) (u : Option Value) where
+      abbrev item : Item
+      item = record { func = (visited_by s cs).1; table = y.0; key = y.1 }
+
+      abbrev freeing : WriteAt → Visit
+      freeing w = record { way = cs; after = af; item = Some y; value = u; at = EndAt.Free w }
+
+      abbrev freed : WriteAt → Rows
+      freed w = rows_after (visit_asks s end commit cs af (Some y) u (EndAt.Free w)) c.now m
+
+      -- who is visited has its row
+      visited_row : (cs : List Called) → map.get m (decision_key s) ≡ Some (Row.ReadLog (Value.Bool commit)) → IsMember (first_end s end commit) m cs → is_some (map.get m (intent_key (free_place s end cs).intent (visited_by s cs).1)) ≡ true
+      visited_row [] decided member = own_row d c m h seats r g k finds
+      visited_row (b ∷ bs) decided member =
+          let p : Member = visited_by s (b ∷ bs) in
+          let part = members_joined d m h.known h.locked h.rows h.sane s (end, commit) (tx_is_ended decided) b bs member in
+          let there = ended_has_row d c m h p.0 part.instance s (end, commit) part.made part.within (tx_is_ended decided) in
+          ap (λ f. is_some (map.get m (intent_key p.0 f))) (sym part.func) ∙ ap (λ q. is_some (map.get m q)) (sym (one_home d c m h p.0 part.instance part.instance.func part.made there)) ∙ there
+
+      free_leaves : (w : WriteAt) → Visited (end_walk r.id r.func o end commit (freeing w)) m → Leaves c m (freed w)
+      free_leaves w visited = elim (puts_or_passes (head_key item) (free_place s end cs) (ByTx s) u c.now m (h.rows.chains item) w visited.sees) [
+        | inl sees ↦ leaves_op c m seats c.now item (h.rows.chains item) (free_place s end cs) (ByTx s) (CellOp.Free u) w sees (visited_row cs visited.decided visited.member) (λ lock. cc)
+        | inr past ↦ leaves_still c m seats (freed w) past.rows
+      ]
+
     by_visit : (cs : List Called) (af : Option ℕ) (y : Option (ℕ × List ℕ)) (u : Option Value) (a : EndAt) → is_past a ≡ true → Visited (end_walk r.id r.func o end commit (record { way = cs; after = af; item = y; value = u; at = a })) m → Leaves c m (rows_after (visit_asks s end commit cs af y u a) c.now m)
     by_visit cs af y u EndAt.Decide past visited = cc
     by_visit cs af y u EndAt.Callees past visited = leaves_same c m seats
     by_visit cs af y u EndAt.Next past visited = leaves_same c m seats
     by_visit cs af (Some y) u (EndAt.Shadow i) past visited = leaves_looked c m seats c.now _
     by_visit cs af None u (EndAt.Shadow i) past visited = leaves_same c m seats
-    by_visit cs af (Some y) u (EndAt.Free w) past visited = leaves_op c m seats c.now (record { func = (visited_by s cs).1; table = y.0; key = y.1 }) (h.rows.chains (record { func = (visited_by s cs).1; table = y.0; key = y.1 })) _ (ByTx s) (CellOp.Free u) w visited.sees (λ lock. cc)
+    by_visit cs af (Some y) u (EndAt.Free w) past visited = free_leaves cs af y u w visited
     by_visit cs af None u (EndAt.Free w) past visited = leaves_same c m seats
     by_visit [] af y u EndAt.Stamp past visited = let clash = visited.begins in cc
     by_visit (b ∷ bs) af y u EndAt.Stamp past visited = stamps c.now s (visited_by s (b ∷ bs)) (members_joined d m h.known h.locked h.rows h.sane s (end, commit) (tx_is_ended visited.decided) b bs visited.member)

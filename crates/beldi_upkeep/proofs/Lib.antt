@@ -36,7 +36,7 @@ mod PastStages
 mod PastTurns
 pub mod Quiet
 mod Roots
-mod RowNotes
+pub mod RowNotes
 mod RowSets
 mod SaysOwe
 mod SeatRows

@@ -2,10 +2,10 @@
 use Rattle.beldi_value.specs.{Id.child_of, declared.id.IntentId.IntentId, declared.place.Place.Place}
 use Rattle.beldi_value.specs.{Id.age_of, Passes.passes, declared.place.Owner.Owner}
 use Rattle.beldi_row.proofs.Logs.{place_same}
-use Rattle.beldi_row.specs.Act.{removes, stays_unless, Tell, act, at_tail, cond_at, died, entered, free_at, held, held_or, if_owned, if_room, is_full, link_to, lock_at, next, next_or, no_row, not_full, not_owner, noted_or, off, on, on_cell, other_owner, owned_or, owns, packed, waits_for, write_at}
+use Rattle.beldi_row.specs.Act.{removes, stays_unless, Tell, act, at_tail, cond_at, dangle_by, died, entered, free_at, held, held_or, if_owned, if_room, is_full, leads_from, link_to, lock_at, mark_by, next, next_or, no_row, not_full, not_owner, noted_or, off, on, on_cell, other_owner, owned_or, owns, packed, skip_by, waits_for, write_at}
 use Rattle.beldi_row.specs.{Log.note_at, Log.place_eq, declared.act.Act.Act, declared.key.Kind.Kind, declared.notes.Note.Note, declared.row.Cell.Cell, declared.row.Row.Row}
 use Rattle.beldi_chain.specs.Content.{content_in}
-use Rattle.std.specs.Prelude.{is_none}
+use Rattle.std.specs.Prelude.{is_none, nat_lt, not}
 use Rattle.std.proofs.Common.{Bool, List, None, Option, Some, [], ap, arith, false, if◌then◌else◌, inl, inr, is_some, refl, sym, true, ℕ, ◌&&◌, ◌++◌, ◌||◌, ◌∙◌, ◌∷◌, ◌≡◌, ◌⊎◌}
 use Rattle.beldi_upkeep.specs.Passed.{IsLater, ShowsPast, has_note, has_outcome, has_result, is_call, is_log, may_pass}
 
@@ -130,12 +130,28 @@ linked_log n c = by_next c.next
     by_next None = by_test (is_full c)
     by_next (Some k) = refl
 
+-- nor is what log collectors change
+marked_log : (o : Option ℕ) (c : Cell) → (mark_by o c).0.log ≡ c.log
+marked_log None c = refl
+marked_log (Some n) c = refl
+
+skipped_log : (b : Bool) (t : ℕ) (c : Cell) → (skip_by b t c).0.log ≡ c.log
+skipped_log true t c = refl
+skipped_log false t c = refl
+
+dangled_log : (b : Bool) (now : ℕ) (c : Cell) → (dangle_by b now c).0.log ≡ c.log
+dangled_log true now c = refl
+dangled_log false now c = refl
+
 note_on : (p : Place) (a : Act) (now : ℕ) (r : Row) → has_note p (Some (on a now r).0) ≡ true → (has_note p (Some r) ≡ true) ⊎ (notes_at a ≡ Some p)
 note_on p (Act.WriteCell q w v) now r h = cell_by q p (write_at q w v) no_row r (λ c. tail_adds q c _ (held_adds q c (other_owner w c.owner) _ (room_adds q c _ (inr (Note.Wrote, refl))))) h
 note_on p (Act.CondCell q w k o v) now r h = cell_by q p (cond_at q w k o v) no_row r (λ c. tail_adds q c _ (held_adds q c (other_owner w c.owner) _ (room_adds q c _ (inr (Note.Cond (passes c.value k o), refl))))) h
 note_on p (Act.LockCell q w s) now r h = cell_by q p (lock_at q w) no_row r (λ c. tail_adds q c _ (owned_adds q w c (other_owner w c.owner) _ (room_adds q c _ (inr (Note.Got, refl))))) h
 note_on p (Act.FreeCell q w v) now r h = cell_by q p (free_at q w v) no_row r (λ c. tail_adds q c _ (free_adds q w c _ (room_adds q c _ (inr (Note.Freed, refl))))) h
 note_on p (Act.LinkCell n) now (Row.Cell c) h = inl (ap (λ es. is_some (note_at es p)) (sym (linked_log n c)) ∙ h)
+note_on p Act.MarkCell now (Row.Cell c) h = inl (ap (λ es. is_some (note_at es p)) (sym (marked_log c.next c)) ∙ h)
+note_on p (Act.SkipCell f t) now (Row.Cell c) h = inl (ap (λ es. is_some (note_at es p)) (sym (skipped_log (not c.marked && leads_from f c.next && nat_lt f t) t c)) ∙ h)
+note_on p Act.DangleCell now (Row.Cell c) h = inl (ap (λ es. is_some (note_at es p)) (sym (dangled_log (c.marked && not (is_some c.dangled)) now c)) ∙ h)
 note_on p a now (Row.Cell c) h = inl h
 note_on p a now (Row.Intent i) h = grind arith
 note_on p a now (Row.ReadLog v) h = grind arith

@@ -6,10 +6,10 @@ use Rattle.std.specs.FinMap as map
 use Rattle.beldi_value.specs.{Id.has_no_hops, Id.root_of, declared.id.IntentId.IntentId, declared.value.Value.Value}
 use Rattle.beldi_tree.specs.declared.deployment.Deployment.{Deployment}
 use Rattle.beldi_order.proofs.Maps.{same_some}
-use Rattle.beldi_row.proofs.Removed.{act_stays}
+use Rattle.beldi_row.proofs.Removed.{act_stays, spares}
 use Rattle.beldi_walk.specs.Query.{may_remove}
 use Rattle.beldi_step.proofs.Spares.{stage_spares}
-use Rattle.beldi_row.specs.{Act.act, Act.drops, Act.on, Act.bind_to, Act.bound, Key.RowKey, Key.key_cmp, Table.Rows, declared.act.Act.Act, declared.row.Body.Body, declared.row.IntentRow.IntentRow, declared.row.Row.Row}
+use Rattle.beldi_row.specs.{Act.act, Act.prunes, Act.on, Act.bind_to, Act.bound, Key.RowKey, Key.key_cmp, Table.Rows, declared.act.Act.Act, declared.row.Body.Body, declared.row.IntentRow.IntentRow, declared.row.Row.Row}
 use Rattle.beldi_walk.specs.declared.query.Query.{Query}
 use Rattle.beldi_intent.specs.Intent.{root_key}
 use Rattle.beldi_step.proofs.Runs.{of_plan}
@@ -20,9 +20,9 @@ use Rattle.beldi_upkeep.specs.Checked.{IsOfIt, NoRootAtFirst, RootsStayOfIt, bod
 use Rattle.beldi_upkeep.proofs.{Asked.Tame, Asked.id_or, Asked.sets_body, Asked.stage_tame, Kept.KeepsAt, Kept.PlanKeeps, Kept.event_keeps}
 
 -- an act that sets no body leaves it
-body_kept : (a : Act) (now : ℕ) (r : Option Row) → drops a ≡ false → sets_body a ≡ false → body_at (act a now r).0 ≡ body_at r
+body_kept : (a : Act) (now : ℕ) (r : Option Row) → prunes a ≡ false → sets_body a ≡ false → body_at (act a now r).0 ≡ body_at r
 body_kept a now None keeps h = grind arith
-body_kept a now (Some r) keeps h = ap (λ z. body_at z.0) (act_stays a now r keeps) ∙ left a now r h
+body_kept a now (Some r) keeps h = ap (λ z. body_at z.0) (act_stays a now r (spares a keeps)) ∙ left a now r h
   where
     left : (a : Act) (now : ℕ) (r : Row) → sets_body a ≡ false → body_at (Some (on a now r).0) ≡ body_at (Some r)
     left a now r h = grind arith
@@ -33,10 +33,10 @@ module _ (d : Deployment) (O : ℕ → ℕ → Type 0) where
   abbrev pub P : RowKey → Option Row → Type 0
   P k r = (t : ℕ) → k ≡ root_key t → (b : Body) → body_at r ≡ Some b → O t b.func
 
-  mild_keeps : (now : ℕ) (k : RowKey) (a : Act) → drops a ≡ false → sets_body a ≡ false → KeepsAt P now (Query.Act k a)
+  mild_keeps : (now : ℕ) (k : RowKey) (a : Act) → prunes a ≡ false → sets_body a ≡ false → KeepsAt P now (Query.Act k a)
   mild_keeps now k a keeps none r h t same b is = h t same b (sym (body_kept a now r keeps none) ∙ is)
 
-  asks_keeps : (now : ℕ) (k : RowKey) (a : Act) (sets : Bool) → drops a ≡ false → sets_body a ≡ sets → (sets_body a ≡ true → (t : ℕ) → k ≡ root_key t → ⊥) → KeepsAt P now (Query.Act k a)
+  asks_keeps : (now : ℕ) (k : RowKey) (a : Act) (sets : Bool) → prunes a ≡ false → sets_body a ≡ sets → (sets_body a ≡ true → (t : ℕ) → k ≡ root_key t → ⊥) → KeepsAt P now (Query.Act k a)
   asks_keeps now k a true keeps e other r h t same b is = absurd (other e t same)
   asks_keeps now k a false keeps e other r h t same b is = mild_keeps now k a keeps e r h t same b is
 

@@ -27,7 +27,7 @@ noted_before (e ∷ es) fs p h = by_test (place_eq e.0 p) h (noted_before es fs 
     by_test true h rest = refl
     by_test false h rest = rest h
 
-noted_in : (es fs : List (Place × Note)) (p : Place) → is_noted p (es ++ fs) ≡ true → (is_noted p es ≡ true) ⊎ (is_noted p fs ≡ true)
+pub noted_in : (es fs : List (Place × Note)) (p : Place) → is_noted p (es ++ fs) ≡ true → (is_noted p es ≡ true) ⊎ (is_noted p fs ≡ true)
 noted_in [] fs p h = inr h
 noted_in (e ∷ es) fs p h = by_test (place_eq e.0 p) h (noted_in es fs p)
   where

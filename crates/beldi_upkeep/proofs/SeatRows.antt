@@ -1,12 +1,12 @@
 -- Rows that keep their seats when one row is set, by the kind of that row.
-use Rattle.beldi_laws.proofs.Names.{AsyncAt, Body, Bool, ByTx, Caller, Effect, IntentId, IntentRow, InvokeRow, Item, Kind, None, Option, Owner, Place, Row, RowKey, Rows, Begun, Some, Stage, TxId, ap, arith, call_in, child_of, content_of, false, has_finish, head_key, invoke_key, is_eq, is_some, is_waited, key_cmp, key_in, key_same, place_of, refl, subst, sym, true, ℕ, ◌∙◌, ◌≡◌, ◌⊎◌, inl, inr}
+use Rattle.beldi_laws.proofs.Names.{AsyncAt, Body, Bool, ByTx, Caller, Effect, IntentId, IntentRow, InvokeRow, Item, Kind, None, Option, Owner, Place, Row, RowKey, Rows, Begun, Some, Stage, TxId, ap, arith, call_in, child_of, content_of, false, has_finish, head_key, invoke_key, is_eq, is_some, is_waited, key_cmp, key_in, key_same, place_of, refl, subst, sym, true, ℕ, ◌∙◌, ◌≡◌, ◌⊎◌, inl, inr, Content, note_at, intent_key}
 use Rattle.beldi_laws.proofs.Names.map
 use Rattle.beldi_value.specs.declared.place.Owner.TheVariants.{Intent as ByIntent}
 use Rattle.beldi_laws.proofs.Frames.{is_intent, is_invoke}
 use Rattle.beldi_chain.{specs.Chain.content, proofs.Heads.chain_off}
 use Rattle.beldi_known.proofs.{Acts.is_data, Acts.kind_off, Acts.kinds_apart, Acts.same_data}
 use Rattle.beldi_invokelog.specs.InvokeLog.{call_at, registered_in}
-use Rattle.beldi_upkeep.specs.Callees.{AllFinished, HasBody, HasIntentRow, HasPut, HasTold, IsPassed, RunOwes, Seats, belongs_to, owner_key, seat_of}
+use Rattle.beldi_upkeep.specs.Callees.{AllFinished, HasBody, HasIntentRow, HasPut, HasTold, IsNoted, IsPassed, RunOwes, Seats, belongs_to, owner_key, seat_of}
 
 -- ---- what is kept of rows for others: no row goes, and what runs have found stays
 pub record Onward (m n : Rows) : Type 0 where
@@ -79,8 +79,10 @@ module _ (m n : Rows) (k : RowKey) (same : (l : RowKey) → is_eq (key_cmp l k) 
   -- neither an intent's nor a call's
   module _ (rows : (l : RowKey) → is_some (map.get m l) ≡ true → is_some (map.get n l) ≡ true) (seated : IsSeated) (h : Seats m) where
     -- who owns an item then owned it, or may own it
-    pub quiet_seats : is_intent k.kind ≡ false → is_invoke k.kind ≡ false → ((o : Owner) (x : Item) → (content_of n x).owner ≡ Some o → ((content_of m x).owner ≡ Some o) ⊎ MayOwn m o) → Seats n
-    quiet_seats off call owners = record {
+    -- .. and a place that has its note then had it, or is of an intent that has its row
+    pub quiet_seats : is_intent k.kind ≡ false → is_invoke k.kind ≡ false → ((o : Owner) (x : Item) → (content_of n x).owner ≡ Some o → ((content_of m x).owner ≡ Some o) ⊎ MayOwn m o)
+        → ((x : Item) (p : Place) → IsNoted n x p → IsNoted m x p ⊎ (is_some (map.get m (intent_key p.intent x.func)) ≡ true)) → Seats n
+    quiet_seats off call owners notes = record {
       has_seat = seats_on rows seated h;
       ends_last = λ t home i r b over body. h.ends_last t home i r b (finish_off off t over) (body_off off home i r b body);
       owns_none = λ t x over owned. elim (owners (ByTx t) x owned) [
@@ -90,6 +92,10 @@ module _ (m n : Rows) (k : RowKey) (same : (l : RowKey) → is_eq (key_cmp l k) 
       owner_has_row = λ o x owned. row_on m n rows o (elim (owners o x owned) [
         | inl was ↦ h.owner_has_row o x was
         | inr may ↦ may_row m o may
+      ]);
+      noted_has_row = λ x p noted. rows (intent_key p.intent x.func) (elim (notes x p noted) [
+        | inl was ↦ h.noted_has_row x p was
+        | inr there ↦ there
       ]);
       registered = λ f i p c home r b at none body. h.registered f i p c home r b (sym (calls_off call f (place_of i p)) ∙ at) none (body_off off home (child_of i p) r b body);
       enrolled = λ f i p c at is. rows (key_in c.func (child_of i p)) (h.enrolled f i p c (sym (calls_off call f (place_of i p)) ∙ at) is);
@@ -112,6 +118,7 @@ module _ (m n : Rows) (f : ℕ) (i : IntentId) (p : ℕ) (same : (l : RowKey) �
     ends_last = λ t home j r b over body. h.ends_last t home j r b (finish_off m n k same refl t over) (body_off m n k same refl home j r b body);
     owns_none = λ t x over owned. h.owns_none t x (finish_off m n k same refl t over) (ap (λ c. c.owner) (sym (contents_off m n k same refl x)) ∙ owned);
     owner_has_row = λ o x owned. row_on m n rows o (h.owner_has_row o x (ap (λ c. c.owner) (sym (contents_off m n k same refl x)) ∙ owned));
+    noted_has_row = λ x p noted. rows (intent_key p.intent x.func) (h.noted_has_row x p (ap (λ (z : Content). is_some (note_at z.notes p)) (sym (contents_off m n k same refl x)) ∙ noted));
     registered = λ g j q c home r b at none body. by_open g j q c home r b at none (body_off m n k same refl home (child_of j q) r b body) (is_eq (key_cmp (invoke_key g (place_of j q)) k)) refl;
     enrolled = λ g j q c at is. rows (key_in c.func (child_of j q)) (by_mark g j q c at is (is_eq (key_cmp (invoke_key g (place_of j q)) k)) refl);
   }
@@ -192,6 +199,7 @@ module _ (m n : Rows) (home : ℕ) (id : IntentId) (same : (l : RowKey) → is_e
     ends_last = λ t f i r b over body in_it. last t f i r b over in_it (is_set f i r b body);
     owns_none = λ t x over owned. none t x (ap (λ c. c.owner) (sym (contents_off m n own same refl x)) ∙ owned) (over_by t over);
     owner_has_row = λ o x owned. row_on m n rows o (h.owner_has_row o x (ap (λ c. c.owner) (sym (contents_off m n own same refl x)) ∙ owned));
+    noted_has_row = λ x p noted. rows (intent_key p.intent x.func) (h.noted_has_row x p (ap (λ (z : Content). is_some (note_at z.notes p)) (sym (contents_off m n own same refl x)) ∙ noted));
     registered = λ f i p c g r b at is_open body idle. by_body f i p c g r b (sym (calls_off m n own same refl f (place_of i p)) ∙ at) is_open idle (is_set g (child_of i p) r b body);
     enrolled = λ f i p c at is. rows (key_in c.func (child_of i p)) (h.enrolled f i p c (sym (calls_off m n own same refl f (place_of i p)) ∙ at) is);
   }

@@ -2,7 +2,8 @@
 use Rattle.beldi_collect.specs.declared.cursor.Found.{Found}
 use Rattle.beldi_step.proofs.Runs.{of_plan}
 use Rattle.beldi_step.specs.{declared.run.RunAt.RunAt, Run.callee_of, Host.at_once}
-use Rattle.beldi_laws.proofs.Names.{AllocError, Begins, Binding, Bool, CameOn, Core, Crash, Deployment, Err, Event, EventBy, EventOn, FinMap, Followed, Full, Halt, Ic, IntentId, Lost, None, Ok, Option, OutOfMemory, Plan, Query, Request, Restart, Result, Rows, Run, Seen, Some, TableErr, Tick, Ticket, Told, Turn, TurnSays, Turned, Value, Wait, after_turn, ap, arith, asks, bind_asks, binding_of, collect_next, collect_says, collect_asks, cond, count_changes, counted, crash_plan, false, get-empty, get-insert, get-remove, halt_next, has_run, heard, if◌then◌else◌, inl, inr, is_added, is_crowded, is_eq, last_moment, lends, may_start, nat_cmp, nat_cmp_total, nat_lt, new_run, no_memory, plan, plan_of, put_got, put_run, reads_all, refl, refused, refused_stand, request_next, root_of, rows_after, run_asks, run_next, run_plan, run_told, same_some, says_of, started, subst, sym, ticket_next, told_by, true, turn_next, turned_core, unheard_next, with_run, ℕ, ◌+◌, ◌-◌, ◌==◌, ◌^◌, ◌||◌, ◌∙◌, ◌≡◌, ◌⊎◌}
+use Rattle.std.proofs.Common.{ltb-false}
+use Rattle.beldi_laws.proofs.Names.{AllocError, Begins, Binding, Bool, CameOn, Core, Crash, Deployment, Err, Event, EventBy, EventOn, FinMap, Followed, Full, Halt, Ic, IntentId, Lost, None, Ok, Option, OutOfMemory, Plan, Query, Request, Restart, Result, Rows, Run, Seen, Some, TableErr, Tick, Ticket, Told, Turn, TurnSays, Turned, Value, Wait, after_turn, ap, arith, asks, bind_asks, binding_of, collect_next, collect_says, collect_asks, cond, count_changes, counted, crash_plan, false, get-empty, get-insert, get-remove, halt_next, has_run, heard, if◌then◌else◌, inl, inr, is_added, is_crowded, is_eq, last_moment, lends, may_start, nat_cmp, nat_cmp_total, nat_lt, new_run, no_memory, plan, plan_of, put_got, put_run, reads_all, refl, refused, refused_stand, request_next, root_of, rows_after, run_asks, run_next, run_plan, run_told, same_some, says_of, started, subst, sym, ticket_next, told_by, true, turn_next, turned_core, unheard_next, with_run, ℕ, ◌+◌, ◌-◌, ◌==◌, ◌^◌, ◌||◌, ◌∙◌, ◌≡◌, ◌⊎◌, ◌≤◌}
 use Rattle.beldi_laws.proofs.{Moves.if_plan, OneEvent.lent_only}
 use Rattle.beldi_intent.specs.Intent.{issue_asks}
 use Rattle.beldi_laws.proofs.Names.map
@@ -90,6 +91,7 @@ module _ (d : Deployment) (live : FinMap nat_cmp Run) (now changes : ℕ) (after
     pub number : ℕ
     pub run : Run
     pub live_there : map.get live number ≡ Some run
+    pub in_time : now ≤ run.deadline
     pub rows : n ≡ rows_after (run_asks run) now m
     pub runs : RunsFrom live (run_told d changes run (told_by (run_asks run) now m)).next after
 
@@ -169,8 +171,8 @@ module _ (d : Deployment) (c : Core) (m n : Rows) where
   roots b q asked rows runs = inr (inl (record { query = q; asked = asked; rows = rows; runs = runs }))
 
   -- a turn
-  turns : (b : Core) (i : ℕ) (r : Run) → map.get c.runs i ≡ Some r → n ≡ rows_after (run_asks r) c.now m → RunsFrom c.runs (run_told d (count_changes c.book) r (told_by (run_asks r) c.now m)).next b.runs → ShapeOf b
-  turns b i r live rows runs = inr (inr (record { number = i; run = r; live_there = live; rows = rows; runs = runs }))
+  turns : (b : Core) (i : ℕ) (r : Run) → map.get c.runs i ≡ Some r → c.now ≤ r.deadline → n ≡ rows_after (run_asks r) c.now m → RunsFrom c.runs (run_told d (count_changes c.book) r (told_by (run_asks r) c.now m)).next b.runs → ShapeOf b
+  turns b i r live in_time rows runs = inr (inr (record { number = i; run = r; live_there = live; in_time = in_time; rows = rows; runs = runs }))
 
 -- ---- by what an event asks, and what it came to
 module _ (d : Deployment) (e : Event) (c : Core) (m : Rows) where
@@ -220,14 +222,14 @@ shape_of d (Turn i) c m = by_run (map.get c.runs i) refl
     by_run (Some r) live = if_plan (ShapePlan d (Turn i) c m) (nat_lt r.deadline c.now) _ _ (λ late. less_runs c.runs None i)
         (λ alive. let q = run_asks r in let s = run_told d (count_changes c.book) r (told_by q c.now m) in
         subst (λ o. ShapeOf d c m (rows_after q c.now m) (run_next d c i (told_by q c.now m) o).0 × ((b : Core) → Some (unheard_next d c i (told_by q c.now m) o) ≡ Some b → ShapeOf d c m (rows_after q c.now m) b)) (sym live)
-        (turns d c m (rows_after q c.now m) (turn_next c i r s).0 i r live refl (turn_from d c i r s), λ b w. subst (λ z. ShapeOf d c m (rows_after q c.now m) z) (same_some w) (turns d c m (rows_after q c.now m) (unheard_next d c i (told_by q c.now m) (Some r)) i r live refl (unheard_from d c i r s))))
+        (turns d c m (rows_after q c.now m) (turn_next c i r s).0 i r live (ltb-false r.deadline c.now alive) refl (turn_from d c i r s), λ b w. subst (λ z. ShapeOf d c m (rows_after q c.now m) z) (same_some w) (turns d c m (rows_after q c.now m) (unheard_next d c i (told_by q c.now m) (Some r)) i r live (ltb-false r.deadline c.now alive) refl (unheard_from d c i r s))))
 shape_of d (Lost i) c m = by_run (map.get c.runs i) refl
   where
     by_run : (o : Option Run) → map.get c.runs i ≡ o → ShapePlan d (Lost i) c m (run_plan c i o)
     by_run None gone = same_none d c
     by_run (Some r) live = if_plan (ShapePlan d (Lost i) c m) (nat_lt r.deadline c.now) _ _ (λ late. less_runs c.runs None i)
         (λ alive. let q = run_asks r in let s = run_told d (count_changes c.book) r (told_by q c.now m) in
-        (subst (λ o. ShapeOf d c m (rows_after q c.now m) (unheard_next d c i (told_by q c.now m) o)) (sym live) (turns d c m (rows_after q c.now m) (unheard_next d c i (told_by q c.now m) (Some r)) i r live refl (unheard_from d c i r s)), λ b w. cc))
+        (subst (λ o. ShapeOf d c m (rows_after q c.now m) (unheard_next d c i (told_by q c.now m) o)) (sym live) (turns d c m (rows_after q c.now m) (unheard_next d c i (told_by q c.now m) (Some r)) i r live (ltb-false r.deadline c.now alive) refl (unheard_from d c i r s)), λ b w. cc))
 shape_of d (Crash i) c m = by_run (map.get c.runs i)
   where
     by_run : (o : Option Run) → ShapePlan d (Crash i) c m (crash_plan c i o)

@@ -3,7 +3,7 @@ use Rattle.beldi_chain.specs.Chain.{chain}
 use Rattle.beldi_links.specs.Links.{SeesAt}
 use Rattle.beldi_daal.specs.Logged.{at_of}
 use Rattle.beldi_row.specs.declared.act.Act.TheVariants.{LinkCell}
-use Rattle.beldi_row.specs.Act.{drops}
+use Rattle.beldi_row.specs.Act.{prunes}
 use Rattle.beldi_daal.proofs.Spares.{write_spares}
 use Rattle.beldi_known.proofs.{Acts.is_data, Callers.all_called, Participants.open_owner}
 use Rattle.beldi_laws.proofs.Names.{Async, AsyncAt, Begun, Body, Bool, ByTx, CallAt, Caller, CellOp, Core, Deployment, Effect, Inherited, Inside, Instance, IntentId, IntentMatches, InvokeRow, Item, Kind, Knows, List, Look, MakeCell, None, Null, Option, Outcome, Own, Place, PutLockset, PutRead, Register, Return, Right, RootMatches, Row, RowAct, RowKey, Rows, Run, RunTx, Some, Stage, TxAt, TxId, Value, WriteAt, after_act, ap, at_row, behind_locks, call_of, child_of, content_of, effect_before, length, false, func_called, has_ended, has_finish, has_no_hops, head_key, if◌then◌else◌, inl, intent_key, invoke_key, is_some, key_in, log_key, op_act, note_at, place_of, refl, rows_after, same_some, shadow_key, subst, sym, touched, true, tx_after, tx_of, ℕ, ◌∙◌, ◌≡◌, AtItem, Lockset, async_asks, back_to_asks, blank, call_asks, callee_body, register_asks, tell_asks, write_asks, ◌-◌}
@@ -54,12 +54,12 @@ module _ (d : Deployment) (c : Core) (m : Rows) (h : Right d c m) (seats : Seats
       row_there (Some w) e = refl
 
   -- ---- a row that belongs to it, in its function's home
-  pub own_put : (kind : Kind) (a : RowAct) → drops a ≡ false → is_intent kind ≡ false → is_invoke kind ≡ false → is_data kind ≡ false → belongs_to kind ≡ Some r.id → seat_of (record { home = r.func; kind = kind }) r.id ≡ intent_key r.id r.func → Leave (after_act a c.now (record { home = r.func; kind = kind }) m)
+  pub own_put : (kind : Kind) (a : RowAct) → prunes a ≡ false → is_intent kind ≡ false → is_invoke kind ≡ false → is_data kind ≡ false → belongs_to kind ≡ Some r.id → seat_of (record { home = r.func; kind = kind }) r.id ≡ intent_key r.id r.func → Leave (after_act a c.now (record { home = r.func; kind = kind }) m)
   own_put kind a keeps off call item of seat = leaves_quiet c m seats c.now (record { home = r.func; kind = kind }) a keeps off call item
       (λ i is. subst (λ z. is_some (map.get m (seat_of (record { home = r.func; kind = kind }) z)) ≡ true) (same_some (sym of ∙ is)) (ap (λ q. is_some (map.get m q)) seat ∙ own_row))
 
   -- a row of a shadow of the transaction that it is in
-  shadow_put : (o : RunTx) → g.tx ≡ Some o → (x : Item) (i : ℕ) (a : RowAct) → drops a ≡ false → Leave (after_act a c.now (at_row (shadow_key (tx_of r.id r.func o) x) i) m)
+  shadow_put : (o : RunTx) → g.tx ≡ Some o → (x : Item) (i : ℕ) (a : RowAct) → prunes a ≡ false → Leave (after_act a c.now (at_row (shadow_key (tx_of r.id r.func o) x) i) m)
   shadow_put o is x i a keeps = leaves_quiet c m seats c.now (at_row (shadow_key (tx_of r.id r.func o) x) i) a keeps refl refl refl
       (λ j e. subst (λ z. is_some (map.get m (intent_key z (tx_of r.id r.func o).func)) ≡ true) (same_some e) (tx_row o is))
 
@@ -70,7 +70,7 @@ module _ (d : Deployment) (c : Core) (m : Rows) (h : Right d c m) (seats : Seats
   -- ---- an operation outside
   pub write_leaves : (w : WriteAt) (o : Option OnCell) → SeesPut m r.func place w o → Leave (rows_after (put_asks r.id r.func g.machine.steps w o) c.now m)
   write_leaves w None sees = look (intent_key r.id r.func)
-  write_leaves w (Some o) sees = leaves_op c m seats c.now (record { func = r.func; table = o.table; key = o.key }) (h.rows.chains (record { func = r.func; table = o.table; key = o.key })) place (Owner.Intent r.id) o.op w sees (λ lock. (home_of r.id r.func, own_row))
+  write_leaves w (Some o) sees = leaves_op c m seats c.now (record { func = r.func; table = o.table; key = o.key }) (h.rows.chains (record { func = r.func; table = o.table; key = o.key })) place (Owner.Intent r.id) o.op w sees own_row (λ lock. (home_of r.id r.func, own_row))
 
   -- ---- inside a transaction
   module _ (o : RunTx) (tx : g.tx ≡ Some o) (here : tx_after d r.id k.instance k.answers ≡ Some (tx_of r.id r.func o)) (e : Effect) (is : g.machine.effect ≡ e) (x : ℕ × List ℕ) (touch : touched e ≡ Some x) where
@@ -86,7 +86,7 @@ module _ (d : Deployment) (c : Core) (m : Rows) (h : Right d c m) (seats : Seats
     -- a lock makes the transaction of who stands at the front the owner; behind, its place has its note
     lock_leaves : (w : WriteAt) → SeesAt (chain m (head_key item)) place (at_of w) → Leave (rows_after (write_asks (head_key item) place (ByTx own) CellOp.Lock w) c.now m)
     lock_leaves w sees = by_answer k
-        (λ left. leaves_op c m seats c.now item (h.rows.chains item) place (ByTx own) CellOp.Lock w sees (λ lock. (
+        (λ left. leaves_op c m seats c.now item (h.rows.chains item) place (ByTx own) CellOp.Lock w sees own_row (λ lock. (
           tx_row o tx,
           open_unfinished d c m h own
               (open_owner d h.known h.sane r.id k.instance own k.made (in_tx.open_still d c m r g h k o here e is x touch left) (in_tx.apart d c m r g h k o here e is x touch left) (in_tx.tx_is d c m r g h k o here e is x touch left)),
@@ -94,7 +94,7 @@ module _ (d : Deployment) (c : Core) (m : Rows) (h : Right d c m) (seats : Seats
         (λ a rest left.
         let locks = behind_locks d m h.known h.locked h.rows r.id k.instance k.made (sane_instance h k) k.answers a rest (in_tx.known_answers d c m r g h k o here e is x touch a rest left) (in_tx.short d c m r g h k o here e is x touch) own here x (ap touched (in_tx.effect_so d c m r g h k o here e is x touch) ∙ touch) in
         let told = told_note (place_of r.id (length k.answers)) own (content_of m its_item) (content_of m its_item) _ locks.0 in
-        leaves_walk c m seats c.now item (h.rows.chains item) place (ByTx own) CellOp.Lock w sees (λ t s logs owned. inl (owner_noted t place (content_of m item) _ (ByTx own) CellOp.Lock s _ ((λ i. note_at (content_of m (sym (in_tx.same_item d c m r g h k o here e is x touch) i)).notes (place_of r.id ((at_steps k) i))) ∙ told) logs owned)))
+        leaves_walk c m seats c.now item (h.rows.chains item) place (ByTx own) CellOp.Lock w sees own_row (λ t s logs owned. inl (owner_noted t place (content_of m item) _ (ByTx own) CellOp.Lock s _ ((λ i. note_at (content_of m (sym (in_tx.same_item d c m r g h k o here e is x touch) i)).notes (place_of r.id ((at_steps k) i))) ∙ told) logs owned)))
 
     aside_leaves : (w : WriteAt) (y : Option CellOp) → Leave (rows_after (txn.aside_asks r.func place own (shadow_key own item) w y) c.now m)
     aside_leaves w None = look (log_key r.func place)

@@ -1,5 +1,5 @@
 -- Every event keeps the seats of rows, and what live runs owe.
-use Rattle.beldi_laws.proofs.Names.{Begins, Begun, Body, Content, Core, Deployment, Inside, Knows, KnowsAt, KnowsBody, Looks, None, Option, Query, Registers, Right, Row, RowKey, Rows, Run, RunAt, Some, after_act, ap, asks_at, bind_asks, body_registered, body_told, chain, count_changes, func_at, get-empty, has_finish, head_key, inl, inr, intent_key, is_some, key_cmp, key_in, nat_cmp, refl, rows_after, run_asks, run_told, stage_says, subst, sym, told_at, told_by, true, Value, ℕ, ◌∙◌, ◌≡◌, ◌⊎◌}
+use Rattle.beldi_laws.proofs.Names.{Begins, Begun, Body, Content, Core, Deployment, Inside, Knows, KnowsAt, KnowsBody, Looks, None, Option, Query, Registers, Right, Row, RowKey, Rows, Run, RunAt, Some, after_act, ap, asks_at, bind_asks, body_registered, body_told, chain, count_changes, func_at, get-empty, has_finish, head_key, inl, inr, intent_key, is_some, key_cmp, key_in, nat_cmp, refl, rows_after, run_asks, run_told, stage_says, subst, sym, told_at, told_by, true, Value, ℕ, ◌∙◌, ◌≡◌, ◌⊎◌, note_at}
 use Rattle.beldi_laws.proofs.Names.map
 use Rattle.beldi_laws.proofs.Names.standing
 use Rattle.beldi_laws.proofs.Events.{keeps_right}
@@ -25,6 +25,7 @@ seats_begin now = (
     ends_last = λ t home i r b over. absurd (no_finish (owner_key t) over);
     owns_none = λ t x over owned. no_finish (owner_key t) over;
     owner_has_row = λ o x owned. let clash = sym (ap (λ (z : Content). z.owner) (no_content (chain map.empty (head_key x)) (no_row (head_key x)))) ∙ owned in cc;
+    noted_has_row = λ x p noted. let clash = sym (ap (λ (z : Content). is_some (note_at z.notes p)) (no_content (chain map.empty (head_key x)) (no_row (head_key x)))) ∙ noted in cc;
     registered = λ f i n c home r b at. let clash = sym (no_row (invoke_key f (place_of i n))) ∙ at in cc;
     enrolled = λ f i n c at. let clash = sym (no_row (invoke_key f (place_of i n))) ∙ at in cc;
   },

@@ -2,11 +2,11 @@
 use Rattle.std.specs.Prelude.{◌≡◌, ◌<◌, ℕ, Bool, true, false, Option, Some, None, is_some, Result}
 use Rattle.std.specs.declared.alloc.AllocError.{AllocError}
 use Rattle.std.specs.FinMap as map
-use Rattle.beldi_value.specs.{Id.child_of, declared.id.IntentId.IntentId, declared.outcome.Outcome.Outcome, declared.place.Caller.Caller, declared.place.Owner.Owner, declared.place.Owner.TheVariants.Intent as ByIntent, declared.place.Owner.TheVariants.Tx as ByTx, declared.place.TxId.TxId}
+use Rattle.beldi_value.specs.{Id.child_of, declared.id.IntentId.IntentId, declared.outcome.Outcome.Outcome, declared.place.Caller.Caller, declared.place.Owner.Owner, declared.place.Owner.TheVariants.Intent as ByIntent, declared.place.Owner.TheVariants.Tx as ByTx, declared.place.Place.Place, declared.place.TxId.TxId}
 use Rattle.beldi_tree.specs.declared.deployment.Deployment.{Deployment}
 use Rattle.beldi_lang.specs.declared.effect.Effect.{Effect}
 use Rattle.beldi_plain.specs.Item.{Item}
-use Rattle.beldi_row.specs.{Key.RowKey, Table.Rows, declared.row.Body.Body, declared.row.IntentRow.IntentRow, declared.row.InvokeRow.InvokeRow, declared.row.Row.Row}
+use Rattle.beldi_row.specs.{Key.RowKey, Log.note_at, Table.Rows, declared.row.Body.Body, declared.row.IntentRow.IntentRow, declared.row.InvokeRow.InvokeRow, declared.row.Row.Row}
 use Rattle.beldi_invokelog.specs.InvokeLog.{invoke_key, call_at, registered_in, result_in}
 use Rattle.beldi_intent.specs.Intent.{intent_key}
 use Rattle.beldi_call.specs.declared.async_call.AsyncAt.{AsyncAt}
@@ -29,6 +29,10 @@ abbrev pub HasIntentRow : Rows → Owner → Type 0
 HasIntentRow m (ByTx t) = is_some (map.get m (owner_key t)) ≡ true
 HasIntentRow m (ByIntent i) = (home : ℕ) × (is_some (map.get m (key_in home i)) ≡ true)
 
+-- an item has the note of a place
+abbrev pub IsNoted : Rows → Item → Place → Type 0
+IsNoted m x p = is_some (note_at (content_of m x).notes p) ≡ true
+
 pub record Seats (m : Rows) : Type 0 where
   -- each row belongs to an intent that has its row
   pub has_seat : (k : RowKey) (i : IntentId) → belongs_to k.kind ≡ Some i → is_some (map.get m k) ≡ true → is_some (map.get m (seat_of k i)) ≡ true
@@ -38,6 +42,8 @@ pub record Seats (m : Rows) : Type 0 where
   pub owns_none : (t : TxId) (x : Item) → has_finish (map.get m (owner_key t)) ≡ true → (content_of m x).owner ≡ Some (ByTx t) → ⊥
   -- the owner of an item has its intent's row
   pub owner_has_row : (o : Owner) (x : Item) → (content_of m x).owner ≡ Some o → HasIntentRow m o
+  -- a place that has its note is of an intent that has its row
+  pub noted_has_row : (x : Item) (p : Place) → IsNoted m x p → is_some (map.get m (intent_key p.intent x.func)) ≡ true
   -- who nobody waits for has its outcome only once its call says that it is registered
   pub registered : (f : ℕ) (i : IntentId) (n : ℕ) (c : InvokeRow) (home : ℕ) (r : IntentRow) (b : Body) → map.get m (invoke_key f (place_of i n)) ≡ Some (Row.Invoke c) → c.registered ≡ false
       → HasBody m home (child_of i n) r b → is_waited b.from ≡ false → r.outcome ≡ None

@@ -1,9 +1,10 @@
 -- An act that lends what lies in the row has left it as it was.
 use Rattle.std.specs.FinMap as map
-use Rattle.std.proofs.Common.{◌≡◌, inl, inr, ℕ, ◌==◌, ◌&&◌, Bool, true, false, if◌then◌else◌, Option, None, Some, Ok, Err, refl, ap, sym, ◌∙◌, subst}
+use Rattle.std.specs.Prelude.{nat_lt, not}
+use Rattle.std.proofs.Common.{◌≡◌, inl, inr, ℕ, ◌==◌, ◌&&◌, is_some, Bool, true, false, if◌then◌else◌, Option, None, Some, Ok, Err, refl, ap, sym, ◌∙◌, subst}
 use Rattle.beldi_value.specs.{declared.value.Value.Value, declared.outcome.Outcome.Outcome, declared.place.Place.Place, declared.place.Owner.Owner, Passes.passes, Same.same_value, declared.id.IntentId.IntentId, Id.age_of}
-use Rattle.beldi_row.specs.declared.act.Act.TheVariants.{Look, Issue, Bind, Register, End, Stamp, PutRead, OpenInvoke, CallBack, NoteRegistered, PutLockset, MakeCell, WriteCell, CondCell, LockCell, FreeCell, LinkCell, DropIntent, DropRow}
-use Rattle.beldi_row.specs.Act.{stays_unless, removes, removed_tell, is_old_row, is_left_row, Tell, gone, no_row, did, not_owner, other, held, died, next, packed, not_full, kept_tell, outcome_tell, off, on, on_intent, on_invoke, on_cell, bind_to, end_with, stamp_with, call_back_to, register_to, other_owner, owns, noted_or, next_or, held_or, waits_for, owned_or, at_tail, unless_held, if_owned, if_room, is_full, given_or, entered, write_at, cond_to, cond_at, lock_at, free_at, link_to}
+use Rattle.beldi_row.specs.declared.act.Act.TheVariants.{Look, Issue, Bind, Register, End, Stamp, PutRead, OpenInvoke, CallBack, NoteRegistered, PutLockset, MakeCell, WriteCell, CondCell, LockCell, FreeCell, LinkCell, DropIntent, DropRow, MarkCell, SkipCell, DangleCell, DropCell}
+use Rattle.beldi_row.specs.Act.{stays_unless, removes, removed_tell, is_adrift, is_old_row, is_left_row, mark_by, skip_by, skip_to, dangle_by, dangle_at, leads_from, not_so, Tell, gone, no_row, did, not_owner, other, held, died, next, packed, not_full, kept_tell, outcome_tell, off, on, on_intent, on_invoke, on_cell, bind_to, end_with, stamp_with, call_back_to, register_to, other_owner, owns, noted_or, next_or, held_or, waits_for, owned_or, at_tail, unless_held, if_owned, if_room, is_full, given_or, entered, write_at, cond_to, cond_at, lock_at, free_at, link_to}
 use Rattle.beldi_row.{specs.declared.notes.Note.Note, specs.declared.notes.Note.TheVariants.Wrote, specs.declared.notes.Note.TheVariants.Got, specs.declared.notes.Note.TheVariants.Died, specs.declared.notes.Note.TheVariants.Freed, specs.declared.row.Row.Row, specs.declared.row.Body.Body, specs.declared.row.Cell.Cell, specs.declared.row.IntentRow.IntentRow, specs.declared.row.InvokeRow.InvokeRow, specs.declared.act.Act.Act, specs.Log.note_at, specs.declared.table.TableErr.TableErr, specs.declared.table.TableErr.TheVariants.OutOfMemory, specs.declared.table.TableErr.TheVariants.Failed, specs.declared.table.TableErr.TheVariants.Full, specs.Table.Rows, specs.Table.TableState, specs.Table.Tells, proofs.Tells.tells_map, proofs.Unchanged.left}
 use Rattle.beldi_walk.specs.Query.{Told, lent, lends, is_death, tells_death, may_die, may_tell_death, LentStands, OnlyTransactionsDie, rows_after, told_by, CameOn}
 use Rattle.beldi_walk.specs.{declared.query.Query.Query, Walk.LeftAt, Walk.Left, Walk.Turned}
@@ -89,6 +90,19 @@ module _ (c : Cell) where
   owned : (p : Place) (w : Owner) (z : Cell × Tell) → Leaves c z → Leaves c (at_tail p c (if_owned w c z))
   owned p w z l = at_last (note_at c.log p) c.next (if_owned w c z) (gives (owns w c.owner) z l)
 
+  -- what leads past it lends nothing
+  marks : (n : Option ℕ) → Leaves c (mark_by n c)
+  marks None h = refl
+  marks (Some n) h = cc
+
+  skips : (t : ℕ) (b : Bool) → Leaves c (skip_by b t c)
+  skips t true h = cc
+  skips t false h = refl
+
+  dangles : (now : ℕ) (b : Bool) → Leaves c (dangle_by b now c)
+  dangles now true h = cc
+  dangles now false h = refl
+
 -- .. and so does an act that fits one kind of row
 intent_leaves : (f : IntentRow → IntentRow × Tell) (t : Tell) → ((i : IntentRow) → Leaves i (f i)) → (r : Row) → Leaves r (on_intent f t r)
 intent_leaves f t l (Row.Intent i) h = ap Row.Intent (l i h)
@@ -131,6 +145,10 @@ none_there (FreeCell p w v) now h = refl
 none_there (LinkCell n) now h = refl
 none_there (DropIntent l) now h = refl
 none_there DropRow now h = refl
+none_there MarkCell now h = refl
+none_there (SkipCell f t) now h = refl
+none_there DangleCell now h = refl
+none_there (DropCell l) now h = refl
 
 there : (a : Act) (now : ℕ) (r : Row) → Leaves r (on a now r)
 there Look now r = λ h. refl
@@ -152,6 +170,10 @@ there (FreeCell p w v) now r = cell_leaves (free_at p w v) no_row (λ c. let z :
 there (LinkCell n) now r = cell_leaves (link_to n) no_row (λ c. linked c n) r
 there (DropIntent l) now r = λ h. refl
 there DropRow now r = λ h. refl
+there MarkCell now r = cell_leaves (λ c. mark_by c.next c) not_so (λ c. marks c c.next) r
+there (SkipCell f t) now r = cell_leaves (skip_to f t) not_so (λ c. skips c t (not c.marked && leads_from f c.next && nat_lt f t)) r
+there DangleCell now r = cell_leaves (dangle_at now) not_so (λ c. dangles c now (c.marked && not (is_some c.dangled))) r
+there (DropCell l) now r = λ h. refl
 
 -- an act that removes its row lends nothing
 removed_quiet : (b : Bool) → quiet (removed_tell b) ≡ false
@@ -162,6 +184,7 @@ stands_by : (a : Act) (now : ℕ) (r : Row) (b : Bool) → removes a now r ≡ b
 stands_by a now r false is h g = ap Some (there a now r (quiet_of (on a now r).1 h g))
 stands_by (DropIntent l) now r true is h g = let clash = sym (removed_quiet (is_old_row l now r)) ∙ quiet_of (on (DropIntent l) now r).1 h g in cc
 stands_by DropRow now r true is h g = let clash = sym (removed_quiet (is_left_row r)) ∙ quiet_of (on DropRow now r).1 h g in cc
+stands_by (DropCell l) now r true is h g = let clash = sym (removed_quiet (is_adrift l now r)) ∙ quiet_of (on (DropCell l) now r).1 h g in cc
 stands_by a now r true is h g = cc
 
 pub stands : LentStands
@@ -225,6 +248,18 @@ module _ (c : Cell) where
       by_next None true = refl
       by_next None false = refl
 
+  marks_lives : (n : Option ℕ) → Lives (mark_by n c)
+  marks_lives None = refl
+  marks_lives (Some n) = refl
+
+  skips_lives : (t : ℕ) (b : Bool) → Lives (skip_by b t c)
+  skips_lives t true = refl
+  skips_lives t false = refl
+
+  dangles_lives : (now : ℕ) (b : Bool) → Lives (dangle_by b now c)
+  dangles_lives now true = refl
+  dangles_lives now false = refl
+
   unheld_lives : (p : Place) (w : Owner) (z : Cell × Tell) → Lives z → Lives (at_tail p c (unless_held w c z))
   unheld_lives p w z l = last_lives p (unless_held w c z) (held_lives (other_owner w c.owner) z l)
 
@@ -284,6 +319,10 @@ there_lives (FreeCell p w v) now r h = on_cell_lives (free_at p w v) no_row (λ 
 there_lives (LinkCell n) now r h = on_cell_lives (link_to n) no_row (λ c. linked_lives c n) refl r
 there_lives (DropIntent l) now r h = removed_lives (is_old_row l now r)
 there_lives DropRow now r h = removed_lives (is_left_row r)
+there_lives MarkCell now r h = on_cell_lives (λ c. mark_by c.next c) not_so (λ c. marks_lives c c.next) refl r
+there_lives (SkipCell f t) now r h = on_cell_lives (skip_to f t) not_so (λ c. skips_lives c t (not c.marked && leads_from f c.next && nat_lt f t)) refl r
+there_lives DangleCell now r h = on_cell_lives (dangle_at now) not_so (λ c. dangles_lives c now (c.marked && not (is_some c.dangled))) refl r
+there_lives (DropCell l) now r h = removed_lives (is_adrift l now r)
 
 none_lives : (a : Act) (now : ℕ) → Lives (off a now)
 none_lives Look now = refl

@@ -2,7 +2,7 @@
 use Rattle.std.specs.Ordering.{is_eq}
 use Rattle.std.specs.FinMap as map
 use Rattle.std.proofs.Common.{◌≡◌, ℕ, true, false, cond, is_some, Option, None, Some, Ok, Err, refl, ap, sym, ◌∙◌, subst}
-use Rattle.beldi_row.{specs.Key.RowKey, specs.Key.key_cmp, specs.Act.act, specs.Act.drops, specs.declared.act.Act.Act, specs.declared.row.Row.Row, proofs.Gets.got, proofs.Gets.key_same, proofs.Removed.act_stays, specs.declared.table.TableErr.TableErr, specs.declared.table.TableErr.TheVariants.OutOfMemory, specs.declared.table.TableErr.TheVariants.Failed, specs.declared.table.TableErr.TheVariants.Full, specs.Table.Rows, specs.Table.TableState, specs.Table.Tells, proofs.Tells.tells_map}
+use Rattle.beldi_row.{specs.Key.RowKey, specs.Key.key_cmp, specs.Act.act, specs.Act.prunes, specs.declared.act.Act.Act, specs.declared.row.Row.Row, proofs.Gets.got, proofs.Gets.key_same, proofs.Removed.act_stays, proofs.Removed.spares, specs.declared.table.TableErr.TableErr, specs.declared.table.TableErr.TheVariants.OutOfMemory, specs.declared.table.TableErr.TheVariants.Failed, specs.declared.table.TableErr.TheVariants.Full, specs.Table.Rows, specs.Table.TableState, specs.Table.Tells, proofs.Tells.tells_map}
 use Rattle.beldi_walk.{specs.declared.query.Query.Query, specs.Query.Told, specs.Query.lends, specs.Query.may_remove, specs.Query.rows_after, specs.Query.told_by, specs.Query.CameOn, specs.Walk.Turned, specs.Walk.Leaves, specs.Walk.Promises, proofs.Lent.same_left, proofs.Lent.unheard_left}
 
 module _ {X : Type 0} (q : Query) (now : ℕ) (g : Told → X) (P : Rows → Rows → X → Type 0) (made : (m : Rows) → P m (rows_after q now m) (g (told_by q now m))) where
@@ -35,13 +35,13 @@ turned q now f g P made w x old new s (Ok t, h, c) = promised q now (λ t. (f t,
 turned q now f g P made w x old new s (Err v, h, c) = absurd h
 
 -- an act that removes no row leaves one where one is
-pub row_there : (a : Act) (now : ℕ) (r : Option Row) → drops a ≡ false → is_some r ≡ true → is_some (act a now r).0 ≡ true
+pub row_there : (a : Act) (now : ℕ) (r : Option Row) → prunes a ≡ false → is_some r ≡ true → is_some (act a now r).0 ≡ true
 row_there a now None keeps h = cc
-row_there a now (Some r) keeps h = ap (λ z. is_some z.0) (act_stays a now r keeps)
+row_there a now (Some r) keeps h = ap (λ z. is_some z.0) (act_stays a now r (spares a keeps))
 
 -- what is so of each row that an act finds, and of the one that it leaves, where it removes none, is so of each row before such a
 -- query, and after it
-pub at_each : (P : Option Row → Option Row → Type 0) → ((r : Option Row) → P r r) → ((a : Act) (now : ℕ) (r : Option Row) → drops a ≡ false → P r (act a now r).0)
+pub at_each : (P : Option Row → Option Row → Type 0) → ((r : Option Row) → P r r) → ((a : Act) (now : ℕ) (r : Option Row) → prunes a ≡ false → P r (act a now r).0)
     → (q : Query) → may_remove q ≡ false → (now : ℕ) (m : Rows) (k : RowKey) → P (map.get m k) (map.get (rows_after q now m) k)
 at_each P same made (Query.Act k a) keeps now m l =
     let v : Option Row = (act a now (map.get m k)).0 in

@@ -2,7 +2,7 @@
 use Rattle.std.specs.Prelude.{◌≡◌, ℕ, ◌<◌, Bool, true, false, IsTrue, Option, Result, Ok, Err}
 use Rattle.std.specs.FinMap as map
 use Rattle.beldi_value.specs.declared.place.Owner.TheVariants.{Tx}
-use Rattle.beldi_row.specs.Act.{Tell, here, other, ended, kept, noted, held, died, packed, tell_of, act, drops}
+use Rattle.beldi_row.specs.Act.{Tell, here, other, ended, kept, noted, held, died, packed, tell_of, act, prunes}
 use Rattle.beldi_row.specs.Table.{Rows, TableState, after_act, tell_act, adds, Refused, Tells, HasCause, AtMostOne, next_row, entry_of}
 use Rattle.beldi_row.specs.{Key.RowKey, declared.row.Row.Row, declared.act.Act.Act, declared.act.Act.TheVariants.LockCell, declared.table.TableErr.TableErr, declared.table.TableErr.TheVariants.OutOfMemory, declared.table.TableErr.TheVariants.Failed, declared.table.TableErr.TheVariants.Full}
 use Rattle.beldi_walk.specs.declared.query.{Query.Query, Heard.Heard}
@@ -28,7 +28,7 @@ told_by (Query.After k) now m = found (next_row m k)
 
 -- it is an act that may remove its row
 abbrev pub may_remove : Query → Bool
-may_remove (Query.Act k a) = drops a
+may_remove (Query.Act k a) = prunes a
 may_remove (Query.After k) = false
 
 abbrev pub query_adds : Query → ℕ → Rows → Bool

@@ -2,6 +2,8 @@
 #![tactic(auto)]
 
 #[cfg(test)]
+mod linked;
+#[cfg(test)]
 mod prunes;
 #[cfg(test)]
 mod regions;

@@ -8,8 +8,8 @@ use beldi_value::{IntentId, Outcome, Value, or_drop};
 use std::alloc::Global;
 use std::test::Fail;
 
-// Ends the root of ticket 1, with its finish, at the moment 5.
-fn finishes(alloc: Global, table: &mut MapTable) -> Result<bool, Fail> {
+/// Ends the root of ticket 1, with its finish, at the moment 5.
+pub fn finishes(alloc: Global, table: &mut MapTable) -> Result<bool, Fail> {
     drop(bind(alloc, table, 1, 1, Value::Null, 5)?);
     let outcome = Outcome::Value(Value::Int(7));
     let put = end(table, IntentId::root(alloc, 1), 1, outcome, true, 5)?;
@@ -27,11 +27,14 @@ fn says(
         GcSays::Going => 0,
         GcSays::Removed => 1,
         GcSays::Round => 2,
+        GcSays::Marked => 3,
+        GcSays::Skipped => 4,
+        GcSays::Dangled => 5,
     })
 }
 
-// Whether it says this in its next turns, one after another.
-fn goes(
+/// Whether it says this in its next turns, one after another: 0 going, 1 removed, 2 round, 3 marked, 4 skipped, 5 dangled.
+pub fn goes(
     alloc: Global,
     table: &mut MapTable,
     collector: &mut LogCollector,

@@ -80,7 +80,8 @@ where
     after(alloc, table, &mut walk, turns)
 }
 
-fn item(alloc: Global) -> Result<Item, Fail> {
+/// An item of the first table of a function.
+pub fn item(alloc: Global) -> Result<Item, Fail> {
     let key = Str::from_text(alloc, "k")?;
     Ok(Item::Plain { table: 0, key })
 }

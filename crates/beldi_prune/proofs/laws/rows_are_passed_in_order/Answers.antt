@@ -1,4 +1,4 @@
-use Rattle.beldi_prune.proofs.Right.{in_order}
+use Rattle.beldi_prune.proofs.Order.{in_order}
 use Rattle.beldi_prune.proofs.laws.rows_are_passed_in_order.Goals as goal
 
 pub returns : goal.returns

@@ -1,0 +1,6 @@
+pub mod Alike
+pub mod Both
+pub mod Leading
+pub mod Onward
+pub mod Pruned
+pub mod Whole

@@ -1,0 +1,12 @@
+pub mod Cells
+pub mod CellsKept
+pub mod CellsSound
+pub mod CellsTurned
+pub mod Going
+pub mod Logs
+pub mod Loop
+pub mod Measure
+pub mod Moments
+pub mod Old
+pub mod Passing
+pub mod Places

@@ -1,0 +1,4 @@
+pub mod Done
+pub mod Laws
+pub mod Rows
+pub mod Sweep

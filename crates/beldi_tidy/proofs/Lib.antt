@@ -1,0 +1,3 @@
+mod Old
+mod Sound
+mod Sweeping
