@@ -54,6 +54,7 @@ module _ (d : Deployment) (c : Core) (m : Rows) (h : HasKept d c m) where
   reopened_kept now = record {
     kept = h.kept;
     upkeep = reopened_upkept d c h.kept now h.upkeep;
+    wanted = record { spares = h.wanted.spares; frees = λ n r is. absurd (no_run n r is) };
     gone = h.gone;
     less = h.less;
     latest = h.latest;

@@ -62,7 +62,8 @@ reopened newest book now = record (first_core newest now) { book = book }
 abbrev pub with_joined : List Entry → State → State
 with_joined base s = record s { core = record s.core { book = joined base s.core.book } }
 
--- the host and its rows are right behind the book of the sessions before it, where no row was removed, and keep what is kept beside
+-- the host and its rows are right behind the book of the sessions before it, where no log collector changed a row, and keep what is kept
+-- beside
 abbrev pub IsWholeAfter : {T : Type 0} {G : Ghosts T} → List Entry → Host T G → Type 0
 IsWholeAfter base h = IfSome (rows_of h) (Upkeep h.code (behind base (core_of h)))
 

@@ -17,6 +17,7 @@ use Rattle.beldi_chain.specs.Chain.{chain}
 use Rattle.beldi_splice.proofs.Alike.{linked_are_so, nobody_gone_none_less}
 use Rattle.beldi_step.specs.Host.{Core, first_core}
 use Rattle.beldi_known.specs.Contents.{head_key}
+use Rattle.beldi_wanted.proofs.Kept.{begins_wanted}
 use Rattle.beldi_kept.proofs.{Gone.old_still, Less.by_kind, Whole.whole_ahead}
 use Rattle.beldi_kept.specs.{Less.IsGone, Less.Less, Kept.IsOld, Laws.AllAreKept, Laws.BeginsKept, Laws.LooksFindOld, Laws.NobodyGone, Laws.OldStays}
 
@@ -25,7 +26,7 @@ whole : (d : Deployment) (c : Core) (m : Rows) (gone : IntentId → Bool) → Up
 whole d c m gone u = record { rows = λ k other. inl refl; cells = λ x. (linked_are_so gone (chain m (head_key x)) (u.right.rows.chains x)).0; threads = λ x. (linked_are_so gone (chain m (head_key x)) (u.right.rows.chains x)).1 }
 
 pub begins_kept : BeginsKept
-begins_kept d now = record { kept = map.empty; upkeep = begins_upkept d now; gone = λ i. false; latest = 0; less = whole d (first_core 0 now) map.empty (λ i. false) (begins_upkept d now); over = λ i off. cc; spared = λ n r i live in_time works. refl; ahead = λ n r live in_time. whole_ahead d (first_core 0 now) map.empty (begins_upkept d now) n r live; newest = inl refl }
+begins_kept d now = record { kept = map.empty; upkeep = begins_upkept d now; wanted = begins_wanted d now; gone = λ i. false; latest = 0; less = whole d (first_core 0 now) map.empty (λ i. false) (begins_upkept d now); over = λ i off. cc; spared = λ n r i live in_time works. refl; ahead = λ n r live in_time. whole_ahead d (first_core 0 now) map.empty (begins_upkept d now) n r live; newest = inl refl }
 
 -- nobody was old then
 pub begins_early : (d : Deployment) (now : ℕ) → (begins_kept d now).latest ≡ 0
@@ -38,8 +39,8 @@ issued_newest zero o is = inl refl
 issued_newest (suc n) o is = inr (is ∙ ap (λ b. b && nat_le (suc n) (suc n)) (lt-ltb 0 (suc n) (omega arith)) ∙ le-leb (suc n) (suc n) (omega arith))
 
 pub all_are_kept : AllAreKept
-all_are_kept d c m u = (
-  record { kept = m; upkeep = u; gone = λ i. false; latest = 0; less = whole d c m (λ i. false) u; over = λ i off. cc; spared = λ n r i live in_time works. refl; ahead = λ n r live in_time. whole_ahead d c m u n r live; newest = issued_newest c.newest (is_some (map.get m (root_key c.newest))) (u.right.tickets c.newest) },
+all_are_kept d c m u w = (
+  record { kept = m; upkeep = u; wanted = w; gone = λ i. false; latest = 0; less = whole d c m (λ i. false) u; over = λ i off. cc; spared = λ n r i live in_time works. refl; ahead = λ n r live in_time. whole_ahead d c m u n r live; newest = issued_newest c.newest (is_some (map.get m (root_key c.newest))) (u.right.tickets c.newest) },
   refl,
   λ i. refl,
 )

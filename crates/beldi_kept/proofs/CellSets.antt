@@ -134,6 +134,7 @@ module _ (d : Deployment) (c : Core) (m : Rows) (h : HasKept d c m) (y : Item) (
       set_has = record {
         kept = h.kept;
         upkeep = h.upkeep;
+        wanted = h.wanted;
         gone = h.gone;
         less = still_less;
         latest = h.latest;

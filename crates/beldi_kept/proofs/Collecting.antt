@@ -37,6 +37,7 @@ module _ (d : Deployment) (c : Core) (m : Rows) (h : HasKept d c m) (k : RowKey)
   moved = record {
     kept = h.kept;
     upkeep = upkept d c h.kept h.upkeep k t l;
+    wanted = record { spares = h.wanted.spares; frees = h.wanted.frees };
     gone = h.gone;
     less = h.less;
     latest = h.latest;

@@ -91,6 +91,7 @@ module _ (d : Deployment) (c : Core) (m : Rows) (h : HasKept d c m) (home : ℕ)
   declared = record {
     kept = h.kept;
     upkeep = h.upkeep;
+    wanted = h.wanted;
     gone = more;
     less = less_more;
     latest = latest;

@@ -79,7 +79,7 @@ module _ (d : Deployment) (c : Core) (m : Rows) (h : HasKept d c m) (room old ne
 
   -- nothing happens but that the host stands elsewhere
   rests : (q : RowKey) (t : ℕ) (s : Bool) → b ≡ elsewhere c q t s → n ≡ m → After
-  rests q t s is same = subst (λ z. Step d c z h.gone m h.kept n) (sym is) (by_rest d c h.gone m h.kept n q t s h.upkeep (as_were same))
+  rests q t s is same = subst (λ z. Step d c z h.gone m h.kept n) (sym is) (by_rest d c h.gone m h.kept n q t s h.upkeep h.wanted (as_were same))
 
   counts : b ≡ k → n ≡ m → After
   counts is same = rests c.cursor (c.taken + 1) c.shut is same
@@ -206,7 +206,7 @@ module _ (d : Deployment) (c : Core) (m : Rows) (h : HasKept d c m) (room old ne
   -- ---- the intent collector
   launched : (q : RowKey) (id : IntentId) (f : ℕ) → is_crowded c ≡ false → b ≡ with_run (record k { cursor = q }) (new_run d k id f) → n ≡ m → After
   launched q id f room_there is same = subst (λ z. Step d c z h.gone m h.kept n) (sym is)
-      (by_event d 0 0 0 (Event.Restart id f) c (with_run (counted (elsewhere c q 0 false)) (new_run d k id f)) h.gone m h.kept n h.kept (Ok (Seen.Started (c.last_run + 1))) q q 0 (c.taken + 1) false c.shut h.upkeep on (as_were same))
+      (by_event d 0 0 0 (Event.Restart id f) c (with_run (counted (elsewhere c q 0 false)) (new_run d k id f)) h.gone m h.kept n h.kept (Ok (Seen.Started (c.last_run + 1))) q q 0 (c.taken + 1) false c.shut h.upkeep h.wanted on (as_were same))
     where
       planned : plan d (Event.Restart id f) (elsewhere c q 0 false) ≡ at_once (with_run (counted (elsewhere c q 0 false)) (new_run d k id f)) (Seen.Started (c.last_run + 1))
       planned = ap (λ t. if t then restart_plan d (counted (elsewhere c q 0 false)) id f else at_once (elsewhere c q 0 false) Seen.Spent) few
@@ -278,7 +278,7 @@ module _ (d : Deployment) (c : Core) (m : Rows) (h : HasKept d c m) (room old ne
     step s = by_sim (all_plans s)
       where
         by_sim : Sim e (plan d e c) → After
-        by_sim (inl o) = by_event d o.room o.old o.new e c b h.gone m h.kept n o.after x c.cursor b.cursor c.taken b.taken c.shut b.shut h.upkeep o.on o.goes
+        by_sim (inl o) = by_event d o.room o.old o.new e c b h.gone m h.kept n o.after x c.cursor b.cursor c.taken b.taken c.shut b.shut h.upkeep h.wanted o.on o.goes
         by_sim (inr still) = still.0
 
     -- what is answered

@@ -26,7 +26,7 @@ use Rattle.beldi_known.specs.Contents.{head_key}
 use Rattle.beldi_laws.specs.{Inside.Found, Inside.InItem, Inside.InOperation, Inside.SeesPut, Right.AtStage, Right.Knows, Right.KnowsAt, Right.RunAt}
 use Rattle.beldi_value.specs.{Id.child_of, declared.value.Value.Value}
 use Rattle.beldi_upkeep.specs.{Callees.HasPut, Callees.HasTold, Work.WorksFor}
-use Rattle.beldi_upkeep.proofs.Quiet.{is_async}
+use Rattle.beldi_kept.proofs.Elsewhere.{is_owing}
 use Rattle.beldi_kept.specs.{Ahead.StaysFor, Kept.HasKept}
 use Rattle.beldi_kept.proofs.ItemTurns as item
 use Rattle.beldi_kept.proofs.{ItemWrites.numbered_of, ItemWrites.writes, Less.was_there}
@@ -125,7 +125,7 @@ module _ (d : Deployment) (c : Core) (m : Rows) (h : HasKept d c m) (room old ne
   module _ (row t : ℕ) (k : List ℕ) (stage : g.stage ≡ Stage.Walk row) (ends : g.machine.effect ≡ Effect.Read t k) (tx : g.tx ≡ None) (stays : IsSafeFrom d.life r.deadline (chain m (cell_key r.func t k)) row) where
     pub walk_turns : Turns
     walk_turns = reads (record { func = r.func; table = t; key = k }) row (asks_is (Stage.Walk row) stage (Effect.Read t k) ends None tx) (walks_is (Stage.Walk row) stage (Effect.Read t k) ends None tx) stays (λ z seen. record {
-      quiet = subst (λ w. is_async w ≡ false) (sym (ap (stage_to z) stage)) refl;
+      quiet = subst (λ w. is_owing w ≡ false) (sym (ap (stage_to z) stage)) refl;
       told = subst (λ w. HasTold w g.caller h.kept) (sym (ap (stage_to z) stage)) tt;
       put = subst (λ w. HasPut w g.machine.effect (child_of r.id g.machine.steps) h.kept) (sym (ap (stage_to z) stage)) tt;
       here = subst (λ w. (j : Knows d h.upkeep.right.known r g) → IsAt w g.machine.effect g.tx j) (sym (ap (stage_to z) stage)) (at_stage_is (Stage.Walk row) stage (Effect.Read t k) ends None tx (Stage.Walk z) (λ j. seen));
@@ -200,7 +200,7 @@ module _ (d : Deployment) (c : Core) (m : Rows) (h : HasKept d c m) (room old ne
       pub item_turns : Turns
       item_turns = reads its row (asks_is (Stage.Tx (TxAt.Item row)) stage e ends (Some o) tx ∙ ap (asks_of r.func place (tx_of r.id r.func o) e (TxAt.Item row)) of)
           (walks_is (Stage.Tx (TxAt.Item row)) stage e ends (Some o) tx ∙ ap (tx_walking r.func place (TxAt.Item row) (Some o)) of) stays (λ z seen. record {
-            quiet = subst (λ w. is_async w ≡ false) (sym (ap (stage_to z) stage)) refl;
+            quiet = subst (λ w. is_owing w ≡ false) (sym (ap (stage_to z) stage)) refl;
             told = subst (λ w. HasTold w g.caller h.kept) (sym (ap (stage_to z) stage)) tt;
             put = subst (λ w. HasPut w g.machine.effect (child_of r.id g.machine.steps) h.kept) (sym (ap (stage_to z) stage)) tt;
             here = subst (λ w. (j : Knows d h.upkeep.right.known r g) → IsAt w g.machine.effect g.tx j) (sym (ap (stage_to z) stage)) (then_here (Stage.Tx (TxAt.Item row)) stage (TxAt.Item z) (item_fits e row z was_item.0) (record {

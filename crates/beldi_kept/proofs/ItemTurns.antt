@@ -28,9 +28,10 @@ use Rattle.beldi_step.proofs.Stride.{walks_on}
 use Rattle.beldi_known.specs.Contents.{IsLinkedItem, head_key}
 use Rattle.beldi_laws.specs.Right.{AtStage, Knows}
 use Rattle.beldi_upkeep.specs.{Callees.HasPut, Callees.HasTold, Upkeep.Upkeep}
-use Rattle.beldi_upkeep.proofs.{Quiet.is_async, Together.keeps_upkeep}
+use Rattle.beldi_upkeep.proofs.Together.{keeps_upkeep}
+use Rattle.beldi_kept.proofs.Elsewhere.{is_owing, wanted_then}
 use Rattle.beldi_kept.specs.{Ahead.IsFollowed, Kept.HasKept}
-use Rattle.beldi_kept.proofs.{Elsewhere.stands_elsewhere, Elsewhere.works_still, Events.Goal, Events.as_were, Events.core_of, Events.few, Events.turns_alike, Events.turns_by, Items.act_alike, Less.GoesOn, Less.stays_on, Step.Step, Step.elsewhere, Step.upkeep_elsewhere}
+use Rattle.beldi_kept.proofs.{Elsewhere.stands_elsewhere, Elsewhere.works_still, Events.Goal, Events.as_were, Events.core_of, Events.few, Events.turns_alike, Events.turns_by, Items.act_alike, Less.GoesOn, Less.stays_on, Step.Step, Step.elsewhere, Step.upkeep_elsewhere, Step.wanted_elsewhere}
 
 -- ---- after that turn over the kept rows these are linked
 not_below : (a b : ℕ) → b ≤ a → nat_lt a b ≡ false
@@ -99,7 +100,7 @@ module _ (d : Deployment) (c : Core) (m : Rows) (h : HasKept d c m) (room old ne
     told_alike same = turns_alike d c m h room old new b n x i r live (record { turned = ap (run_told d (count_changes c.book) r) same; rows = still })
 
     -- .. or it stands at another stage then
-    module _ (w : Stage) (quiet : is_async w ≡ false) (told : HasTold w g.caller h.kept) (put : HasPut w g.machine.effect (child_of r.id g.machine.steps) h.kept) (here : (k : Knows d h.upkeep.right.known r g) → AtStage h.kept h.upkeep.right.plain c.book k w g.machine.effect g.tx) where
+    module _ (w : Stage) (quiet : is_owing w ≡ false) (told : HasTold w g.caller h.kept) (put : HasPut w g.machine.effect (child_of r.id g.machine.steps) h.kept) (here : (k : Knows d h.upkeep.right.known r g) → AtStage h.kept h.upkeep.right.plain c.book k w g.machine.effect g.tx) where
       abbrev left : Turned
       left = turned_by d r g (Says.On w None)
 
@@ -107,6 +108,7 @@ module _ (d : Deployment) (c : Core) (m : Rows) (h : HasKept d c m) (room old ne
       leaves is same = subst (λ z. Step d c z h.gone m h.kept n) (sym (is ∙ ap (λ z. record (counted c) { runs = put_run c.runs i left.next; book = z }) (append-nil c.book))) (record {
         after = h.kept;
         upkeep = upkeep_elsewhere d (record c { runs = put_run c.runs i left.next }) c.cursor (c.taken + 1) c.shut h.kept (stands_elsewhere d c h.kept h.upkeep i r g w live at quiet told put here);
+        wanted = wanted_elsewhere d (record c { runs = put_run c.runs i left.next }) c.cursor (c.taken + 1) c.shut h.kept (wanted_then d c h.kept h.upkeep i r g w live at quiet told put here h.wanted);
         goes = as_were d c m h room old new b n x same;
         works = λ k s j is works. inl (works_still d c h.kept h.upkeep i r g w live at quiet told put here k s j is works);
         stay = λ k there. there;
@@ -170,7 +172,7 @@ module _ (d : Deployment) (c : Core) (m : Rows) (h : HasKept d c m) (room old ne
   -- ---- a walk forward
   -- it may stand at the row of this number
   pub record IsMoved (z : ℕ) : Type 0 where
-    pub quiet : is_async (stage_to z g.stage) ≡ false
+    pub quiet : is_owing (stage_to z g.stage) ≡ false
     pub told : HasTold (stage_to z g.stage) g.caller h.kept
     pub put : HasPut (stage_to z g.stage) g.machine.effect (child_of r.id g.machine.steps) h.kept
     pub here : (k : Knows d h.upkeep.right.known r g) → AtStage h.kept h.upkeep.right.plain c.book k (stage_to z g.stage) g.machine.effect g.tx
@@ -186,7 +188,7 @@ module _ (d : Deployment) (c : Core) (m : Rows) (h : HasKept d c m) (room old ne
     walked_on l z leads = walks_on d (count_changes c.book) r w z c.now l walks leads
 
     -- it is led on in both
-    pub led_on : (z e : ℕ) → LeadsOn m (at_row (head_key y) row) place z → LeadsOn h.kept (at_row (head_key y) row) place e → is_async (stage_to z g.stage) ≡ false → HasTold (stage_to z g.stage) g.caller h.kept → HasPut (stage_to z g.stage) g.machine.effect (child_of r.id g.machine.steps) h.kept
+    pub led_on : (z e : ℕ) → LeadsOn m (at_row (head_key y) row) place z → LeadsOn h.kept (at_row (head_key y) row) place e → is_owing (stage_to z g.stage) ≡ false → HasTold (stage_to z g.stage) g.caller h.kept → HasPut (stage_to z g.stage) g.machine.effect (child_of r.id g.machine.steps) h.kept
         → ((k : Knows d h.upkeep.right.known r g) → AtStage h.kept h.upkeep.right.plain c.book k (stage_to z g.stage) g.machine.effect g.tx) → Turns
     led_on z e leads kept quiet told put here =
         let there = walked_on m z leads in

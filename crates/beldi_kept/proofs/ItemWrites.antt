@@ -18,7 +18,7 @@ use Rattle.beldi_step.specs.declared.{event.Seen.Seen, run.Begun.Begun, run.Run.
 use Rattle.beldi_known.specs.Contents.{head_key}
 use Rattle.beldi_laws.specs.Right.{AtStage, Knows}
 use Rattle.beldi_upkeep.specs.Callees.{HasPut, HasTold}
-use Rattle.beldi_upkeep.proofs.Quiet.{is_async}
+use Rattle.beldi_kept.proofs.Elsewhere.{is_owing}
 use Rattle.beldi_kept.specs.{Ahead.IsFollowed, Ahead.StaysFor, Kept.HasKept}
 use Rattle.beldi_kept.proofs.ItemTurns as item
 use Rattle.beldi_kept.proofs.ItemTurns.{noted_act, op_stays}
@@ -42,7 +42,7 @@ module _ (d : Deployment) (c : Core) (m : Rows) (h : HasKept d c m) (room old ne
     (y : Item) (p : Place) (who : Owner) (op : CellOp) (wr : WriteAt) (asked : run_asks r ≡ write_asks (head_key y) p who op wr) (stays : StaysFor d.life r.deadline (chain m (head_key y)) (at_of wr)) (numbered : IsNumbered (at_of wr))
     (walks : (row : ℕ) → wr ≡ WriteAt.Try row → walking r ≡ Some (record { key = at_row (head_key y) row; place = Some p })) (try_at : ℕ → Stage) (tries : (row z : ℕ) → wr ≡ WriteAt.Try row → stage_to z g.stage ≡ try_at z)
     (links : (l : Rows) (k z : ℕ) → wr ≡ WriteAt.Link k → told_by (run_asks r) c.now l ≡ said (next z) → item.turned d c m h room old new b n x i r live in_time g at l ≡ turned_by d r g (Says.On (try_at z) None))
-    (quiet : (z : ℕ) → is_async (try_at z) ≡ false) (told : (z : ℕ) → HasTold (try_at z) g.caller h.kept) (put : (z : ℕ) → HasPut (try_at z) g.machine.effect (child_of r.id g.machine.steps) h.kept)
+    (quiet : (z : ℕ) → is_owing (try_at z) ≡ false) (told : (z : ℕ) → HasTold (try_at z) g.caller h.kept) (put : (z : ℕ) → HasPut (try_at z) g.machine.effect (child_of r.id g.machine.steps) h.kept)
     (here : (row z : ℕ) (u : Cell) → map.get m (at_row (head_key y) row) ≡ Some (Row.Cell u) → u.next ≡ Some z → (wr ≡ WriteAt.Try row → note_at u.log p ≡ None) → (wr ≡ WriteAt.Try row) ⊎ (wr ≡ WriteAt.Link (row + 1)) → (k : Knows d h.upkeep.right.known r g) → AtStage h.kept h.upkeep.right.plain c.book k (try_at z) g.machine.effect g.tx) where
   abbrev Turns : Type 0
   Turns = item.Turns d c m h room old new b n x i r live in_time g at
@@ -79,7 +79,7 @@ module _ (d : Deployment) (c : Core) (m : Rows) (h : HasKept d c m) (room old ne
           by_note : (o : Option Note) → note_at u.log p ≡ o → Turns
           by_note (Some w) has = same_told row (op_act p who op) (noted w) (asked_at (WriteAt.Try row) is) u k there kept (noted_act p who op c.now u w has) (noted_act p who op c.now k w (ap (λ es. note_at es p) (sym log) ∙ has)) (op_stays p who op)
           by_note None has = item.led_on d c m h room old new b n x i r live in_time g at y row (Some p) (walks row is) z e (record { cell = u; here = there; followed = to; lacks = has }) (record { cell = k; here = kept; followed = ends; lacks = ap (λ es. note_at es p) (sym log) ∙ has })
-              (subst (λ w. is_async w ≡ false) (sym (tries row z is)) (quiet z)) (subst (λ w. HasTold w g.caller h.kept) (sym (tries row z is)) (told z)) (subst (λ w. HasPut w g.machine.effect (child_of r.id g.machine.steps) h.kept) (sym (tries row z is)) (put z))
+              (subst (λ w. is_owing w ≡ false) (sym (tries row z is)) (quiet z)) (subst (λ w. HasTold w g.caller h.kept) (sym (tries row z is)) (told z)) (subst (λ w. HasPut w g.machine.effect (child_of r.id g.machine.steps) h.kept) (sym (tries row z is)) (put z))
               (λ j. subst (λ w. AtStage h.kept h.upkeep.right.plain c.book j w g.machine.effect g.tx) (sym (tries row z is)) (here row z u there to (λ e. has) (inl is) j))
 
   -- a row that it links

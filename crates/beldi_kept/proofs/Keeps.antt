@@ -131,7 +131,7 @@ events_keep may_pass d room old new e c b m n x h s =
 
 pub cursor_is_free : CursorIsFree
 cursor_is_free d c m h k =
-    let rests = by_rest d c h.gone m h.kept m k c.taken c.shut h.upkeep (stays_on h.gone m h.kept h.less) in
+    let rests = by_rest d c h.gone m h.kept m k c.taken c.shut h.upkeep h.wanted (stays_on h.gone m h.kept h.less) in
     let at : Core = elsewhere c k c.taken c.shut in
     (has_kept d c at m m h rests (omega arith) (λ q there. there) h.ahead, is_later d c at m m h rests (omega arith) (λ q there. there) h.ahead)
 

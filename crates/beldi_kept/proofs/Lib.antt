@@ -10,7 +10,7 @@ mod Drops
 mod Elsewhere
 mod Events
 mod Finds
-mod Gone
+pub mod Gone
 mod Items
 mod ItemStages
 mod ItemTurns

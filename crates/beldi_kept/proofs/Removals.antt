@@ -67,6 +67,7 @@ module _ (d : Deployment) (c : Core) (m : Rows) (h : HasKept d c m) (k : RowKey)
     without = record {
       kept = h.kept;
       upkeep = h.upkeep;
+      wanted = h.wanted;
       gone = more;
       latest = latest;
       less = goes h.gone m h.kept h.less k i of;

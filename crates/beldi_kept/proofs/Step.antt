@@ -17,6 +17,7 @@ use Rattle.beldi_known.specs.Stands.{key_in}
 use Rattle.beldi_laws.proofs.Moves.{with_runs}
 use Rattle.beldi_upkeep.specs.{Upkeep.Upkeep, Work.IsUnfinished, Work.IsWorkedFor, Work.WorksFor, Work.finish_in}
 use Rattle.beldi_upkeep.proofs.{Kept.PlanKeeps, Kept.event_keeps, NewWork.new_work, NewWork.work_bound, Together.keeps_upkeep}
+use Rattle.beldi_wanted.{specs.Wanted.Wanted, proofs.Kept.keeps_wanted}
 use Rattle.beldi_kept.specs.{Ahead.StaysAhead, Kept.HasKept, Kept.IsLater, Kept.IsOld, Kept.IsOver, Kept.IsUnbound}
 use Rattle.beldi_kept.proofs.{Gone.done_there, Gone.finished, Gone.old_finished, Gone.old_still, Gone.root_home, Gone.unbound_bare, Gone.unbound_none, Gone.unbound_root, Less.GoesOn, Less.IsBare, Less.bare_there, Less.dates_stay, Less.was_there}
 
@@ -27,10 +28,14 @@ elsewhere c k t s = record c { cursor = k; taken = t; shut = s }
 pub upkeep_elsewhere : (d : Deployment) (c : Core) (k : RowKey) (t : ℕ) (s : Bool) (m : Rows) → Upkeep d c m → Upkeep d (elsewhere c k t s) m
 upkeep_elsewhere d c k t s m u = record { right = with_runs u.right (elsewhere c k t s) refl refl u.right.runs; seats = u.seats; owe = record { each = u.owe.each }; past = u.past; passes = record { each = u.passes.each }; near = record { soon = u.near.soon; near = u.near.near }; started = u.started }
 
+pub wanted_elsewhere : (d : Deployment) (c : Core) (k : RowKey) (t : ℕ) (s : Bool) (m : Rows) → Wanted d c m → Wanted d (elsewhere c k t s) m
+wanted_elsewhere d c k t s m h = record { spares = h.spares; frees = h.frees }
+
 -- from the host c and the rows m and kept, the host b, the rows n, and kept rows
 pub record Step (d : Deployment) (c b : Core) (gone : IntentId → Bool) (m kept n : Rows) : Type 0 where
   pub after : Rows
   pub upkeep : Upkeep d b after
+  pub wanted : Wanted d b after
   pub goes : GoesOn gone m kept n after
   pub works : (k : ℕ) (r : Run) (i : IntentId) → map.get b.runs k ≡ Some r → WorksFor r r.at i → IsWorkedFor c r.deadline i ⊎ IsUnfinished kept i
   pub stay : (k : RowKey) → is_some (map.get kept k) ≡ true → is_some (map.get after k) ≡ true
@@ -62,12 +67,13 @@ module _ (d : Deployment) (room old new : ℕ) (e : Event) (c b : Core) (m n : R
 
 -- an event over the kept rows, where the host stood elsewhere before and stands elsewhere after
 pub by_event : (d : Deployment) (room old new : ℕ) (e : Event) (c b : Core) (gone : IntentId → Bool) (m kept n after : Rows) (x : Result Seen AllocError) (k l : RowKey) (t u : ℕ) (s v : Bool)
-    → Upkeep d c kept → EventOn d room old new e (elsewhere c k t s) kept b after x → GoesOn gone m kept n after → Step d c (elsewhere b l u v) gone m kept n
-by_event d room old new e c b gone m kept n after x k l t u s v h on goes =
+    → Upkeep d c kept → Wanted d c kept → EventOn d room old new e (elsewhere c k t s) kept b after x → GoesOn gone m kept n after → Step d c (elsewhere b l u v) gone m kept n
+by_event d room old new e c b gone m kept n after x k l t u s v h wanted on goes =
     let before : Upkeep d (elsewhere c k t s) kept = upkeep_elsewhere d c k t s kept h in
     record {
       after = after;
       upkeep = upkeep_elsewhere d b l u v after (keeps_upkeep d room old new e (elsewhere c k t s) b kept after x before on);
+      wanted = wanted_elsewhere d b l u v after (keeps_wanted d room old new e (elsewhere c k t s) b kept after x before.right (wanted_elsewhere d c k t s kept wanted) on);
       goes = goes;
       works = λ j r i live works. by_work r i (new_work d room old new e (elsewhere c k t s) b kept after x before.right before.seats on j r i live works);
       stay = rows_stay d room old new e (elsewhere c k t s) b kept after x on;
@@ -79,10 +85,11 @@ by_event d room old new e c b gone m kept n after x k l t u s v h on goes =
     by_work r i (inr none) = inr none
 
 -- nothing happens to the kept rows, and the host stands elsewhere
-pub by_rest : (d : Deployment) (c : Core) (gone : IntentId → Bool) (m kept n : Rows) (k : RowKey) (t : ℕ) (s : Bool) → Upkeep d c kept → GoesOn gone m kept n kept → Step d c (elsewhere c k t s) gone m kept n
-by_rest d c gone m kept n k t s h goes = record {
+pub by_rest : (d : Deployment) (c : Core) (gone : IntentId → Bool) (m kept n : Rows) (k : RowKey) (t : ℕ) (s : Bool) → Upkeep d c kept → Wanted d c kept → GoesOn gone m kept n kept → Step d c (elsewhere c k t s) gone m kept n
+by_rest d c gone m kept n k t s h wanted goes = record {
   after = kept;
   upkeep = upkeep_elsewhere d c k t s kept h;
+  wanted = wanted_elsewhere d c k t s kept wanted;
   goes = goes;
   works = λ j r i live works. inl (record { number = j; run = r; live = live; works = works; due = refl });
   stay = λ k there. there;
@@ -195,7 +202,7 @@ module _ (d : Deployment) (c b : Core) (m n : Rows) (h : HasKept d c m) (s : Ste
 
   module _ (ahead : (k : ℕ) (r : Run) → map.get b.runs k ≡ Some r → b.now ≤ r.deadline → StaysAhead d.life n r r.at) where
     pub has_kept : HasKept d b n
-    has_kept = record { kept = s.after; upkeep = s.upkeep; gone = h.gone; less = s.goes.less; latest = h.latest; over = over_now; spared = spared; ahead = ahead; newest = newest_there h.newest b.newest refl (is_some (map.get h.kept (root_key b.newest))) refl }
+    has_kept = record { kept = s.after; upkeep = s.upkeep; wanted = s.wanted; gone = h.gone; less = s.goes.less; latest = h.latest; over = over_now; spared = spared; ahead = ahead; newest = newest_there h.newest b.newest refl (is_some (map.get h.kept (root_key b.newest))) refl }
 
     pub is_later : IsLater h has_kept
     unfolding has_kept

@@ -34,7 +34,7 @@ use Rattle.beldi_laws.proofs.{Members.members_joined, Members.part_below, Member
 use Rattle.beldi_upkeep.specs.{Callees.belongs_to, Work.WorksFor}
 use Rattle.beldi_upkeep.proofs.EndRows.{tx_is_ended}
 use Rattle.beldi_kept.specs.{Ahead.StaysAhead, Ahead.StaysAtStage, Ahead.StaysFor, Kept.HasKept, Kept.IsOver, Less.IsGone, Less.is_item as of_item}
-use Rattle.beldi_kept.proofs.{Elsewhere.stands_elsewhere, Elsewhere.works_still, Events.Goal, Events.as_were, Events.core_of, Events.turns_alike, Events.turns_by, Gone.done_there, Gone.old_finished, Gone.one_row, Gone.unbound_root, Less.stays_on, Less.there_kept, Less.GoesOn, Step.Step, Step.upkeep_elsewhere, Turn.SameTurn}
+use Rattle.beldi_kept.proofs.{Elsewhere.makes_back, Elsewhere.stands_elsewhere, Elsewhere.wanted_then, Elsewhere.works_still, Events.Goal, Events.as_were, Events.core_of, Events.turns_alike, Events.turns_by, Gone.done_there, Gone.old_finished, Gone.one_row, Gone.unbound_root, Less.stays_on, Less.there_kept, Less.GoesOn, Step.Step, Step.upkeep_elsewhere, Step.wanted_elsewhere, Turn.SameTurn}
 use Rattle.beldi_kept.proofs.{ItemStages.at_stage_is, ItemStages.kept_links, ItemStages.says_is, ItemStages.sees_then, ItemStages.walks_is, ItemWrites.IsNumbered, ItemWrites.numbered_of, ItemWrites.writes}
 use Rattle.beldi_kept.proofs.VisitAlike as alike
 
@@ -114,7 +114,7 @@ module _ (may_pass : ClosedArePassed) (d : Deployment) (c : Core) (m : Rows) (h 
     same_turn a is same = turns_alike d c m h room old new b n x i r live (subst (SameTurn d c h.gone m h.kept r) (ap q (sym is) ∙ sym asks_is) same)
 
     -- ---- the visit stands elsewhere, by what the table tells; the kept rows stay
-    module _ (w : Visit) (on : is_past w.at ≡ true) (there : Visited (end_walk r.id r.func o step commit w) h.kept) where
+    module _ (w : Visit) (on : is_past w.at ≡ true) (quiet : makes_back w.at ≡ false) (there : Visited (end_walk r.id r.func o step commit w) h.kept) where
       abbrev left : Turned
       left = turned_by d r g (Says.On (Stage.End w) None)
 
@@ -124,9 +124,10 @@ module _ (may_pass : ClosedArePassed) (d : Deployment) (c : Core) (m : Rows) (h 
       leaves : b ≡ turned_core (counted c) i r.id left → n ≡ m → Step d c b h.gone m h.kept n
       leaves is same = subst (λ z. Step d c z h.gone m h.kept n) (sym (is ∙ ap (λ z. record (counted c) { runs = put_run c.runs i left.next; book = z }) (append-nil c.book))) (record {
         after = h.kept;
-        upkeep = upkeep_elsewhere d (record c { runs = put_run c.runs i left.next }) c.cursor (c.taken + 1) c.shut h.kept (stands_elsewhere d c h.kept h.upkeep i r g (Stage.End w) live at refl tt tt stands);
+        upkeep = upkeep_elsewhere d (record c { runs = put_run c.runs i left.next }) c.cursor (c.taken + 1) c.shut h.kept (stands_elsewhere d c h.kept h.upkeep i r g (Stage.End w) live at quiet tt tt stands);
+        wanted = wanted_elsewhere d (record c { runs = put_run c.runs i left.next }) c.cursor (c.taken + 1) c.shut h.kept (wanted_then d c h.kept h.upkeep i r g (Stage.End w) live at quiet tt tt stands h.wanted);
         goes = as_were d c m h room old new b n x same;
-        works = λ k s j is works. inl (works_still d c h.kept h.upkeep i r g (Stage.End w) live at refl tt tt stands k s j is works);
+        works = λ k s j is works. inl (works_still d c h.kept h.upkeep i r g (Stage.End w) live at quiet tt tt stands k s j is works);
         stay = λ k there. there;
         dates = λ k f is. is;
       })
@@ -207,14 +208,14 @@ module _ (may_pass : ClosedArePassed) (d : Deployment) (c : Core) (m : Rows) (h 
         }
 
         called : (z : Called) → call_after w.1 w.0 (next_row m k) ≡ Some z → (t2 : Bool) → has_callees w.0 ≡ t2 → Turns
-        called z is true has_some = goes_on (V None EndAt.Callees) stage refl visited (record { way = e ∷ (es ++ z ∷ []); after = None; item = None; value = None; at = EndAt.Callees }) refl
+        called z is true has_some = goes_on (V None EndAt.Callees) stage refl visited (record { way = e ∷ (es ++ z ∷ []); after = None; item = None; value = None; at = EndAt.Callees }) refl refl
             ((passes None EndAt.Callees stage refl visited).called value z (has_some, found_call d c m h w k (next_row m k) (next_row_least m k) z is) visited)
             k refl (told (Some z) is ∙ ap (λ y. turned_by d r g (visit_says commit (V None EndAt.Callees) (call_goes y (e ∷ es) z))) has_some) kept_mark
-        called z is false none = goes_on (V None EndAt.Callees) stage refl visited (record (V None EndAt.Callees) { after = Some z.step }) refl (passed z.step none)
+        called z is false none = goes_on (V None EndAt.Callees) stage refl visited (record (V None EndAt.Callees) { after = Some z.step }) refl refl (passed z.step none)
             k refl (told (Some z) is ∙ ap (λ y. turned_by d r g (visit_says commit (V None EndAt.Callees) (call_goes y (e ∷ es) z))) none) kept_mark
 
         calls_gone : (f : Option Called) → call_after w.1 w.0 (next_row m k) ≡ f → Turns
-        calls_gone None is = goes_on (V None EndAt.Callees) stage refl visited (V None EndAt.Next) refl ((passes None EndAt.Callees stage refl visited).calls value visited) k refl (told None is) kept_mark
+        calls_gone None is = goes_on (V None EndAt.Callees) stage refl visited (V None EndAt.Next) refl refl ((passes None EndAt.Callees stage refl visited).calls value visited) k refl (told None is) kept_mark
         calls_gone (Some z) is = called z is (has_callees w.0) refl
 
       -- its locks
@@ -236,9 +237,13 @@ module _ (may_pass : ClosedArePassed) (d : Deployment) (c : Core) (m : Rows) (h 
         frees true = refl
         frees false = refl
 
+        makes_none : (y : Bool) → makes_back (free_first y) ≡ false
+        makes_none true = refl
+        makes_none false = refl
+
         locks_gone : (f : Option (ℕ × List ℕ)) → item_after w.1 w.0 t.begin (next_row m l) ≡ f → Turns
-        locks_gone None is = goes_on (V item EndAt.Next) stage refl visited (V item EndAt.Stamp) refl ((passes item EndAt.Next stage refl visited).stamp item value visited) l refl (lock_told None is) kept_lock
-        locks_gone (Some z) is = goes_on (V item EndAt.Next) stage refl visited (record (V item EndAt.Next) { item = Some z; value = None; at = free_first commit }) (frees commit)
+        locks_gone None is = goes_on (V item EndAt.Next) stage refl visited (V item EndAt.Stamp) refl refl ((passes item EndAt.Next stage refl visited).stamp item value visited) l refl (lock_told None is) kept_lock
+        locks_gone (Some z) is = goes_on (V item EndAt.Next) stage refl visited (record (V item EndAt.Next) { item = Some z; value = None; at = free_first commit }) (frees commit) (makes_none commit)
             ((passes item EndAt.Next stage refl visited).locks item value z (found_lock d c m h w t.begin l (next_row m l) (next_row_least m l) z is) visited) l refl (lock_told (Some z) is) kept_lock
 
   -- ---- by where the visit stands

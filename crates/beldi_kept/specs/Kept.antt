@@ -8,6 +8,7 @@ use Rattle.beldi_intent.specs.Intent.{root_key}
 use Rattle.beldi_step.specs.{Host.Core, declared.run.Run.Run}
 use Rattle.beldi_known.specs.Stands.{key_in}
 use Rattle.beldi_upkeep.specs.{Callees.belongs_to, Callees.seat_of, Upkeep.Upkeep, Work.WorksFor, Work.finish_in}
+use Rattle.beldi_wanted.specs.Wanted.{Wanted}
 use Rattle.beldi_kept.specs.{Ahead.StaysAhead, Less.Less}
 
 -- ---- moments
@@ -29,6 +30,8 @@ pub record HasKept (d : Deployment) (c : Core) (m : Rows) : Type 0 where
   -- there are rows for which all holds that every event keeps
   pub kept : Rows
   pub upkeep : Upkeep d c kept
+  -- each of an item that was made, and is not linked yet, has someone who will link it
+  pub wanted : Wanted d c kept
   -- some intents are gone, and the table's rows are the kept ones less some of these
   pub gone : IntentId → Bool
   pub less : Less gone m kept

@@ -10,6 +10,7 @@ use Rattle.beldi_intent.specs.Intent.{root_key}
 use Rattle.beldi_known.specs.Stands.{key_in}
 use Rattle.beldi_step.specs.{Host.Core, Host.EventOn, Host.first_core, Host.newest_of, declared.event.Event.Event, Told.entries_told, Told.told_outcome, declared.event.Seen.Seen}
 use Rattle.beldi_upkeep.specs.{Callees.belongs_to, Callees.seat_of, Upkeep.Upkeep, Work.finish_in}
+use Rattle.beldi_wanted.specs.Wanted.{Wanted}
 use Rattle.beldi_kept.specs.Kept.{HasKept, IsLater, IsOld, IsRowOfOld}
 
 -- over no rows it holds, of a host that nothing has happened to
@@ -18,7 +19,7 @@ BeginsKept = (d : Deployment) (now : ℕ) → HasKept d (first_core 0 now) map.e
 
 -- where all rows are there and all holds that every event keeps, all of them were kept ..
 abbrev pub AllAreKept : Type 0
-AllAreKept = (d : Deployment) (c : Core) (m : Rows) → Upkeep d c m → (h : HasKept d c m) × (h.kept ≡ m) × ((i : IntentId) → h.gone i ≡ false)
+AllAreKept = (d : Deployment) (c : Core) (m : Rows) → Upkeep d c m → Wanted d c m → (h : HasKept d c m) × (h.kept ≡ m) × ((i : IntentId) → h.gone i ≡ false)
 
 -- .. and where nobody is gone the kept rows are those that are there
 abbrev pub NobodyGone : Type 0

@@ -1,10 +1,10 @@
 //! Rows that were kept: the invariant over a table from which rows of intents that ended may go, where it begins, and what keeps it. It has
 //! no code. It stands on what every event keeps (`beldi_upkeep`), which it leaves as it is.
 //!
-//! The invariant (`specs/Kept`: `HasKept`): there are rows for which all holds that every event keeps (`Upkeep`), as if no row had ever
-//! gone; some intents are gone; at each key the table has the kept row, or none, and then the row is of an intent that is gone
-//! (`specs/Less`). Who is gone has a finish that was old at some moment (`latest`), or is a root without body before the newest ticket; no
-//! run that may act works for it; and the newest ticket has its row.
+//! The invariant (`specs/Kept`: `HasKept`): there are rows for which all holds that every event keeps (`Upkeep`, and `Wanted` of
+//! `beldi_wanted`), as if no row had ever gone; some intents are gone; at each key the table has the kept row, or none, and then the row is
+//! of an intent that is gone (`specs/Less`). Who is gone has a finish that was old at some moment (`latest`), or is a root without body before
+//! the newest ticket; no run that may act works for it; and the newest ticket has its row.
 //!
 //! Proved (`specs/Laws`):
 //! - It holds over no rows (`begins_kept`); and over rows that are all there it is what every event keeps: nobody is gone then

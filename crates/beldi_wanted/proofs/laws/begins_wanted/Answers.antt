@@ -1,0 +1,5 @@
+use Rattle.beldi_wanted.proofs.Kept.{begins_wanted}
+use Rattle.beldi_wanted.proofs.laws.begins_wanted.Goals as goal
+
+pub returns : goal.returns
+returns c = begins_wanted
