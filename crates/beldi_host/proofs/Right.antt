@@ -181,7 +181,7 @@ said d c t old new (Err w) s h = tt
 said d c t old new (Ok y) s h = tells_so {R = λ m n. (n ≡ m) × (y ≡ reply_seen c.newest t m)} (λ o u. IfSome o (IsSafe d c) → IfSome o (λ m. SaidOf d c.book t y)) (λ h. tt)
     (λ m n z u. subst (λ (r : ReplySeen). SaidOf d c.book t r) (sym z.1) (said_less d c m u.has t)) old.rows new.rows s.rows h
 
--- ---- where no row was removed, the row of a ticket that was issued is there
+-- ---- where no log collector changed a row, the row of a ticket that was issued is there
 outcome_there : (o : Option Outcome) → outcome_seen o ≡ Gone → ⊥
 outcome_there None is = cc
 outcome_there (Some o) is = cc

@@ -35,7 +35,7 @@ module _ {T : Type 0} {G : Ghosts T} where
   abbrev pub rows_of : Host T G → Option Rows
   rows_of h = (G.state h.table).rows
 
-  -- the host and its rows are right, where no row was removed, and keep what is kept beside
+  -- the host and its rows are right, where no log collector changed a row, and keep what is kept beside
   abbrev pub IsWhole : Host T G → Type 0
   IsWhole h = IfSome (rows_of h) (Upkeep h.code (core_of h))
 

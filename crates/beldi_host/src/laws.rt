@@ -9,7 +9,7 @@ pub fn right_is_legal<T: Table>(host: &Host<T>)
     ensures { IsRight host.now → HasLegalBook host.now }
 {}
 
-/// Where no row was removed, and a host and its rows are right, the rows stand for the run of its book.
+/// Where no log collector changed a row, and a host and its rows are right, the rows stand for the run of its book.
 pub fn whole_stands<T: Table>(host: &Host<T>)
     ensures { IsWhole host.now → RowsStand host.now }
 {}
@@ -20,7 +20,7 @@ pub fn right_stands_less<T: Table>(host: &Host<T>)
     ensures { IsRight host.now → RowsLeftStand host.now }
 {}
 
-/// Where no row was removed, and a host and its rows are right, each step of an instance, also inside a transaction that is not decided
+/// Where no log collector changed a row, and a host and its rows are right, each step of an instance, also inside a transaction that is not decided
 /// yet, has one answer, whichever run asks for it: the one that the rows hold.
 pub fn whole_has_one_answer<T: Table>(host: &Host<T>)
     ensures { IsWhole host.now → HasOneAnswerPerStep host.now }

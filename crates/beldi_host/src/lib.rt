@@ -18,10 +18,10 @@
 //! - A run that is past its deadline makes no act: its event makes no call of the table, and the run is over (`in_time`).
 //! - What the rows held at a step stays after an event, whether the host is right or not (`answers_stay`).
 //! - `Host::prune` gives a log collector its turn: it is the definition's (`prunes`, `code`), for every table that keeps the trait's contract.
-//! - A host may be whole: no row was removed, and all holds that every event keeps (`IsWhole`). It may be right where rows of intents that are
+//! - A host may be whole: no log collector changed a row, and all holds that every event keeps (`IsWhole`). It may be right where rows of intents that are
 //!   old are gone, and no log collector is about to remove another one (`IsRight`). Both are so of a host that was opened over no rows, and
 //!   each is so after `event`, `tables`, `reply`, `ic_reset`, `ic_skip` and `stride` where it was before, also out of memory (`right`). A turn
-//!   of a log collector leaves a right host right (`right`), and a whole one whole where it removed no row (`whole`).
+//!   of a log collector leaves a right host right (`right`), and a whole one whole where it changed no row (`whole`).
 //! - Where the host is whole and its table tells its rows, no ticket is answered `gone` (`has_rows` of `event`, `there` of `reply`).
 //! - `Host::rows` tells how many rows the table has, as `len` does (`IsCount`).
 //! - `Host::open`, at a moment of at most 2^62, finds the newest ticket, which is the greatest that any key names

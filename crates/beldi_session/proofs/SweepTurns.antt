@@ -2,7 +2,6 @@
 use Rattle.std.specs.Prelude.{IfSome, length}
 use Rattle.std.proofs.Common.{◌+◌, ◌-◌, arith}
 use Rattle.beldi_session.proofs.Names.{Bool, Core, Deployment, Err, IfOk, None, Ok, Option, Result, Rows, Some, Stop, TableState, Tells, false, refl, subst, suc, sym, true, ℕ, ◌∙◌, ◌≡◌}
-use Rattle.beldi_sweep.specs.Rows.{IsIdle}
 use Rattle.beldi_step.specs.{Prunes.PrunesOn, declared.event.Pruned.Pruned}
 use Rattle.beldi_step.proofs.Prunes.{over_rows as pruned_over_rows}
 use Rattle.beldi_kept.specs.Safe.{IsSafe}
@@ -51,10 +50,10 @@ module _ (d : Deployment) (k : ℕ) (c : Core) (old : TableState) where
   sweep_promised law eight right b new x ended = by_rows old.rows new.rows right ended
     where
       by_rows : (o p : Option Rows) → IfSome o (IsSafe d c) → Tells o p (λ m n. Sweeps d k (turns_before x) (is_over x) (state_with c old m) (state_with b new n))
-          → Tells o p (λ m n. IsIdle c.newest d.life c.now m → IsUntroubled (turns_before x) (state_with c old m) (state_with b new n) → Promises d k (turns_before x) (is_over x) (state_with c old m) (state_with b new n))
+          → Tells o p (λ m n. IsUntroubled (turns_before x) (state_with c old m) (state_with b new n) → Promises d k (turns_before x) (is_over x) (state_with c old m) (state_with b new n))
       by_rows None p right h = h
       by_rows (Some m) None right h = h
-      by_rows (Some m) (Some n) right h = λ idle free. law d k (turns_before x) (is_over x) (state_with c old m) (state_with b new n) (record { right = right; eight = eight; idle = idle }) h free
+      by_rows (Some m) (Some n) right h = λ free. law d k (turns_before x) (is_over x) (state_with c old m) (state_with b new n) right eight h free
 
 -- it is said so of how it ended
 pub if_so : (r : Result Swept Stop) (x : Swept) (P : Swept → Type 0) → IfOk r (λ y. y ≡ x) → P x → IfOk r P

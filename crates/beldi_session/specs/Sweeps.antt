@@ -2,7 +2,6 @@
 use Rattle.std.specs.Prelude.{◌≡◌, ◌-◌, ℕ, Bool, true, false, Ok}
 use Rattle.beldi_tree.specs.declared.deployment.Deployment.{Deployment}
 use Rattle.beldi_row.specs.Table.{TableState, Tells}
-use Rattle.beldi_sweep.specs.Rows.{IsIdle}
 use Rattle.beldi_step.specs.{Host.Core, Prunes.Prunes, declared.event.Pruned.Pruned}
 use Rattle.beldi_tidy.specs.Sweeping.{IsUntroubled, Promises, Sweeps, Turns, ends_round}
 use Rattle.beldi_session.specs.{declared.sweeping.Swept.Swept, declared.sweeping.Swept.TheVariants.All, declared.sweeping.Swept.TheVariants.Unswept, Settling.state_with}
@@ -29,6 +28,6 @@ turns_before (Unswept n) = n
 abbrev pub Ended : Deployment → ℕ → Core → Core → TableState → TableState → Swept → Type 0
 Ended d k c b old new x = Tells old.rows new.rows (λ m n. Sweeps d k (turns_before x) (is_over x) (state_with c old m) (state_with b new n))
 
--- where all intents were idle, and nothing kept a turn from the rows, it kept its promises
+-- where nothing kept a turn from the rows, it kept its promises
 abbrev pub KeepsSweepPromises : Deployment → ℕ → Core → Core → TableState → TableState → Swept → Type 0
-KeepsSweepPromises d k c b old new x = Tells old.rows new.rows (λ m n. IsIdle c.newest d.life c.now m → IsUntroubled (turns_before x) (state_with c old m) (state_with b new n) → Promises d k (turns_before x) (is_over x) (state_with c old m) (state_with b new n))
+KeepsSweepPromises d k c b old new x = Tells old.rows new.rows (λ m n. IsUntroubled (turns_before x) (state_with c old m) (state_with b new n) → Promises d k (turns_before x) (is_over x) (state_with c old m) (state_with b new n))

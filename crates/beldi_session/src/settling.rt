@@ -255,7 +255,7 @@ fn tell_settled<T: Table>(
 }
 
 /// Gives turns until all live runs wait or are over, at most the budget, and appends the lines of replies and of how it ended. Of a right
-/// host of which no row was removed, and whose book starts functions of its deployment alone, it keeps its promises: its turns are at most
+/// host of whose rows no log collector changed one, and whose book starts functions of its deployment alone, it keeps its promises: its turns are at most
 /// the work, it is settled only where all have ended, and stuck only with a cause, and with a budget above the work what can end ends. So it
 /// does of one that is right behind the book of sessions that left its rows, by their book and its own.
 pub fn settle<T: Table>(

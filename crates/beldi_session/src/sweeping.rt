@@ -107,9 +107,9 @@ fn end<T: Table>(alloc: Global, host: &Host<T>, out: &mut Str, swept: Swept) -> 
 }
 
 /// Gives a log collector turns up to the end of its round, at most the budget, and appends how it ended. Of a right host it keeps its
-/// promises, once all intents are idle and where nothing keeps a turn from the rows: where its collector stood before all rows it ends
-/// after at most thirteen turns for each row and one, and leaves trimmed rows; and of trimmed ones, a life after the last row was left
-/// adrift, tidy ones.
+/// promises, where nothing keeps a turn from the rows: it ends with the turn after at most eleven for each row and one for each row of its
+/// item, and what is left of a row that its collector has begun. Once all intents are idle, one that begins before all rows leaves
+/// trimmed rows; and of trimmed ones, of which each that is adrift is so for more than a life, tidy ones.
 pub fn sweep<T: Table>(
     alloc: Global,
     host: &mut Host<T>,

@@ -3,9 +3,9 @@ use Rattle.std.specs.Prelude.{nat_lt, if◌then◌else◌}
 use Rattle.std.specs.FinMap as map
 use Rattle.std.proofs.lemmas.Bool.{eqb-false}
 use Rattle.std.proofs.lemmas.Option.{none-some, same_Some}
-use Rattle.std.proofs.Common.{◌≡◌, inl, inr, ℕ, suc, ◌<◌, ◌≤◌, Bool, true, false, List, [], ◌∷◌, length, is_some, Option, Some, None, refl, ap, sym, ◌∙◌, subst, arith, lt-ltb, ltb-false, ltb-true, ne_eqb}
+use Rattle.std.proofs.Common.{◌≡◌, inl, inr, ℕ, ◌<◌, ◌≤◌, Bool, true, false, List, [], ◌∷◌, is_some, Option, Some, None, refl, ap, sym, ◌∙◌, subst, arith, lt-ltb, ltb-false, ltb-true, ne_eqb}
 use Rattle.beldi_value.specs.declared.{id.IntentId.IntentId, place.Place.Place}
-use Rattle.beldi_row.specs.{Act.is_past, declared.key.Kind.Kind, declared.notes.Note.Note, declared.row.Cell.Cell, declared.row.Row.Row, Key.RowKey, Key.at_row, Log.most_entries_are, Table.Rows, Table.next_row, Table.set_row}
+use Rattle.beldi_row.specs.{Act.is_past, declared.key.Kind.Kind, declared.notes.Note.Note, declared.row.Cell.Cell, declared.row.Row.Row, Key.RowKey, Key.at_row, Table.Rows, Table.next_row, Table.set_row}
 use Rattle.beldi_chain.specs.Chain.{Chain, chain}
 use Rattle.beldi_links.specs.Links.{LeadsTo}
 use Rattle.beldi_links.proofs.Ways.{one_step, same_or}
@@ -16,10 +16,10 @@ use Rattle.beldi_prune.specs.{Entries.HasEntryOf, Entries.IsOf, Entries.intents_
 use Rattle.beldi_prune.specs.declared.found.Todo.{Todo, TheVariants.Pass, TheVariants.DropAdrift, TheVariants.LeadPast, TheVariants.Prove}
 use Rattle.beldi_prune.specs.declared.collector.CollectorAt.TheVariants.{ToMark, ToLead, ToSkip, ToDangle, ToDropCell}
 use Rattle.beldi_sweep.specs.{Done.IsDone, Done.IsReady, Done.IsTidying, Rows.IsSound, Rows.IsTrim, Sweep.Sweep}
-use Rattle.beldi_sweep.proofs.Going.{Comes, Turns, in_more, stays, sweep, turn_then}
+use Rattle.beldi_sweep.proofs.Going.{Comes, Turns, stays, sweep, turn_then}
 use Rattle.beldi_sweep.proofs.{Passing.done, Passing.done_gone, Passing.done_passed, Places.none_between, Places.there as is_there, Places.up_to}
-use Rattle.beldi_sweep.proofs.CellsSound.{drop_sound, few_entries, not_led, set_sound, skip_sound}
-use Rattle.beldi_sweep.proofs.CellsKept.{Kept, both_kept, cell_below, cell_key, first_kept, later_kept, none_changed, row, set_in_chain, set_kept, sound_kept, trim_or}
+use Rattle.beldi_sweep.proofs.CellsSound.{drop_sound, not_led, set_sound, skip_sound}
+use Rattle.beldi_sweep.proofs.CellsKept.{Kept, both_kept, cell_below, cell_key, first_kept, none_changed, row, set_in_chain, set_kept, sound_kept, trim_or}
 use Rattle.beldi_sweep.proofs.CellsTurned.{dangles, drops, leads_past, leads_there, marks, proves, skips, stands}
 
 -- ---- the intents of entries
@@ -32,15 +32,6 @@ has_entry before (e ∷ es) i of = by_other (is_other before e.0.intent) (has_en
     by_other true rest (inl same) = inl same
     by_other true rest (inr of) = inr (rest of)
     by_other false rest of = inr (rest of)
-
--- .. so there are no more of them
-few_intents : (before : Option IntentId) (es : List (Place × Note)) → length (intents_from before es) ≤ length es
-few_intents before [] = omega arith
-few_intents before (e ∷ es) = by_other (is_other before e.0.intent) (few_intents (Some e.0.intent) es)
-  where
-    by_other : (b : Bool) → length (intents_from (Some e.0.intent) es) ≤ length es → length (if b then e.0.intent ∷ intents_from (Some e.0.intent) es else intents_from (Some e.0.intent) es) ≤ length (e ∷ es)
-    by_other true few = omega (arith, few)
-    by_other false few = omega (arith, few)
 
 by_option : {A P : Type 0} (o : Option A) → (o ≡ None → P) → ((x : A) → o ≡ Some x → P) → P
 by_option None none some = none refl
@@ -66,32 +57,21 @@ module _ (newest life now : ℕ) (cursor : RowKey) (home t : ℕ) (q : List ℕ)
   passed m = sweep (past (at n)) m
 
   -- ---- its chain is led past it
-  -- it comes past the row in so many turns at most, and then that is adrift
-  record Led (m : Rows) (most : ℕ) (s : Sweep) : Type 0 where
+  -- it comes past the row, and then that is adrift
+  record Led (m : Rows) (s : Sweep) : Type 0 where
     rows : Rows
-    way : Comes newest life now most s (passed rows)
+    way : Comes newest life now s (passed rows)
     kept : Kept home t q n m rows
     sound : IsSound (chain_in rows)
     cell : Cell
     there : map.get rows (at n) ≡ Some (Row.Cell cell)
     adrift : is_some cell.dangled ≡ true
 
-  led_then : (m o : Rows) (most : ℕ) (s u : Sweep) → Turns newest life now s u → Kept home t q n m o → Led o most u → Led m (suc most) s
-  led_then m o most s u turn kept led = record {
+  led_then : (m o : Rows) (s u : Sweep) → Turns newest life now s u → Kept home t q n m o → Led o u → Led m s
+  led_then m o s u turn kept led = record {
     rows = led.rows;
-    way = turn_then newest life now most s u (passed led.rows) turn led.way;
+    way = turn_then newest life now s u (passed led.rows) turn led.way;
     kept = both_kept home t q n m o led.rows kept led.kept;
-    sound = led.sound;
-    cell = led.cell;
-    there = led.there;
-    adrift = led.adrift;
-  }
-
-  led_more : (m : Rows) (few most : ℕ) (s : Sweep) → few ≤ most → Led m few s → Led m most s
-  led_more m few most s more led = record {
-    rows = led.rows;
-    way = in_more newest life now few most s (passed led.rows) more led.way;
-    kept = led.kept;
     sound = led.sound;
     cell = led.cell;
     there = led.there;
@@ -112,7 +92,7 @@ module _ (newest life now : ℕ) (cursor : RowKey) (home t : ℕ) (q : List ℕ)
     there : map.get m (at 0) ≡ Some (Row.Cell cell)
     next : cell.next ≡ Some y
 
-  dangled : (m : Rows) (c : Cell) (to : ℕ) → IsLinked m c to true → (y : ℕ) → Leads m y → n < y → Led m 1 (stands newest life now cursor (ToDangle (at n)) m)
+  dangled : (m : Rows) (c : Cell) (to : ℕ) → IsLinked m c to true → (y : ℕ) → Leads m y → n < y → Led m (stands newest life now cursor (ToDangle (at n)) m)
   dangled m c to l y f past =
       let d : Cell = record c { dangled = Some now } in
       let v : Option Row = Some (Row.Cell d) in
@@ -120,7 +100,7 @@ module _ (newest life now : ℕ) (cursor : RowKey) (home t : ℕ) (q : List ℕ)
       let s = set_in_chain home t q m n v in
       record {
         rows = p;
-        way = turn_then newest life now 0 (stands newest life now cursor (ToDangle (at n)) m) (passed p) (passed p) (dangles newest life now cursor m (at n) c l.there l.so l.fresh) (stays newest life now 0 (passed p));
+        way = turn_then newest life now (stands newest life now cursor (ToDangle (at n)) m) (passed p) (passed p) (dangles newest life now cursor m (at n) c l.there l.so l.fresh) (stays newest life now (passed p));
         kept = set_kept home t q n m v;
         sound = set_sound (chain_in m) (chain_in p) n c d l.sound later l.there (ap is_some l.next) s refl refl l.so (λ led. absurd (not_led (chain_in m) n later f.cell y f.there f.next past led));
         cell = d;
@@ -128,7 +108,7 @@ module _ (newest life now : ℕ) (cursor : RowKey) (home t : ℕ) (q : List ℕ)
         adrift = refl;
       }
 
-  skipped : (m : Rows) (c : Cell) (to : ℕ) → IsLinked m c to true → Leads m n → Led m 2 (stands newest life now cursor (ToSkip (at n) to 0) m)
+  skipped : (m : Rows) (c : Cell) (to : ℕ) → IsLinked m c to true → Leads m n → Led m (stands newest life now cursor (ToSkip (at n) to 0) m)
   skipped m c to l f =
       let d : Cell = record f.cell { next = Some to } in
       let v : Option Row = Some (Row.Cell d) in
@@ -144,17 +124,17 @@ module _ (newest life now : ℕ) (cursor : RowKey) (home t : ℕ) (q : List ℕ)
         so = l.so;
         fresh = l.fresh;
       } in
-      led_then m p 1 (stands newest life now cursor (ToSkip (at n) to 0) m) (stands newest life now cursor (ToDangle (at n)) p) (skips newest life now cursor m (at n) to f.cell f.there unmarked f.next rise)
+      led_then m p (stands newest life now cursor (ToSkip (at n) to 0) m) (stands newest life now cursor (ToDangle (at n)) p) (skips newest life now cursor m (at n) to f.cell f.there unmarked f.next rise)
       (first_kept home t q n m v) (dangled p c to linked to (record { cell = d; there = s.here; next = refl }) rise)
 
-  led : (m : Rows) (c : Cell) (to : ℕ) → IsLinked m c to true → (y : ℕ) → Leads m y → n ≤ y → Led m 3 (stands newest life now cursor (ToLead (at n) to 0) m)
+  led : (m : Rows) (c : Cell) (to : ℕ) → IsLinked m c to true → (y : ℕ) → Leads m y → n ≤ y → Led m (stands newest life now cursor (ToLead (at n) to 0) m)
   led m c to l y f far = same_or n y
-      (λ same. led_then m m 2 (stands newest life now cursor (ToLead (at n) to 0) m) (stands newest life now cursor (ToSkip (at n) to 0) m) (leads_there newest life now cursor m (at n) to f.cell y f.there f.next (sym same))
+      (λ same. led_then m m (stands newest life now cursor (ToLead (at n) to 0) m) (stands newest life now cursor (ToSkip (at n) to 0) m) (leads_there newest life now cursor m (at n) to f.cell y f.there f.next (sym same))
       (none_changed home t q n m) (skipped m c to l (subst (Leads m) (sym same) f)))
-      (λ off. let past = strictly n y far (eqb-false n y off) in led_then m m 2 (stands newest life now cursor (ToLead (at n) to 0) m) (stands newest life now cursor (ToDangle (at n)) m)
-      (leads_past newest life now cursor m (at n) to f.cell y f.there f.next past) (none_changed home t q n m) (led_more m 1 2 (stands newest life now cursor (ToDangle (at n)) m) (omega arith) (dangled m c to l y f past)))
+      (λ off. let past = strictly n y far (eqb-false n y off) in led_then m m (stands newest life now cursor (ToLead (at n) to 0) m) (stands newest life now cursor (ToDangle (at n)) m)
+      (leads_past newest life now cursor m (at n) to f.cell y f.there f.next past) (none_changed home t q n m) (dangled m c to l y f past))
 
-  marked : (m : Rows) (c : Cell) (to : ℕ) → IsLinked m c to false → (y : ℕ) → Leads m y → n ≤ y → Led m 4 (stands newest life now cursor (ToMark (at n)) m)
+  marked : (m : Rows) (c : Cell) (to : ℕ) → IsLinked m c to false → (y : ℕ) → Leads m y → n ≤ y → Led m (stands newest life now cursor (ToMark (at n)) m)
   marked m c to l y f far =
       let d : Cell = record c { marked = true } in
       let v : Option Row = Some (Row.Cell d) in
@@ -168,19 +148,22 @@ module _ (newest life now : ℕ) (cursor : RowKey) (home t : ℕ) (q : List ℕ)
         fresh = l.fresh;
       } in
       let first : Leads p y = record { cell = f.cell; there = s.others 0 (ne_eqb 0 n (λ same. omega (arith, same, later))) ∙ f.there; next = f.next } in
-      led_then m p 3 (stands newest life now cursor (ToMark (at n)) m) (stands newest life now cursor (ToLead (at n) to 0) p) (marks newest life now cursor m (at n) c to l.there l.next)
+      led_then m p (stands newest life now cursor (ToMark (at n)) m) (stands newest life now cursor (ToLead (at n) to 0) p) (marks newest life now cursor m (at n) c to l.there l.next)
       (set_kept home t q n m v) (led p d to linked y first far)
 
   proved : (m : Rows) (c : Cell) (to : ℕ) → IsLinked m c to false → (y : ℕ) → Leads m y → n ≤ y → ((i : IntentId) → HasEntryOf c.log i → IsOldAt life now (map.get m (intent_key i home)))
-      → Led m 12 (stands newest life now cursor (to_prove (at n) (intents_of c.log)) m)
+      → Led m (stands newest life now cursor (to_prove (at n) (intents_of c.log)) m)
   proved m c to l y f far old =
       let on = marked m c to l y f far in
-      let way = proves newest life now cursor m (at n) (intents_of c.log) (λ i of. old i (has_entry None c.log i of)) 4 (passed on.rows) on.way in
-      let few = few_intents None c.log in
-      let most = few_entries (chain_in m) l.sound n c l.there in
-      let eight = most_entries_are in
-      let turns = way.few in
-      record { rows = on.rows; way = record { turns = way.turns; few = omega (arith, few, most, eight, turns); goes = way.goes }; kept = on.kept; sound = on.sound; cell = on.cell; there = on.there; adrift = on.adrift }
+      record {
+        rows = on.rows;
+        way = proves newest life now cursor m (at n) (intents_of c.log) (λ i of. old i (has_entry None c.log i of)) (passed on.rows) on.way;
+        kept = on.kept;
+        sound = on.sound;
+        cell = on.cell;
+        there = on.there;
+        adrift = on.adrift;
+      }
 
   -- ---- where the first row leads
   module _ (m : Rows) (c : Cell) (ready : IsReady newest life now cursor m) (next : next_row m cursor ≡ Some (at n, Row.Cell c)) where
@@ -233,15 +216,15 @@ module _ (newest life now : ℕ) (cursor : RowKey) (home t : ℕ) (q : List ℕ)
     removed is old adrift =
         let p : Rows = set_row m (at n) None in
         let turn = drops newest life now cursor m (at n) c there old in
-        let way = turn_then newest life now 11 (stands newest life now cursor (ToDropCell (at n)) m) (passed p) (passed p) turn (stays newest life now 11 (passed p)) in
+        let way = turn_then newest life now (stands newest life now cursor (ToDropCell (at n)) m) (passed p) (passed p) turn (stays newest life now (passed p)) in
         done_gone newest life now cursor m (at n, Row.Cell c) next ready DropAdrift (todo_is ∙ is) way
         (sound_kept home t q n m p (set_kept home t q n m None) ready.sound (drop_sound (chain_in m) (chain_in p) n c sound later there adrift (set_in_chain home t q m n None)))
 
     -- its chain is led past it
-    led_past : (todo : Todo) → cell_todo life now c c.next ≡ todo → (to : ℕ) → c.next ≡ Some to → c.dangled ≡ None → Led m 12 (sweep (begins cursor (at n) todo) m) → IsDone newest life now cursor (at n) m
+    led_past : (todo : Todo) → cell_todo life now c c.next ≡ todo → (to : ℕ) → c.next ≡ Some to → c.dangled ≡ None → Led m (sweep (begins cursor (at n) todo) m) → IsDone newest life now cursor (at n) m
     led_past todo is to followed fresh on =
         let trim : (r : Row) → map.get on.rows (at n) ≡ Some r → IsTrim newest (Kind.Data t q n) r = λ r at. subst (IsTrim newest (Kind.Data t q n)) (same_Some (Row.Cell on.cell) r (sym on.there ∙ at)) (inr (inr on.adrift)) in
-        done newest life now cursor m (at n, Row.Cell c) next ready todo (todo_is ∙ is) on.rows on.way (later_kept home t q n m on.rows on.kept later) (sound_kept home t q n m on.rows on.kept ready.sound on.sound)
+        done newest life now cursor m (at n, Row.Cell c) next ready todo (todo_is ∙ is) on.rows on.way (sound_kept home t q n m on.rows on.kept ready.sound on.sound)
         (up_to cursor m (at n, Row.Cell c) next (λ l r. IsTrim newest l.kind r) ready.trimmed on.rows (trim_or home t q n m on.rows on.kept newest trim) trim)
         (λ tidy. absurd (not_trim (tidy.trimmed (at n) (Row.Cell c) there)))
       where
@@ -263,7 +246,7 @@ module _ (newest life now : ℕ) (cursor : RowKey) (home t : ℕ) (q : List ℕ)
     linked_done to followed fresh true so =
         let f = leads_far (ap is_some followed) in
         let linked : IsLinked m c to true = record { sound = sound; there = there; next = followed; so = so; fresh = fresh } in
-        led_past (LeadPast to) (todo_linked to followed fresh true so) to followed fresh (led_more m 3 12 (stands newest life now cursor (ToLead (at n) to 0) m) (omega arith) (led m c to linked f.to f.leads f.far))
+        led_past (LeadPast to) (todo_linked to followed fresh true so) to followed fresh (led m c to linked f.to f.leads f.far)
     linked_done to followed fresh false so =
         let f = leads_far (ap is_some followed) in
         let linked : IsLinked m c to false = record { sound = sound; there = there; next = followed; so = so; fresh = fresh } in

@@ -5,13 +5,12 @@ use Rattle.std.specs.FinMap as map
 use Rattle.std.proofs.lemmas.{Bool.eqb-false, Bool.false_from_ne_true, Cmp.tied_itself}
 use Rattle.std.proofs.Common.{◌≡◌, ◌⊎◌, inl, inr, ℕ, ◌<◌, Bool, true, false, cond, List, Option, Some, refl, ap, sym, ◌∙◌, subst, arith}
 use Rattle.beldi_value.specs.declared.{id.IntentId.IntentId}
-use Rattle.beldi_row.specs.{declared.key.Kind.Kind, declared.row.Row.Row, Key.RowKey, Key.at_row, Key.key_cmp, Key.kind_at, Key.rank_of, Key.row_of, KeyOrder.key_total, Table.Rows, Table.set_row}
+use Rattle.beldi_row.specs.{declared.key.Kind.Kind, declared.row.Row.Row, Key.RowKey, Key.at_row, Key.key_cmp, Key.kind_at, Key.rank_of, Key.row_of, Table.Rows, Table.set_row}
 use Rattle.beldi_row.proofs.{Gets.got, Gets.key_same, Gets.key_self}
 use Rattle.beldi_chain.specs.Chain.{ChangedAlone, IsHead, chain}
 use Rattle.beldi_chain.proofs.Heads.{chain_other, item_head}
 use Rattle.beldi_links.specs.Links.{SetTo}
 use Rattle.beldi_prune.specs.{Laws.is_left}
-use Rattle.beldi_sweep.proofs.Places.{past_apart}
 use Rattle.beldi_sweep.specs.{Rows.AreSound, Rows.IsSound, Rows.IsTrim}
 
 -- ---- keys
@@ -78,10 +77,6 @@ module _ (home t : ℕ) (q : List ℕ) where
     -- rows of no item stay
     apart_kept : (l : RowKey) → (rank_of l.kind ≡ 3 → ⊥) → map.get p l ≡ map.get m l
     apart_kept l apart = kept l (apart_by l (row n) (λ same. apart (ap (λ (z : RowKey). rank_of z.kind) same))) (apart_by l (row 0) (λ same. apart (ap (λ (z : RowKey). rank_of z.kind) same)))
-
-    -- .. and those past the row that changes
-    pub later_kept : 0 < n → (l : RowKey) → key_cmp (row n) l ≡ Less → map.get p l ≡ map.get m l
-    later_kept later l past = kept l (past_apart (row n) l past) (past_apart (row 0) l (key_total.trans (row 0) (row n) l (cell_below home t q 0 n later) past))
 
     -- rows of other items stay
     changed_alone : ChangedAlone (row 0) m p

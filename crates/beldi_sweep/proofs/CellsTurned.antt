@@ -1,7 +1,7 @@
 -- Turns of a log collector over a row of an item: where it stands after each, and which rows it leaves.
 use Rattle.std.specs.Prelude.{◌==◌, nat_lt, not, is_some, ◌&&◌}
 use Rattle.std.specs.FinMap as map
-use Rattle.std.proofs.Common.{◌≡◌, ℕ, ◌+◌, ◌<◌, Bool, true, false, List, [], ◌∷◌, length, Option, None, Some, refl, ap, ◌∙◌, arith, inl, inr, eq-eqb, ne_eqb, lt-ltb, le-ltb}
+use Rattle.std.proofs.Common.{◌≡◌, ℕ, ◌<◌, Bool, true, false, List, [], ◌∷◌, Option, None, Some, refl, ap, ◌∙◌, arith, inl, inr, eq-eqb, ne_eqb, lt-ltb, le-ltb}
 use Rattle.beldi_value.specs.declared.id.IntentId.{IntentId}
 use Rattle.beldi_row.specs.declared.act.Act.TheVariants.{Look, MarkCell, SkipCell, DangleCell, DropCell}
 use Rattle.beldi_row.specs.Act.{act, dangle_by, is_past, leads_from, mark_by, removed_tell, skip_by, stays_unless}
@@ -14,7 +14,7 @@ use Rattle.beldi_prune.specs.{Entries.IsOf, Laws.IsOldAt, Unlink.is_did, Unlink.
 use Rattle.beldi_prune.specs.declared.collector.{GcSays.GcSays, GcSays.TheVariants.Skipped, GcSays.TheVariants.Dangled, GcSays.TheVariants.Removed}
 use Rattle.beldi_prune.specs.declared.collector.CollectorAt.{CollectorAt, TheVariants.ToProve, TheVariants.ToMark, TheVariants.ToLead, TheVariants.ToSkip, TheVariants.ToDangle, TheVariants.ToDropCell}
 use Rattle.beldi_sweep.specs.Sweep.{Sweep, is_round}
-use Rattle.beldi_sweep.proofs.Going.{Comes, Turns, in_more, sweep, turn_then}
+use Rattle.beldi_sweep.proofs.Going.{Comes, Turns, sweep, turn_then}
 
 -- ---- none but one before a row ends the round
 not_round_if : (s : GcSays) → is_round s ≡ false → (b : Bool) → is_round (says_if s b) ≡ false
@@ -43,14 +43,11 @@ module _ (newest life now : ℕ) (cursor : RowKey) where
       leads = λ j. sweep (ap (stand_if cursor k (to_prove k is)) recyclable j) (looked now (intent_key i k.home) m j);
     }
 
-    pub proves : (is : List IntentId) → ((i : IntentId) → IsOf is i → IsOldAt life now (map.get m (intent_key i k.home))) → (most : ℕ) (t : Sweep) → Comes newest life now most (stands (ToMark k) m) t
-        → Comes newest life now (length is + most) (stands (to_prove k is) m) t
-    proves [] old most t way = in_more newest life now most (0 + most) (stands (ToMark k) m) t (omega arith) way
-    proves (i ∷ is) old most t way =
-        let rest = proves is (λ j of. old j (inr of)) most t way in
-        let on = turn_then newest life now (length is + most) (stands (ToProve k i is) m) (stands (to_prove k is) m) t (proves_one i is (old i (inl refl))) rest in
-        let few = on.few in
-        record { turns = on.turns; few = omega (arith, few); goes = on.goes }
+    pub proves : (is : List IntentId) → ((i : IntentId) → IsOf is i → IsOldAt life now (map.get m (intent_key i k.home))) → (t : Sweep) → Comes newest life now (stands (ToMark k) m) t
+        → Comes newest life now (stands (to_prove k is) m) t
+    proves [] old t way = way
+    proves (i ∷ is) old t way =
+        turn_then newest life now (stands (ToProve k i is) m) (stands (to_prove k is) m) t (proves_one i is (old i (inl refl))) (proves is (λ j of. old j (inr of)) t way)
 
     -- ---- a cell with a next is marked
     pub marks : (c : Cell) (to : ℕ) → map.get m k ≡ Some (Row.Cell c) → c.next ≡ Some to → Turns newest life now (stands (ToMark k) m) (stands (ToLead k to 0) (set_row m k (Some (Row.Cell (record c { marked = true })))))

@@ -1,5 +1,5 @@
 -- Ways of a sweep: turns, one after another, and on the way to its end.
-use Rattle.std.proofs.Common.{◌≡◌, ℕ, zero, suc, ◌+◌, ◌≤◌, true, false, refl, ap, sym, ◌∙◌, subst, arith}
+use Rattle.std.proofs.Common.{◌≡◌, ℕ, zero, suc, ◌+◌, true, false, refl, ap, sym, ◌∙◌, subst, arith}
 use Rattle.beldi_row.specs.Table.{Rows}
 use Rattle.beldi_prune.specs.declared.collector.LogCollector.{LogCollector}
 use Rattle.beldi_sweep.specs.Sweep.{EndsAt, GoesTo, Sweep, after_turn, is_last_turn}
@@ -12,24 +12,20 @@ pub record Turns (newest life now : ℕ) (s t : Sweep) : Type 0 where
   pub goes_on : is_last_turn life now s ≡ false
   pub leads : after_turn newest life now s ≡ t
 
--- so many turns at most do
-pub record Comes (newest life now most : ℕ) (s t : Sweep) : Type 0 where
+-- some turns do
+pub record Comes (newest life now : ℕ) (s t : Sweep) : Type 0 where
   pub turns : ℕ
-  pub few : turns ≤ most
   pub goes : GoesTo newest life now turns s t
 
 module _ (newest life now : ℕ) where
-  pub stays : (most : ℕ) (s : Sweep) → Comes newest life now most s s
-  stays most s = record { turns = 0; few = omega arith; goes = refl }
+  pub stays : (s : Sweep) → Comes newest life now s s
+  stays s = record { turns = 0; goes = refl }
 
   pub turn_first : (n : ℕ) (s u t : Sweep) → Turns newest life now s u → GoesTo newest life now n u t → GoesTo newest life now (suc n) s t
   turn_first n s u t turn way = (turn.goes_on, subst (λ z. GoesTo newest life now n z t) (sym turn.leads) way)
 
-  pub turn_then : (most : ℕ) (s u t : Sweep) → Turns newest life now s u → Comes newest life now most u t → Comes newest life now (suc most) s t
-  turn_then most s u t turn way = let few = way.few in record { turns = suc way.turns; few = omega (arith, few); goes = turn_first way.turns s u t turn way.goes }
-
-  pub in_more : (few most : ℕ) (s t : Sweep) → few ≤ most → Comes newest life now few s t → Comes newest life now most s t
-  in_more few most s t more way = let less = way.few in record { turns = way.turns; few = omega (arith, less, more); goes = way.goes }
+  pub turn_then : (s u t : Sweep) → Turns newest life now s u → Comes newest life now u t → Comes newest life now s t
+  turn_then s u t turn way = record { turns = suc way.turns; goes = turn_first way.turns s u t turn way.goes }
 
   pub joined : (a b : ℕ) (s u t : Sweep) → GoesTo newest life now a s u → GoesTo newest life now b u t → GoesTo newest life now (a + b) s t
   joined zero b s u t first more = let same : b ≡ 0 + b = omega arith in subst (λ n. GoesTo newest life now n s t) same (subst (λ x. GoesTo newest life now b x t) first more)
@@ -59,7 +55,3 @@ module _ (newest life now : ℕ) where
   pub ended : (turns : ℕ) (s t : Sweep) → is_last_turn life now s ≡ true → EndsAt newest life now turns s t → t ≡ after_turn newest life now s
   ended zero s t last e = e.done ∙ ap (after_turn newest life now) e.way
   ended (suc turns) s t last e = absurd (clash s s refl e.way.0 last)
-
-  -- and one that is led on from ends as that does
-  pub onward : (n turns : ℕ) (s u t : Sweep) → GoesTo newest life now n s u → EndsAt newest life now turns u t → EndsAt newest life now (n + turns) s t
-  onward n turns s u t way e = record { before = e.before; way = joined n turns s u e.before way e.way; last = e.last; done = e.done }

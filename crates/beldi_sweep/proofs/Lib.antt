@@ -1,12 +1,16 @@
+pub mod Ahead
 pub mod Cells
 pub mod CellsKept
 pub mod CellsSound
 pub mod CellsTurned
+pub mod Ending
 pub mod Going
 pub mod Logs
 pub mod Loop
-pub mod Measure
 pub mod Moments
 pub mod Old
+pub mod Ordered
 pub mod Passing
 pub mod Places
+pub mod Spending
+pub mod Sums

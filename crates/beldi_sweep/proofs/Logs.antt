@@ -73,14 +73,14 @@ module _ (newest life now : ℕ) (c : RowKey) (m : Rows) (e : RowKey × Row) (ne
   intent_by i kind false is =
       let old = ready.old.intents e.0 i e.1 kind is is_there in
       let todo : todo_of newest life now e.0.kind e.1 ≡ DropIt = ap (λ z. todo_of newest life now z e.1) kind ∙ ap₂ (λ b x. if not b && x then DropIt else Pass) is old in
-      let goes = turn_then newest life now 11 (sweep (stand c (ToDropIntent e.0)) m) gone gone (intent_goes newest life now c e.0 m e.1 is_there old) (stays newest life now 11 gone) in
+      let goes = turn_then newest life now (sweep (stand c (ToDropIntent e.0)) m) gone gone (intent_goes newest life now c e.0 m e.1 is_there old) (stays newest life now gone) in
       done_gone newest life now c m e next ready DropIt todo goes (sound_gone m e.0 (intent_rank e.0.kind i kind) ready.sound)
 
   left_by : (i : IntentId) → is_left e.0.kind ≡ true → belongs_to e.0.kind ≡ Some i → todo_of newest life now e.0.kind e.1 ≡ LookAt → IsDone newest life now c e.0 m
   left_by i left belongs todo =
       let old = subst (λ o. IsOldAt life now (map.get m (seat_if e.0 o))) (sym belongs) (ready.old.left e.0 i (ap is_some is_there) left belongs) in
-      let goes = turn_then newest life now 10 (sweep (stand c (ToDrop e.0)) m) gone gone (left_goes newest life now c e.0 m e.1 is_there (ready.sound.left e.0 e.1 left is_there)) (stays newest life now 10 gone) in
-      let way = turn_then newest life now 11 (sweep (stand c (ToLook e.0)) m) (sweep (stand c (ToDrop e.0)) m) gone (looks newest life now c e.0 m old) goes in
+      let goes = turn_then newest life now (sweep (stand c (ToDrop e.0)) m) gone gone (left_goes newest life now c e.0 m e.1 is_there (ready.sound.left e.0 e.1 left is_there)) (stays newest life now gone) in
+      let way = turn_then newest life now (sweep (stand c (ToLook e.0)) m) (sweep (stand c (ToDrop e.0)) m) gone (looks newest life now c e.0 m old) goes in
       done_gone newest life now c m e next ready LookAt todo way (sound_gone m e.0 (left_rank e.0.kind left) ready.sound)
 
   first_by : (t : ℕ) (q : List ℕ) → e.0.kind ≡ Kind.Data t q 0 → IsDone newest life now c e.0 m

@@ -1,12 +1,14 @@
--- A sweep goes from row to row, to the end of its round.
+-- A sweep goes from row to row, to the end of its round, and what it leaves.
+use Rattle.std.specs.Ordering.{ordering_then}
 use Rattle.std.specs.FinMap as map
-use Rattle.std.proofs.Common.{◌≡◌, ◌⊎◌, inl, inr, ℕ, zero, suc, ◌+◌, ◌*◌, ◌<◌, ◌≤◌, true, Option, None, Some, Less, refl, ap, sym, ◌∙◌, subst, arith}
-use Rattle.beldi_row.specs.{Key.RowKey, Key.key_cmp, Key.least_key, Table.IsNext, Table.Rows, Table.next_row, declared.row.Cell.Cell, declared.row.Row.Row}
+use Rattle.std.proofs.lemmas.Cmp.{ranked}
+use Rattle.std.proofs.Common.{◌≡◌, ◌⊎◌, inl, inr, ℕ, zero, suc, ◌<◌, true, Option, None, Some, Ordering, Less, Equal, Greater, nat_cmp, refl, ap, sym, ◌∙◌, subst, arith}
+use Rattle.beldi_row.specs.{Key.RowKey, Key.key_cmp, Key.least_key, Table.IsNext, Table.Rows, Table.next_row, declared.key.Kind.Kind, declared.row.Cell.Cell, declared.row.Row.Row}
 use Rattle.beldi_row.proofs.Least.{next_row_least}
 use Rattle.beldi_walk.specs.Query.{found}
 use Rattle.beldi_prune.specs.Prune.{before_says, past}
-use Rattle.beldi_sweep.specs.{Done.IsReady, Done.IsTidying, Laws.EndsSoon, Laws.begin, Rows.AllIsOld, Rows.AreLongAdrift, Rows.AreSound, Rows.AreTidy, Rows.AreTrimmed, Rows.IsTrim, Sweep.EndsAt, Sweep.GoesTo, Sweep.Sweep, Sweep.after_turn, Sweep.is_last_turn, Sweep.is_round}
-use Rattle.beldi_sweep.proofs.{Going.ended, Going.left, Going.onward, Going.sweep, Logs.CellsAreDone, Logs.rows_done, Measure.above, Measure.all_above, Measure.all_past, Measure.fewer}
+use Rattle.beldi_sweep.specs.{Done.IsReady, Done.IsTidying, Laws.begin, Rows.AllIsOld, Rows.AreLongAdrift, Rows.AreSound, Rows.AreTidy, Rows.AreTrimmed, Rows.IsTrim, Sweep.EndsAt, Sweep.GoesTo, Sweep.Sweep, Sweep.is_last_turn, Sweep.is_round}
+use Rattle.beldi_sweep.proofs.{Going.ended, Going.left, Going.sweep, Logs.CellsAreDone, Logs.rows_done}
 
 -- where no row follows the cursor, the next turn ends the round
 last : (life now : ℕ) (c : RowKey) (m : Rows) → next_row m c ≡ None → is_last_turn life now (sweep (past c) m) ≡ true
@@ -39,6 +41,24 @@ module _ (newest life now : ℕ) (P : RowKey → Rows → Type 0) where
     pub to_end : (fuel turns : ℕ) → turns < fuel → (c : RowKey) (m : Rows) → P c m → EndsAt newest life now turns (sweep (past c) m) t → Q t.rows
     to_end zero turns few c m so e = absurd (omega (arith, few))
     to_end (suc fuel) turns few c m so e = by_next turns c m so e (λ rest k n less so e. to_end fuel rest (omega (arith, less, few)) k n so e) (next_row m c) refl
+
+-- ---- all rows lie past the least key
+home_past : (home : ℕ) (o : Ordering) → o ≡ nat_cmp 0 home → ordering_then o Less ≡ Less
+home_past home Less h = refl
+home_past home Equal h = refl
+home_past home Greater h = let never : home < 0 = ranked 0 home Greater h in absurd (omega (arith, never))
+
+module _ (m : Rows) (so : AreSound m) where
+  past_by : (q : RowKey) (r : Row) → map.get m q ≡ Some r → (kind : Kind) → q.kind ≡ kind → key_cmp least_key q ≡ Less
+  past_by q r is (Kind.Intent i) kind = (so.intents q i r kind is).1
+  past_by q r is (Kind.ReadLog a) kind = ap (λ z. key_cmp least_key (record { home = q.home; kind = z })) kind ∙ home_past q.home (nat_cmp 0 q.home) refl
+  past_by q r is (Kind.Invoke a) kind = ap (λ z. key_cmp least_key (record { home = q.home; kind = z })) kind ∙ home_past q.home (nat_cmp 0 q.home) refl
+  past_by q r is (Kind.Data t s n) kind = ap (λ z. key_cmp least_key (record { home = q.home; kind = z })) kind ∙ home_past q.home (nat_cmp 0 q.home) refl
+  past_by q r is (Kind.Shadow x t s n) kind = ap (λ z. key_cmp least_key (record { home = q.home; kind = z })) kind ∙ home_past q.home (nat_cmp 0 q.home) refl
+  past_by q r is (Kind.Lockset i b t s) kind = ap (λ z. key_cmp least_key (record { home = q.home; kind = z })) kind ∙ home_past q.home (nat_cmp 0 q.home) refl
+
+  all_past : (q : RowKey) (r : Row) → map.get m q ≡ Some r → key_cmp least_key q ≡ Less
+  all_past q r is = past_by q r is q.kind refl
 
 -- ---- before all rows
 module _ (newest life now : ℕ) (cells : CellsAreDone newest life now) where
@@ -79,37 +99,3 @@ module _ (newest life now : ℕ) (cells : CellsAreDone newest life now) where
   tidies turns m t old sound trimmed long e =
       to_end newest life now Tidying tidies_step (AreTidy newest) (λ c n so none. record { trimmed = so.1.trimmed; moored = moored_by c n so.1 none }) t (suc turns) turns (omega arith) least_key m
       (ready_first m old sound, tidying_first m sound trimmed long) e
-
-  -- ---- it comes to its end
-  record Soon (few : ℕ) (s : Sweep) : Type 0 where
-    turns : ℕ
-    soon : turns ≤ 13 * few
-    left : Sweep
-    ends : EndsAt newest life now turns s left
-
-  ends_by : (c : RowKey) (m : Rows) → IsReady newest life now c m → (few : ℕ) → map.len (above c m) ≡ few → ((k : RowKey) (n : Rows) (less : ℕ) → suc less ≡ few → map.len (above k n) ≡ less → IsReady newest life now k n → Soon less (sweep (past k) n))
-      → (o : Option (RowKey × Row)) → next_row m c ≡ o → Soon few (sweep (past c) m)
-  ends_by c m ready few all go None next =
-      record { turns = 0; soon = omega arith; left = after_turn newest life now (sweep (past c) m); ends = record { before = sweep (past c) m; way = refl; last = last life now c m next; done = refl } }
-  ends_by c m ready few all go (Some e) next =
-      let d = rows_done newest life now cells c m e ready next in
-      let count = fewer c m e next d.rows d.later ∙ all in
-      let more = go e.0 d.rows (map.len (above e.0 d.rows)) count refl d.ready in
-      let soon = more.soon in
-      let short = d.few in
-      record {
-        turns = suc d.turns + more.turns;
-        soon = omega (arith, count, soon, short);
-        left = more.left;
-        ends = onward newest life now (suc d.turns) more.turns (sweep (past c) m) (sweep (past e.0) d.rows) more.left d.goes more.ends;
-      }
-
-  ends : (few : ℕ) (c : RowKey) (m : Rows) → map.len (above c m) ≡ few → IsReady newest life now c m → Soon few (sweep (past c) m)
-  ends zero c m all ready = ends_by c m ready zero all (λ k n less more. absurd (omega (arith, more))) (next_row m c) refl
-  ends (suc few) c m all ready =
-      ends_by c m ready (suc few) all (λ k n less more count ready. let same : few ≡ less = omega (arith, more) in subst (λ x. Soon x (sweep (past k) n)) same (ends few k n (count ∙ sym same) ready)) (next_row m c) refl
-
-  pub ends_soon : (m : Rows) → AllIsOld newest life now m → AreSound m → EndsSoon newest life now m
-  ends_soon m old sound =
-      let s = ends (map.len (above least_key m)) least_key m refl (ready_first m old sound) in
-      record { turns = s.turns; few = subst (λ n. s.turns ≤ 13 * n) (all_above m sound) s.soon; left = s.left; ends = s.ends }

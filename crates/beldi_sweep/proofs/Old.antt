@@ -46,7 +46,7 @@ by_said life now w m n q Removed h = gone_is m h.key q n h.gone
 by_said life now w m n q Round h = Same (ap (λ x. map.get x q) h.0)
 
 -- ---- of such rows
-was_there : (o p : Option Row) → RowLeft o p → is_some p ≡ true → is_some o ≡ true
+pub was_there : (o p : Option Row) → RowLeft o p → is_some p ≡ true → is_some o ≡ true
 was_there o p (Gone none) there = let both : false ≡ true = sym (ap is_some none) ∙ there in cc
 was_there o p (Same same) there = sym (ap is_some same) ∙ there
 was_there o p (Still c d was is log) there = ap is_some was
@@ -76,7 +76,7 @@ module _ (newest life now : ℕ) (m n : Rows) (kept : (q : RowKey) → RowLeft (
     entries = λ k t x q c i kind there has. old_still life now (map.get m (intent_key i k.home)) (map.get n (intent_key i k.home)) (kept (intent_key i k.home)) (entry k t x q c i kind there has (kept k));
   }
 
-row_left : (life now : ℕ) (w : LogCollector) (m : Rows) (q : RowKey) → RowLeft (map.get m q) (map.get (rows_turned life now w m) q)
+pub row_left : (life now : ℕ) (w : LogCollector) (m : Rows) (q : RowKey) → RowLeft (map.get m q) (map.get (rows_turned life now w m) q)
 row_left life now w m q = by_said life now w m (rows_turned life now w m) q (prune_says w (told life now w m)) (say_what_they_did life now w m)
 
 pub old_stays : OldStaysOld

@@ -1,14 +1,14 @@
 -- A sweep is done with a row: it passes it, the row goes, or others change.
 use Rattle.std.specs.FinMap as map
 use Rattle.std.proofs.lemmas.Option.{same_Some}
-use Rattle.std.proofs.Common.{◌≡◌, ◌⊎◌, inl, inr, ℕ, suc, None, Some, Less, refl, ap, sym, ◌∙◌, subst, arith}
+use Rattle.std.proofs.Common.{◌≡◌, ◌⊎◌, inl, inr, ℕ, suc, None, Some, Less, ap, sym, ◌∙◌, subst}
 use Rattle.beldi_row.specs.{Key.RowKey, Key.key_cmp, Table.Rows, Table.next_row, Table.set_row, declared.row.Row.Row}
 use Rattle.beldi_walk.specs.Query.{found}
 use Rattle.beldi_prune.specs.Prune.{before_says, begins, past, row_next, todo_of}
 use Rattle.beldi_prune.specs.declared.found.Todo.{Todo, TheVariants.Pass}
 use Rattle.beldi_sweep.specs.{Done.AreMooredTo, Done.IsDone, Done.IsReady, Done.IsTidying, Rows.AreSound, Rows.AreTrimmedTo, Rows.IsTrim, Sweep.is_round}
 use Rattle.beldi_sweep.proofs.Going.{Comes, Turns, stays, sweep, turn_first}
-use Rattle.beldi_sweep.proofs.{Old.old_goes, Places.gone_here, Places.gone_less, Places.gone_past, Places.there, Places.up_to}
+use Rattle.beldi_sweep.proofs.{Old.old_goes, Places.gone_here, Places.gone_less, Places.there, Places.up_to}
 
 -- ---- rows that are not adrift
 abbrev pub IsFree : Row → Type 0
@@ -27,18 +27,15 @@ module _ (newest life now : ℕ) (c : RowKey) (m : Rows) (e : RowKey × Row) (ne
     leads = ap (λ o. sweep (row_next newest life now c o) m) next ∙ ap (λ z. sweep (begins c e.0 z) m) is;
   }
 
-  -- .. and the sweep comes past it in twelve more
-  pub done : (n : Rows) → Comes newest life now 12 (sweep (begins c e.0 todo) m) (sweep (past e.0) n) → ((q : RowKey) → key_cmp e.0 q ≡ Less → map.get n q ≡ map.get m q) → AreSound n → AreTrimmedTo newest e.0 n
+  -- .. and then the sweep comes past it
+  pub done : (n : Rows) → Comes newest life now (sweep (begins c e.0 todo) m) (sweep (past e.0) n) → AreSound n → AreTrimmedTo newest e.0 n
       → (IsTidying newest life now c m → IsTidying newest life now e.0 n) → IsDone newest life now c e.0 m
-  done n way later sound trimmed tidying =
-      let few = way.few in
+  done n way sound trimmed tidying =
       let goes = turn_first newest life now way.turns (sweep (past c) m) (sweep (begins c e.0 todo) m) (sweep (past e.0) n) begun way.goes in
       record {
         turns = way.turns;
-        few = omega (arith, few);
         rows = n;
         goes = goes;
-        later = later;
         ready = record { old = old_goes newest life now (suc way.turns) (sweep (past c) m) (sweep (past e.0) n) goes ready.old; sound = sound; trimmed = trimmed };
         tidying = tidying;
       }
@@ -56,15 +53,15 @@ module _ (newest life now : ℕ) (c : RowKey) (m : Rows) (e : RowKey × Row) (ne
     }
 
   -- it goes
-  pub done_gone : Comes newest life now 12 (sweep (begins c e.0 todo) m) (sweep (past e.0) (set_row m e.0 None)) → AreSound (set_row m e.0 None) → IsDone newest life now c e.0 m
+  pub done_gone : Comes newest life now (sweep (begins c e.0 todo) m) (sweep (past e.0) (set_row m e.0 None)) → AreSound (set_row m e.0 None) → IsDone newest life now c e.0 m
   done_gone way sound = let n = set_row m e.0 None in let less = gone_less m e.0 in
-      done n way (gone_past m e.0) sound (up_to_trimmed n less (λ r h. absurd (gone_here m e.0 r h))) (up_to_tidied n less (λ r h. absurd (gone_here m e.0 r h)))
+      done n way sound (up_to_trimmed n less (λ r h. absurd (gone_here m e.0 r h))) (up_to_tidied n less (λ r h. absurd (gone_here m e.0 r h)))
 
 -- it is passed
 pub done_passed : (newest life now : ℕ) (c : RowKey) (m : Rows) (e : RowKey × Row) → next_row m c ≡ Some e → IsReady newest life now c m → todo_of newest life now e.0.kind e.1 ≡ Pass → IsTrim newest e.0.kind e.1 → (IsTidying newest life now c m → IsFree e.1)
     → IsDone newest life now c e.0 m
 done_passed newest life now c m e next ready is trim free =
     let same : (r : Row) → map.get m e.0 ≡ Some r → e.1 ≡ r = λ r h. same_Some e.1 r (sym (there c m e next) ∙ h) in
-    done newest life now c m e next ready Pass is m (stays newest life now 12 (sweep (past e.0) m)) (λ q past. refl) ready.sound
+    done newest life now c m e next ready Pass is m (stays newest life now (sweep (past e.0) m)) ready.sound
     (up_to_trimmed newest life now c m e next ready Pass is m (λ q r h. h) (λ r h. subst (IsTrim newest e.0.kind) (same r h) trim))
     (up_to_tidied newest life now c m e next ready Pass is m (λ q r h. h) (λ r h tidy. subst IsFree (same r h) (free tidy)))

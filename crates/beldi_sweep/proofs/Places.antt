@@ -13,9 +13,6 @@ UpTo P c m = (q : RowKey) (r : Row) → map.get m q ≡ Some r → (key_cmp c q 
 turned_round : (k q : RowKey) → key_cmp k q ≡ Greater → key_cmp q k ≡ Less
 turned_round k q h = key_total.antisymm q k ∙ ap ordering_reverse h
 
-pub past_apart : (k q : RowKey) → key_cmp k q ≡ Less → is_eq (key_cmp q k) ≡ false
-past_apart k q h = ap is_eq (key_total.antisymm q k ∙ ap ordering_reverse h)
-
 -- a row that goes is there no more, and none comes
 module _ (m : Rows) (k : RowKey) where
   gone_by : (q : RowKey) (r : Row) (b : Bool) → cond b None (map.get m q) ≡ Some r → (b ≡ false) × (map.get m q ≡ Some r)
@@ -27,9 +24,6 @@ module _ (m : Rows) (k : RowKey) where
 
   pub gone_here : (r : Row) → map.get (set_row m k None) k ≡ Some r → ⊥
   gone_here r h = let off = (gone_by k r (is_eq (key_cmp k k)) (sym (got m k k None) ∙ h)).0 in let both : true ≡ false = sym (key_self k) ∙ off in cc
-
-  pub gone_past : (q : RowKey) → key_cmp k q ≡ Less → map.get (set_row m k None) q ≡ map.get m q
-  gone_past q h = got m k q None ∙ ap (λ b. cond b None (map.get m q)) (past_apart k q h)
 
 module _ (c : RowKey) (m : Rows) (e : RowKey × Row) (next : next_row m c ≡ Some e) where
   is_next : IsNext m c (Some e)

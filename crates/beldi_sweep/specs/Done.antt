@@ -1,5 +1,5 @@
 -- A row that a sweep is done with.
-use Rattle.std.specs.Prelude.{◌≡◌, ◌⊎◌, ℕ, suc, ◌<◌, Some, None}
+use Rattle.std.specs.Prelude.{◌≡◌, ◌⊎◌, ℕ, suc, Some, None}
 use Rattle.std.specs.FinMap as map
 use Rattle.std.specs.declared.cmp.Ordering.TheVariants.{Less}
 use Rattle.beldi_row.specs.{Key.RowKey, Key.key_cmp, Table.Rows, declared.row.Cell.Cell, declared.row.Row.Row}
@@ -22,12 +22,10 @@ pub record IsTidying (newest life now : ℕ) (cursor : RowKey) (m : Rows) : Type
   pub long : AreLongAdrift life now m
   pub moored : AreMooredTo cursor m
 
--- it goes on from one row to past the next in at most 13 turns, which leave all rows after that
+-- it goes on from one row to past the next
 pub record IsDone (newest life now : ℕ) (cursor k : RowKey) (m : Rows) : Type 0 where
   pub turns : ℕ
-  pub few : turns < 13
   pub rows : Rows
   pub goes : GoesTo newest life now (suc turns) (record { collector = past cursor; rows = m }) (record { collector = past k; rows = rows })
-  pub later : (q : RowKey) → key_cmp k q ≡ Less → map.get rows q ≡ map.get m q
   pub ready : IsReady newest life now k rows
   pub tidying : IsTidying newest life now cursor m → IsTidying newest life now k rows

@@ -1,6 +1,5 @@
--- What a sweep that begins before all rows leaves, and how many turns it takes.
-use Rattle.std.specs.Prelude.{ℕ, ◌*◌, ◌≤◌}
-use Rattle.std.specs.FinMap as map
+-- What a sweep that begins before all rows leaves.
+use Rattle.std.specs.Prelude.{ℕ, ◌≤◌}
 use Rattle.beldi_row.specs.{Table.Rows}
 use Rattle.beldi_prune.specs.{Laws.rows_turned, Prune.first_collector}
 use Rattle.beldi_prune.specs.declared.collector.LogCollector.{LogCollector}
@@ -16,16 +15,6 @@ SweepsTrim = (newest life now turns : ℕ) (m : Rows) (t : Sweep) → AllIsOld n
 -- .. and, of trimmed rows of which none is adrift for a life or less, tidy ones
 abbrev pub SweepsTidy : Type 0
 SweepsTidy = (newest life now turns : ℕ) (m : Rows) (t : Sweep) → AllIsOld newest life now m → AreSound m → AreTrimmed newest m → AreLongAdrift life now m → EndsAt newest life now turns (begin m) t → AreTidy newest t.rows
-
--- it ends, after at most 13 turns for each row and one
-pub record EndsSoon (newest life now : ℕ) (m : Rows) : Type 0 where
-  pub turns : ℕ
-  pub few : turns ≤ 13 * map.len m
-  pub left : Sweep
-  pub ends : EndsAt newest life now turns (begin m) left
-
-abbrev pub SweepsEnd : Type 0
-SweepsEnd = (newest life now : ℕ) (m : Rows) → AllIsOld newest life now m → AreSound m → EndsSoon newest life now m
 
 -- what is old stays old, whatever turn a collector takes, and as the moment rises
 abbrev pub OldStaysOld : Type 0

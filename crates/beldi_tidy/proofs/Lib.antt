@@ -1,3 +1,4 @@
+mod Ending
 mod Old
 mod Sound
 mod Sweeping

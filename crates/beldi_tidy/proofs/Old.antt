@@ -35,7 +35,7 @@ intent_old false life now (Row.Cell c) off idle = absurd idle
 intent_old false life now Row.Lockset off idle = absurd idle
 
 -- .. that has a body
-bound_past : (newest : Bool) (life now : ℕ) (i : IntentRow) → is_some i.body ≡ true → IsIntentIdle newest life now (Row.Intent i) → is_past life now i.finish ≡ true
+pub bound_past : (newest : Bool) (life now : ℕ) (i : IntentRow) → is_some i.body ≡ true → IsIntentIdle newest life now (Row.Intent i) → is_past life now i.finish ≡ true
 bound_past true life now i bound idle = idle bound
 bound_past false life now i bound idle = idle.0 bound
 

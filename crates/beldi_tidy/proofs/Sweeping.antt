@@ -1,19 +1,19 @@
 -- A sweep of a host is one of its collector over rows.
-use Rattle.std.specs.FinMap as map
-use Rattle.std.proofs.Common.{◌≡◌, ℕ, zero, suc, ◌+◌, ◌*◌, ◌%◌, ◌<◌, ◌≤◌, Bool, true, false, List, [], ◌∷◌, length, get_or, slice_set, Some, None, Result, Ok, Err, if◌then◌else◌, lt-ltb, nat_lt, refl, ap, ap₂, sym, ◌∙◌, subst, arith}
+use Rattle.std.proofs.Common.{◌≡◌, ℕ, zero, suc, ◌+◌, ◌%◌, ◌<◌, ◌≤◌, Bool, true, false, List, [], ◌∷◌, length, get_or, slice_set, Some, None, Result, Ok, Err, if◌then◌else◌, lt-ltb, nat_lt, refl, ap, ap₂, sym, ◌∙◌, subst, arith}
 use Rattle.std.specs.declared.alloc.AllocError.{AllocError}
 use Rattle.beldi_tree.specs.declared.deployment.Deployment.{Deployment}
 use Rattle.beldi_row.specs.{Table.Rows, declared.table.TableErr.TableErr}
 use Rattle.beldi_prune.specs.{Collectors.collector_at, Laws.SaidOf, Laws.rows_turned, Laws.told, Laws.turned, Prune.first_collector, Prune.prune_says, Prune.row_next}
 use Rattle.beldi_prune.proofs.Said.{say_what_they_did}
 use Rattle.beldi_prune.specs.declared.{collector.GcSays.GcSays, collector.LogCollector.LogCollector}
-use Rattle.beldi_sweep.specs.{Laws.begin, Rows.AllIsOld, Rows.AreAdriftBy, Rows.AreLongAdrift, Rows.AreSound, Rows.AreTidy, Rows.AreTrimmed, Rows.IsIdle, Sweep.EndsAt, Sweep.GoesTo, Sweep.Sweep, Sweep.after_turn, Sweep.is_last_turn, Sweep.is_round}
-use Rattle.beldi_sweep.proofs.{Cells.cells_done, Going.joined, Going.left, Loop.ends_soon, Loop.tidies, Loop.trims, Moments.adrift_by_then, Moments.adrift_by_there, Moments.long_after, Old.idle_goes, Old.idle_later, Old.idle_stays}
+use Rattle.beldi_sweep.specs.{Laws.begin, Rounds.begun_turns, Rounds.turns_of, Rows.AllIsOld, Rows.AreAdriftBy, Rows.AreLongAdrift, Rows.AreSound, Rows.AreTidy, Rows.AreTrimmed, Rows.IsIdle, Sweep.EndsAt, Sweep.GoesTo, Sweep.Sweep, Sweep.after_turn, Sweep.is_last_turn, Sweep.is_round}
+use Rattle.beldi_sweep.proofs.{Cells.cells_done, Going.joined, Ending.rounds_end, Going.left, Loop.tidies, Loop.trims, Moments.adrift_by_then, Moments.adrift_by_there, Moments.long_after, Old.idle_goes, Old.idle_later, Old.idle_stays, Ordered.sound_ordered}
 use Rattle.beldi_step.specs.{Host.Core, Host.counted, Host.most_events, Prunes.PrunesOnBy, Prunes.says_pruned, declared.event.Pruned.Pruned}
 use Rattle.beldi_schedule.specs.Settles.{State}
 use Rattle.beldi_bound.specs.Ends.{IsBelowEnd}
-use Rattle.beldi_tidy.specs.Sweeping.{IsFirst, IsUntroubled, MaySweep, Promises, Rests, Sweeps, SweepsAsPromised, Swept, ThreeSweepsTidy, Turn, Turns, ends_round}
-use Rattle.beldi_tidy.proofs.{Old.all_old, Sound.rows_sound}
+use Rattle.beldi_kept.{specs.Safe.IsSafe, proofs.Collecting.prunings_keep_safe}
+use Rattle.beldi_tidy.specs.Sweeping.{AllIdle, IsFirst, IsUntroubled, Promises, Rests, Sweeps, SweepsAsPromised, Swept, ThreeSweepsTidy, Turn, Turns, ends_round}
+use Rattle.beldi_tidy.proofs.{Ending.idle_end_once, Ending.one_behind, Old.all_old, Sound.rows_sound}
 
 -- ---- the collector that was set
 set_there : (cs : List LogCollector) (i : ℕ) (x e : LogCollector) → i < length cs → get_or (slice_set cs i x) i e ≡ x
@@ -133,32 +133,40 @@ module _ (d : Deployment) (k : ℕ) where
       by_said : SaidOf d.life now s.collector s.rows (rows_turned d.life now s.collector s.rows) GcSays.Round → turned newest d.life now s.collector s.rows ≡ first_collector
       by_said (same, before, none) = ap (λ a. turned newest d.life now (record { cursor = s.collector.cursor; at = a }) s.rows) before ∙ ap (row_next newest d.life now s.collector.cursor) none
 
+  -- ---- the host stays right
+  turn_right : (s t : State) (x : Pruned) → IsSafe d s.core s.rows → Turn d k s t x → IsSafe d t.core t.rows
+  turn_right s t x right on = (prunings_keep_safe d s.faults t.faults k s.core t.core s.rows t.rows (Ok x) right on).0
+
+  turns_right : (n : ℕ) (s t : State) → IsSafe d s.core s.rows → Turns d k n s t → IsSafe d t.core t.rows
+  turns_right zero s t right same = subst (λ (z : State). IsSafe d z.core z.rows) (sym same) right
+  turns_right (suc n) s t right (u, x, way, on, going) = turn_right u t x (turns_right n s u right way) on
+
   -- ---- the promises
-  module _ (s t : State) (may : MaySweep d s) where
+  module _ (s t : State) (right : IsSafe d s.core s.rows) (eight : length s.core.collectors ≡ 8) where
     first_is : IsFirst k s.core → sweep_of s ≡ begin s.rows
     first_is at = λ i. record { collector = at i; rows = s.rows }
 
-    old : AllIsOld s.core.newest d.life s.core.now s.rows
-    old = all_old d s.core s.rows may.right.has may.idle
+    old : AllIdle d s → AllIsOld s.core.newest d.life s.core.now s.rows
+    old idle = all_old d s.core s.rows right.has idle
 
     sound : AreSound s.rows
-    sound = rows_sound d s.core s.rows may.right.has
+    sound = rows_sound d s.core s.rows right.has
 
     -- one that leads on has taken at most so many turns
-    few_by : (n : ℕ) (u : Sweep) → GoesTo s.core.newest d.life s.core.now n (sweep_of s) u → IsFirst k s.core → n ≤ 13 * map.len s.rows
-    few_by n u way at =
-        let soon = ends_soon s.core.newest d.life s.core.now (cells_done s.core.newest d.life s.core.now) s.rows old sound in
-        let l = left s.core.newest d.life s.core.now n soon.turns (begin s.rows) u soon.left (subst (λ x. GoesTo s.core.newest d.life s.core.now n x u) (first_is at) way) soon.ends in
+    few_by : (n : ℕ) (u : Sweep) → GoesTo s.core.newest d.life s.core.now n (sweep_of s) u → n ≤ begun_turns s.rows (collector_at s.core.collectors k).at + turns_of s.rows
+    few_by n u way =
+        let soon = rounds_end s.core.newest d.life s.core.now (collector_at s.core.collectors k) s.rows (right.collects k).right (sound_ordered s.rows sound) in
+        let l = left s.core.newest d.life s.core.now n soon.turns (sweep_of s) u soon.left way soon.ends in
         let all = l.all in
         let few = soon.few in
         omega (arith, all, few)
 
-    -- what is idle by the moment and the newest ticket of the first is so by those of the last
+    -- what is so by the moment and the newest ticket of the first is so by those of the last
     idle_by : (newest now : ℕ) (m : Rows) → IsIdle s.core.newest d.life s.core.now m → newest ≡ s.core.newest → now ≡ s.core.now → IsIdle newest d.life now m
     idle_by newest now m idle a b = subst (λ x. IsIdle x d.life now m) (sym a) (subst (λ x. IsIdle s.core.newest d.life x m) (sym b) idle)
 
-    idle_there : (n : ℕ) (u : Sweep) → GoesTo s.core.newest d.life s.core.now n (sweep_of s) u → IsIdle s.core.newest d.life s.core.now u.rows
-    idle_there n u way = idle_goes s.core.newest d.life s.core.now n (sweep_of s) u way may.idle
+    idle_there : AllIdle d s → (n : ℕ) (u : Sweep) → GoesTo s.core.newest d.life s.core.now n (sweep_of s) u → IsIdle s.core.newest d.life s.core.now u.rows
+    idle_there idle n u way = idle_goes s.core.newest d.life s.core.now n (sweep_of s) u way idle
 
     adrift_by : (n : ℕ) (u : Sweep) → GoesTo s.core.newest d.life s.core.now n (sweep_of s) u → {now : ℕ} → now ≡ s.core.now → AreAdriftBy s.core.now s.rows → AreAdriftBy now u.rows
     adrift_by n u way {now} same by = subst (λ z. AreAdriftBy z u.rows) (sym same) (adrift_by_there s.core.newest d.life s.core.now n (sweep_of s) u way by)
@@ -167,14 +175,14 @@ module _ (d : Deployment) (k : ℕ) where
     goes_as_promised : (turns : ℕ) → Turns d k turns s t → IsUntroubled turns s t → Promises d k turns false s t
     goes_as_promised turns way free =
         let events = free.events in
-        let h = went_to turns s t way free.faults free.below free.serves (omega (arith, events)) may.eight in
+        let h = went_to turns s t way free.faults free.below free.serves (omega (arith, events)) eight in
         record {
-          idle = idle_by t.core.newest t.core.now t.rows (idle_there turns (sweep_of t) h.way) h.newest h.now;
-          moments = adrift_by turns (sweep_of t) h.way h.now;
+          few = few_by turns (sweep_of t) h.way;
           ended = λ e. cc;
+          moments = adrift_by turns (sweep_of t) h.way h.now;
+          idle = λ idle. idle_by t.core.newest t.core.now t.rows (idle_there idle turns (sweep_of t) h.way) h.newest h.now;
           trims = λ e. cc;
           tidies = λ e. cc;
-          few = few_by turns (sweep_of t) h.way;
         }
 
     -- .. and where it ends
@@ -185,9 +193,9 @@ module _ (d : Deployment) (k : ℕ) where
         let b = rises_by (nat_lt u.core.taken most_events) u.core.shut u t Pruned.Round on in
         let same = free.faults in
         let below = free.below in
-        let h = went_to turns s u way (omega (arith, a, b, same)) (omega (arith, b, below)) free.serves (omega (arith, events)) may.eight in
+        let h = went_to turns s u way (omega (arith, a, b, same)) (omega (arith, b, below)) free.serves (omega (arith, events)) eight in
         let count = h.taken in
-        let w = went u t Pruned.Round on (omega (arith, a, b, same)) free.below (h.shut ∙ free.serves) (omega (arith, count, events)) (h.eight ∙ may.eight) in
+        let w = went u t Pruned.Round on (omega (arith, a, b, same)) free.below (h.shut ∙ free.serves) (omega (arith, count, events)) (h.eight ∙ eight) in
         let x = s.core.newest in
         let y = s.core.now in
         let last : is_last_turn d.life y (sweep_of u) ≡ true = ap (λ z. is_last_turn d.life z (sweep_of u)) (sym h.now) ∙ w.last in
@@ -195,25 +203,30 @@ module _ (d : Deployment) (k : ℕ) where
         let newest : t.core.newest ≡ x = w.newest ∙ h.newest in
         let ends : IsFirst k s.core → EndsAt x d.life y turns (begin s.rows) (sweep_of t) =
         λ at. record { before = sweep_of u; way = subst (λ z. GoesTo x d.life y turns z (sweep_of u)) (first_is at) h.way; last = last; done = sym leads } in
+        let idle_then : AllIdle d s → AllIdle d t =
+        λ idle. idle_by t.core.newest t.core.now t.rows (subst (λ (z : Sweep). IsIdle x d.life y z.rows) leads (idle_stays x d.life y (sweep_of u).collector u.rows (idle_there idle turns (sweep_of u) h.way))) newest (w.now ∙ h.now) in
+        let right_then : IsSafe d t.core t.rows = turn_right u t Pruned.Round (turns_right turns s u right way) on in
         record {
-          idle = idle_by t.core.newest t.core.now t.rows (subst (λ (z : Sweep). IsIdle x d.life y z.rows) leads (idle_stays x d.life y (sweep_of u).collector u.rows (idle_there turns (sweep_of u) h.way))) newest (w.now ∙ h.now);
-          moments = λ by. subst (λ z. AreAdriftBy z t.rows) (sym (w.now ∙ h.now)) (subst (λ (z : Sweep). AreAdriftBy y z.rows) leads (adrift_by_then d.life y (sweep_of u).collector u.rows (adrift_by_there x d.life y turns (sweep_of s) (sweep_of u) h.way by)));
-          ended = λ e. sym (ap (λ (z : Sweep). z.collector) leads) ∙ first_after x y (sweep_of u) last;
-          trims = λ e at. subst (λ z. AreTrimmed z t.rows) (sym newest) (trims x d.life y (cells_done x d.life y) turns s.rows (sweep_of t) old sound (ends at));
-          tidies = λ e at trimmed long. subst (λ z. AreTidy z t.rows) (sym newest) (tidies x d.life y (cells_done x d.life y) turns s.rows (sweep_of t) old sound trimmed long (ends at));
           few = few_by turns (sweep_of u) h.way;
+          ended = λ e. sym (ap (λ (z : Sweep). z.collector) leads) ∙ first_after x y (sweep_of u) last;
+          moments = λ by. subst (λ z. AreAdriftBy z t.rows) (sym (w.now ∙ h.now)) (subst (λ (z : Sweep). AreAdriftBy y z.rows) leads (adrift_by_then d.life y (sweep_of u).collector u.rows (adrift_by_there x d.life y turns (sweep_of s) (sweep_of u) h.way by)));
+          idle = idle_then;
+          trims = λ e idle at. subst (λ z. AreTrimmed z t.rows) (sym newest) (trims x d.life y (cells_done x d.life y) turns s.rows (sweep_of t) (old idle) sound (ends at));
+          tidies = λ e idle at trimmed long.
+              let tidy = subst (λ z. AreTidy z t.rows) (sym newest) (tidies x d.life y (cells_done x d.life y) turns s.rows (sweep_of t) (old idle) sound trimmed long (ends at)) in
+              (tidy, one_behind t.core.newest t.rows tidy (idle_end_once d t.core t.rows right_then.has (idle_then idle)));
         }
 
 pub sweeps_as_promised : SweepsAsPromised
-sweeps_as_promised d k turns false s t may way free = goes_as_promised d k s t may turns way free
-sweeps_as_promised d k turns true s t may way free = ends_as_promised d k s t may turns way free
+sweeps_as_promised d k turns false s t right eight way free = goes_as_promised d k s t right eight turns way free
+sweeps_as_promised d k turns true s t right eight way free = ends_as_promised d k s t right eight turns way free
 
 -- ---- three sweeps
 module _ (d : Deployment) (k : ℕ) where
-  swept : (s t : State) → IsIdle s.core.newest d.life s.core.now s.rows → (w : Swept d k s t) → Promises d k w.turns true s t
-  swept s t idle w = sweeps_as_promised d k w.turns true s t (record { right = w.right; eight = w.eight; idle = idle }) w.way w.free
+  swept : (s t : State) (w : Swept d k s t) → Promises d k w.turns true s t
+  swept s t w = sweeps_as_promised d k w.turns true s t w.right w.eight w.way w.free
 
-  still_idle : (s t : State) → Rests s t → IsIdle s.core.newest d.life s.core.now s.rows → IsIdle t.core.newest d.life t.core.now t.rows
+  still_idle : (s t : State) → Rests s t → AllIdle d s → AllIdle d t
   still_idle s t rests idle = subst (λ n. IsIdle n d.life t.core.now t.rows) (sym rests.newest) (subst (IsIdle s.core.newest d.life t.core.now) (sym rests.rows) (idle_later s.core.newest d.life s.core.now t.core.now s.rows rests.later idle))
 
   still_first : (s t : State) → Rests s t → IsFirst k s.core → IsFirst k t.core
@@ -224,9 +237,10 @@ module _ (d : Deployment) (k : ℕ) where
 
 pub three_sweeps_tidy : ThreeSweepsTidy
 three_sweeps_tidy d k a b c e f g idle by first one second two late third =
-    let p = swept d k a b idle first in
-    let q = swept d k c e (still_idle d k b c one p.idle) second in
-    let trimmed = q.trims refl (still_first d k b c one (p.ended refl)) in
+    let p = swept d k a b first in
+    let q = swept d k c e second in
+    let r = swept d k f g third in
+    let rested = still_idle d k b c one (p.idle idle) in
+    let trimmed = q.trims refl rested (still_first d k b c one (p.ended refl)) in
     let long = long_after d.life e.core.now f.core.now e.rows late (q.moments (still_by d k b c one (p.moments by))) in
-    let r = swept d k f g (still_idle d k e f two q.idle) third in
-    r.tidies refl (still_first d k e f two (q.ended refl)) (subst (λ n. AreTrimmed n f.rows) (sym two.newest) (subst (AreTrimmed e.core.newest) (sym two.rows) trimmed)) (subst (AreLongAdrift d.life f.core.now) (sym two.rows) long)
+    r.tidies refl (still_idle d k e f two (q.idle rested)) (still_first d k e f two (q.ended refl)) (subst (λ n. AreTrimmed n f.rows) (sym two.newest) (subst (AreTrimmed e.core.newest) (sym two.rows) trimmed)) (subst (AreLongAdrift d.life f.core.now) (sym two.rows) long)

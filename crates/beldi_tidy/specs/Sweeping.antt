@@ -1,13 +1,13 @@
 -- A sweep of a log collector of a host over rows that are told, and what is promised of it.
-use Rattle.std.specs.Prelude.{◌≡◌, ℕ, zero, suc, ◌+◌, ◌*◌, ◌<◌, ◌≤◌, Bool, true, false, length, Ok}
-use Rattle.std.specs.FinMap as map
+use Rattle.std.specs.Prelude.{◌≡◌, ℕ, zero, suc, ◌+◌, ◌<◌, ◌≤◌, Bool, true, false, length, Ok}
 use Rattle.beldi_tree.specs.declared.deployment.Deployment.{Deployment}
 use Rattle.beldi_prune.specs.{Collectors.collector_at, Prune.first_collector}
-use Rattle.beldi_sweep.specs.Rows.{AreAdriftBy, AreLongAdrift, AreTidy, AreTrimmed, IsIdle}
+use Rattle.beldi_sweep.specs.{Rounds.begun_turns, Rounds.turns_of, Rows.AreAdriftBy, Rows.AreLongAdrift, Rows.AreTidy, Rows.AreTrimmed, Rows.IsIdle}
 use Rattle.beldi_step.specs.{Host.Core, Host.most_events, Prunes.PrunesOn, declared.event.Pruned.Pruned}
 use Rattle.beldi_schedule.specs.Settles.{State}
 use Rattle.beldi_bound.specs.Ends.{IsBelowEnd}
 use Rattle.beldi_kept.specs.Safe.{IsSafe}
+use Rattle.beldi_tidy.specs.Tidy.{HaveOneBehind}
 
 -- ---- its turns
 -- one, and what it said
@@ -36,31 +36,29 @@ pub record IsUntroubled (turns : ℕ) (s t : State) : Type 0 where
   pub serves : s.core.shut ≡ false
   pub events : s.core.taken + turns < most_events
 
--- before: the host is right, and all intents are idle
-pub record MaySweep (d : Deployment) (s : State) : Type 0 where
-  pub right : IsSafe d s.core s.rows
-  pub eight : length s.core.collectors ≡ 8
-  pub idle : IsIdle s.core.newest d.life s.core.now s.rows
-
 -- the collector of this number stands before all rows
 abbrev pub IsFirst : ℕ → Core → Type 0
 IsFirst k c = collector_at c.collectors k ≡ first_collector
 
+-- all intents are idle
+abbrev pub AllIdle : Deployment → State → Type 0
+AllIdle d s = IsIdle s.core.newest d.life s.core.now s.rows
+
 pub record Promises (d : Deployment) (k turns : ℕ) (over : Bool) (s t : State) : Type 0 where
-  -- all intents are idle still
-  pub idle : IsIdle t.core.newest d.life t.core.now t.rows
+  -- whatever the rows are, it takes at most the turns of a round, and then the one that ends it, with its collector before all rows
+  pub few : turns ≤ begun_turns s.rows (collector_at s.core.collectors k).at + turns_of s.rows
+  pub ended : over ≡ true → IsFirst k t.core
   -- what is adrift is so since this moment at the latest, where what was so before is
   pub moments : AreAdriftBy s.core.now s.rows → AreAdriftBy t.core.now t.rows
-  -- it ends with its collector before all rows, and leaves trimmed rows where it began so
-  pub ended : over ≡ true → IsFirst k t.core
-  pub trims : over ≡ true → IsFirst k s.core → AreTrimmed t.core.newest t.rows
-  -- .. and tidy ones, where they were trimmed, and each that was adrift was so for more than a life
-  pub tidies : over ≡ true → IsFirst k s.core → AreTrimmed s.core.newest s.rows → AreLongAdrift d.life s.core.now s.rows → AreTidy t.core.newest t.rows
-  -- it takes at most thirteen turns for each row, and then the one that ends it
-  pub few : IsFirst k s.core → turns ≤ 13 * map.len s.rows
+  -- once all intents are idle they stay so, and one that began before all rows leaves trimmed rows ..
+  pub idle : AllIdle d s → AllIdle d t
+  pub trims : over ≡ true → AllIdle d s → IsFirst k s.core → AreTrimmed t.core.newest t.rows
+  -- .. and tidy ones, with at most two of an item, where they were trimmed, and each that was adrift was so for more than a life
+  pub tidies : over ≡ true → AllIdle d s → IsFirst k s.core → AreTrimmed s.core.newest s.rows → AreLongAdrift d.life s.core.now s.rows → AreTidy t.core.newest t.rows × HaveOneBehind t.rows
 
+-- so it is of a right host
 abbrev pub SweepsAsPromised : Type 0
-SweepsAsPromised = (d : Deployment) (k turns : ℕ) (over : Bool) (s t : State) → MaySweep d s → Sweeps d k turns over s t → IsUntroubled turns s t → Promises d k turns over s t
+SweepsAsPromised = (d : Deployment) (k turns : ℕ) (over : Bool) (s t : State) → IsSafe d s.core s.rows → length s.core.collectors ≡ 8 → Sweeps d k turns over s t → IsUntroubled turns s t → Promises d k turns over s t
 
 -- ---- three sweeps
 -- a whole one of a right host, that nothing troubled
@@ -80,4 +78,4 @@ pub record Rests (s t : State) : Type 0 where
 
 -- once all intents are idle, three of one collector leave tidy rows, wherever that stood, where the third begins more than a life after the second
 abbrev pub ThreeSweepsTidy : Type 0
-ThreeSweepsTidy = (d : Deployment) (k : ℕ) (a b c e f g : State) → IsIdle a.core.newest d.life a.core.now a.rows → AreAdriftBy a.core.now a.rows → Swept d k a b → Rests b c → Swept d k c e → Rests e f → e.core.now + d.life < f.core.now → Swept d k f g → AreTidy g.core.newest g.rows
+ThreeSweepsTidy = (d : Deployment) (k : ℕ) (a b c e f g : State) → AllIdle d a → AreAdriftBy a.core.now a.rows → Swept d k a b → Rests b c → Swept d k c e → Rests e f → e.core.now + d.life < f.core.now → Swept d k f g → AreTidy g.core.newest g.rows × HaveOneBehind g.rows

@@ -1,5 +1,5 @@
 // The laws of sweeps over the rows of a right host.
-ghost use Rattle.beldi_tidy.specs.{Sweeping.SweepsAsPromised, Sweeping.ThreeSweepsTidy, Tidy.IdleAreOld, Tidy.RowsAreSound};
+ghost use Rattle.beldi_tidy.specs.{Sweeping.SweepsAsPromised, Sweeping.ThreeSweepsTidy, Tidy.IdleAreOld, Tidy.IdleEndOnce, Tidy.RowsAreSound};
 
 /// The rows of a right host are sound, whatever log collectors did.
 pub fn rows_are_sound()
@@ -11,8 +11,14 @@ pub fn idle_rows_are_old()
     ensures { IdleAreOld }
 {}
 
-/// A sweep of a right host, once all intents are idle, keeps its promises: it ends after at most thirteen turns for each row and one,
-/// and leaves trimmed rows; and of trimmed ones, a life after the last row was left adrift, tidy ones.
+/// One row of an item has no next then: none was made that is not linked.
+pub fn idle_items_end_once()
+    ensures { IdleEndOnce }
+{}
+
+/// A sweep of a right host keeps its promises: it ends with the turn after at most eleven for each row and one for each row of its item,
+/// and where its collector had begun a row, what is left of that one's. Once all intents are idle, and where it began before all rows,
+/// it leaves trimmed rows; and of trimmed ones, of which each that is adrift is so for more than a life, tidy ones.
 pub fn sweeps_are_as_promised()
     ensures { SweepsAsPromised }
 {}
