@@ -297,7 +297,9 @@ gc 1 20
 reply {MADE + 1}
 sweep 0 4000
 """
-AFTER_SWEPT = f"{WRITES}settle 100\nreply 1\nreply {MADE}\nreply {MADE + 1}\ntick {LATER}\nsweep 0 4000000000\nrows\nticket\n"
+AFTER_SWEPT = (
+    f"{WRITES}settle 100\nreply 1\nreply {MADE}\nreply {MADE + 1}\n" + f"tick {LATER}\nsweep 0 4000000000\n" * bounds.SWEEPS + "rows\nticket\n"
+)
 
 
 def with_rows(path):
@@ -323,16 +325,16 @@ def is_kept(told, after):
 
 def is_swept(told, after):
     """The same of sessions in which log collectors make turns: each reply is told or gone, that of the newest ticket is there, and only the
-    rows of the one item are left, which are one for each eight writes, and that of the newest ticket's intent."""
+    first and the last row of the one item are left, and that of the newest ticket's intent."""
     lines = after.split("\n")
-    first, last, more, rows = lines[1], lines[2], lines[3], lines[6]
+    first, last, more, rows = lines[1], lines[2], lines[3], lines[4 + 2 * bounds.SWEEPS]
     made = MADE + more.startswith(f"reply {MADE + 1} value [{MADE + 1},")
     was_bound = f"\nreply {MADE + 1} value" in told or "\nsettled 0\n" not in f"\n{after}"
     return (
         first in (f'reply 1 value [1,"{"a" * 4000}"]', "reply 1 gone")
         and (last.startswith(f"reply {MADE} value [{MADE},") or (last == f"reply {MADE} gone" and "unknown" not in more))
         and (made > MADE or (more in (f"reply {MADE + 1} unknown", f"reply {MADE + 1} waiting") and not was_bound))
-        and rows == f"rows {(made + 7) // 8 + 1}" and f'\n== tables\nf t "k" {made}\n' in after
+        and rows == "rows 3" and f'\n== tables\nf t "k" {made}\n' in after
     )
 
 
@@ -586,7 +588,7 @@ def wrong_settlings(source, text, failures):
 
 
 def table():
-    """A table that fails: at each call of the golden sessions in turn, and at some of a thousand random sessions with halts."""
+    """A table that fails: at each call of the golden sessions in turn, and at some of the random sessions with halts or log collectors."""
     with tempfile.TemporaryDirectory() as place:
         failing = Failing(failing_program(place))
         golden_calls(failing)

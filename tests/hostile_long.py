@@ -1,5 +1,6 @@
 """The long part of tests/hostile, which the gate leaves out: sources of 16 MiB of each kind of line, what inputs of three lengths cost, a host
-that is busy, and memory that runs out at each place in turn."""
+that is busy, memory that runs out at each place in turn, and an item that is written a million times."""
+import collections
 import os
 import re
 import shutil
@@ -260,8 +261,22 @@ def books_of(count):
     return f"{SCRIPT}ticket\nrequest 1 f 1\n" + "book\n" * count, text
 
 
+def swept_of(count):
+    """So many requests that each write one item eight times, and a sweep more than a life after each: from the third one on each takes as many
+    turns, and so does its sweep, and leaves as many rows."""
+    source = 'life 10;\nfunction f(x) { table t; repeat 8 { write t["k"] = x; } return x; }\nscript\n'
+    source += many(count, "ticket\nrequest # f #\nsettle 99\ntick 11\nsweep 0 99\nrows")
+    first = {1: (12, 3, 2), 2: (20, 6, 3), 3: (28, 12, 4)}
+    text = ""
+    for at in range(1, count + 1):
+        turns, sweeps, rows = first.get(at, (28, 14, 4))
+        text += f"ticket {at}\nbound {at} run {at}\nreply {at} value {at}\nsettled {turns}\nnow {11 * at}\nswept {sweeps}\nrows {rows}\n"
+    return source, f'{text}== tables\nf t "k" {count}\n== book\n' + "".join(f"start {at} f {at}\n" + f"step {at}\n" * 9 for at in range(1, count + 1))
+
+
 WORK = [
     ("requests, each with an item of its own", requests_of, [5_000, 10_000, 20_000]),
+    ("requests that write one item eight times, each of which is swept", swept_of, [5_000, 10_000, 20_000]),
     ("live runs of one request, which end", runs_of, [256, 512, 1024]),
     ("listings of a book of one entry", books_of, [250_000, 500_000, 1_000_000]),
 ]
@@ -512,4 +527,91 @@ def starved(place, words, source, **how):
     return done.returncode, done.stdout + done.stderr
 
 
-GROUPS = (sources, costs, busy, memory)
+# ---- an item that is written a million times
+# A call writes it four times; so many connections are open before they are used.
+A_CALL, OPEN = 4, 16
+WRITES, WRITES_OF_A_FILE, WINDOW = 1_000_000, 100_000, 10_000
+NEVER = 1_000_000_000
+
+
+class Quiet(serve.Service):
+    """A service of which nobody keeps the lines; its text is told by its end."""
+
+    def read(self):
+        kept = b""
+        while part := self.process.stdout.read1(65536):
+            kept += part
+            at = kept.find(b"== tables\n")
+            kept = kept[-9:] if at < 0 else kept[at:at + 99]
+        self.written.append(kept)
+
+
+class Client:
+    """It has connections that are open before they are used, and asks for a ticket and makes its call by turns."""
+
+    def __init__(self, service):
+        self.port, self.links = service.port, collections.deque(serve.connected(service.port) for _ in range(OPEN))
+
+    def ask(self, asked):
+        with self.links.popleft() as link:
+            link.sendall(asked)
+            self.links.append(serve.connected(self.port))
+            return serve.everything(link)
+
+    def call(self, number):
+        """What the call of this ticket is answered, which is asked for before; what the ticket is answered, where there is none."""
+        found = self.ask(serve.TICKET)
+        return self.ask(serve.call("f", number, str(number))) if found == serve.ticket(number) else found
+
+    def close(self):
+        for link in self.links:
+            link.close()
+
+
+def written(service, writes):
+    """How many writes are made by calls that are answered, up to so many; and the seconds of the processor that each ten thousand took."""
+    client, found, before, done = Client(service), [], ticks_of(service)[0], 0
+    while done < writes and client.call(done // A_CALL + 1) == serve.value(done // A_CALL + 1):
+        done += A_CALL
+        if done % WINDOW == 0:
+            found.append(ticks_of(service)[0] - before)
+            before += found[-1]
+    client.close()
+    return done, found
+
+
+def hot():
+    """An item that is written a million times, in lives of ten moments: ten thousand writes cost at the end what they did at the start, the
+    table has fewer than 400 rows all along, and at last three. Where all is young still a call soon takes more turns than one gives."""
+    with tempfile.TemporaryDirectory(dir="/dev/shm" if os.path.isdir("/dev/shm") else None) as place:
+        for name, writes, path in (("memory", WRITES, None), ("a file", WRITES_OF_A_FILE, f"{place}/rows")):
+            deployment, last, began = serve.HOT % (10, 400, A_CALL), writes // A_CALL, time.monotonic()
+            service = Quiet(deployment, 2 * last + serve.ROUNDS + OPEN, path=path)
+            done, seconds = written(service, writes)
+            same(f"hot: writes, {name}", done, writes)
+            counts.true(f"hot: what ten thousand cost, {name}", is_level(seconds), f"{listed(seconds, '.2f')} s")
+            for _ in range(serve.ROUNDS):
+                time.sleep(0.02)
+                same(f"hot: the last reply, {name}", service.ask(serve.reply(last)), serve.value(last))
+            status, text, said = service.end()
+            same(f"hot: how it ends, {name}", (status, text.split(b"\n")[1], said), (0, f'f t "k" {last}'.encode(), b""))
+            print(f"hot: {writes} writes, {name}, in {time.monotonic() - began:.0f} s; ten thousand take {told(seconds)} s of the processor", flush=True)
+        left = serve.ended(["--db", path, "run"], f"{deployment}\nscript\nrows\n".encode())
+        same("hot: the rows that are left", left, (0, f'rows 3\n== tables\nf t "k" {last}\n== book\n'.encode(), b""))
+    service = Quiet(serve.HOT % (NEVER, ROOM, A_CALL), 1_000_000)
+    done, seconds = written(service, WRITES)
+    counts.true("hot: where nothing is old", done < 50_000, f"{done} writes")
+    print(f"hot: {done} writes where nothing is old; ten thousand take {told(seconds)} s of the processor", flush=True)
+    service.stop()
+
+
+def is_level(costs):
+    """Whether the last ten of these are as low as the first ten: the least of each counts, as a machine is busier at one time than at another."""
+    return min(costs[-10:]) <= 1.5 * min(costs[:10])
+
+
+def told(costs):
+    return f"{costs[0]:.2f}, {sorted(costs)[len(costs) // 2]:.2f} in the middle and {costs[-1]:.2f} at last"
+
+
+GROUPS = (sources, costs, busy, memory, hot)

@@ -147,7 +147,7 @@ ANSWERS = {
     "reply": rf"reply \d+ (?:{OUTCOME}|waiting|gone|unknown)",
     "rows": r"rows \d+",
     "halt": r"halted",
-    "gc": r"going|removed|round",
+    "gc": r"going|marked|skipped|dangled|removed|round",
     "sweep": r"swept \d+|unswept \d+",
 }
 ANSWERS = {word: re.compile(form, re.S) for word, form in ANSWERS.items()}

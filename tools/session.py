@@ -10,6 +10,8 @@ ENTRY = re.compile(r"(start|read|step|tx|try) \d")
 ITEM = re.compile(r'\w+ \w+ "')
 # The lines that say how often, and the place of that word.
 TIMES_AT = {"turn": 2, "ic": 1, "gc": 2}
+# What a log collector says in a turn that changed a row.
+CHANGES = ("marked", "skipped", "dangled", "removed")
 # A body with more ways through it than this is not followed: then its callees are known only where a line names them.
 MOST_PATHS = 5000
 
@@ -220,8 +222,13 @@ class Event:
 
     @property
     def may_remove(self):
-        """Whether rows may have gone: that of a sweep is not told."""
+        """Whether a row may have gone: what the turns of a sweep said is not told."""
         return self.answer == "removed" or self.word == "sweep"
+
+    @property
+    def may_change(self):
+        """Whether a log collector may have changed a row."""
+        return self.answer in CHANGES or self.word == "sweep"
 
     @property
     def is_silent(self):
