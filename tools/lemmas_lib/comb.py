@@ -1,4 +1,4 @@
-"""One crate of the definitions and lemmas of many: proofs/X of beldi_known becomes proofs/KnownX, specs/X becomes specs/KnownX, and
+"""One crate of the definitions and lemmas of many: proofs/X of beldi_histories becomes proofs/HistoriesX, specs/X becomes specs/HistoriesX, and
 imports are led there. Types that code declares stay with the stubs."""
 import os, re
 from lemmas_lib.crates import PLACE, TOP, paths_of, read, statements
@@ -54,7 +54,7 @@ class File:
         return number - sum(more for first, more in self.later if first <= number)
 
     def is_named(self, word):
-        """Whether a word names it: a crate, as known; or a file, as Frame, known/Frame, or its path."""
+        """Whether a word names it: a crate, as histories; or a file, as Frame, histories/Frame, or its path."""
         _, crate, part, name = self.origin.removesuffix(".antt").split("/")
         word = word.removeprefix("crates/").removeprefix("beldi_").removesuffix(".antt")
         crate = crate.removeprefix("beldi_")

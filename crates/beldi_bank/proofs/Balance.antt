@@ -9,8 +9,8 @@ use Rattle.std.proofs.lemmas.Cmp.{tied_itself}
 use Rattle.beldi_value.specs.declared.value.Value.{Value}
 use Rattle.beldi_tree.specs.Bindings.{or_null}
 use Rattle.beldi_plain.specs.{Item.Item, Item.item_cmp, Item.item_exact, Item.item_total, Operation.set_item}
-use Rattle.beldi_order.proofs.Maps.{changed, same_some}
-use Rattle.beldi_bank.specs.Laws.{AreBalanced, IsWhole, sum_of}
+use Rattle.beldi_plain_laws.proofs.Maps.{changed, same_some}
+use Rattle.beldi_bank.specs.BankLaws.{AreBalanced, IsWhole, sum_of}
 use Rattle.beldi_bank.proofs.Effects.{IsMoney, balance}
 use Rattle.beldi_bank.proofs.Sums.{excess_of, excess_set, had, sum_is}
 

@@ -5,7 +5,7 @@ use Rattle.std.specs.{Ordering.nat_cmp, Ordering.is_eq, Cmp.Lexicographic.slice_
 use Rattle.std.proofs.lemmas.Cmp.{tied_itself}
 use Rattle.std.specs.FinMap as map
 use Rattle.beldi_value.specs.{declared.value.Value.Value, declared.outcome.Code.Code, declared.outcome.Cause.Cause, declared.outcome.Outcome.Outcome, Same.same_value, Same.value_decides}
-use Rattle.beldi_tree.specs.{Bindings.Bindings, Bindings.no_variables, Command.Commands, Command.no_commands, Command.command, Command.commands_of, Command.read, Command.write, Command.set, Term.Term, Evaluate.◌>>=◌, Evaluate.truth, Evaluate.term_value}
+use Rattle.beldi_tree.specs.{Bindings.Bindings, Bindings.no_variables, StatementCommand.Commands, StatementCommand.no_commands, StatementCommand.command, StatementCommand.commands_of, StatementCommand.read, StatementCommand.write, StatementCommand.set, Term.Term, Evaluate.◌>>=◌, Evaluate.truth, Evaluate.term_value}
 use Rattle.beldi_tree.specs.Term as term
 use Rattle.beldi_lang.specs.{declared.effect.Effect.Effect, declared.effect.Answer.Answer}
 use Rattle.beldi_lang.specs.Wants.{Does, Leads, Local, answered, closed, effect_of, effect_to, ends, fault, followed, goes, key_value, most_effects, or_fault, run_block, set_to, takes, wants}

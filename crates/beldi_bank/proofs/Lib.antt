@@ -1,7 +1,7 @@
 mod Balance
+mod BankFlows
+mod BankKept
+pub mod BankRuns
 mod Effects
-mod Flows
-mod Kept
-pub mod Runs
 mod Sums
 mod Values

@@ -10,7 +10,7 @@ use Rattle.std.proofs.lemmas.Cmp.{tied_itself}
 use Rattle.std.proofs.lemmas.Int.{ints}
 use Rattle.beldi_value.specs.declared.value.Value.{Value}
 use Rattle.beldi_plain.specs.Item.{Item, item_cmp, item_exact, item_total}
-use Rattle.beldi_bank.specs.Laws.{sum_of, whole_of}
+use Rattle.beldi_bank.specs.BankLaws.{sum_of, whole_of}
 
 abbrev pub excess_in : List (Item × Value) → ℤ
 excess_in [] = pos 0

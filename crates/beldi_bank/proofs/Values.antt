@@ -9,7 +9,7 @@ use Rattle.beldi_tree.specs.{Bindings.Bindings, Bindings.or_null, Evaluate.◌>>
 use Rattle.beldi_tree.specs.Term.{name, field, binary, null}
 use Rattle.beldi_lang.specs.Wants.{key_value}
 use Rattle.beldi_bank.specs.Bank.{args, from, to, amount, is_new, less, more, source, target, IsTransfer}
-use Rattle.beldi_bank.specs.Laws.{IsWhole}
+use Rattle.beldi_bank.specs.BankLaws.{IsWhole}
 
 pub same_ok : {X : Type 0} {x y : X} → (the : Result X Code) → the ≡ Ok x → the ≡ Ok y → x ≡ y
 same_ok the p q = let e = sym p ∙ q in cc

@@ -5,7 +5,7 @@
 --     write acct[x.from] = a - x.n; write acct[x.to] = b + x.n; } aborted { return false; } return true; }
 use Rattle.std.specs.Prelude.{◌≡◌, ℕ, ℤ, pos, Bool, true, false, List, [], ◌∷◌, codes}
 use Rattle.beldi_value.specs.{declared.rel.Rel.Rel, declared.value.Value.Value, Datum.text, Datum.int}
-use Rattle.beldi_tree.specs.{Command.Command, Command.commands_of, Command.set, Command.read, Command.write, Command.transaction, Command.choose, Command.return, declared.deployment.Deployment.Deployment, declared.deployment.Func.Func, declared.deployment.Op.Op}
+use Rattle.beldi_tree.specs.{StatementCommand.Command, StatementCommand.commands_of, StatementCommand.set, StatementCommand.read, StatementCommand.write, StatementCommand.transaction, StatementCommand.choose, StatementCommand.return, declared.deployment.Deployment.Deployment, declared.deployment.Func.Func, declared.deployment.Op.Op}
 use Rattle.beldi_tree.specs.Term.{Term, name, field, compare, binary, null, boolean}
 use Rattle.beldi_tree.specs.Term as term
 

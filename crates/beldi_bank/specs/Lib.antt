@@ -1,2 +1,2 @@
 pub mod Bank
-pub mod Laws
+pub mod BankLaws

@@ -1,6 +1,6 @@
 //! A bank as a deployment, with one function that moves an amount from one account to another, and what every run of transfers
-//! keeps. It has no code. It stands on the plain machine, and takes from `beldi_order` that a transaction is a list of moves. Its
-//! definitions: `specs/Bank` (the bank, and what a transfer is), `specs/Laws` (balanced items).
+//! keeps. It has no code. It stands on the plain machine, and takes from `beldi_plain_laws` that a transaction is a list of moves. Its
+//! definitions: `specs/Bank` (the bank, and what a transfer is), `specs/BankLaws` (balanced items).
 //!
 //! Proved:
 //! - In the run of a book whose roots are transfers each item is an account of the bank and a whole number of 64 bits, and
@@ -9,8 +9,8 @@
 //! Files:
 //! - Code (`src/`): `laws` one function a law, with no body.
 //! - Lemmas (`proofs/`): `Values` what the expressions of a transfer come to; `Effects` what its statements want; `Sums`,
-//!   `Balance` the sum of items where one is set, and where a transfer sets two; `Flows` a transfer answer by answer;
-//!   `Kept` what each entry keeps; `Runs` the run of a book.
+//!   `Balance` the sum of items where one is set, and where a transfer sets two; `BankFlows` a transfer answer by answer;
+//!   `BankKept` what each entry keeps; `BankRuns` the run of a book.
 #![tactic(auto)]
 
 mod laws;

@@ -1,3 +1,3 @@
-mod Told
+mod ListedLines
 pub mod Totals
 pub mod Unbroken

@@ -14,12 +14,12 @@ use Rattle.std.proofs.lemmas.Int.{SFits-int_wrap, int_wrap-add_left, int_wrap_fi
 use Rattle.std.proofs.lemmas.Cmp.{tied_itself}
 use Rattle.beldi_value.specs.declared.value.Value.{Value}
 use Rattle.beldi_plain.specs.{Item.Item, Item.item_cmp, Item.item_exact, Item.item_total, Listing.items_text, Plain.PlainState}
-use Rattle.beldi_script.specs.Cut.{lines_of, unreturned}
-use Rattle.beldi_script.proofs.{Lines.cut_some, Parted.parts}
+use Rattle.beldi_script.specs.LineCut.{lines_of, unreturned}
+use Rattle.beldi_script.proofs.{ScriptLines.cut_some, Parted.parts}
 use Rattle.beldi_generator.specs.Summary.{is_unread, listed, past, summed, totals_text, value_in}
-use Rattle.beldi_bank.specs.{Bank.bank_code, Laws.Balanced, Laws.IsWhole, Laws.sum_of, Laws.whole_of}
-use Rattle.beldi_bank_lines.specs.Lines.{BalancedItemsAreListed, IsItemLine, IsListing, totals_of}
-use Rattle.beldi_bank_lines.proofs.Told.{is_line, item_told, told, value_told}
+use Rattle.beldi_bank.specs.{Bank.bank_code, BankLaws.Balanced, BankLaws.IsWhole, BankLaws.sum_of, BankLaws.whole_of}
+use Rattle.beldi_bank_lines.specs.BankLines.{BalancedItemsAreListed, IsItemLine, IsListing, totals_of}
+use Rattle.beldi_bank_lines.proofs.ListedLines.{is_line, item_told, told, value_told}
 
 -- an account of the bank, with a whole number
 abbrev IsAccount : Item → Value → Type 0

@@ -7,7 +7,7 @@ use Rattle.std.specs.Fmt.{decimal, digit_glyph, digits, digits_onto}
 use Rattle.std.proofs.lemmas.Bool.{Decides.nat_tests, and_parts, cases_eq, cases_lt}
 use Rattle.std.specs.Option.{is_none}
 use Rattle.serde_json.specs.Written.{comma_if, items_text, members_text, number_text}
-use Rattle.beldi_value.specs.Cut.{after}
+use Rattle.beldi_value.specs.ByteCut.{after}
 use Rattle.beldi_value.specs.Datum.{Datum, Datums, Fields, boolean, field, fields, int, item, list, no_fields, no_items, null, text}
 use Rattle.beldi_value.specs.Json.{json_fields, json_items, number_of, text_of}
 use Rattle.beldi_script.proofs.Parted.{none_after}

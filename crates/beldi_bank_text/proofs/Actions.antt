@@ -3,13 +3,13 @@ use Rattle.std.proofs.Common.{arith, ◌≡◌, ℕ, zero, suc, ◌<◌, ◌+◌
 use Rattle.std.proofs.lemmas.{Nat.mod_below}
 use Rattle.std.proofs.Transfers.{drop-appended}
 use Rattle.beldi_value.specs.declared.value.Value.{Value}
-use Rattle.beldi_check.specs.Calls.{through}
-use Rattle.beldi_script.specs.{Cut.lines_of, Line.line_at, declared.line.Line.Line, declared.line.ScriptErr.ScriptErr}
+use Rattle.beldi_check.specs.CallGraph.{through}
+use Rattle.beldi_script.specs.{LineCut.lines_of, ScriptLine.line_at, declared.line.Line.Line, declared.line.ScriptErr.ScriptErr}
 use Rattle.beldi_generator.specs.Generated.{bank, fate_text, fifth, request_of, request_text, requests_from, transfer_text}
 use Rattle.beldi_bank.specs.Bank.{bank_code, IsTransfer}
 use Rattle.beldi_session.specs.{Script.Action, Script.actions_in, Script.actions_of, Script.and_then, Script.is_ok, Script.is_whole, Script.times, Source.accepted, Source.next, Source.numbered, Source.refusal_in, Source.said_by, Source.source_by}
-use Rattle.beldi_bank_text.specs.Text.{AreWork, GeneratedIsTheBank, GeneratedIsWork, IsWork, IsWorkThenListings, bank_source}
-use Rattle.beldi_bank_text.proofs.{Lines.AreOther, Lines.IsOther, Lines.cut, Lines.fate_line, Lines.request_line, Lines.request_printed, Lines.two_lines, Read.text_is_the_bank, Transfers.args_of, Transfers.args_transfer, Transfers.IsOtherLine, Transfers.other_read, Transfers.request_read}
+use Rattle.beldi_bank_text.specs.BankText.{AreWork, GeneratedIsTheBank, GeneratedIsWork, IsWork, IsWorkThenListings, bank_source}
+use Rattle.beldi_bank_text.proofs.{TextLines.AreOther, TextLines.IsOther, TextLines.cut, TextLines.fate_line, TextLines.request_line, TextLines.request_printed, TextLines.two_lines, Read.text_is_the_bank, Transfers.args_of, Transfers.args_transfer, Transfers.IsOtherLine, Transfers.other_read, Transfers.request_read}
 
 -- ---- the actions of a line
 times_work : (n : ℕ) (a : Action) → IsWork a → AreWork (times n a)

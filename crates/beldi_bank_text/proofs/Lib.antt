@@ -1,5 +1,5 @@
 pub mod Actions
-mod Lines
 mod Read
+mod TextLines
+mod TextWords
 mod Transfers
-mod Words

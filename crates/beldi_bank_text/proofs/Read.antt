@@ -6,8 +6,8 @@ use Rattle.beldi_tree.specs.declared.deployment.Deployment.{Deployment}
 use Rattle.beldi_syntax.specs.{Phrase.got, Deployments.code_at, Deployments.code_of, Deployments.deployment, Deployments.line_past, Deployments.parsed, Deployments.parsed_at, Deployments.parts_at, Deployments.script_at, Deployments.size_fault, Deployments.unless, Deployments.with_script, Expressions.expr_at, Lexer.lexemes, Lexer.to_script, Statements.block_at, declared.refusal.What.TheVariants.TooLarge, declared.refusal.What.TheVariants.Utf8}
 use Rattle.beldi_bank.specs.Bank.{bank_code}
 use Rattle.beldi_generator.specs.Generated.{bank}
-use Rattle.beldi_bank_text.specs.Text.{TextIsTheBank}
-use Rattle.beldi_bank_text.proofs.Words.{bytes_are, low_utf8, tokens, tokens_are}
+use Rattle.beldi_bank_text.specs.BankText.{TextIsTheBank}
+use Rattle.beldi_bank_text.proofs.TextWords.{bytes_are, low_utf8, tokens, tokens_are}
 
 -- up to the word `script`
 abbrev bank_text : List ℕ

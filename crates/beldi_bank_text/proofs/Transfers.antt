@@ -5,10 +5,10 @@ use Rattle.std.proofs.Common.{arith, ◌≡◌, ℕ, zero, suc, pos, ◌<◌, �
 use Rattle.json.specs.Print.{escape_byte, quoted}
 use Rattle.beldi_value.specs.{Datum.text, Datum.int, Limits.is_within, Json.text_of, Value.datum_of, declared.value.Value.Value}
 use Rattle.beldi_tree.specs.{declared.deployment.Func.Func, Names.func_at}
-use Rattle.beldi_script.specs.{Forms.HasForm, Line.line_at, Text.AreNamed, Text.IsProper, Text.IsValue, Text.line_text, Words.is_word, declared.line.Line.Line}
+use Rattle.beldi_script.specs.{Forms.HasForm, ScriptLine.line_at, ScriptText.AreNamed, ScriptText.IsProper, ScriptText.IsValue, ScriptText.line_text, ScriptWords.is_word, declared.line.Line.Line}
 use Rattle.beldi_script.proofs.{Formed.lines_have_forms, ReadAgain.line_read}
 use Rattle.beldi_bank.specs.Bank.{bank, bank_code, IsTransfer}
-use Rattle.beldi_bank_text.proofs.{Lines.AreOther, Lines.json_line, Lines.request_line, Words.low, Words.low_utf8}
+use Rattle.beldi_bank_text.proofs.{TextLines.AreOther, TextLines.json_line, TextLines.request_line, TextWords.low, TextWords.low_utf8}
 
 -- ---- the bank's function is named by a word
 name_is_word : (n : ℕ) (f : Func) → func_at bank_code n ≡ Some f → IsTrue (is_word f.name)

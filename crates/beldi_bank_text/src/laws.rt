@@ -1,5 +1,5 @@
 // What the text of the bank, and of generated work, says.
-ghost use Rattle.beldi_bank_text.specs.Text.{GeneratedIsTheBank, GeneratedIsWork, TextIsTheBank};
+ghost use Rattle.beldi_bank_text.specs.BankText.{GeneratedIsTheBank, GeneratedIsWork, TextIsTheBank};
 
 /// The text of the bank, with a script below it, is read as the bank, and the script begins in its sixth line.
 pub fn the_text_is_the_bank()

@@ -8,8 +8,8 @@ use Rattle.sqlite.specs.Effect.{Database}
 use Rattle.sqlite.specs.State.{State}
 use Rattle.beldi_blobs.specs.declared.entry.Entry.{Entry}
 use Rattle.beldi_blobs.specs.declared.error.BlobErr.{BlobErr}
-use Rattle.beldi_blobs.specs.Entries.{IsTable, entries_in, entries_of}
-use Rattle.beldi_blobs.specs.Calls.{Keeps, Finds, FindsAbove, ReadsValue, ReadsEntry, IsNext, Puts, PutsOr, Removes, RemovesOr, pair_of}
+use Rattle.beldi_blobs.specs.BlobEntries.{IsTable, entries_in, entries_of}
+use Rattle.beldi_blobs.specs.BlobCalls.{Keeps, Finds, FindsAbove, ReadsValue, ReadsEntry, IsNext, Puts, PutsOr, Removes, RemovesOr, pair_of}
 
 pub value_is : (s : State) (key : List ℕ) (row : Option Row) (value : Option (Vec ℕ Global)) → Finds s key row → ReadsValue row value → option_map (λ v. v.items) value ≡ map.get (entries_in s) key
 value_is s key None None h r = sym h

@@ -7,8 +7,8 @@ use Rattle.sqlite.specs.Listing.{understood}
 use Rattle.sqlite.specs.State.{State, Executes, QueriesRow}
 use Rattle.sqlite.proofs.Callers.{IsPlain}
 use Rattle.beldi_blobs.specs.Texts.{get_text, put_text, next_text, remove_text}
-use Rattle.beldi_blobs.specs.Entries.{IsTable}
-use Rattle.beldi_blobs.specs.Calls.{Keeps}
+use Rattle.beldi_blobs.specs.BlobEntries.{IsTable}
+use Rattle.beldi_blobs.specs.BlobCalls.{Keeps}
 use Rattle.beldi_blobs.proofs.Understood.{get_plain, next_plain}
 use Rattle.beldi_blobs.proofs.Leaves.{query_leaves, write_leaves, keeps}
 

@@ -10,8 +10,8 @@ use Rattle.sqlite.specs.Tree.{rowid, put_row, without_rowid}
 use Rattle.sqlite.specs.Edit.{is_taken}
 use Rattle.sqlite_rules.specs.Lists.{Has}
 use Rattle.sqlite_value.proofs.OrderLemmas.{value_cmp_total}
-use Rattle.beldi_blobs.specs.Entries.{AreStored, AreApart, stored, entries_of}
-use Rattle.beldi_blobs.proofs.Lists.{placed, found_at, stored_with, stored_without, entries_with, insert_twice, without_one, Splits}
+use Rattle.beldi_blobs.specs.BlobEntries.{AreStored, AreApart, stored, entries_of}
+use Rattle.beldi_blobs.proofs.BlobLists.{placed, found_at, stored_with, stored_without, entries_with, insert_twice, without_one, Splits}
 
 pub record Put (rows : List Row) (key value : List ℕ) (all : List Row) : Type 0 where
   pub sound : AreStored all

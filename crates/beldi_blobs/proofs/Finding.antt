@@ -19,12 +19,12 @@ use Rattle.sqlite.specs.State.{State, QueriesRow}
 use Rattle.sqlite.proofs.Callers.{first_as, reads_as, IsPlain, command_of}
 use Rattle.sqlite_rules.specs.Lists.{Has}
 use Rattle.beldi_blobs.specs.Texts.{one_table, get_text, next_text}
-use Rattle.beldi_blobs.specs.Calls.{Finds, FindsAbove}
-use Rattle.beldi_blobs.specs.Entries.{IsTable, AreStored, rows_in, entries_in}
+use Rattle.beldi_blobs.specs.BlobCalls.{Finds, FindsAbove}
+use Rattle.beldi_blobs.specs.BlobEntries.{IsTable, AreStored, rows_in, entries_in}
 use Rattle.beldi_blobs.specs.Queries.{get_command, next_command, get_query, next_query, get_test, next_test}
 use Rattle.beldi_blobs.proofs.Understood.{get_is, get_plain, next_is, next_plain}
 use Rattle.beldi_blobs.proofs.Operators.{equal_blobs, blob_above}
-use Rattle.beldi_blobs.proofs.Lists.{stored_at, entry_there, has_entry, tied_keys}
+use Rattle.beldi_blobs.proofs.BlobLists.{stored_at, entry_there, has_entry, tied_keys}
 use Rattle.beldi_blobs.proofs.Matches.{passes, from_row, to_row, in_map, of_all}
 use Rattle.beldi_blobs.proofs.Leaves.{none_shown}
 use Rattle.sqlite.specs.Listing.{understood}

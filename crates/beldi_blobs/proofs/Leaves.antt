@@ -12,8 +12,8 @@ use Rattle.sqlite.specs.Effect.{Database, RefusesToRead, is_query}
 use Rattle.sqlite.specs.Listing.{understood}
 use Rattle.sqlite.specs.State.{State, IsUnchanged, IsRolledBack, IsNotRun, Shown, ShowsRows, FailsToShow, FailsToQuery, QueriesRow, RunsCommand, Executes, ExecutesIn, shows_rows, store_error}
 use Rattle.sqlite.proofs.Callers.{IsPlain, command_of}
-use Rattle.beldi_blobs.specs.Calls.{Keeps}
-use Rattle.beldi_blobs.specs.Entries.{AreStored, IsTable}
+use Rattle.beldi_blobs.specs.BlobCalls.{Keeps}
+use Rattle.beldi_blobs.specs.BlobEntries.{AreStored, IsTable}
 
 abbrev pub Leaves : State → State → Type 0
 Leaves old new = IsUnchanged old new ⊎ IsRolledBack old new

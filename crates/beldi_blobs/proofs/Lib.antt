@@ -1,5 +1,5 @@
 pub mod Understood
-pub mod Lists
+pub mod BlobLists
 pub mod Operators
 pub mod Matches
 pub mod Leaves

@@ -8,8 +8,8 @@ use Rattle.sqlite.specs.State.{State, Writes, Executes}
 use Rattle.sqlite.specs.Steps.{IsEmpty}
 use Rattle.sqlite.proofs.Callers.{runs_as}
 use Rattle.beldi_blobs.specs.Texts.{beldi, one_table, no_schema, create_text}
-use Rattle.beldi_blobs.specs.Calls.{Makes}
-use Rattle.beldi_blobs.specs.Entries.{AreStored, entries_of}
+use Rattle.beldi_blobs.specs.BlobCalls.{Makes}
+use Rattle.beldi_blobs.specs.BlobEntries.{AreStored, entries_of}
 use Rattle.beldi_blobs.proofs.Understood.{create_is, create_plain}
 use Rattle.beldi_blobs.proofs.Putting.{went, same_value}
 

@@ -37,10 +37,10 @@ use Rattle.sqlite.specs.Query.{IsAnswerAs, Output, output}
 use Rattle.std.specs.List.Sorted.{IsPermutation}
 use Rattle.beldi_blobs.proofs.Matches.{passes, matching, one_matches, kept_are}
 use Rattle.beldi_blobs.proofs.Operators.{equal_ids, equal_blobs}
-use Rattle.beldi_blobs.proofs.Lists.{found_at, stored_without, own_id, other_id, stored_at, all_from, tied_keys}
+use Rattle.beldi_blobs.proofs.BlobLists.{found_at, stored_without, own_id, other_id, stored_at, all_from, tied_keys}
 use Rattle.beldi_blobs.specs.Texts.{beldi, one_table, put_text}
-use Rattle.beldi_blobs.specs.Calls.{PutsIn}
-use Rattle.beldi_blobs.specs.Entries.{IsTable, AreStored, IsStored, stored, entries_of}
+use Rattle.beldi_blobs.specs.BlobCalls.{PutsIn}
+use Rattle.beldi_blobs.specs.BlobEntries.{IsTable, AreStored, IsStored, stored, entries_of}
 use Rattle.beldi_blobs.specs.Queries.{put_command, update_query, update_test}
 use Rattle.beldi_blobs.proofs.Understood.{put_is, put_plain}
 use Rattle.beldi_blobs.proofs.Changes.{Put, put_new, put_again, other_ids}

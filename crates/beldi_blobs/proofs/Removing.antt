@@ -29,12 +29,12 @@ use Rattle.sqlite_rules.specs.Calls.{ids_of}
 use Rattle.sqlite_rules.specs.Edit.{without_all}
 use Rattle.sqlite_rules.specs.Lists.{Has}
 use Rattle.beldi_blobs.specs.Texts.{beldi, one_table, remove_text}
-use Rattle.beldi_blobs.specs.Calls.{RemovesIn}
-use Rattle.beldi_blobs.specs.Entries.{Entries, IsTable, AreStored, IsStored, entries_of}
+use Rattle.beldi_blobs.specs.BlobCalls.{RemovesIn}
+use Rattle.beldi_blobs.specs.BlobEntries.{Entries, IsTable, AreStored, IsStored, entries_of}
 use Rattle.beldi_blobs.specs.Queries.{remove_command, remove_query, get_test}
 use Rattle.beldi_blobs.proofs.Understood.{remove_is, remove_plain}
 use Rattle.beldi_blobs.proofs.Operators.{equal_blobs}
-use Rattle.beldi_blobs.proofs.Lists.{found_at, stored_without, all_at, all_from, entries_with, entry_there, without_one, has_entry, tied_keys, key_order, same_key}
+use Rattle.beldi_blobs.proofs.BlobLists.{found_at, stored_without, all_at, all_from, entries_with, entry_there, without_one, has_entry, tied_keys, key_order, same_key}
 use Rattle.beldi_blobs.proofs.Matches.{passes, matching, one_matches, none_match, kept_are, has_permuted}
 use Rattle.beldi_blobs.proofs.Finding.{missing, key_of}
 use Rattle.beldi_blobs.proofs.Changes.{other_ids, other_keys}

@@ -1,4 +1,4 @@
 pub mod Texts
-pub mod Entries
+pub mod BlobEntries
 pub mod Queries
-pub mod Calls
+pub mod BlobCalls

@@ -1,7 +1,7 @@
 // The trait of an ordered map from bytes to bytes.
 ghost use Rattle.std.specs.Prelude.{Option};
-ghost use Rattle.beldi_blobs.specs.Entries.{Entries};
-ghost use Rattle.beldi_blobs.specs.Calls.{Tells, Gets, Puts, Removes, Nexts};
+ghost use Rattle.beldi_blobs.specs.BlobEntries.{Entries};
+ghost use Rattle.beldi_blobs.specs.BlobCalls.{Tells, Gets, Puts, Removes, Nexts};
 
 use crate::entry::Entry;
 use crate::error::BlobErr;

@@ -7,8 +7,8 @@ ghost use Rattle.sqlite.specs.State.{HasCleanDisk, Executes, QueriesRow};
 ghost use Rattle.sqlite.specs.Steps.{IsEmpty};
 ghost use Rattle.sqlite.specs.Held.{state};
 ghost use Rattle.beldi_blobs.specs.Texts.{create_text, get_text, put_text, remove_text, next_text};
-ghost use Rattle.beldi_blobs.specs.Entries.{IsTable, entries_in};
-ghost use Rattle.beldi_blobs.specs.Calls.{Keeps, Makes, PutsOr, RemovesOr, Finds, FindsAbove, ReadsValue, ReadsEntry, IsNext, pair_of};
+ghost use Rattle.beldi_blobs.specs.BlobEntries.{IsTable, entries_in};
+ghost use Rattle.beldi_blobs.specs.BlobCalls.{Keeps, Makes, PutsOr, RemovesOr, Finds, FindsAbove, ReadsValue, ReadsEntry, IsNext, pair_of};
 
 use crate::entry::Entry;
 use crate::error::{BlobErr, refusal};

@@ -1,5 +1,5 @@
 //! An ordered map from bytes to bytes in one SQLite table, in memory or in a file: `Blobs`, a trait.
-//! It stands on the kit's `sqlite`. Its definitions: `specs/Entries` (what entries the rows of a database are), `Calls` (what
+//! It stands on the kit's `sqlite`. Its definitions: `specs/BlobEntries` (what entries the rows of a database are), `BlobCalls` (what
 //! a call leaves of the entries, and what it answers), `Texts` (the table and the five texts), `Queries` (what the texts
 //! are compiled to).
 //!
@@ -13,7 +13,7 @@
 //!
 //! Files:
 //! - Code (`src/`): `blobs` the trait; `calls` the calls of SQLite; `memory`, `file`; `entry`, `error`.
-//! - Lemmas (`proofs/`): `Understood` what each text is compiled to; `Operators` how blobs and rowids compare; `Lists` rows and
+//! - Lemmas (`proofs/`): `Understood` what each text is compiled to; `Operators` how blobs and rowids compare; `BlobLists` rows and
 //!   entries; `Matches` what a query over the table answers; `Finding`, `Changes`, `Putting`, `Removing`, `Making` what each statement
 //!   does; `Leaves`, `Called` what is left where it is refused; `Answered` what was read of a row.
 #![tactic(auto)]

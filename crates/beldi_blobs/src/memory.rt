@@ -27,7 +27,7 @@ impl Model for MemoryBlobs {
     ghost use Rattle.std.specs.FinMap as map;
     ghost use Rattle.sqlite.specs.Held.{state};
     ghost use Rattle.sqlite.specs.Steps.{over_memory};
-    ghost use Rattle.beldi_blobs.specs.Entries.{Entries, IsTable, entries_in};
+    ghost use Rattle.beldi_blobs.specs.BlobEntries.{Entries, IsTable, entries_in};
 
     ghost Value = { Entries };
 

@@ -1,5 +1,5 @@
 -- A book that was written is read again, and the first bad line of a text is one.
-use Rattle.beldi_book.proofs.Names.{AllByRecursion, AreNamed, BadEntry, BookIsReadAgain, Deployment, Entry, Err, Func, HasBadLine, IntentId, IsHolder, IsLineOf, IsProper, IsTextOf, IsValue, IsWithin, IsWord, List, None, NothingElseIsRead, Ok, Option, OutOfMemory, Read, Some, Start, Step, Try, Tx, Value, [], after, all_ascii_digits, and_parts, ap, append-nil, append_assoc, ap₂, arith, before, book_text, codes, datum_of, decimal, digit_first, digits_decimal, entry_text, false, func_at, func_text, holder_text, id_text, is_ascii_digit, is_name, length, length-append, min, name_or, numeral_at, numeral_of, own, place_text, read_again, read_of, refl, same_Some, same_values, subst, suc, sym, text_of, true, ℕ, ◌++◌, ◌-◌, ◌<◌, ◌^◌, ◌∙◌, ◌∷◌, ◌≡◌, ◌≤◌}
+use Rattle.beldi_book.proofs.Names.{AllByRecursion, AreNamed, BadEntry, BookIsReadAgain, Deployment, Entry, Err, Func, HasBadLine, IntentId, IsHolder, IsLineOf, IsProper, IsTextOf, IsValue, IsWithin, IsWord, List, None, NothingElseIsRead, Ok, Option, OutOfMemory, Read, Some, Start, Step, AbortedTx, CommittedTx, Value, [], after, all_ascii_digits, and_parts, ap, append-nil, append_assoc, ap₂, arith, before, book_text, codes, datum_of, decimal, digit_first, digits_decimal, entry_text, false, func_at, func_text, holder_text, id_text, is_ascii_digit, is_name, length, length-append, min, name_or, numeral_at, numeral_of, own, place_text, read_again, read_of, refl, same_Some, same_values, subst, suc, sym, text_of, true, ℕ, ◌++◌, ◌-◌, ◌<◌, ◌^◌, ◌∙◌, ◌∷◌, ◌≡◌, ◌≤◌}
 use Rattle.beldi_book.proofs.{Cuts.parts, Cuts.none_after, Cuts.number_clear, Cuts.id_clear, LineFeeds.text_flat, Others.other_read, Starts.starts_so, Starts.append_same}
 
 -- ---- functions by their texts
@@ -34,8 +34,8 @@ proper : (e : Entry) → IsWithin e → IsProper e
 proper (Start t f a) h = (h.0, h.1, record { within = h.3; again = read_again (datum_of a) h.2 h.3 })
 proper (Read id s) h = h
 proper (Step id) h = h
-proper (Tx id) h = h
-proper (Try id p k) h = h
+proper (CommittedTx id) h = h
+proper (AbortedTx id p k) h = h
 
 holder_flat : (h : Option IntentId) → IsHolder h → after 10 (holder_text h) ≡ None
 holder_flat None f = refl
@@ -48,8 +48,8 @@ entry_flat : (code : Deployment) (e : Entry) → AreNamed code → IsWithin e �
 entry_flat code (Start t f a) names h = spaced (decimal t) (func_text code f ++ 32 ∷ text_of (datum_of a)) (number_clear 10 t refl (omega (arith, h.0))) (spaced (func_text code f) (text_of (datum_of a)) (func_flat code f names h.1) (text_flat (datum_of a) h.2))
 entry_flat code (Read id s) names h = spaced (id_text id) (decimal s) (id_clear 10 id (refl, refl) h.0) (number_clear 10 s refl h.1)
 entry_flat code (Step id) names h = id_clear 10 id (refl, refl) h
-entry_flat code (Tx id) names h = id_clear 10 id (refl, refl) h
-entry_flat code (Try id p k) names h =
+entry_flat code (CommittedTx id) names h = id_clear 10 id (refl, refl) h
+entry_flat code (AbortedTx id p k) names h =
     spaced (id_text id) (place_text p ++ 32 ∷ holder_text k) (id_clear 10 id (refl, refl) h.0)
     (spaced (place_text p) (holder_text k) (none_after 10 (id_text p.intent) (58 ∷ decimal p.step) (id_clear 10 p.intent (refl, refl) h.1) (number_clear 10 p.step refl (omega (arith, h.2)))) (holder_flat k h.3))
 
@@ -82,8 +82,8 @@ words_after : (code : Deployment) (e : Entry) → (w : List ℕ) × (after 32 (e
 words_after code (Start t f a) = (decimal t ++ 32 ∷ (func_text code f ++ 32 ∷ text_of (datum_of a)), refl)
 words_after code (Read id s) = (id_text id ++ 32 ∷ decimal s, refl)
 words_after code (Step id) = (id_text id, refl)
-words_after code (Tx id) = (id_text id, refl)
-words_after code (Try id p k) = (id_text id ++ 32 ∷ (place_text p ++ 32 ∷ holder_text k), refl)
+words_after code (CommittedTx id) = (id_text id, refl)
+words_after code (AbortedTx id p k) = (id_text id ++ 32 ∷ (place_text p ++ 32 ∷ holder_text k), refl)
 
 abbrev word_of : Deployment → Entry → List ℕ
 word_of code e = before 32 (entry_text code e)

@@ -5,5 +5,5 @@ pub mod LineFeeds
 mod Names
 pub mod Orders
 pub mod Others
-pub mod Places
+pub mod ReadPlaces
 pub mod Starts

@@ -1,5 +1,5 @@
 -- The entries that are no starts: what is read is the entry of the line, and the line of such an entry is read.
-use Rattle.beldi_book.proofs.Names.{Deployment, Entry, IntentId, IsHolder, IsId, IsLineOf, IsProper, List, None, Option, Place, Read, Some, Start, Step, Try, Tx, after, alone, ap, ap₂, arith, before, codes, decimal, entry_text, false, holder_at, holder_text, id_at, id_text, if◌then◌else◌, is_name, numeral_at, numeral_back, numeral_of, numeral_within, option_and_then, option_map, other_at, place_at, place_text, read_at, reads, refl, same_Some, same_text, small_at, subst, sym, true, try_at, ℕ, ◌++◌, ◌-◌, ◌<◌, ◌^◌, ◌∙◌, ◌∷◌, ◌≡◌}
+use Rattle.beldi_book.proofs.Names.{Deployment, Entry, IntentId, IsHolder, IsId, IsLineOf, IsProper, List, None, Option, Place, Read, Some, Start, Step, AbortedTx, CommittedTx, after, alone, ap, ap₂, arith, before, codes, decimal, entry_text, false, holder_at, holder_text, id_at, id_text, if◌then◌else◌, is_name, numeral_at, numeral_back, numeral_of, numeral_within, option_and_then, option_map, other_at, place_at, place_text, read_at, reads, refl, same_Some, same_text, small_at, subst, sym, true, abort_at, ℕ, ◌++◌, ◌-◌, ◌<◌, ◌^◌, ◌∙◌, ◌∷◌, ◌≡◌}
 use Rattle.beldi_book.proofs.Cuts.{Parts, parts, joined, number_clear, id_clear, none_after, other_byte, id_proper}
 
 -- what was bound
@@ -61,23 +61,23 @@ holder_back w h e = elim (is_name w (codes "-")) as (λ t. is_name w (codes "-")
 ] refl e
 
 -- ---- the line of an entry is read
-read_read : (id : IntentId) (seen : ℕ) → IsId id → seen < 2 ^ 64 → read_at (id_text id ++ 32 ∷ decimal seen) ≡ Some (Read id seen)
-read_read id seen h s =
-    let p = space_id id (decimal seen) h in
-    rw p.back (rw p.front (rw (id_read id h) (rw (numeral_of (2 ^ 64 - 1) seen s (omega arith)) refl)))
+read_read : (id : IntentId) (version : ℕ) → IsId id → version < 2 ^ 64 → read_at (id_text id ++ 32 ∷ decimal version) ≡ Some (Read id version)
+read_read id version h s =
+    let p = space_id id (decimal version) h in
+    rw p.back (rw p.front (rw (id_read id h) (rw (numeral_of (2 ^ 64 - 1) version s (omega arith)) refl)))
 
-try_read : (id : IntentId) (p : Place) (h : Option IntentId) → IsProper (Try id p h) → try_at (id_text id ++ 32 ∷ (place_text p ++ 32 ∷ holder_text h)) ≡ Some (Try id p h)
-try_read id p h f =
+abort_read : (id : IntentId) (p : Place) (h : Option IntentId) → IsProper (AbortedTx id p h) → abort_at (id_text id ++ 32 ∷ (place_text p ++ 32 ∷ holder_text h)) ≡ Some (AbortedTx id p h)
+abort_read id p h f =
     let a = space_id id (place_text p ++ 32 ∷ holder_text h) f.0 in
     let b = parts 32 (place_text p) (holder_text h) (place_clear p f.1 f.2) in
     rw a.back (rw b.back (rw a.front (rw (id_read id f.0) (rw b.front (rw (place_read p f.1 f.2) (rw (holder_read h f.3) refl))))))
 
 pub other_read : (code : Deployment) (e : Entry) (word words : List ℕ) → IsProper e → word ≡ before 32 (entry_text code e) → after 32 (entry_text code e) ≡ Some words → is_name word (codes "start") ≡ false → other_at word words ≡ Some e
 other_read code (Start t f a) word words h is more other = absurd (let g = sym other ∙ ap (λ w. is_name w (codes "start")) is in cc)
-other_read code (Read id seen) word words h is more other = ap₂ other_at is (sym (same_Some _ words more)) ∙ read_read id seen h.0 h.1
+other_read code (Read id version) word words h is more other = ap₂ other_at is (sym (same_Some _ words more)) ∙ read_read id version h.0 h.1
 other_read code (Step id) word words h is more other = ap₂ other_at is (sym (same_Some _ words more)) ∙ ap (option_map Step) (id_read id h)
-other_read code (Tx id) word words h is more other = ap₂ other_at is (sym (same_Some _ words more)) ∙ ap (option_map Tx) (id_read id h)
-other_read code (Try id p k) word words h is more other = ap₂ other_at is (sym (same_Some _ words more)) ∙ try_read id p k h
+other_read code (CommittedTx id) word words h is more other = ap₂ other_at is (sym (same_Some _ words more)) ∙ ap (option_map CommittedTx) (id_read id h)
+other_read code (AbortedTx id p k) word words h is more other = ap₂ other_at is (sym (same_Some _ words more)) ∙ abort_read id p k h
 
 -- ---- and what is read is the entry of the line
 read_back : (code : Deployment) (words : List ℕ) (e : Entry) → read_at words ≡ Some e → IsLineOf code (codes "read " ++ words) e
@@ -90,8 +90,8 @@ read_back code words e h =
       proper = (id_proper (before 32 words) c.a c.is, let most = numeral_within (2 ^ 64 - 1) d.a b.a d.is in omega arith);
     })
 
-try_back : (code : Deployment) (words : List ℕ) (e : Entry) → try_at words ≡ Some e → IsLineOf code (codes "try " ++ words) e
-try_back code words e h =
+abort_back : (code : Deployment) (words : List ℕ) (e : Entry) → abort_at words ≡ Some e → IsLineOf code (codes "try " ++ words) e
+abort_back code words e h =
     let a = bound (after 32 words) _ e h in
     let b = bound (after 32 a.a) _ e a.gives in
     let c = bound (id_at (before 32 words)) _ e b.gives in
@@ -99,7 +99,7 @@ try_back code words e h =
     let g = bound (holder_at b.a) _ e d.gives in
     let place = place_back (before 32 a.a) d.a d.is in
     let holder = holder_back b.a g.a g.is in
-    subst (IsLineOf code (codes "try " ++ words)) (same_Some (Try c.a d.a g.a) e g.gives) (record {
+    subst (IsLineOf code (codes "try " ++ words)) (same_Some (AbortedTx c.a d.a g.a) e g.gives) (record {
       text = ap (λ w. codes "try " ++ w) (joined 32 words a.a a.is ∙ sym (ap₂ (λ x y. x ++ 32 ∷ y) (alone c.a (before 32 words) c.is) (ap₂ (λ x y. x ++ 32 ∷ y) place.0 holder.0 ∙ sym (joined 32 a.a b.a b.is))));
       proper = (id_proper (before 32 words) c.a c.is, place.1, place.2, holder.1);
     })
@@ -118,12 +118,12 @@ pub other_back : (code : Deployment) (word words : List ℕ) (e : Entry) → oth
 other_back code word words e h =
     elim (is_name word (codes "read")) as (λ t. is_name word (codes "read") ≡ t → (if t then read_at words else not_read) ≡ Some e → IsLineOf code (word ++ 32 ∷ words) e) [
       | true ↦ λ is g. here (codes "read") is (read_back code words e g)
-      | false ↦ λ _. elim (is_name word (codes "try")) as (λ t. is_name word (codes "try") ≡ t → (if t then try_at words else not_try) ≡ Some e → IsLineOf code (word ++ 32 ∷ words) e) [
-        | true ↦ λ is g. here (codes "try") is (try_back code words e g)
+      | false ↦ λ _. elim (is_name word (codes "try")) as (λ t. is_name word (codes "try") ≡ t → (if t then abort_at words else not_abort) ≡ Some e → IsLineOf code (word ++ 32 ∷ words) e) [
+        | true ↦ λ is g. here (codes "try") is (abort_back code words e g)
         | false ↦ λ _. elim (is_name word (codes "step")) as (λ t. is_name word (codes "step") ≡ t → (if t then option_map Step (id_at words) else not_step) ≡ Some e → IsLineOf code (word ++ 32 ∷ words) e) [
           | true ↦ λ is g. here (codes "step") is (one_id code words e (codes "step ") (λ id. Step id) (id_at words) (λ id. refl) (λ id p. p) refl g)
-          | false ↦ λ _. elim (is_name word (codes "tx")) as (λ t. is_name word (codes "tx") ≡ t → (if t then option_map Tx (id_at words) else None) ≡ Some e → IsLineOf code (word ++ 32 ∷ words) e) [
-            | true ↦ λ is g. here (codes "tx") is (one_id code words e (codes "tx ") (λ id. Tx id) (id_at words) (λ id. refl) (λ id p. p) refl g)
+          | false ↦ λ _. elim (is_name word (codes "tx")) as (λ t. is_name word (codes "tx") ≡ t → (if t then option_map CommittedTx (id_at words) else None) ≡ Some e → IsLineOf code (word ++ 32 ∷ words) e) [
+            | true ↦ λ is g. here (codes "tx") is (one_id code words e (codes "tx ") (λ id. CommittedTx id) (id_at words) (λ id. refl) (λ id p. p) refl g)
             | false ↦ λ _ g. cc
           ] refl
         ] refl
@@ -131,13 +131,13 @@ other_back code word words e h =
     ] refl h
   where
     not_step : Option Entry
-    not_step = if is_name word (codes "tx") then option_map Tx (id_at words) else None
+    not_step = if is_name word (codes "tx") then option_map CommittedTx (id_at words) else None
 
-    not_try : Option Entry
-    not_try = if is_name word (codes "step") then option_map Step (id_at words) else not_step
+    not_abort : Option Entry
+    not_abort = if is_name word (codes "step") then option_map Step (id_at words) else not_step
 
     not_read : Option Entry
-    not_read = if is_name word (codes "try") then try_at words else not_try
+    not_read = if is_name word (codes "try") then abort_at words else not_abort
 
     here : (name : List ℕ) → is_name word name ≡ true → IsLineOf code (name ++ 32 ∷ words) e → IsLineOf code (word ++ 32 ∷ words) e
     here name is l = subst (λ w. IsLineOf code (w ++ 32 ∷ words) e) (sym (same_text word name (sym is))) l

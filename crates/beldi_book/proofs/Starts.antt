@@ -1,6 +1,6 @@
 -- The lines that start a root: a function is named, or numbered where the deployment lacks it.
 use Rattle.std.specs.Prelude.{IfOk}
-use Rattle.beldi_book.proofs.Names.{Bor, Deployment, Entry, Err, Follows, Func, IsArgs, IsCall, IsCallOf, IsCalled, IsEntryOf, IsLineOf, IsNumbered, IsStart, List, Names, None, Ok, Option, Read, Result, Some, Start, Step, Try, Tx, Value, [], after, ap, ap₂, arith, before, codes, datum_of, decimal, drop, entry_text, false, func_at, func_text, is_name, is_some, length, name_or, numeral_at, numeral_back, numeral_of, numeral_within, option_copied, other_at, refl, same_Some, same_text, small_at, subst, sym, take, text_of, true, ℕ, ◌++◌, ◌-◌, ◌<◌, ◌^◌, ◌∙◌, ◌∷◌, ◌≡◌, ◌≤◌}
+use Rattle.beldi_book.proofs.Names.{Bor, Deployment, Entry, Err, Follows, Func, IsArgs, IsCall, IsCallOf, IsCalled, IsEntryOf, IsLineOf, IsNumbered, IsStart, List, Names, None, Ok, Option, Read, Result, Some, Start, Step, AbortedTx, CommittedTx, Value, [], after, ap, ap₂, arith, before, codes, datum_of, decimal, drop, entry_text, false, func_at, func_text, is_name, is_some, length, name_or, numeral_at, numeral_back, numeral_of, numeral_within, option_copied, other_at, refl, same_Some, same_text, small_at, subst, sym, take, text_of, true, ℕ, ◌++◌, ◌-◌, ◌<◌, ◌^◌, ◌∙◌, ◌∷◌, ◌≡◌, ◌≤◌}
 use Rattle.beldi_book.proofs.{Cuts.parts, Cuts.joined, Cuts.number_clear, Cuts.stripped, Cuts.not_stripped, Others.small_read, Others.small_back, Others.other_read, Others.other_back}
 
 -- ---- a name, and arguments
@@ -104,8 +104,8 @@ some_rest : (code : Deployment) (e : Entry) → after 32 (entry_text code e) ≡
 some_rest code (Start t f a) h = cc
 some_rest code (Read id s) h = cc
 some_rest code (Step id) h = cc
-some_rest code (Tx id) h = cc
-some_rest code (Try id p k) h = cc
+some_rest code (CommittedTx id) h = cc
+some_rest code (AbortedTx id p k) h = cc
 
 pub one_word : (code : Deployment) (line : List ℕ) → after 32 line ≡ None → IsEntryOf code line None
 one_word code line h e l = some_rest code e (ap (after 32) (sym l.text) ∙ h)
@@ -114,8 +114,8 @@ pub starts_so : (code : Deployment) (e : Entry) → is_name (before 32 (entry_te
 starts_so code (Start t f a) h = (t, f, a, refl)
 starts_so code (Read id s) h = cc
 starts_so code (Step id) h = cc
-starts_so code (Tx id) h = cc
-starts_so code (Try id p k) h = cc
+starts_so code (CommittedTx id) h = cc
+starts_so code (AbortedTx id p k) h = cc
 
 pub start_line : (code : Deployment) (line words : List ℕ) (o : Option Entry) → is_name (before 32 line) (codes "start") ≡ true → after 32 line ≡ Some words → IsStart code words o → IsEntryOf code line o
 start_line code line words o h more f = by_entry o f

@@ -1,7 +1,7 @@
 pub mod Book
-pub mod Laws
-pub mod Line
-pub mod Order
-pub mod Places
-pub mod Text
-pub mod Words
+pub mod BookLaws
+pub mod BookText
+pub mod EntryLine
+pub mod EntryWords
+pub mod LinearOrder
+pub mod ReadPlaces

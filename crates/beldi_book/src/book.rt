@@ -1,8 +1,8 @@
 // The book.
 ghost use Rattle.std.specs.Prelude.{◌≡◌, ◌+◌, ◌-◌, ◌≤◌, ◌<◌, ◌++◌, ◌∷◌, [], ℕ, suc, ◌^◌, min, length, slice_get, option_copied, OnOk, OnErr, IfOk, string_bytes};
-ghost use Rattle.beldi_book.specs.Text.{book_text};
-ghost use Rattle.beldi_book.specs.Order.{count_changes, linear};
-ghost use Rattle.beldi_book.specs.Line.{ReadsBook};
+ghost use Rattle.beldi_book.specs.BookText.{book_text};
+ghost use Rattle.beldi_book.specs.LinearOrder.{count_changes, linear};
+ghost use Rattle.beldi_book.specs.EntryLine.{ReadsBook};
 ghost use Rattle.beldi_book.specs.declared.book.BookErr.TheVariants.{BadEntry};
 
 use crate::entry::Entry;
@@ -49,7 +49,7 @@ impl Model for Book {
     ghost use Rattle.std.specs.Coded.{codes};
     ghost use Rattle.beldi_book.specs.contracts.entry.Entry as entry;
     ghost use Rattle.beldi_book.specs.Book.{Entries};
-    ghost use Rattle.beldi_book.specs.Order.{count_changes};
+    ghost use Rattle.beldi_book.specs.LinearOrder.{count_changes};
 
     ghost Value = { Entries };
 

@@ -1,12 +1,12 @@
 // The entries of a book, and their text.
 ghost use Rattle.std.specs.Prelude.{◌≡◌, ◌++◌, OnOk, IfOk, is_none, codes};
-ghost use Rattle.beldi_value.specs.Text.{id_text, place_text};
-ghost use Rattle.beldi_book.specs.Text.{entry_text, holder_text};
-ghost use Rattle.beldi_book.specs.Order.{seen_of};
-ghost use Rattle.beldi_book.specs.declared.entry.Entry.TheVariants.{Start, Try};
+ghost use Rattle.beldi_value.specs.ValueText.{id_text, place_text};
+ghost use Rattle.beldi_book.specs.BookText.{entry_text, holder_text};
+ghost use Rattle.beldi_book.specs.LinearOrder.{version_of};
+ghost use Rattle.beldi_book.specs.declared.entry.Entry.TheVariants.{Start, AbortedTx};
 
 use beldi_tree::Deployment;
-use beldi_value::{Apart, IntentId, Place, Str, Value, copy_holder, or_drop};
+use beldi_value::{Boxed, IntentId, Place, Str, Value, copy_holder, or_drop};
 use std::alloc::{AllocError, Global};
 
 /// What a step of the run was.
@@ -18,24 +18,24 @@ pub enum Entry {
         func: u16,
         args: Value,
     },
-    /// An instance made its next step, which was a read. `seen` changes had been made when it read.
+    /// An instance made its next step, which was a read. `version` changes had been made when it read.
     Read {
         id: IntentId,
-        seen: u64,
+        version: u64,
     },
     /// An instance made its next step, which was no read.
     Step {
         id: IntentId,
     },
     /// A transaction of an instance committed: all of its steps, in one piece.
-    Tx {
+    CommittedTx {
         id: IntentId,
     },
     /// A transaction of an instance was aborted at this place: by its body, or where it met an item of the holder.
-    Try {
+    AbortedTx {
         id: IntentId,
-        place: Apart<Place>,
-        holder: Option<Apart<IntentId>>,
+        place: Boxed<Place>,
+        holder: Option<Boxed<IntentId>>,
     },
 }
 
@@ -50,23 +50,23 @@ impl Entry {
                 func: *func,
                 args: args.copy(alloc)?,
             }),
-            Entry::Read { id, seen } => Ok(Entry::Read {
+            Entry::Read { id, version } => Ok(Entry::Read {
                 id: id.copy(alloc)?,
-                seen: *seen,
+                version: *version,
             }),
             Entry::Step { id } => Ok(Entry::Step {
                 id: id.copy(alloc)?,
             }),
-            Entry::Tx { id } => Ok(Entry::Tx {
+            Entry::CommittedTx { id } => Ok(Entry::CommittedTx {
                 id: id.copy(alloc)?,
             }),
-            Entry::Try { id, place, holder } => copy_try(alloc, id, place, holder),
+            Entry::AbortedTx { id, place, holder } => copy_abort(alloc, id, place, holder),
         }
     }
 
     /// Whether it is a change: any entry but a read.
     pub fn is_change(&self) -> bool
-        ensures { result ≡ is_none (seen_of self.now) }
+        ensures { result ≡ is_none (version_of self.now) }
     {
         !matches!(self, Entry::Read { .. })
     }
@@ -79,31 +79,31 @@ impl Entry {
             Entry::Start { ticket, func, args } => {
                 write_start(alloc, code, *ticket, *func, args, out)
             }
-            Entry::Read { id, seen } => {
+            Entry::Read { id, version } => {
                 write_id("read ", id, out)?;
                 out.push_text(" ")?;
-                out.push_number(*seen)
+                out.push_number(*version)
             }
             Entry::Step { id } => write_id("step ", id, out),
-            Entry::Tx { id } => write_id("tx ", id, out),
-            Entry::Try { id, place, holder } => write_try(id, place, holder, out),
+            Entry::CommittedTx { id } => write_id("tx ", id, out),
+            Entry::AbortedTx { id, place, holder } => write_abort(id, place, holder, out),
         }
     }
 }
 
-fn copy_try(
+fn copy_abort(
     alloc: Global,
     id: &IntentId,
-    place: &Apart<Place>,
-    holder: &Option<Apart<IntentId>>,
+    place: &Boxed<Place>,
+    holder: &Option<Boxed<IntentId>>,
 ) -> Result<Entry, AllocError>
-    ensures { IfOk result (λ e. e ≡ Try id.now place.now holder.now) }
+    ensures { IfOk result (λ e. e ≡ AbortedTx id.now place.now holder.now) }
 {
     let id = id.copy(alloc)?;
     let place = or_drop!(place.get().copy(alloc); id);
-    let place = or_drop!(Apart::new(alloc, place); id);
+    let place = or_drop!(Boxed::new(alloc, place); id);
     let holder = or_drop!(copy_holder(alloc, holder); id, place);
-    Ok(Entry::Try { id, place, holder })
+    Ok(Entry::AbortedTx { id, place, holder })
 }
 
 fn write_start(
@@ -124,10 +124,10 @@ fn write_start(
     args.write_json(alloc, out)
 }
 
-fn write_try(
+fn write_abort(
     id: &IntentId,
-    place: &Apart<Place>,
-    holder: &Option<Apart<IntentId>>,
+    place: &Boxed<Place>,
+    holder: &Option<Boxed<IntentId>>,
     out: &mut Str,
 ) -> Result<(), AllocError>
     ensures { OnOk result (out.new ≡ out.old ++ (codes "try " ++ (id_text id.now ++ (codes " " ++ (place_text place.now ++ (codes " " ++ holder_text holder.now)))))) }
@@ -148,7 +148,7 @@ fn write_id(word: &str, id: &IntentId, out: &mut Str) -> Result<(), AllocError>
 }
 
 // Appends the holder's id, or `-`.
-fn write_holder(holder: &Option<Apart<IntentId>>, out: &mut Str) -> Result<(), AllocError>
+fn write_holder(holder: &Option<Boxed<IntentId>>, out: &mut Str) -> Result<(), AllocError>
     ensures { OnOk result (out.new ≡ out.old ++ holder_text holder.now) }
 {
     match holder {

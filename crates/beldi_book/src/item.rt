@@ -3,7 +3,7 @@ ghost use Rattle.std.specs.Prelude.{◌≡◌, ◌++◌, OnOk, OnErr, codes};
 ghost use Rattle.beldi_tree.specs.Names.{func_text};
 ghost use Rattle.beldi_value.specs.Json.{text_of};
 ghost use Rattle.beldi_value.specs.Value.{datum_of};
-ghost use Rattle.beldi_book.specs.Text.{table_text, item_text, quoted_key};
+ghost use Rattle.beldi_book.specs.BookText.{table_text, item_text, quoted_key};
 
 use beldi_tree::Deployment;
 use beldi_value::{Str, Value, or_drop};

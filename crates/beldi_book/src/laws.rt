@@ -1,5 +1,5 @@
 // Laws of a book's text.
-ghost use Rattle.beldi_book.specs.Laws.{BookIsReadAgain, NothingElseIsRead, BadLineIsFirst};
+ghost use Rattle.beldi_book.specs.BookLaws.{BookIsReadAgain, NothingElseIsRead, BadLineIsFirst};
 
 /// A book that was written is read as it was, where the names of the functions are words and differ, and its entries are
 /// within their limits.

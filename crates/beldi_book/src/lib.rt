@@ -1,9 +1,9 @@
 //! The book: the entries of a session's run, in the order in which they were made, and their text, written and read. It
 //! stands on `beldi_value` and `beldi_tree`, and on `thiserror`; on `json` and `serde_json` only for lemmas on the text of
-//! values. Its definitions: `specs/Book` (what contracts see of a book), `specs/Order` (the order in which its entries took
-//! effect; what that order keeps is said in `beldi_order`), `specs/Places` (the same order, place by place), `specs/Text`
-//! (the lines), `specs/Line` (which line is the text of which entry, and which text that of which book), `specs/Words` (the
-//! parts that a line is read by), `specs/Laws` (what holds of a book's text).
+//! values. Its definitions: `specs/Book` (what contracts see of a book), `specs/LinearOrder` (the order in which its entries took
+//! effect; what that order keeps is said in `beldi_plain_laws`), `specs/ReadPlaces` (the same order, place by place), `specs/BookText`
+//! (the lines), `specs/EntryLine` (which line is the text of which entry, and which text that of which book), `specs/EntryWords` (the
+//! parts that a line is read by), `specs/BookLaws` (what holds of a book's text).
 //!
 //! Proved:
 //! - `Book::push` adds the entry at the end (`entries`), within the room that `Book::reserve` made (`room`, `spare`).
@@ -19,7 +19,7 @@
 //! Files:
 //! - Code (`src/`): `entry`, `book`, `item` a line of a listing; `order` the order in time; `reading` a line of a text;
 //!   `laws`.
-//! - Lemmas (`proofs/`): `Orders`, `Places` the linear order; `Books`, `Cuts`, `LineFeeds`, `Starts`, `Others` what is read
+//! - Lemmas (`proofs/`): `Orders`, `ReadPlaces` the linear order; `Books`, `Cuts`, `LineFeeds`, `Starts`, `Others` what is read
 //!   of a line and a text; `Again` what was written is read again.
 #![tactic(auto)]
 

@@ -1,7 +1,7 @@
 // The order in which the entries of a book took effect: the changes, and between them the reads by their places.
 ghost use Rattle.std.specs.Prelude.{◌≡◌, ◌++◌, ◌∷◌, [], ◌<◌, OnOk, IfOk, length, option_to_list};
-ghost use Rattle.beldi_book.specs.Order.{changes_of, linear};
-ghost use Rattle.beldi_book.specs.Places.{empty_places, put_in, woven};
+ghost use Rattle.beldi_book.specs.LinearOrder.{changes_of, linear};
+ghost use Rattle.beldi_book.specs.ReadPlaces.{empty_places, put_in, woven};
 
 use crate::entry::Entry;
 use std::alloc::{AllocError, Global};
@@ -82,10 +82,10 @@ fn put_in(alloc: Global, places: &mut Vec<Reads>, entry: &Entry) -> Result<(), A
     ensures places { OnOk result (places.new.items ≡ put_in entry.now places.old.items) }
     ensures len { OnOk result (length places.new.items ≡ length places.old.items) }
 {
-    if let Entry::Read { seen, .. } = entry {
+    if let Entry::Read { version, .. } = entry {
         let last = places.len() - 1;
-        let at = if *seen < last as u64 {
-            *seen as usize
+        let at = if *version < last as u64 {
+            *version as usize
         } else {
             last
         };

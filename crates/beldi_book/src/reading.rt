@@ -2,14 +2,14 @@
 ghost use Rattle.std.specs.Prelude.{◌≡◌, IfOk, option_copied, option_and_then, option_map};
 ghost use Rattle.beldi_value.specs.IdAt.{id_at};
 ghost use Rattle.beldi_tree.specs.Bindings.{is_name};
-ghost use Rattle.beldi_book.specs.Line.{IsArgs, Follows, Names, IsNamed, IsNumbered, IsCall, IsStart, IsEntryOf};
-ghost use Rattle.beldi_book.specs.declared.entry.Entry.TheVariants.{Try};
-ghost use Rattle.beldi_book.specs.Words.{small_at, place_at, holder_at, read_at, try_at, other_at};
+ghost use Rattle.beldi_book.specs.EntryLine.{IsArgs, Follows, Names, IsNamed, IsNumbered, IsCall, IsStart, IsEntryOf};
+ghost use Rattle.beldi_book.specs.declared.entry.Entry.TheVariants.{AbortedTx};
+ghost use Rattle.beldi_book.specs.EntryWords.{small_at, place_at, holder_at, read_at, abort_at, other_at};
 
 use crate::entry::Entry;
 use beldi_tree::Deployment;
 use beldi_value::{
-    Apart, IdErr, IntentId, Place, Str, Value, ValueErr, cut_at, or_drop, read_numeral,
+    Boxed, IdErr, IntentId, Place, Str, Value, ValueErr, cut_at, or_drop, read_numeral,
 };
 use std::alloc::{AllocError, Global};
 
@@ -52,14 +52,14 @@ fn read_place(alloc: Global, word: &[u8]) -> Result<Option<Place>, AllocError>
     Ok(Some(Place { intent, step }))
 }
 
-fn read_holder(alloc: Global, word: &[u8]) -> Result<Option<Option<Apart<IntentId>>>, AllocError>
+fn read_holder(alloc: Global, word: &[u8]) -> Result<Option<Option<Boxed<IntentId>>>, AllocError>
     ensures { IfOk result (λ o. o ≡ holder_at word.now) }
 {
     if is_word(word, "-") {
         return Ok(Some(None));
     }
     match read_id(alloc, word)? {
-        Some(id) => Ok(Some(Some(Apart::new(alloc, id)?))),
+        Some(id) => Ok(Some(Some(Boxed::new(alloc, id)?))),
         None => Ok(None),
     }
 }
@@ -68,20 +68,22 @@ fn read_holder(alloc: Global, word: &[u8]) -> Result<Option<Option<Apart<IntentI
 fn read_read(alloc: Global, words: &[u8]) -> Result<Option<Entry>, AllocError>
     ensures { IfOk result (λ o. o ≡ read_at words.now) }
 {
-    let (id, seen) = cut_at(words, b' ');
-    let Some(seen) = seen else { return Ok(None) };
+    let (id, version) = cut_at(words, b' ');
+    let Some(version) = version else {
+        return Ok(None)
+    };
     let Some(id) = read_id(alloc, id)? else {
         return Ok(None)
     };
-    let Some(seen) = read_numeral(seen, u64::MAX) else {
+    let Some(version) = read_numeral(version, u64::MAX) else {
         return Ok(None)
     };
-    Ok(Some(Entry::Read { id, seen }))
+    Ok(Some(Entry::Read { id, version }))
 }
 
 // What follows the word `try`.
-fn read_try(alloc: Global, words: &[u8]) -> Result<Option<Entry>, AllocError>
-    ensures { IfOk result (λ o. o ≡ try_at words.now) }
+fn read_abort(alloc: Global, words: &[u8]) -> Result<Option<Entry>, AllocError>
+    ensures { IfOk result (λ o. o ≡ abort_at words.now) }
 {
     let (id, rest) = cut_at(words, b' ');
     let Some(rest) = rest else { return Ok(None) };
@@ -92,17 +94,17 @@ fn read_try(alloc: Global, words: &[u8]) -> Result<Option<Entry>, AllocError>
     let Some(id) = read_id(alloc, id)? else {
         return Ok(None)
     };
-    read_try_of(alloc, id, place, holder)
+    read_abort_of(alloc, id, place, holder)
 }
 
 // What follows `try` and this id.
-fn read_try_of(
+fn read_abort_of(
     alloc: Global,
     id: IntentId,
     place: &[u8],
     holder: &[u8],
 ) -> Result<Option<Entry>, AllocError>
-    ensures { IfOk result (λ o. o ≡ option_and_then (λ p. option_map (λ h. Try id p h) (holder_at holder.now)) (place_at place.now)) }
+    ensures { IfOk result (λ o. o ≡ option_and_then (λ p. option_map (λ h. AbortedTx id p h) (holder_at holder.now)) (place_at place.now)) }
 {
     let Some(place) = or_drop!(read_place(alloc, place); id) else {
         drop(id);
@@ -113,8 +115,8 @@ fn read_try_of(
         drop(place);
         return Ok(None)
     };
-    let place = or_drop!(Apart::new(alloc, place); id, holder);
-    Ok(Some(Entry::Try { id, place, holder }))
+    let place = or_drop!(Boxed::new(alloc, place); id, holder);
+    Ok(Some(Entry::AbortedTx { id, place, holder }))
 }
 
 // An entry that is no start, by its first word and what follows that.
@@ -125,7 +127,7 @@ fn read_other(alloc: Global, word: &[u8], words: &[u8]) -> Result<Option<Entry>,
         return read_read(alloc, words);
     }
     if is_word(word, "try") {
-        return read_try(alloc, words);
+        return read_abort(alloc, words);
     }
     let is_step = is_word(word, "step");
     if !is_step && !is_word(word, "tx") {
@@ -133,7 +135,7 @@ fn read_other(alloc: Global, word: &[u8], words: &[u8]) -> Result<Option<Entry>,
     }
     match read_id(alloc, words)? {
         Some(id) if is_step => Ok(Some(Entry::Step { id })),
-        Some(id) => Ok(Some(Entry::Tx { id })),
+        Some(id) => Ok(Some(Entry::CommittedTx { id })),
         None => Ok(None),
     }
 }

@@ -1,5 +1,5 @@
 -- The answers that the rows hold for an intent are one list, and answers that they hold begin it.
-use Rattle.beldi_laws.proofs.Names.{Answer, Body, Deployment, IntentId, List, None, Rows, Some, [], ap, append-nil, append_assoc, refl, same_some, subst, sym, ◌++◌, ◌∙◌, ◌∷◌, ◌≡◌}
+use Rattle.beldi_invariant.proofs.Names.{Answer, Body, Deployment, IntentId, List, None, Rows, Some, [], ap, append-nil, append_assoc, refl, same_some, subst, sym, ◌++◌, ◌∙◌, ◌∷◌, ◌≡◌}
 use Rattle.beldi_bound.specs.Cost.{Asked, next_held}
 
 module _ (d : Deployment) (e : Rows) (id : IntentId) (b : Body) where

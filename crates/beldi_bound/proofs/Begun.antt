@@ -1,5 +1,5 @@
 -- A turn of a run that has begun, by what its stage says: it goes on in its effect, or to the next one, or it is over.
-use Rattle.beldi_order.proofs.Maps.{same_some}
+use Rattle.beldi_plain_laws.proofs.Maps.{same_some}
 use Rattle.beldi_upkeep.proofs.{Overs.no_turn_over, Started.started_of_it}
 use Rattle.beldi_bound.proofs.{Closed.closes_end, Closed.none_spared, FirstStages.first_stages_are_few, FirstsOpen.firsts_open, Rising.TellsAnswer, Rising.steps_rise, Standing.runs_stand, Turning.turns_lower}
 use Rattle.std.specs.FinMap as map
@@ -8,22 +8,22 @@ use Rattle.std.proofs.lemmas.Bool.Decides.{nat_tests}
 use Rattle.beldi_value.specs.{declared.id.IntentId.IntentId, declared.outcome.Outcome.Outcome}
 use Rattle.beldi_tree.specs.declared.deployment.Deployment.{Deployment}
 use Rattle.beldi_lang.specs.declared.{effect.Answer.Answer, machine.Machine.Machine}
-use Rattle.beldi_book.specs.Order.{count_changes}
+use Rattle.beldi_book.specs.LinearOrder.{count_changes}
 use Rattle.beldi_row.specs.{Key.RowKey, Table.Rows, declared.key.Kind.Kind, declared.row.Body.Body, declared.row.IntentRow.IntentRow, declared.row.Row.Row}
-use Rattle.beldi_walk.specs.Query.{rows_after, told_by}
+use Rattle.beldi_query.specs.Query.{rows_after, query_reply}
 use Rattle.beldi_call.specs.declared.{async_call.AsyncAt.AsyncAt, call.CallAt.CallAt}
-use Rattle.beldi_known.proofs.Cases.{by_cases}
+use Rattle.beldi_histories.proofs.Cases.{by_cases}
 use Rattle.beldi_step.proofs.PutRun.{put_self}
-use Rattle.beldi_step.specs.{Host.Core, Host.counted, Host.has_run, Host.is_crowded, Host.made, Host.may_start, Host.started, Host.with_run, Host.put_run, Host.turn_next, Host.turned_core, Next.next_run, declared.run.Begun.Begun, declared.run.Mark.Mark, declared.run.Run.Run, declared.run.RunAt.RunAt, declared.run.RunTx.RunTx, declared.run.Says.Says, declared.run.Stage.Stage, declared.run.Wait.Wait, declared.event.Seen.Seen}
-use Rattle.beldi_step.specs.Run.{Turned, asks_at, at_once, at_stage, callee_of, says_of, first_stage, goes_from, run_asks, takes, told_at, turned_by}
-use Rattle.beldi_laws.specs.OneAnswer.{IsBegun}
-use Rattle.beldi_upkeep.specs.Checked.{Checked, is_close, next_says, next_turn}
-use Rattle.beldi_bound.specs.{Cost.AreAsked, Cost.cost_from, Cost.step_cost, Ends.IsIn, Ends.Sound, Left.SaysLower, Left.left_at, Work.has_ended, Work.seat}
-use Rattle.beldi_bound.proofs.{Costs.body_costs, Costs.its_cost, Costs.splits, Costs.rest_more, Ending.covers_left, Ending.knows_it, Ending.over, Ending.some_left, Ending.waits, Entries.run_there, Numbers.put_apart, Numbers.put_same, Waited.async_goes, Facts.GoesOn, Facts.Stands, Facts.begun_left, Facts.rest_left, Facts.rest_cost, GoingOn.Funds, GoingOn.by_key, GoingOn.by_none, GoingOn.fewer, Lists.without, GoingOn.Keys, GoingOn.goes_at, GoingOn.goes_on, GoingOn.leaves}
+use Rattle.beldi_step.specs.{HostStep.Core, HostStep.counted, HostStep.has_run, HostStep.is_crowded, HostStep.made, HostStep.may_start, HostStep.started, HostStep.with_run, HostStep.put_run, HostStep.turn_next, HostStep.turned_core, Next.next_run, declared.run.Begun.Begun, declared.run.Mark.Mark, declared.run.Run.Run, declared.run.RunAt.RunAt, declared.run.RunTx.RunTx, declared.run.StageOutput.StageOutput, declared.run.Stage.Stage, declared.run.Wait.Wait, declared.event.EventReply.EventReply}
+use Rattle.beldi_step.specs.Run.{Turned, asks_at, local_steps, at_stage, callee_of, output_of, first_stage, goes_from, run_asks, takes, told_at, turned_by}
+use Rattle.beldi_invariant.specs.OneAnswer.{IsBegun}
+use Rattle.beldi_upkeep.specs.Checked.{Checked, is_close, next_output, next_turn}
+use Rattle.beldi_bound.specs.{Cost.AreAsked, Cost.cost_from, Cost.step_cost, Ends.IsIn, Ends.Sound, Left.OutputLower, Left.left_at, SettleWork.has_ended, SettleWork.seat}
+use Rattle.beldi_bound.proofs.{Costs.body_costs, Costs.its_cost, Costs.splits, Costs.rest_more, Ending.covers_left, Ending.knows_it, Ending.over, Ending.some_left, Ending.waits, BoundEntries.run_there, Numbers.put_apart, Numbers.put_same, Waited.async_goes, Facts.GoesOn, Facts.Stands, Facts.begun_left, Facts.rest_left, Facts.rest_cost, GoingOn.Funds, GoingOn.by_key, GoingOn.by_none, GoingOn.fewer, BoundLists.without, GoingOn.Keys, GoingOn.goes_at, GoingOn.goes_on, GoingOn.leaves}
 use Rattle.beldi_bound.proofs.Ledger.{CoversAt, Covers, HasBody, IsStarted, Ledger, Pays, find}
 use Rattle.beldi_bound.proofs.Frames.{Cost, Covered, Due, Leaves, Mid, Paid, Spare, Stuck, body_on, ended_stays, stays_so}
 use Rattle.beldi_bound.proofs.Paying.{New, amount_of, own_live, pays, with_new}
-use Rattle.beldi_bound.proofs.Turns.{FullStays, Paying, either}
+use Rattle.beldi_bound.proofs.BoundTurns.{FullStays, Paying, either}
 
 -- a run that goes on at another stage stands where it stood
 abbrev pub restand : {d : Deployment} {e : Rows} {asked : IntentId → List Answer} {r : Run} {g : Begun} → Stands d e asked r g → (w : Stage) → Stands d e asked (record r { at = RunAt.Begins (at_stage g w) }) (at_stage g w)
@@ -100,13 +100,13 @@ module _ (d : Deployment) (room : ℕ) (e : Rows) (asked : IntentId → List Ans
   pub all_left : Left m g.stage + rest_left its.0 ≤ Spare d room e asked first most (seat r) + a
   all_left = covers_left d room e asked first most past c m i r g (begun_left m its.0) (Spare d room e asked first most (seat r) + a) g.stage its.1
 
-  pub says_lower : (y : Says) → next_says c m r g ≡ y → SaysLower (Left N) (Left m g.stage) y
-  says_lower y is = subst (SaysLower (Left N) (Left m g.stage)) is (turns_lower d c m e i r g sound goes live at)
+  pub output_lower : (y : StageOutput) → next_output c m r g ≡ y → OutputLower (Left N) (Left m g.stage) y
+  output_lower y is = subst (OutputLower (Left N) (Left m g.stage)) is (turns_lower d c m e i r g sound goes live at)
 
   -- some is left of it after the turn
   module _ (b : Core) (s : Run) (h : Begun) (sb : Sound d b N) (lives : map.get b.runs i ≡ Some s) (at1 : s.at ≡ RunAt.Begins h) where
     pub left_then : (q : Stands d e asked s h) → 1 ≤ begun_left N q
-    left_then q = let k = knows_it sb.upkeep.right i s h lives at1 in some_left sb.upkeep.right s h k.0 e asked k.1 q
+    left_then q = let k = knows_it sb.upkeep.invariant i s h lives at1 in some_left sb.upkeep.invariant s h k.0 e asked k.1 q
 
     pub stands_then : Stands d e asked s h
     stands_then = runs_stand d b N e asked i s h sb goes areas lives at1
@@ -128,7 +128,7 @@ module _ (d : Deployment) (room : ℕ) (e : Rows) (asked : IntentId → List Ans
   module _ (b : Core) (u : New) (kept : List RowKey) (s : Run) (h : Begun) (runs_so : b.runs ≡ with_new (c.last_run + 1) u (put_run c.runs i (Some s))) (now_so : b.now ≡ c.now) (last_ok : first ≤ b.last_run) (deadline_so : s.deadline ≡ r.deadline) (seat_so : seat s ≡ seat r)
       (at1 : s.at ≡ RunAt.Begins h) (sb : Sound d b N) (paid : Pays_new b u kept) where
     lives_then : map.get b.runs i ≡ Some s
-    lives_then = own_live d room e asked first most past i c m r a runs keys ledger sound.upkeep.right.runs.numbers next live has b N kept (Some s) u runs_so
+    lives_then = own_live d room e asked first most past i c m r a runs keys ledger sound.upkeep.invariant.runs.numbers next live has b N kept (Some s) u runs_so
 
     pub moves : (q : Stands d e asked s h) → suc (begun_left N q) ≤ Left m g.stage + rest_left its.0 → Midway b s h (begun_left N q) → Pays d room e asked first most past runs keys 1 f b N
     moves q less mid = goes_on d room e asked first most past i c m r a runs keys sound ledger next live has mine alive b N kept u s h runs_so now_so last_ok rows full paid.keep paid.within deadline_so seat_so f at1 q
@@ -149,10 +149,10 @@ module _ (d : Deployment) (room : ℕ) (e : Rows) (asked : IntentId → List Ans
         join l x y h k = omega arith
 
   -- ---- by what the stage says
-  pub on : (w : Stage) (k : Option Mark) → next_says c m r g ≡ Says.On w k → let t = turned_by d r g (Says.On w k) in let b = (turn_next (counted c) i r t).0 in
+  pub on : (w : Stage) (k : Option Mark) → next_output c m r g ≡ StageOutput.On w k → let t = turned_by d r g (StageOutput.On w k) in let b = (turn_next (counted c) i r t).0 in
       Midway b (record r { at = RunAt.Begins (at_stage g w) }) (at_stage g w) (begun_left N (restand its.0 w)) → Turn t
-  on w k says mid sb =
-      let b = (turn_next (counted c) i r (turned_by d r g (Says.On w k))).0 in let q = restand its.0 w in let less = says_lower (Says.On w k) says in
+  on w k output mid sb =
+      let b = (turn_next (counted c) i r (turned_by d r g (StageOutput.On w k))).0 in let q = restand its.0 w in let less = output_lower (StageOutput.On w k) output in
       moves b None keys (record r { at = RunAt.Begins (at_stage g w) }) (at_stage g w) refl refl ledger.since refl refl refl sb (none_new b) q (more (Left N w) (Left m g.stage) (rest_left its.0) less) mid
     where
       more : (x y z : ℕ) → suc x ≤ y → suc (x + z) ≤ y + z
@@ -160,7 +160,7 @@ module _ (d : Deployment) (room : ℕ) (e : Rows) (asked : IntentId → List Ans
 
   -- it is over only where it closes its intent
   checked : Checked d c m
-  checked = record { right = sound.upkeep.right; rules = sound.rules; roots = started_of_it d c m sound.upkeep.started sound.starts }
+  checked = record { invariant = sound.upkeep.invariant; rules = sound.rules; roots = started_of_it d c m sound.upkeep.started sound.starts }
 
   begun_it : IsBegun c r.id r g
   begun_it = record { number = i; live = live; same_id = refl; begun = at }
@@ -180,16 +180,16 @@ module _ (d : Deployment) (room : ℕ) (e : Rows) (asked : IntentId → List Ans
       first_cost : (x y : ℕ) → x ≡ 1 + y → 1 ≤ x
       first_cost x y h = omega arith
 
-  turn_is : (y : Says) → next_says c m r g ≡ y → next_turn d c m r ≡ turned_by d r g y
-  turn_is y says = ap (λ (z : RunAt). told_at d (count_changes c.book) r z (told_by (asks_at r z) c.now m)) at ∙ ap (turned_by d r g) says
+  turn_is : (y : StageOutput) → next_output c m r g ≡ y → next_turn d c m r ≡ turned_by d r g y
+  turn_is y output = ap (λ (z : RunAt). told_at d (count_changes c.book) r z (query_reply (asks_at r z) c.now m)) at ∙ ap (turned_by d r g) output
 
-  pub ends : (k : Option Mark) (o : Option Outcome) → next_says c m r g ≡ Says.Ends k o → Turn (turned_by d r g (Says.Ends k o))
-  ends k o says = is_over k o (ap (λ (t : Turned). t.next) (turn_is (Says.Ends k o) says)) (says_lower (Says.Ends k o) says)
+  pub ends : (k : Option Mark) (o : Option Outcome) → next_output c m r g ≡ StageOutput.Ends k o → Turn (turned_by d r g (StageOutput.Ends k o))
+  ends k o output = is_over k o (ap (λ (t : Turned). t.next) (turn_is (StageOutput.Ends k o) output)) (output_lower (StageOutput.Ends k o) output)
 
   -- the effect is answered
-  pub answered : (v : Answer) (k : Option Mark) → next_says c m r g ≡ Says.Answers v k → Turn (turned_by d r g (Says.Answers v k))
-  answered v k says = by_stage (at_once d r.id (takes d g.machine g.tx v)) k (first_stage r.id g.caller (at_once d r.id (takes d g.machine g.tx v)).1 (at_once d r.id (takes d g.machine g.tx v)).0.steps (at_once d r.id (takes d g.machine g.tx v)).0.effect) refl
-      (ap (λ (t : Turned). t.next) (turn_is (Says.Answers v k) says)) (says_lower (Says.Answers v k) says) (steps_rise d c m i r g v sound live at (subst (λ y. TellsAnswer y v) (sym says) refl))
+  pub answered : (v : Answer) (k : Option Mark) → next_output c m r g ≡ StageOutput.Answers v k → Turn (turned_by d r g (StageOutput.Answers v k))
+  answered v k output = by_stage (local_steps d r.id (takes d g.machine g.tx v)) k (first_stage r.id g.caller (local_steps d r.id (takes d g.machine g.tx v)).1 (local_steps d r.id (takes d g.machine g.tx v)).0.steps (local_steps d r.id (takes d g.machine g.tx v)).0.effect) refl
+      (ap (λ (t : Turned). t.next) (turn_is (StageOutput.Answers v k) output)) (output_lower (StageOutput.Answers v k) output) (steps_rise d c m i r g v sound live at (subst (λ y. TellsAnswer y v) (sym output) refl))
     where
       by_stage : (z : Machine × Option RunTx) (k : Option Mark) (w : Option Stage) → first_stage r.id g.caller z.1 z.0.steps z.0.effect ≡ w → (next_turn d c m r).next ≡ (goes_from r z g.caller k w).next → 1 ≤ Left m g.stage → g.machine.steps < z.0.steps → Turn (goes_from r z g.caller k w)
       by_stage z k None is next_is some more sb = is_over k None next_is some sb
@@ -199,15 +199,15 @@ module _ (d : Deployment) (room : ℕ) (e : Rows) (asked : IntentId → List Ans
           answers b None keys (record r { at = RunAt.Begins h }) h refl refl ledger.since refl refl refl sb (none_new b) some refl more is
 
   -- ---- it waits
-  pub no_async : (w : Wait) → next_says c m r g ≡ Says.Waits w → (h : Begun) (z : AsyncAt) → r.at ≡ RunAt.Begins h → h.stage ≡ Stage.Async z → ⊥
-  no_async w says h z at2 stage = async_goes c m r g z w (ap (λ (x : Begun). x.stage) (same (sym at ∙ at2)) ∙ stage) says
+  pub no_async : (w : Wait) → next_output c m r g ≡ StageOutput.Waits w → (h : Begun) (z : AsyncAt) → r.at ≡ RunAt.Begins h → h.stage ≡ Stage.Async z → ⊥
+  no_async w output h z at2 stage = async_goes c m r g z w (ap (λ (x : Begun). x.stage) (same (sym at ∙ at2)) ∙ stage) output
     where
       same : {x y : Begun} → RunAt.Begins x ≡ RunAt.Begins y → x ≡ y
       same h = cc
 
-  pub stands_still : (w : Wait) (x : Seen) → next_says c m r g ≡ Says.Waits w → let t = turned_by d r g (Says.Waits w) in Pays d room e asked first most i runs keys 0 f (turned_core (counted c) i r.id t) N
-  stands_still w x says = waits d room e asked first most past i c m r a runs keys sound ledger next live has mine (turned_core (counted c) i r.id (turned_by d r g (Says.Waits w))) N f
-      (λ j. ap (λ z. map.get z j) (put_same c.runs i r live)) refl refl rows full (λ h z later at2 stage. absurd (no_async w says h z at2 stage))
+  pub stands_still : (w : Wait) (x : EventReply) → next_output c m r g ≡ StageOutput.Waits w → let t = turned_by d r g (StageOutput.Waits w) in Pays d room e asked first most i runs keys 0 f (turned_core (counted c) i r.id t) N
+  stands_still w x output = waits d room e asked first most past i c m r a runs keys sound ledger next live has mine (turned_core (counted c) i r.id (turned_by d r g (StageOutput.Waits w))) N f
+      (λ j. ap (λ z. map.get z j) (put_same c.runs i r live)) refl refl rows full (λ h z later at2 stage. absurd (no_async w output h z at2 stage))
 
   -- ---- a run that it starts
   pub one_most : 1 ≤ most
@@ -295,15 +295,15 @@ module _ (d : Deployment) (room : ℕ) (e : Rows) (asked : IntentId → List Ans
     pub open_still : has_ended (map.get m (seat q)) ≡ false
 
   -- the call is opened, and a run of the callee may be started
-  module _ (k : Option Mark) (says : next_says c m r g ≡ Says.Opens k) (calls : (q : Run) → callee_of r ≡ Some q → CallsIt q) where
+  module _ (k : Option Mark) (output : next_output c m r g ≡ StageOutput.Opens k) (calls : (q : Run) → callee_of r ≡ Some q → CallsIt q) where
     abbrev Opened : Run
     Opened = record r { at = RunAt.Begins (at_stage g (Stage.Call CallAt.Look)) }
 
     abbrev Middle : Core
-    Middle = turned_core (counted c) i r.id (turned_by d r g (Says.Opens k))
+    Middle = turned_core (counted c) i r.id (turned_by d r g (StageOutput.Opens k))
 
     less_left : suc (begun_left N (restand its.0 (Stage.Call CallAt.Look))) ≤ Left m g.stage + rest_left its.0
-    less_left = more (Left N (Stage.Call CallAt.Look)) (Left m g.stage) (rest_left its.0) (says_lower (Says.Opens k) says)
+    less_left = more (Left N (Stage.Call CallAt.Look)) (Left m g.stage) (rest_left its.0) (output_lower (StageOutput.Opens k) output)
       where
         more : (x y z : ℕ) → suc x ≤ y → suc (x + z) ≤ y + z
         more x y z h = omega arith
@@ -332,12 +332,12 @@ module _ (d : Deployment) (room : ℕ) (e : Rows) (asked : IntentId → List Ans
             (called q callee (calls q is).body (calls q is).registers (with_run Middle q) 0 (without (seat q) keys) (Due d room e asked first most (seat q)) refl (put_self (put_run c.runs i (Some Opened)) (c.last_run + 1) (Some q))
             (fewer d room e asked first most (by_key d room e asked first most keys (seat q) there)) (ledger.keys_worth (seat q) there))
 
-    by_callee : (o : Option Run) → callee_of r ≡ o → let y = made r.id (says_of (turned_by d r g (Says.Opens k))) (may_start Middle o) in Sound d y.0 N → Paying d room e asked first most past i c m r runs keys f y N
+    by_callee : (o : Option Run) → callee_of r ≡ o → let y = made r.id (output_of (turned_by d r g (StageOutput.Opens k))) (may_start Middle o) in Sound d y.0 N → Paying d room e asked first most past i c m r runs keys f y N
     by_callee None is sb = moved Middle None keys refl refl ledger.since sb (none_new Middle)
     by_callee (Some q) is sb = either (λ (p : Core × Option ℕ). Sound d p.0 N → Pays d room e asked first most past runs keys 1 f p.0 N) (has_run (put_run c.runs i (Some Opened)) q.id || is_crowded Middle) _ _
         (λ t sb. moved Middle None keys refl refl ledger.since sb (none_new Middle)) (λ t. with_callee q is (first_false (has_run (put_run c.runs i (Some Opened)) q.id) (is_crowded Middle) t)) sb
 
-    pub opens : Turn (turned_by d r g (Says.Opens k))
+    pub opens : Turn (turned_by d r g (StageOutput.Opens k))
     opens = by_callee (callee_of r) refl
 
   -- ---- it waits: for an owner, or for a result, where a run of the callee may be started
@@ -348,12 +348,12 @@ module _ (d : Deployment) (room : ℕ) (e : Rows) (asked : IntentId → List Ans
     pub calls : CallsIt run
     pub stuck : Cost d room e asked first most (seat run) ≡ 0 → Stuck d room e asked first most (seat r) ≡ Some (seat run)
 
-  module _ (w : Wait) (says : next_says c m r g ≡ Says.Waits w) where
+  module _ (w : Wait) (output : next_output c m r g ≡ StageOutput.Waits w) where
     abbrev Same : Core
-    Same = turned_core (counted c) i r.id (turned_by d r g (Says.Waits w))
+    Same = turned_core (counted c) i r.id (turned_by d r g (StageOutput.Waits w))
 
     still_waits : Pays d room e asked first most i runs keys 0 f Same N
-    still_waits = stands_still w (Seen.Crowded) says
+    still_waits = stands_still w (EventReply.Crowded) output
 
     module _ (j : IntentId) (t : Awaits j) (none : has_run (put_run c.runs i (Some r)) j ≡ false) where
       callee_it : IsCallee t.run
@@ -388,8 +388,8 @@ module _ (d : Deployment) (room : ℕ) (e : Rows) (asked : IntentId → List Ans
       lasting = leaves d room e asked first most past i c m r a runs keys sound ledger next live has mine alive After N Kept (Some (t.run, Amount)) r g refl refl last_later rows full new_it.keep new_it.within refl refl
 
       starts_it : Pays d room e asked first most past runs keys 1 f After N
-      starts_it = pays d room e asked first most past i c m r a runs keys ledger sound.upkeep.right.runs.numbers next live has After N Kept (Some r) (Some (t.run, Amount)) refl past a lasting
-          (λ z is. subst (λ y. Covered d room e asked first most past After N Kept i y a) (run_is is) (stays_so d room e asked first most lasting past past i r a (λ h z later at2 stage. absurd (no_async w says h z at2 stage)) mine)) new_it.new 1 f
+      starts_it = pays d room e asked first most past i c m r a runs keys ledger sound.upkeep.invariant.runs.numbers next live has After N Kept (Some r) (Some (t.run, Amount)) refl past a lasting
+          (λ z is. subst (λ y. Covered d room e asked first most past After N Kept i y a) (run_is is) (stays_so d room e asked first most lasting past past i r a (λ h z later at2 stage. absurd (no_async w output h z at2 stage)) mine)) new_it.new 1 f
           (pay a Amount (Keys d room e asked first most Kept) (Keys d room e asked first most keys) (f * (most + 1)) (by_key d room e asked first most keys (seat t.run) in_keys).less)
         where
           run_is : {x y : Run} → Some x ≡ Some y → x ≡ y
@@ -398,21 +398,21 @@ module _ (d : Deployment) (room : ℕ) (e : Rows) (asked : IntentId → List Ans
           pay : (a x k l f : ℕ) → 1 + (x + k) ≤ l → 1 + (a + x + k) ≤ a + l + f
           pay a x k l f h = omega arith
 
-  abbrev Answered : Core × Seen → Type 0
+  abbrev Answered : Core × EventReply → Type 0
   Answered y = Paying d room e asked first most past i c m r runs keys f y N
 
-  pub waits_so : (w : Wait) → next_says c m r g ≡ Says.Waits w → ((j : IntentId) → w ≡ Wait.Result j → Awaits j) → Turn (turned_by d r g (Says.Waits w))
-  waits_so (Wait.Held o) says awaits sb = still_waits (Wait.Held o) says
-  waits_so Wait.Worn says awaits sb = still_waits Wait.Worn says
-  waits_so (Wait.Result j) says awaits sb = either Answered (has_run (put_run c.runs i (Some r)) j) _ _ (λ t. still_waits (Wait.Result j) says)
-      (λ none. either Answered (is_crowded (Same (Wait.Result j) says)) _ _ (λ t. still_waits (Wait.Result j) says) (λ t. by_callee (callee_of r) (awaits j refl).is none))
+  pub waits_so : (w : Wait) → next_output c m r g ≡ StageOutput.Waits w → ((j : IntentId) → w ≡ Wait.Result j → Awaits j) → Turn (turned_by d r g (StageOutput.Waits w))
+  waits_so (Wait.Held o) output awaits sb = still_waits (Wait.Held o) output
+  waits_so Wait.Worn output awaits sb = still_waits Wait.Worn output
+  waits_so (Wait.Result j) output awaits sb = either Answered (has_run (put_run c.runs i (Some r)) j) _ _ (λ t. still_waits (Wait.Result j) output)
+      (λ none. either Answered (is_crowded (Same (Wait.Result j) output)) _ _ (λ t. still_waits (Wait.Result j) output) (λ t. by_callee (callee_of r) (awaits j refl).is none))
     where
-      by_callee : (o : Option Run) → o ≡ Some (awaits j refl).run → has_run (put_run c.runs i (Some r)) j ≡ false → Answered (made r.id (says_of (turned_by d r g (Says.Waits (Wait.Result j)))) (started (Same (Wait.Result j) says) o))
+      by_callee : (o : Option Run) → o ≡ Some (awaits j refl).run → has_run (put_run c.runs i (Some r)) j ≡ false → Answered (made r.id (output_of (turned_by d r g (StageOutput.Waits (Wait.Result j)))) (started (Same (Wait.Result j) output) o))
       by_callee None is none = absurd (no_some is)
         where
           no_some : {x : Run} → None ≡ Some x → ⊥
           no_some h = cc
-      by_callee (Some q) is none = subst (λ z. Pays d room e asked first most past runs keys 1 f (with_run (Same (Wait.Result j) says) z) N) (sym (run_is is)) (starts_it (Wait.Result j) says j (awaits j refl) none)
+      by_callee (Some q) is none = subst (λ z. Pays d room e asked first most past runs keys 1 f (with_run (Same (Wait.Result j) output) z) N) (sym (run_is is)) (starts_it (Wait.Result j) output j (awaits j refl) none)
         where
           run_is : {x y : Run} → Some x ≡ Some y → x ≡ y
           run_is h = cc
@@ -425,9 +425,9 @@ module _ (d : Deployment) (room : ℕ) (e : Rows) (asked : IntentId → List Ans
     -- one that has ended is paid by its caller
     pub extra : has_ended (map.get m (seat q)) ≡ true → suc (begun_left m its.0) ≤ Spare d room e asked first most (seat r) + a
 
-  module _ (v : Answer) (says : next_says c m r g ≡ Says.Starts v) (not_close : is_close g.stage ≡ true → ⊥) (noted : (q : Run) → callee_of r ≡ Some q → NotedIt q) where
+  module _ (v : Answer) (output : next_output c m r g ≡ StageOutput.Starts v) (not_close : is_close g.stage ≡ true → ⊥) (noted : (q : Run) → callee_of r ≡ Some q → NotedIt q) where
     abbrev Z : Machine × Option RunTx
-    Z = at_once d r.id (takes d g.machine g.tx v)
+    Z = local_steps d r.id (takes d g.machine g.tx v)
 
     module _ (w : Stage) (is_first : first_stage r.id g.caller Z.1 Z.0.steps Z.0.effect ≡ Some w) where
       abbrev H : Begun
@@ -440,7 +440,7 @@ module _ (d : Deployment) (room : ℕ) (e : Rows) (asked : IntentId → List Ans
       Mean = turned_core (counted c) i r.id (record (goes_from r Z g.caller None (Some w)) { starts = true })
 
       answer_to : (b : Core) (u : New) (kept : List RowKey) → b.runs ≡ with_new (c.last_run + 1) u (put_run c.runs i (Some Next)) → b.now ≡ c.now → first ≤ b.last_run → Sound d b N → Pays_new b u kept → Pays d room e asked first most past runs keys 1 f b N
-      answer_to b u kept runs_so now_so last_ok sb paid = answers b u kept Next H runs_so now_so last_ok refl refl refl sb paid (says_lower (Says.Starts v) says) refl (steps_rise d c m i r g v sound live at (subst (λ y. TellsAnswer y v) (sym says) refl)) is_first
+      answer_to b u kept runs_so now_so last_ok sb paid = answers b u kept Next H runs_so now_so last_ok refl refl refl sb paid (output_lower (StageOutput.Starts v) output) refl (steps_rise d c m i r g v sound live at (subst (λ y. TellsAnswer y v) (sym output) refl)) is_first
 
       module _ (q : Run) (is : callee_of r ≡ Some q) (none : has_run (put_run c.runs i (Some Next)) q.id ≡ false) (sb : Sound d (with_run Mean q) N) where
         new_last : first ≤ c.last_run + 1
@@ -466,11 +466,11 @@ module _ (d : Deployment) (room : ℕ) (e : Rows) (asked : IntentId → List Ans
         by_extra : has_ended (map.get m (seat q)) ≡ true → Pays d room e asked first most past runs keys 1 f (with_run Mean q) N
         by_extra over_it =
             let b = with_run Mean q in
-            let lives = own_live d room e asked first most past i c m r a runs keys ledger sound.upkeep.right.runs.numbers next live has b N keys (Some Next) (Some (q, 1)) refl in
+            let lives = own_live d room e asked first most past i c m r a runs keys ledger sound.upkeep.invariant.runs.numbers next live has b N keys (Some Next) (Some (q, 1)) refl in
             let its1 = stands_then b Next H sb lives refl in
-            let few1 = next_few d room e asked first most N r Next g H refl refl its.0 its1 (steps_rise d c m i r g v sound live at (subst (λ y. TellsAnswer y v) (sym says) refl)) is_first in
+            let few1 = next_few d room e asked first most N r Next g H refl refl its.0 its1 (steps_rise d c m i r g v sound live at (subst (λ y. TellsAnswer y v) (sym output) refl)) is_first in
             let p = splits d room e asked first most (seat r) in
-            let two = two_less (Left m g.stage) (rest_left its.0) (begun_left N its1) (Spare d room e asked first most (seat r)) a p.one (says_lower (Says.Starts v) says) few1 (left_then b Next H sb lives refl its1) ((noted q is).extra over_it) in
+            let two = two_less (Left m g.stage) (rest_left its.0) (begun_left N its1) (Spare d room e asked first most (seat r)) a p.one (output_lower (StageOutput.Starts v) output) few1 (left_then b Next H sb lives refl its1) ((noted q is).extra over_it) in
             goes_at d room e asked first most past i c m r a runs keys sound ledger next live has mine alive b N keys (Some (q, 1)) Next H refl refl new_last rows full (λ k there. inl there) (λ k there. there) refl refl f two.0 refl its1
             (cover_stage d room e asked first most past b N i Next H (begun_left N its1) (Spare d room e asked first most (seat r) + two.0) w two.2 (λ z is later. absurd (later (firsts_open r.id g.caller Z.1 Z.0.steps Z.0.effect z (is_first ∙ ap Some is)))))
             its.2
@@ -498,13 +498,13 @@ module _ (d : Deployment) (room : ℕ) (e : Rows) (asked : IntentId → List Ans
         with_noted : Pays d room e asked first most past runs keys 1 f (with_run Mean q) N
         with_noted = by_cases (has_ended (map.get m (seat q))) by_extra by_its_key
 
-      by_noted : (o : Option Run) → callee_of r ≡ o → let y = made r.id (says_of (record (goes_from r Z g.caller None (Some w)) { starts = true })) (may_start Mean o) in Sound d y.0 N → Paying d room e asked first most past i c m r runs keys f y N
+      by_noted : (o : Option Run) → callee_of r ≡ o → let y = made r.id (output_of (record (goes_from r Z g.caller None (Some w)) { starts = true })) (may_start Mean o) in Sound d y.0 N → Paying d room e asked first most past i c m r runs keys f y N
       by_noted None is sb = answer_to Mean None keys refl refl ledger.since sb (none_new Mean)
       by_noted (Some q) is sb = either (λ (p : Core × Option ℕ). Sound d p.0 N → Pays d room e asked first most past runs keys 1 f p.0 N) (has_run (put_run c.runs i (Some Next)) q.id || is_crowded Mean) _ _
           (λ t sb. answer_to Mean None keys refl refl ledger.since sb (none_new Mean)) (λ t. with_noted q is (first_false (has_run (put_run c.runs i (Some Next)) q.id) (is_crowded Mean) t)) sb
 
-    pub noted_so : Turn (turned_by d r g (Says.Starts v))
-    noted_so = by_stage (first_stage r.id g.caller Z.1 Z.0.steps Z.0.effect) refl (ap (λ (t : Turned). t.next) (turn_is (Says.Starts v) says))
+    pub noted_so : Turn (turned_by d r g (StageOutput.Starts v))
+    noted_so = by_stage (first_stage r.id g.caller Z.1 Z.0.steps Z.0.effect) refl (ap (λ (t : Turned). t.next) (turn_is (StageOutput.Starts v) output))
       where
         by_stage : (o : Option Stage) → first_stage r.id g.caller Z.1 Z.0.steps Z.0.effect ≡ o → (next_turn d c m r).next ≡ (goes_from r Z g.caller None o).next → Turn (record (goes_from r Z g.caller None o) { starts = true })
         by_stage None is none sb = absurd (not_close (no_turn_over d c m r g checked begun_it none))
@@ -513,20 +513,20 @@ module _ (d : Deployment) (room : ℕ) (e : Rows) (asked : IntentId → List Ans
   -- ---- whatever it says
   pub record BegunKnows : Type 0 where
     -- a call that nobody waits for, midway
-    pub mid : (w : Stage) (k : Option Mark) → next_says c m r g ≡ Says.On w k → let s : Run = record r { at = RunAt.Begins (at_stage g w) } in Midway (turn_next (counted c) i r (turned_by d r g (Says.On w k))).0 s (at_stage g w) (begun_left N (restand its.0 w))
-    pub opened : (k : Option Mark) → next_says c m r g ≡ Says.Opens k → (q : Run) → callee_of r ≡ Some q → CallsIt q
-    pub no_close : (v : Answer) → next_says c m r g ≡ Says.Starts v → is_close g.stage ≡ true → ⊥
-    pub noted : (v : Answer) → next_says c m r g ≡ Says.Starts v → (q : Run) → callee_of r ≡ Some q → NotedIt q
-    pub awaits : (j : IntentId) → next_says c m r g ≡ Says.Waits (Wait.Result j) → Awaits j
+    pub mid : (w : Stage) (k : Option Mark) → next_output c m r g ≡ StageOutput.On w k → let s : Run = record r { at = RunAt.Begins (at_stage g w) } in Midway (turn_next (counted c) i r (turned_by d r g (StageOutput.On w k))).0 s (at_stage g w) (begun_left N (restand its.0 w))
+    pub opened : (k : Option Mark) → next_output c m r g ≡ StageOutput.Opens k → (q : Run) → callee_of r ≡ Some q → CallsIt q
+    pub no_close : (v : Answer) → next_output c m r g ≡ StageOutput.Starts v → is_close g.stage ≡ true → ⊥
+    pub noted : (v : Answer) → next_output c m r g ≡ StageOutput.Starts v → (q : Run) → callee_of r ≡ Some q → NotedIt q
+    pub awaits : (j : IntentId) → next_output c m r g ≡ StageOutput.Waits (Wait.Result j) → Awaits j
 
   pub begun_so : BegunKnows → Turn (next_turn d c m r)
-  begun_so k = subst Turn (sym (turn_is (next_says c m r g) refl)) (by_says (next_says c m r g) refl)
+  begun_so k = subst Turn (sym (turn_is (next_output c m r g) refl)) (by_output (next_output c m r g) refl)
     where
-      by_says : (y : Says) → next_says c m r g ≡ y → Turn (turned_by d r g y)
-      by_says (Says.On w u) says = on w u says (k.mid w u says)
-      by_says Says.Stays says = absurd (says_lower Says.Stays says)
-      by_says (Says.Opens u) says = opens u says (k.opened u says)
-      by_says (Says.Starts v) says = noted_so v says (k.no_close v says) (k.noted v says)
-      by_says (Says.Waits w) says = waits_so w says (λ j is. k.awaits j (says ∙ ap Says.Waits is))
-      by_says (Says.Answers v u) says = answered v u says
-      by_says (Says.Ends u o) says = ends u o says
+      by_output : (y : StageOutput) → next_output c m r g ≡ y → Turn (turned_by d r g y)
+      by_output (StageOutput.On w u) output = on w u output (k.mid w u output)
+      by_output StageOutput.Stays output = absurd (output_lower StageOutput.Stays output)
+      by_output (StageOutput.Opens u) output = opens u output (k.opened u output)
+      by_output (StageOutput.Starts v) output = noted_so v output (k.no_close v output) (k.noted v output)
+      by_output (StageOutput.Waits w) output = waits_so w output (λ j is. k.awaits j (output ∙ ap StageOutput.Waits is))
+      by_output (StageOutput.Answers v u) output = answered v u output
+      by_output (StageOutput.Ends u o) output = ends u o output

@@ -8,16 +8,16 @@ use Rattle.beldi_value.specs.{Id.child_of, Id.has_no_hops, Id.is_older, Id.root_
 use Rattle.beldi_tree.specs.declared.deployment.Deployment.{Deployment}
 use Rattle.beldi_lang.specs.declared.effect.{Answer.Answer, Effect.Effect}
 use Rattle.beldi_plain.specs.{Item.Item, Plain.Instance, Plain.effect_before, Plain.effect_of, Plain.outcome_of}
-use Rattle.beldi_order.proofs.{Ends.fits_at, Maps.same_some}
-use Rattle.beldi_order.specs.{Sane.answer_given, Sane.call_of, Sane.within_by, Txs.effect_after, Txs.tx_at as tx_step, Txs.txs_after}
+use Rattle.beldi_plain_laws.proofs.{Ends.fits_at, Maps.same_some}
+use Rattle.beldi_plain_laws.specs.{WellFormedState.answer_given, WellFormedState.call_of, WellFormedState.enclosing_by, Txs.effect_after, Txs.tx_at as tx_step, Txs.txs_after}
 use Rattle.beldi_row.specs.{Table.Rows}
-use Rattle.beldi_step.specs.{declared.event.Seen.Seen, declared.run.OpenTx.OpenTx, declared.run.Run.Run, declared.run.RunAt.RunAt, declared.run.RunTx.RunTx, declared.run.Wait.Wait, Host.Core, Host.has_run, Run.own_tx, Run.tx_at}
-use Rattle.beldi_known.specs.{Contents.content_of, Known.tx_end, Matches.has_ended, Rows.IntentMatches, Stands.key_in}
-use Rattle.beldi_known.proofs.{Callers.WasCalled, Callers.root_or_called, Cases.by_cases, Cases.by_option}
-use Rattle.beldi_laws.specs.Right.{Right, open_of}
-use Rattle.beldi_laws.proofs.{OpenOf.open_begun, OpenOf.open_in, OpenOf.own_begin, Turns.all_here, Turns.effect_here, Turns.effect_next, Turns.no_return, Turns.step_here}
+use Rattle.beldi_step.specs.{declared.event.EventReply.EventReply, declared.run.OpenTx.OpenTx, declared.run.Run.Run, declared.run.RunAt.RunAt, declared.run.RunTx.RunTx, declared.run.Wait.Wait, HostStep.Core, HostStep.has_run, Run.own_tx, Run.tx_at}
+use Rattle.beldi_histories.specs.{Contents.content_of, Histories.tx_end, Matches.has_ended, RowMatching.IntentMatches, Stands.key_in}
+use Rattle.beldi_histories.proofs.{Callers.WasCalled, Callers.root_or_called, Cases.by_cases, Cases.by_option}
+use Rattle.beldi_invariant.specs.Invariant.{Invariant, open_of}
+use Rattle.beldi_invariant.proofs.{OpenOf.open_begun, OpenOf.open_in, OpenOf.own_begin, StageTurns.all_here, StageTurns.effect_here, StageTurns.effect_next, StageTurns.no_return, StageTurns.step_here}
 use Rattle.beldi_upkeep.specs.{Passed.IsEnrolled, Passed.MayPass, Upkeep.Upkeep}
-use Rattle.beldi_upkeep.proofs.{FromRight.called_here, FromRight.row_at, PastLaws.enrolled, PastLaws.known_registered, PastOwn.WasOwner, PastOwn.ended_there, PastOwn.ends_there, PastOwn.got_owner, PastOwn.tx_ended}
+use Rattle.beldi_upkeep.proofs.{FromInvariant.called_here, FromInvariant.row_at, PastLaws.enrolled, PastLaws.recorded_registered, PastOwn.WasOwner, PastOwn.ended_there, PastOwn.ends_there, PastOwn.got_owner, PastOwn.tx_ended}
 use Rattle.beldi_bound.specs.Ends.{HasCause, HasNoLock}
 use Rattle.beldi_bound.proofs.{Chain.Higher, Chain.LiveRun, Chain.chain, Chain.live_run, Chain.numbers, Chain.some_run, Facts.AllWait, Facts.EachHasRun, Facts.WaitsHaveCause, Fronts.Best, Fronts.Waits, Fronts.at_front, Fronts.best, Fronts.is_number, Fronts.row_open, Fronts.row_run, Fronts.tx_is, Fronts.waits, NoLocks.no_intent_owns, Waits.Called, Waits.Owned, Waits.Why}
 
@@ -83,9 +83,9 @@ own_of (Some (RunTx.Inherited t)) b e = cc
 hops_more : (i : IntentId) (n : ℕ) (j : IntentId) → j ≡ child_of i n → length i.hops < length j.hops
 hops_more i n j is = let l = length-append i.hops (n ∷ []) in let e = ap (λ (z : IntentId). length z.hops) is in omega (arith, l, e)
 
-module _ (d : Deployment) (c : Core) (m : Rows) (waiting : List (ℕ × Seen)) (s : Upkeep d c m) (no : HasNoLock d) (all : AllWait d c m waiting) (each : EachHasRun c m) where
-  abbrev h : Right d c m
-  h = s.right
+module _ (d : Deployment) (c : Core) (m : Rows) (waiting : List (ℕ × EventReply)) (s : Upkeep d c m) (no : HasNoLock d) (all : AllWait d c m waiting) (each : EachHasRun c m) where
+  abbrev h : Invariant d c m
+  h = s.invariant
 
   abbrev Cause : Type 0
   Cause = HasCause c m waiting
@@ -94,13 +94,13 @@ module _ (d : Deployment) (c : Core) (m : Rows) (waiting : List (ℕ × Seen)) (
   Top id = Best d c m waiting s all id
 
   -- the run that was answered most is one of its instance
-  same_instance : (id : IntentId) (q : Instance) → map.get h.known id ≡ Some q → (b : Top id) → b.its.known.instance ≡ q
-  same_instance id q made b = same_some (sym b.its.known.made ∙ ap (map.get h.known) b.same ∙ made)
+  same_instance : (id : IntentId) (q : Instance) → map.get h.histories id ≡ Some q → (b : Top id) → b.its.histories.instance ≡ q
+  same_instance id q made b = same_some (sym b.its.histories.made ∙ ap (map.get h.histories) b.same ∙ made)
 
   -- ---- the owner of a transaction that owns an item
   module _ (t : TxId) (x : Item) (owned : (content_of m x).owner ≡ Some (Owner.Tx t)) where
-    owns : WasOwner d h.known t
-    owns = got_owner d h.known h.sane t h.locked x ((h.rows.txs x).owned_is_got t owned)
+    owns : WasOwner d h.histories t
+    owns = got_owner d h.histories h.well_formed t h.lock_ahead x ((h.rows.txs x).owned_is_got t owned)
 
     abbrev q : Instance
     q = owns.owner
@@ -114,13 +114,13 @@ module _ (d : Deployment) (c : Core) (m : Rows) (waiting : List (ℕ × Seen)) (
 
     record Ended : Type 0 where
       end : ℕ × Bool
-      is : tx_end d h.known t ≡ Some end
+      is : tx_end d h.histories t ≡ Some end
       before : end.0 < length q.answers
 
     closed : ((txs_after d q q.answers).begun ≡ Some t.begin → ⊥) → Ended
     closed never =
         let a = append-nil q.answers in
-        record { end = (ends_there d h.known t owns q.answers [] a less never).0; is = tx_ended d h.known t owns q.answers [] a less never; before = (ended_there d h.known t owns q.answers [] a less never).before }
+        record { end = (ends_there d h.histories t owns q.answers [] a less never).0; is = tx_ended d h.histories t owns q.answers [] a less never; before = (ended_there d h.histories t owns q.answers [] a less never).before }
 
     -- it is open, or has ended
     ending : ((txs_after d q q.answers).begun ≡ Some t.begin) ⊎ Ended
@@ -139,34 +139,34 @@ module _ (d : Deployment) (c : Core) (m : Rows) (waiting : List (ℕ × Seen)) (
       where
         over : (u : Outcome) → q.outcome ≡ Some u → ⊥
         over u e = elim ending [
-          | inl begun ↦ no_return d q q.answers u (ap is_some begun) ((h.sane.each t.intent q owns.made).over u e)
+          | inl begun ↦ no_return d q q.answers u (ap is_some begun) ((h.well_formed.each t.intent q owns.made).over u e)
           | inr z ↦ (let clash : None ≡ Some u = sym (h.unended t z.end x z.is owned).1 ∙ ap outcome_of owns.made ∙ e in cc)
         ]
 
     -- so its run at the front stands inside it
-    stands : (b : Top t.intent) → b.its.known.later ≡ [] → (y : OpenTx) × (b.its.begun.tx ≡ Some (RunTx.Own y))
+    stands : (b : Top t.intent) → b.its.histories.later ≡ [] → (y : OpenTx) × (b.its.begun.tx ≡ Some (RunTx.Own y))
     stands b left = elim ending [
-      | inl begun ↦ (let z = own_of (open_of d q q.answers) t.begin (sym (open_begun d q q.answers) ∙ begun) in (z.0, b.its.known.run_open ∙ opens ∙ z.1))
-      | inr z ↦ absurd (b.its.inside.released t z.end (sym b.same) z.is (subst (λ n. z.end.0 < n) (sym (step_here b.its.known left ∙ ap (λ (y : Instance). length y.answers) one)) z.before) x owned)
+      | inl begun ↦ (let z = own_of (open_of d q q.answers) t.begin (sym (open_begun d q q.answers) ∙ begun) in (z.0, b.its.histories.run_open ∙ opens ∙ z.1))
+      | inr z ↦ absurd (b.its.inside.released t z.end (sym b.same) z.is (subst (λ n. z.end.0 < n) (sym (step_here b.its.histories left ∙ ap (λ (y : Instance). length y.answers) one)) z.before) x owned)
     ]
       where
-        one : b.its.known.instance ≡ q
+        one : b.its.histories.instance ≡ q
         one = same_instance t.intent q owns.made b
 
-        opens : open_of d b.its.known.instance b.its.known.answers ≡ open_of d q q.answers
-        opens = ap (open_of d b.its.known.instance) (all_here b.its.known left) ∙ ap (λ (y : Instance). open_of d y y.answers) one
+        opens : open_of d b.its.histories.instance b.its.histories.answers ≡ open_of d q q.answers
+        opens = ap (open_of d b.its.histories.instance) (all_here b.its.histories left) ∙ ap (λ (y : Instance). open_of d y y.answers) one
 
   -- ---- an instance that has not ended has a live run: one that has no row was called by one that is about to call it
-  module _ (n : ℕ) (go : (i : IntentId) (z : Instance) → length i.hops < n → map.get h.known i ≡ Some z → z.outcome ≡ None → Cause ⊎ (has_run c.runs i ≡ true))
-      (id : IntentId) (q : Instance) (short : length id.hops < suc n) (made : map.get h.known id ≡ Some q) (none : q.outcome ≡ None) (w : WasCalled d h.known id q) where
+  module _ (n : ℕ) (go : (i : IntentId) (z : Instance) → length i.hops < n → map.get h.histories i ≡ Some z → z.outcome ≡ None → Cause ⊎ (has_run c.runs i ≡ true))
+      (id : IntentId) (q : Instance) (short : length id.hops < suc n) (made : map.get h.histories id ≡ Some q) (none : q.outcome ≡ None) (w : WasCalled d h.histories id q) where
     shorter : length w.caller.hops < n
     shorter = let l = hops_more w.caller w.step id w.is in omega (arith, l, short)
 
-    there : map.get h.known (child_of w.caller w.step) ≡ Some q
-    there = ap (map.get h.known) (sym w.is) ∙ made
+    there : map.get h.histories (child_of w.caller w.step) ≡ Some q
+    there = ap (map.get h.histories) (sym w.is) ∙ made
 
     -- by a run of the caller at the front
-    by_front : (P : Type 0) → w.waiter.outcome ≡ None → ((b : Top w.caller) → b.its.known.later ≡ [] → P) → Cause ⊎ P
+    by_front : (P : Type 0) → w.waiter.outcome ≡ None → ((b : Top w.caller) → b.its.histories.later ≡ [] → P) → Cause ⊎ P
     by_front P open_caller f = elim (go w.caller w.waiter shorter w.made open_caller) [
       | inl cause ↦ inl cause
       | inr has ↦ elim (best d c m waiting s all w.caller has) [
@@ -187,22 +187,22 @@ module _ (d : Deployment) (c : Core) (m : Rows) (waiting : List (ℕ × Seen)) (
       call_now = let e = last in ap (effect_after d w.waiter) (sym (take_all w.step w.waiter.answers (omega (arith, e)))) ∙ call
 
       open_caller : w.waiter.outcome ≡ None
-      open_caller = by_option w.waiter.outcome (λ e. e) (λ u e. absurd (returns u ((h.sane.each w.caller w.waiter w.made).over u e)))
+      open_caller = by_option w.waiter.outcome (λ e. e) (λ u e. absurd (returns u ((h.well_formed.each w.caller w.waiter w.made).over u e)))
         where
           returns : (u : Outcome) → effect_of d w.waiter ≡ Effect.Return u → ⊥
           returns u e = let clash : Effect.Call f v ≡ Effect.Return u = sym call_now ∙ e in cc
 
-      has_callee : (b : Top w.caller) → b.its.known.later ≡ [] → has_run c.runs id ≡ true
+      has_callee : (b : Top w.caller) → b.its.histories.later ≡ [] → has_run c.runs id ≡ true
       has_callee b left = by_wait b.its.wait refl
         where
-          one : b.its.known.instance ≡ w.waiter
+          one : b.its.histories.instance ≡ w.waiter
           one = same_instance w.caller w.waiter w.made b
 
           effect : b.its.begun.machine.effect ≡ Effect.Call f v
-          effect = sym (effect_next b.its.known left) ∙ ap (effect_of d) one ∙ call_now
+          effect = sym (effect_next b.its.histories left) ∙ ap (effect_of d) one ∙ call_now
 
           at_step : b.its.begun.machine.steps ≡ w.step
-          at_step = step_here b.its.known left ∙ ap (λ (y : Instance). length y.answers) one ∙ sym last
+          at_step = step_here b.its.histories left ∙ ap (λ (y : Instance). length y.answers) one ∙ sym last
 
           why : (y : Wait) → b.its.wait ≡ y → Why m b.run.id b.its.begun.machine.steps (tx_at b.run.id b.run.func b.its.begun.tx) b.its.begun.machine.effect y
           why y e = subst (Why m b.run.id b.its.begun.machine.steps (tx_at b.run.id b.run.func b.its.begun.tx) b.its.begun.machine.effect) e b.its.stopped_so.why
@@ -223,18 +223,18 @@ module _ (d : Deployment) (c : Core) (m : Rows) (waiting : List (ℕ × Seen)) (
       enrolled_run : IsEnrolled m w.waiter.func w.caller w.step → has_run c.runs id ≡ true
       enrolled_run e = subst (λ z. has_run c.runs z ≡ true) (sym w.is) (row_run d c m h (child_of w.caller w.step) q there none each e.call.func (ap is_some e.callee.has.there))
 
-      passes : (b : Top w.caller) → b.its.known.later ≡ [] → IsEnrolled m w.waiter.func w.caller w.step
+      passes : (b : Top w.caller) → b.its.histories.later ≡ [] → IsEnrolled m w.waiter.func w.caller w.step
       passes b left = enrolled d c m h s.past w.caller w.waiter w.made w.step f v less_step call s.seats may q there
         where
           past : w.step < b.its.begun.machine.steps
-          past = subst (λ n. w.step < n) (sym (step_here b.its.known left ∙ ap (λ (y : Instance). length y.answers) (same_instance w.caller w.waiter w.made b))) less_step
+          past = subst (λ n. w.step < n) (sym (step_here b.its.histories left ∙ ap (λ (y : Instance). length y.answers) (same_instance w.caller w.waiter w.made b))) less_step
 
           may : MayPass m w.caller w.step
           may = subst (λ i. MayPass m i w.step) b.same (s.passes.each b.number b.run b.its.begun b.its.live b.its.at w.step past)
 
       sent_run : Cause ⊎ (has_run c.runs id ≡ true)
       sent_run = by_option w.waiter.outcome (λ e. by_front (has_run c.runs id ≡ true) e (λ b left. enrolled_run (passes b left)))
-          (λ u e. inr (enrolled_run (known_registered d c m h s.seats s.past w.caller w.waiter w.step f v w.made less_step call (inr (inr (ap is_some e))))))
+          (λ u e. inr (enrolled_run (recorded_registered d c m h s.seats s.past w.caller w.waiter w.step f v w.made less_step call (inr (inr (ap is_some e))))))
 
     called_run : Cause ⊎ (has_run c.runs id ≡ true)
     called_run = by_waits w.called.waits w.called.call w.called.answered
@@ -244,17 +244,17 @@ module _ (d : Deployment) (c : Core) (m : Rows) (waiting : List (ℕ × Seen)) (
         by_waits false call answered = sent_run q.func q.args call answered
 
   -- a root has its row
-  root_run : (id : IntentId) (q : Instance) → map.get h.known id ≡ Some q → q.outcome ≡ None → id ≡ root_of id.ticket → has_run c.runs id ≡ true
+  root_run : (id : IntentId) (q : Instance) → map.get h.histories id ≡ Some q → q.outcome ≡ None → id ≡ root_of id.ticket → has_run c.runs id ≡ true
   root_run id q made none root = elim (row_open d c m h id q made none 0) [ inl e ↦ absurd (absent e) | inr z ↦ each 0 id z.row z.body z.there z.has z.unended ]
     where
       absent : map.get m (key_in 0 id) ≡ None → ⊥
       absent e =
-          let unknown : map.get h.known id ≡ None = subst (λ b. IntentMatches (has_ended d h.known) b 0 None (map.get h.known id)) (ap (λ (z : IntentId). has_no_hops z.hops) root) (row_at d c m h 0 id None e) in
+          let unknown : map.get h.histories id ≡ None = subst (λ b. IntentMatches (has_ended d h.histories) b 0 None (map.get h.histories id)) (ap (λ (z : IntentId). has_no_hops z.hops) root) (row_at d c m h 0 id None e) in
           let clash : None ≡ Some q = sym unknown ∙ made in cc
 
-  runs_by : (n : ℕ) (id : IntentId) (q : Instance) → length id.hops < n → map.get h.known id ≡ Some q → q.outcome ≡ None → Cause ⊎ (has_run c.runs id ≡ true)
+  runs_by : (n : ℕ) (id : IntentId) (q : Instance) → length id.hops < n → map.get h.histories id ≡ Some q → q.outcome ≡ None → Cause ⊎ (has_run c.runs id ≡ true)
   runs_by zero id q short made none = absurd (omega (arith, short))
-  runs_by (suc n) id q short made none = elim (root_or_called d h.known h.sane id q made) [ inl root ↦ inr (root_run id q made none root) | inr w ↦ called_run n (runs_by n) id q short made none w ]
+  runs_by (suc n) id q short made none = elim (root_or_called d h.histories h.well_formed id q made) [ inl root ↦ inr (root_run id q made none root) | inr w ↦ called_run n (runs_by n) id q short made none w ]
 
   -- ---- each live run leads to a higher one, or there is a cause
   abbrev Lives : ℕ → Type 0
@@ -291,23 +291,23 @@ module _ (d : Deployment) (c : Core) (m : Rows) (waiting : List (ℕ × Seen)) (
       call_waits true f v e = refl
       call_waits false f v e = cc
 
-      inner : y.known.instance.within ≡ mine
+      inner : y.histories.instance.enclosing ≡ mine
       inner =
-          let k = called_here d c m h r.id step y.known.instance (ap (map.get h.known) (sym is_callee) ∙ y.known.made) in
-          let same : k.0 ≡ w.known.instance = same_some (sym k.1.0 ∙ w.known.made) in
+          let k = called_here d c m h r.id step y.histories.instance (ap (map.get h.histories) (sym is_callee) ∙ y.histories.made) in
+          let same : k.0 ≡ w.histories.instance = same_some (sym k.1.0 ∙ w.histories.made) in
           let call = k.1.1 in
-          let waits_so = call_waits call.waits y.known.instance.func y.known.instance.args (sym z.call ∙ sym (effect_here w.known) ∙ sym (ap (λ (u : Instance). effect_before d u step) same) ∙ call.call) in
-          call.within ∙ ap (λ b. within_by b (tx_step d r.id k.0 step)) waits_so ∙ ap (λ (u : Instance). tx_step d r.id u step) same ∙ tx_is d c m waiting s all i r w
+          let waits_so = call_waits call.waits y.histories.instance.func y.histories.instance.args (sym z.call ∙ sym (effect_here w.histories) ∙ sym (ap (λ (u : Instance). effect_before d u step) same) ∙ call.call) in
+          call.enclosing ∙ ap (λ b. enclosing_by b (tx_step d r.id k.0 step)) waits_so ∙ ap (λ (u : Instance). tx_step d r.id u step) same ∙ tx_is d c m waiting s all i r w
 
       stays_in : (t : TxId) → mine ≡ Some t → tx_at l.run.id l.run.func y.begun.tx ≡ Some t
-      stays_in t e = ap (tx_at l.run.id l.run.func) (y.known.run_open ∙ open_in d y.known.instance t y.known.answers (inner ∙ e))
+      stays_in t e = ap (tx_at l.run.id l.run.func) (y.histories.run_open ∙ open_in d y.histories.instance t y.histories.answers (inner ∙ e))
 
       to_callee : Next i
       to_callee = rises l.number l.run y (callee_above mine (length r.id.hops) (length l.run.id.hops) (tx_at l.run.id l.run.func y.begun.tx) stays_in (hops_more r.id step l.run.id is_callee))
 
     -- it waits for a transaction that owns its item
     module _ (t : TxId) (o : Owned m mine w.begun.machine.effect (Owner.Tx t)) where
-      to_top : (b : Top t.intent) → b.its.known.later ≡ [] → Next i
+      to_top : (b : Top t.intent) → b.its.histories.later ≡ [] → Next i
       to_top b left =
           let y = stands t o.item o.owns b left in
           rises b.number b.run b.its (subst (λ a. Above mine (length r.id.hops) (tx_at b.run.id b.run.func a) (length b.run.id.hops)) (sym y.1)

@@ -7,8 +7,8 @@ use Rattle.std.proofs.Common.{Bool, List, None, Some, T, [], ap, arith, cond, fa
 use Rattle.std.proofs.lemmas.{Bool.ltb-false, Bool.ltb-true, Cmp.tied_itself}
 use Rattle.std.specs.Prelude.{nat_lt}
 use Rattle.beldi_value.specs.{Id.id_cmp, Id.id_exact, declared.id.IntentId.IntentId}
-use Rattle.beldi_step.specs.{Host.Core, Host.has_run, Next.first_past, Next.next_run, declared.run.Run.Run}
-use Rattle.beldi_known.proofs.Cases.{by_cases}
+use Rattle.beldi_step.specs.{HostStep.Core, HostStep.has_run, Next.first_past, Next.next_run, declared.run.Run.Run}
+use Rattle.beldi_histories.proofs.Cases.{by_cases}
 use Rattle.beldi_bound.specs.Ends.{IsIn}
 
 -- ---- numbers up to one

@@ -1,7 +1,7 @@
 -- A run that is to close its intent: its body returns, so nothing more is asked of it, no turn of it is spared, and its next turn ends it.
 use Rattle.beldi_bound.specs.Ends.{Sound}
 use Rattle.beldi_step.specs.declared.run.RunAt.{RunAt}
-use Rattle.beldi_step.specs.Host.{Core}
+use Rattle.beldi_step.specs.HostStep.{Core}
 use Rattle.beldi_bound.proofs.Frames.{Spare}
 use Rattle.beldi_bound.proofs.Going.{goes_same}
 use Rattle.std.proofs.Common.{◌≡◌, ℕ, ◌||◌, Bool, true, List, [], ◌∷◌, ◌++◌, append-nil, length, Option, Some, None, is_some, refl, sym, ap, ◌∙◌}
@@ -12,19 +12,19 @@ use Rattle.beldi_tree.specs.declared.deployment.Deployment.{Deployment}
 use Rattle.beldi_lang.specs.declared.{effect.Answer.Answer, effect.Effect.Effect, machine.Machine.Machine}
 use Rattle.beldi_book.specs.declared.entry.Entry.{Entry}
 use Rattle.beldi_plain.specs.Plain.{PlainState, effect_of}
-use Rattle.beldi_order.specs.Txs.{tx_now}
+use Rattle.beldi_plain_laws.specs.Txs.{tx_now}
 use Rattle.beldi_row.specs.{Act.act, Act.end_with, Table.Rows, declared.act.Act.Act, declared.row.IntentRow.IntentRow}
-use Rattle.beldi_walk.specs.{declared.query.Query.Query, Query.rows_after}
+use Rattle.beldi_query.specs.{declared.query.Query.Query, Query.rows_after}
 use Rattle.beldi_intent.specs.Intent.{is_ended}
-use Rattle.beldi_known.{proofs.Rows.set_here, specs.Known.Known, specs.Stands.held_answer}
+use Rattle.beldi_histories.{proofs.RowMaps.set_here, specs.Histories.Histories, specs.Stands.held_answer}
 use Rattle.beldi_step.specs.{Run.is_inherited, Run.asks_at, Run.run_asks, Run.stage_asks, declared.run.Begun.Begun, declared.run.Run.Run, declared.run.RunTx.RunTx, declared.run.Stage.Stage}
-use Rattle.beldi_laws.specs.Right.{AtStage, StandsAt}
+use Rattle.beldi_invariant.specs.Invariant.{AtStage, StandsAt}
 use Rattle.beldi_upkeep.specs.Checked.{body_at, is_close}
-use Rattle.beldi_bound.specs.{Cost.AreAsked, Cost.with_answers, Work.has_ended, Work.seat}
-use Rattle.beldi_bound.proofs.{Ending.knows_it, Facts.Stands, KnownAsked.intents_asked, Standing.runs_stand}
+use Rattle.beldi_bound.specs.{Cost.AreAsked, Cost.with_answers, SettleWork.has_ended, SettleWork.seat}
+use Rattle.beldi_bound.proofs.{Ending.knows_it, Facts.Stands, HistoryAsked.intents_asked, Standing.runs_stand}
 use Rattle.beldi_bound.proofs.Ledger.{callee_key, if_free, spare_of, stuck_by}
 
-module _ {d : Deployment} (m : Rows) (p : PlainState) (book : List Entry) {known : Known} {id : IntentId} {home : ℕ} {c : Option Caller} {s : Machine} {o : Option RunTx} (k : StandsAt d known id home c s o) where
+module _ {d : Deployment} (m : Rows) (p : PlainState) (book : List Entry) {histories : Histories} {id : IntentId} {home : ℕ} {c : Option Caller} {s : Machine} {o : Option RunTx} (k : StandsAt d histories id home c s o) where
   at_close : (e : Effect) (z : Option RunTx) → AtStage m p book k Stage.Close e z → (u : Outcome) × (e ≡ Effect.Return u)
   at_close (Effect.Return u) z h = (u, refl)
   at_close e z h = absurd h
@@ -61,8 +61,8 @@ NoneIsSpared = (d : Deployment) (room : ℕ) (c : Core) (m e : Rows) (asked : In
 
 pub none_spared : NoneIsSpared
 none_spared d room c m e asked first most i r g sound areas live at s close =
-    let k = knows_it sound.upkeep.right i r g live at in
-    let u = returns m sound.upkeep.right.plain c.book k.0 g.stage g.machine.effect g.tx k.1.here close in
+    let k = knows_it sound.upkeep.invariant i r g live at in
+    let u = returns m sound.upkeep.invariant.plain c.book k.0 g.stage g.machine.effect g.tx k.1.here close in
     let whole = last_answers d e asked r g areas s u.0 u.1 in
     let effect : effect_of d (with_answers s.body (asked r.id)) ≡ Effect.Return u.0 = ap (λ xs. effect_of d (with_answers s.body xs)) (sym whole) ∙ sym s.along.effect ∙ u.1 in
     ap (λ o. spare_of d room e asked first most (stuck_by d room e asked first most r.id o)) (ap body_at s.there ∙ s.has)
@@ -78,8 +78,8 @@ ClosesEnd = (d : Deployment) (c : Core) (m : Rows) (i : ℕ) (r : Run) (g : Begu
 
 pub closes_end : ClosesEnd
 closes_end d c m i r g sound live at close =
-    let k = knows_it sound.upkeep.right i r g live at in
-    let u = returns m sound.upkeep.right.plain c.book k.0 g.stage g.machine.effect g.tx k.1.here close in
+    let k = knows_it sound.upkeep.invariant i r g live at in
+    let u = returns m sound.upkeep.invariant.plain c.book k.0 g.stage g.machine.effect g.tx k.1.here close in
     let all = intents_asked d c m sound.upkeep in
     let s = runs_stand d c m m all.0 i r g sound (goes_same m) all.1 live at in
     let stamp : Bool = not (is_inherited g.tx) in

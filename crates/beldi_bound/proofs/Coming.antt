@@ -1,5 +1,5 @@
 -- Every event brings results so: a result is set by a run that gives it back alone, and that run has its row.
-use Rattle.beldi_known.proofs.{Answers.true_false, Begins.false_true}
+use Rattle.beldi_histories.proofs.{Answers.true_false, Begins.false_true}
 use Rattle.std.specs.Prelude.{Result, Ok, Err, nat_lt, ◌^◌, ◌-◌, ◌+◌, ◌||◌}
 use Rattle.std.specs.declared.alloc.AllocError.{AllocError}
 use Rattle.std.proofs.Common.{◌≡◌, ℕ, ◌==◌, eq-eqb, Bool, true, false, Option, Some, None, is_some, if◌then◌else◌, refl, sym, ap, subst, ◌∙◌, arith}
@@ -8,14 +8,14 @@ use Rattle.beldi_value.{proofs.Callees.no_root, specs.Id.child_of, specs.Id.has_
 use Rattle.beldi_tree.specs.declared.deployment.Deployment.{Deployment}
 use Rattle.beldi_lang.specs.declared.effect.Effect.{Effect}
 use Rattle.beldi_row.specs.{Act.act, Act.register_to, Key.RowKey, Table.Rows, declared.act.Act.Act, declared.key.Kind.Kind, declared.row.InvokeRow.InvokeRow, declared.row.Row.Row, declared.table.TableErr.TableErr}
-use Rattle.beldi_walk.{proofs.Lent.refused_stand, specs.declared.query.Query.Query, specs.Query.CameOn, specs.Query.Told, specs.Query.rows_after}
-use Rattle.beldi_walk.specs.Query.{may_remove}
+use Rattle.beldi_query.{proofs.Lent.refused_stand, specs.declared.query.Query.Query, specs.Query.CameOn, specs.Query.QueryReply, specs.Query.rows_after}
+use Rattle.beldi_query.specs.Query.{may_remove}
 use Rattle.beldi_step.proofs.Spares.{plan_removes, plan_spares}
-use Rattle.beldi_invokelog.{proofs.Calls.calls_stay, specs.InvokeLog.call_at, specs.InvokeLog.call_in, specs.InvokeLog.invoke_key}
-use Rattle.beldi_known.{proofs.Cases.by_cases, proofs.Rows.keys_set, specs.Owed.called_by, specs.Owed.result_of, specs.Rows.CallMatches, specs.Stands.key_in}
-use Rattle.beldi_step.proofs.Runs.{of_plan}
-use Rattle.beldi_step.specs.{Host.Core, Host.EventBy, Host.Plan, Host.asks, Host.at_once, Host.counted, Host.crash_plan, Host.is_crowded, Host.last_moment, Host.plan, Host.plan_of, Host.reads_all, Host.run_plan, Run.asks_at, Run.run_asks, Run.place_of, Run.stage_asks, declared.event.Event.Event, declared.event.Seen.Seen, declared.run.Begun.Begun, declared.run.Run.Run, declared.run.RunAt.RunAt, declared.run.RunTx.RunTx, declared.run.Stage.Stage}
-use Rattle.beldi_laws.{proofs.Moves.if_plan, proofs.Returns.has_caller, specs.Right.Right}
+use Rattle.beldi_invokelog.{proofs.InvokedCalls.calls_stay, specs.InvokeLog.call_at, specs.InvokeLog.call_in, specs.InvokeLog.invoke_key}
+use Rattle.beldi_histories.{proofs.Cases.by_cases, proofs.RowMaps.keys_set, specs.Expected.called_by, specs.Expected.result_of, specs.RowMatching.CallMatches, specs.Stands.key_in}
+use Rattle.beldi_step.proofs.StepRuns.{of_plan}
+use Rattle.beldi_step.specs.{HostStep.Core, HostStep.EventBy, HostStep.Plan, HostStep.asks, HostStep.immediate, HostStep.counted, HostStep.crash_plan, HostStep.is_crowded, HostStep.last_moment, HostStep.plan, HostStep.plan_of, HostStep.reads_all, HostStep.run_plan, Run.asks_at, Run.run_asks, Run.place_of, Run.stage_asks, declared.event.Event.Event, declared.event.EventReply.EventReply, declared.run.Begun.Begun, declared.run.Run.Run, declared.run.RunAt.RunAt, declared.run.RunTx.RunTx, declared.run.Stage.Stage}
+use Rattle.beldi_invariant.{proofs.Moves.if_plan, proofs.Returns.has_caller, specs.Invariant.Invariant}
 use Rattle.beldi_bound.proofs.{Calling.call_row, Ending.knows_it, Going.query_goes_on, ResultsCome.EventsBringResults, ResultsCome.ResultsCome, ResultsCome.results_same}
 
 -- ---- one act
@@ -82,16 +82,16 @@ none_backs : (q : Query) (m : Rows) → query_backs q ≡ false → Backs q m
 none_backs (Query.Act k a) m h = λ t. let clash : true ≡ false = sym t ∙ h in absurd (true_false clash)
 none_backs (Query.After k) m h = tt
 
-module _ (d : Deployment) (c : Core) (m : Rows) (h : Right d c m) (i : ℕ) (r : Run) (live : map.get c.runs i ≡ Some r) where
+module _ (d : Deployment) (c : Core) (m : Rows) (h : Invariant d c m) (i : ℕ) (r : Run) (live : map.get c.runs i ≡ Some r) where
   module _ (g : Begun) (at : r.at ≡ RunAt.Begins g) (cl : Caller) (from : g.caller ≡ Some cl) where
     back_row : BackRow (invoke_key cl.func cl.place) m
     back_row f j s key y there =
         let k = knows_it h i r g live at in
-        let w = has_caller d h.known r.id k.0.instance cl h.sane k.0.made (sym k.0.caller ∙ from) in
-        let callee : map.get h.known (child_of cl.place.intent cl.place.step) ≡ Some k.0.instance = ap (map.get h.known) (sym w.is_callee) ∙ k.0.made in
-        let owed : CallMatches (map.get m (invoke_key cl.func cl.place)) (Some (k.0.instance.func, result_of k.0.instance)) = subst (CallMatches (map.get m (invoke_key cl.func cl.place)))
+        let w = has_caller d h.histories r.id k.0.instance cl h.well_formed k.0.made (sym k.0.caller ∙ from) in
+        let callee : map.get h.histories (child_of cl.place.intent cl.place.step) ≡ Some k.0.instance = ap (map.get h.histories) (sym w.is_callee) ∙ k.0.made in
+        let expected : CallMatches (map.get m (invoke_key cl.func cl.place)) (Some (k.0.instance.func, result_of k.0.instance)) = subst (CallMatches (map.get m (invoke_key cl.func cl.place)))
         ((λ l. called_by cl.func (w.made l) (callee l)) ∙ ap (λ b. if b then Some (k.0.instance.func, result_of k.0.instance) else None) (eq-eqb w.caller.func cl.func w.func)) (h.rows.keys (invoke_key cl.func cl.place)) in
-        let row = call_row (map.get m (invoke_key cl.func cl.place)) k.0.instance.func (result_of k.0.instance) owed in
+        let row = call_row (map.get m (invoke_key cl.func cl.place)) k.0.instance.func (result_of k.0.instance) expected in
         let same : y ≡ row.0 = same_call (sym there ∙ ap call_in row.1) in
         let func : y.func ≡ r.func = ap (λ (z : InvokeRow). z.func) same ∙ row.2 ∙ k.0.func in
         let place : cl.place ≡ place_of j s = place_is (ap (λ (z : RowKey). z.kind) key) in
@@ -109,7 +109,7 @@ module _ (d : Deployment) (c : Core) (m : Rows) (h : Right d c m) (i : ℕ) (r :
   other_stage : (id : IntentId) (func : ℕ) (c : Option Caller) (o : Option RunTx) (step : ℕ) (e : Effect) (w : Stage) → is_back_stage w ≡ false → query_backs (stage_asks id func c o step e w) ≡ false
   other_stage id func c o step e Stage.Ask h = refl
   other_stage id func c o step e (Stage.Walk r) h = grind arith
-  other_stage id func c o step e (Stage.Keep v seen) h = refl
+  other_stage id func c o step e (Stage.Keep v version) h = refl
   other_stage id func c o step e (Stage.Write at) h = grind arith
   other_stage id func c o step e (Stage.Tx at) h = grind arith
   other_stage id func c o step e (Stage.Decide m) h = grind arith
@@ -117,7 +117,7 @@ module _ (d : Deployment) (c : Core) (m : Rows) (h : Right d c m) (i : ℕ) (r :
   other_stage id func c o step e (Stage.Call at) h = grind arith
   other_stage id func c o step e (Stage.Async at) h = grind arith
   other_stage id func c o step e Stage.Back h = cc
-  other_stage id func c o step e Stage.Tell h = grind arith
+  other_stage id func c o step e Stage.Notify h = grind arith
   other_stage id func c o step e Stage.Close h = grind arith
 
   back_stage : (g : Begun) → r.at ≡ RunAt.Begins g → (b : Option Caller) (e : Effect) → g.caller ≡ b → Backs (stage_asks r.id r.func b g.tx g.machine.steps e Stage.Back) m
@@ -138,9 +138,9 @@ module _ (d : Deployment) (c : Core) (m : Rows) (h : Right d c m) (i : ℕ) (r :
       by_at (RunAt.Begins g) at = by_stage g at g.stage
 
 -- ---- an event
-module _ (d : Deployment) (c : Core) (m : Rows) (h : Right d c m) where
+module _ (d : Deployment) (c : Core) (m : Rows) (h : Invariant d c m) where
   abbrev PlanBacks : Plan → Type 0
-  PlanBacks (at_once b y) = Unit {0}
+  PlanBacks (immediate b y) = Unit {0}
   PlanBacks (asks q) = Backs q m
   PlanBacks reads_all = Unit {0}
 
@@ -163,12 +163,12 @@ module _ (d : Deployment) (c : Core) (m : Rows) (h : Right d c m) where
   plan_backs Event.Ic = tt
   plan_backs Event.Halt = tt
 
-  plan_brings : (room old new : ℕ) (e : Event) (b : Core) (n : Rows) (r : Result Seen AllocError) (p : Plan) → plan_removes p ≡ false → PlanBacks p → EventBy d room old new e (counted c) p m b n r → ResultsCome m n
-  plan_brings room old new e b n r (at_once k y) keeps backs s = subst (ResultsCome m) (sym s.1) (results_same m)
+  plan_brings : (room old new : ℕ) (e : Event) (b : Core) (n : Rows) (r : Result EventReply AllocError) (p : Plan) → plan_removes p ≡ false → PlanBacks p → EventBy d room old new e (counted c) p m b n r → ResultsCome m n
+  plan_brings room old new e b n r (immediate k y) keeps backs s = subst (ResultsCome m) (sym s.1) (results_same m)
   plan_brings room old new e b n r reads_all keeps backs s = subst (ResultsCome m) (sym s.2.0) (results_same m)
   plan_brings room old new e b n r (asks q) keeps backs s = by_came s.0 s.2
     where
-      by_came : (w : Result Told TableErr) → CameOn q c.now room w m n → ResultsCome m n
+      by_came : (w : Result QueryReply TableErr) → CameOn q c.now room w m n → ResultsCome m n
       by_came (Ok t) s = subst (ResultsCome m) (sym s.0) (query_brings c.now m q keeps backs)
       by_came (Err v) s = subst (ResultsCome m) (sym (refused_stand q c.now room v m n s)) (results_same m)
 

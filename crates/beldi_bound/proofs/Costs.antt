@@ -5,12 +5,12 @@ use Rattle.beldi_value.specs.declared.{id.IntentId.IntentId, place.TxId.TxId}
 use Rattle.beldi_tree.specs.declared.deployment.Deployment.{Deployment}
 use Rattle.beldi_lang.specs.declared.effect.{Answer.Answer, Effect.Effect}
 use Rattle.beldi_plain.specs.Plain.{Instance, effect_of}
-use Rattle.beldi_order.specs.Txs.{tx_now}
+use Rattle.beldi_plain_laws.specs.Txs.{tx_now}
 use Rattle.beldi_row.specs.{Key.RowKey, Table.Rows, declared.key.Kind.Kind, declared.row.Body.Body, declared.row.Row.Row}
-use Rattle.beldi_known.proofs.Cases.{by_cases}
+use Rattle.beldi_histories.proofs.Cases.{by_cases}
 use Rattle.beldi_step.specs.declared.run.{Begun.Begun, Run.Run}
 use Rattle.beldi_upkeep.specs.Checked.{body_at}
-use Rattle.beldi_bound.specs.{Cost.body_cost, Cost.cost_from, Cost.effect_cost, Cost.kind_cost, Cost.with_answers, Work.seat}
+use Rattle.beldi_bound.specs.{Cost.body_cost, Cost.cost_from, Cost.effect_cost, Cost.kind_cost, Cost.with_answers, SettleWork.seat}
 use Rattle.beldi_bound.proofs.{Facts.Stands, Facts.rest_cost, Frames.Cost, Frames.Due, Frames.Spare, Frames.Stuck, Frames.last_few}
 use Rattle.beldi_bound.proofs.Ledger.{callee_key, if_free, spare_of, stuck_by, stuck_in}
 

@@ -1,5 +1,5 @@
 -- Turns that tell nothing: of a run past its deadline, where the table failed, or where it had no room; and turns that wait.
-use Rattle.beldi_order.proofs.Maps.{same_some}
+use Rattle.beldi_plain_laws.proofs.Maps.{same_some}
 use Rattle.beldi_bound.proofs.Going.{goes_same}
 use Rattle.std.specs.FinMap as map
 use Rattle.std.proofs.Common.{◌≡◌, ◌⊎◌, inl, inr, ℕ, zero, suc, ◌+◌, ◌*◌, ◌<◌, ◌≤◌, ◌==◌, eqb-true, eq-eqb, nat_lt, ltb-true, lt-ltb, true, false, List, ◌∷◌, Option, Some, None, refl, sym, ap, subst, ◌∙◌, arith}
@@ -8,11 +8,11 @@ use Rattle.beldi_tree.specs.declared.deployment.Deployment.{Deployment}
 use Rattle.beldi_lang.specs.declared.effect.{Answer.Answer, Effect.Effect}
 use Rattle.beldi_row.specs.{Key.RowKey, Table.Rows}
 use Rattle.beldi_call.specs.declared.async_call.AsyncAt.{AsyncAt}
-use Rattle.beldi_known.proofs.Cases.{by_cases}
-use Rattle.beldi_step.specs.{Host.Core, Next.next_run, declared.run.Begun.Begun, declared.run.Run.Run, declared.run.RunAt.RunAt, declared.run.RunTx.RunTx, declared.run.Stage.Stage}
-use Rattle.beldi_laws.specs.{Right.AtStage, Right.Inside, Right.Knows, Right.KnowsAt, Right.Right, Right.RunAt as RunKnows}
-use Rattle.beldi_bound.specs.{Ends.IsIn, Ends.Sound, Work.has_ended, Work.one_more, Work.seat, Work.sum_of}
-use Rattle.beldi_bound.proofs.{Costs.splits, Falls.IsEnd, Falls.left_some, Facts.GoesOn, Facts.Stands, Facts.begun_left}
+use Rattle.beldi_histories.proofs.Cases.{by_cases}
+use Rattle.beldi_step.specs.{HostStep.Core, Next.next_run, declared.run.Begun.Begun, declared.run.Run.Run, declared.run.RunAt.RunAt, declared.run.RunTx.RunTx, declared.run.Stage.Stage}
+use Rattle.beldi_invariant.specs.{Invariant.AtStage, Invariant.Inside, Invariant.Knows, Invariant.KnowsAt, Invariant.Invariant, Invariant.RunAt as RunKnows}
+use Rattle.beldi_bound.specs.{Ends.IsIn, Ends.Sound, SettleWork.has_ended, SettleWork.one_more, SettleWork.seat, SettleWork.sum_of}
+use Rattle.beldi_bound.proofs.{Costs.splits, BoundFalls.IsEnd, BoundFalls.left_some, Facts.GoesOn, Facts.Stands, Facts.begun_left}
 use Rattle.beldi_bound.proofs.Ledger.{CoversAt, Covers, Ledger, Pays, find}
 use Rattle.beldi_bound.proofs.Frames.{Cost, Covered, Due, Leaves, Mid, Paid, Spare, ledger_by, others, stays_so}
 use Rattle.beldi_bound.proofs.Paying.{paid_by, pays}
@@ -21,11 +21,11 @@ pub share : (f x : ℕ) → 1 ≤ f → x ≤ f * x
 share f x h = grind arith
 
 -- ---- what a live run that has begun knows
-pub knows_it : {d : Deployment} {c : Core} {m : Rows} (h : Right d c m) (i : ℕ) (r : Run) (g : Begun) → map.get c.runs i ≡ Some r → r.at ≡ RunAt.Begins g → (k : Knows d h.known r g) × Inside m h.plain c.book k g.stage
-knows_it {d} {c} {m} h i r g live at = subst (KnowsAt d m h.plain c.book h.known r) at (subst (RunKnows d m h.plain c.book h.known) live (h.runs.runs i))
+pub knows_it : {d : Deployment} {c : Core} {m : Rows} (h : Invariant d c m) (i : ℕ) (r : Run) (g : Begun) → map.get c.runs i ≡ Some r → r.at ≡ RunAt.Begins g → (k : Knows d h.histories r g) × Inside m h.plain c.book k g.stage
+knows_it {d} {c} {m} h i r g live at = subst (KnowsAt d m h.plain c.book h.histories r) at (subst (RunKnows d m h.plain c.book h.histories) live (h.runs.runs i))
 
 -- .. so some is left of it
-module _ {d : Deployment} {c : Core} {m : Rows} (h : Right d c m) (r : Run) (g : Begun) (k : Knows d h.known r g) where
+module _ {d : Deployment} {c : Core} {m : Rows} (h : Invariant d c m) (r : Run) (g : Begun) (k : Knows d h.histories r g) where
   end_own : (w : Stage) (f : Effect) (o : Option RunTx) → AtStage m h.plain c.book k w f o → IsEnd o w
   end_own (Stage.End v) (Effect.End commit) (Some (RunTx.Own x)) is = (x, refl)
   end_own (Stage.End v) f o is = absurd is
@@ -61,8 +61,8 @@ module _ (d : Deployment) (room : ℕ) (e : Rows) (asked : IntentId → List Ans
         by_at RunAt.Looks at h = let k = h.0 in inl (omega (arith, k))
         by_at (RunAt.Registers w) at h = some_or (K (seat r)) (Spare d room e asked first most (seat r) + a) h
         by_at (RunAt.Begins g) at h =
-            let k = knows_it sound.upkeep.right i r g live at in
-            let some = some_left sound.upkeep.right r g k.0 e asked k.1 h.0 in
+            let k = knows_it sound.upkeep.invariant i r g live at in
+            let some = some_left sound.upkeep.invariant r g k.0 e asked k.1 h.0 in
             let less = covers_left past c m i r g (begun_left m h.0) (Spare d room e asked first most (seat r) + a) g.stage h.1 in inl (omega (arith, some, less))
 
     -- ---- the run is over
@@ -70,12 +70,12 @@ module _ (d : Deployment) (room : ℕ) (e : Rows) (asked : IntentId → List Ans
       gone : (n : Rows) (rows : GoesOn m n) (full : room ≤ map.len m → ((k : RowKey) → map.get m k ≡ None → map.get n k ≡ None) × (room ≤ map.len n)) (kept : List RowKey) (f : ℕ) → ((k : RowKey) → IsIn k keys → IsIn k kept) → ((k : RowKey) → IsIn k kept → K k ≤ most)
           → ((k : RowKey) → first < i → seat r ≡ k → (has_ended (map.get n k) ≡ false) ⊎ (K k ≡ 0) → Paid d room e asked first most b kept k)
           → 1 + (0 + 0 + sum_of (one_more (λ k. Due d room e asked first most k)) kept) ≤ a + sum_of (one_more (λ k. Due d room e asked first most k)) keys + f * (most + 1) → Pays d room e asked first most past runs keys 1 f b n
-      gone n rows full kept f keep worth own less = pays d room e asked first most past i c m r a runs keys ledger sound.upkeep.right.runs.numbers next live has b n kept None None runs_so past 0
+      gone n rows full kept f keep worth own less = pays d room e asked first most past i c m r a runs keys ledger sound.upkeep.invariant.runs.numbers next live has b n kept None None runs_so past 0
           (record {
             rows = rows;
             full = full;
             now = now_so;
-            paid = paid_by d room e asked first most past i c m r a runs keys ledger sound.upkeep.right.runs.numbers next live has b n kept None None runs_so (λ k there. inl (keep k there)) own;
+            paid = paid_by d room e asked first most past i c m r a runs keys ledger sound.upkeep.invariant.runs.numbers next live has b n kept None None runs_so (λ k there. inl (keep k there)) own;
             worth = worth;
             since = subst (λ z. first ≤ z) (sym last_so) ledger.since;
           })

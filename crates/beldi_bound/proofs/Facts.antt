@@ -7,13 +7,13 @@ use Rattle.beldi_tree.specs.declared.deployment.Deployment.{Deployment}
 use Rattle.beldi_lang.specs.{Machine.IsAt, declared.effect.Answer.Answer}
 use Rattle.beldi_plain.specs.Plain.{effect_of}
 use Rattle.beldi_row.specs.{Key.RowKey, Table.Rows, declared.key.Kind.Kind, declared.row.Body.Body, declared.row.IntentRow.IntentRow, declared.row.Row.Row}
-use Rattle.beldi_walk.specs.Query.{rows_after}
+use Rattle.beldi_query.specs.Query.{rows_after}
 use Rattle.beldi_intent.specs.Intent.{IntentGoesOn, is_ended}
-use Rattle.beldi_step.specs.{Host.Core, Host.EventOn, Host.has_run, Host.most_runs, Run.first_stage, Run.run_asks, declared.event.Event.Event, declared.event.Seen.Seen, declared.run.Begun.Begun, declared.run.Run.Run, declared.run.RunAt.RunAt, declared.run.Wait.Wait}
+use Rattle.beldi_step.specs.{HostStep.Core, HostStep.EventOn, HostStep.has_run, HostStep.most_runs, Run.first_stage, Run.run_asks, declared.event.Event.Event, declared.event.EventReply.EventReply, declared.run.Begun.Begun, declared.run.Run.Run, declared.run.RunAt.RunAt, declared.run.Wait.Wait}
 use Rattle.beldi_schedule.specs.{Settle.first_at, Settle.go_on, Settles.Settles, Settles.State, declared.machine.Settled.Settled, declared.machine.Settled.TheVariants.All, declared.machine.Settled.TheVariants.Shut, declared.machine.Settled.TheVariants.Stuck, declared.machine.Standing.TheVariants.Over}
-use Rattle.beldi_laws.specs.{OneAnswer.AnswersStay, Right.open_of}
-use Rattle.beldi_upkeep.specs.Checked.{next_says, next_turn}
-use Rattle.beldi_bound.specs.{Cost.AreAsked, Cost.cost_from, Cost.step_cost, Cost.with_answers, Ends.AllHaveEnded, Ends.HasCause, Ends.HasNoLock, Ends.IsBelowEnd, Ends.IsIn, Ends.IsLate, Ends.NoneIsLate, Ends.Sound, Ends.is_hindered, Left.SaysLower, Left.left_at, Work.has_ended, Work.seat}
+use Rattle.beldi_invariant.specs.{OneAnswer.AnswersStay, Invariant.open_of}
+use Rattle.beldi_upkeep.specs.Checked.{next_output, next_turn}
+use Rattle.beldi_bound.specs.{Cost.AreAsked, Cost.cost_from, Cost.step_cost, Cost.with_answers, Ends.AllHaveEnded, Ends.HasCause, Ends.HasNoLock, Ends.IsBelowEnd, Ends.IsIn, Ends.IsLate, Ends.NoneIsLate, Ends.Sound, Ends.is_hindered, Left.OutputLower, Left.left_at, SettleWork.has_ended, SettleWork.seat}
 
 -- ---- rows that go on: no row goes, an intent keeps what was set, and an answer that is held stays
 pub record GoesOn (m n : Rows) : Type 0 where
@@ -22,7 +22,7 @@ pub record GoesOn (m n : Rows) : Type 0 where
   pub answers : AnswersStay m n
 
 abbrev pub EventsGoOn : Type 0
-EventsGoOn = (d : Deployment) (room old new : ℕ) (e : Event) (c b : Core) (m n : Rows) (r : Result Seen AllocError) → EventOn d room old new e c m b n r → GoesOn m n
+EventsGoOn = (d : Deployment) (room old new : ℕ) (e : Event) (c b : Core) (m n : Rows) (r : Result EventReply AllocError) → EventOn d room old new e c m b n r → GoesOn m n
 
 -- ---- where a run stands in the answers that are asked of its intent
 pub record Along (d : Deployment) (id : IntentId) (b : Body) (given : List Answer) (r : Run) (g : Begun) : Type 0 where
@@ -30,7 +30,7 @@ pub record Along (d : Deployment) (id : IntentId) (b : Body) (given : List Answe
   pub later : List Answer
   pub all : answers ++ later ≡ given
   pub func : b.func ≡ r.func
-  pub caller : g.caller ≡ b.from
+  pub caller : g.caller ≡ b.parent
   pub steps : length answers ≡ g.machine.steps
   pub machine : IsAt d b.func b.args (is_some b.tx) g.machine answers
   pub effect : g.machine.effect ≡ effect_of d (with_answers b answers)
@@ -68,7 +68,7 @@ FirstStagesAreFew = (d : Deployment) (e m : Rows) (id : IntentId) (b : Body) (gi
 -- ---- a turn of a live run that has begun, over rows that go on to those in the end
 abbrev pub TurnsLower : Type 0
 TurnsLower = (d : Deployment) (c : Core) (m e : Rows) (i : ℕ) (r : Run) (g : Begun) → Sound d c m → GoesOn (rows_after (run_asks r) c.now m) e → map.get c.runs i ≡ Some r → r.at ≡ RunAt.Begins g
-    → SaysLower (left_at e (rows_after (run_asks r) c.now m) r.func r.id g.tx g.machine.steps g.machine.effect) (left_at e m r.func r.id g.tx g.machine.steps g.machine.effect g.stage) (next_says c m r g)
+    → OutputLower (left_at e (rows_after (run_asks r) c.now m) r.func r.id g.tx g.machine.steps g.machine.effect) (left_at e m r.func r.id g.tx g.machine.steps g.machine.effect g.stage) (next_output c m r g)
 
 -- where it waits, the rows are as they were
 abbrev pub WaitsLeaveRows : Type 0
@@ -76,14 +76,14 @@ WaitsLeaveRows = (d : Deployment) (c : Core) (m : Rows) (i : ℕ) (r : Run) (w :
 
 -- ---- the ends of a settling
 -- what a turn of a live run would be answered now, where it waits
-pub data WaitsNow (d : Deployment) (c : Core) (m : Rows) (i : ℕ) : Seen → Type 0 where
-  hindered : (x : Seen) → is_hindered x ≡ true → WaitsNow d c m i x
-  held : (r : Run) (o : Owner) → map.get c.runs i ≡ Some r → (next_turn d c m r).wait ≡ Some (Wait.Held o) → WaitsNow d c m i (Seen.Held o)
-  not_yet : (r : Run) (j : IntentId) → map.get c.runs i ≡ Some r → (next_turn d c m r).wait ≡ Some (Wait.Result j) → has_run c.runs j ≡ true → WaitsNow d c m i (Seen.NotYet j)
+pub data WaitsNow (d : Deployment) (c : Core) (m : Rows) (i : ℕ) : EventReply → Type 0 where
+  hindered : (x : EventReply) → is_hindered x ≡ true → WaitsNow d c m i x
+  held : (r : Run) (o : Owner) → map.get c.runs i ≡ Some r → (next_turn d c m r).wait ≡ Some (Wait.Held o) → WaitsNow d c m i (EventReply.Held o)
+  not_yet : (r : Run) (j : IntentId) → map.get c.runs i ≡ Some r → (next_turn d c m r).wait ≡ Some (Wait.Result j) → has_run c.runs j ≡ true → WaitsNow d c m i (EventReply.NotYet j)
 
 -- all that live wait
-abbrev pub AllWait : Deployment → Core → Rows → List (ℕ × Seen) → Type 0
-AllWait d c m waiting = (i : ℕ) (r : Run) → map.get c.runs i ≡ Some r → (x : Seen) × IsIn (i, x) waiting × WaitsNow d c m i x
+abbrev pub AllWait : Deployment → Core → Rows → List (ℕ × EventReply) → Type 0
+AllWait d c m waiting = (i : ℕ) (r : Run) → map.get c.runs i ≡ Some r → (x : EventReply) × IsIn (i, x) waiting × WaitsNow d c m i x
 
 -- each intent that has a body and has not ended has a live run
 abbrev pub EachHasRun : Core → Rows → Type 0
@@ -103,7 +103,7 @@ abbrev pub SettledHaveEnded : Type 0
 SettledHaveEnded = (d : Deployment) (c : Core) (m : Rows) → Sound d c m → c.runs ≡ map.empty → EachHasRun c m → AllHaveEnded d c m
 
 abbrev pub WaitsHaveCause : Type 0
-WaitsHaveCause = (d : Deployment) (c : Core) (m : Rows) (waiting : List (ℕ × Seen)) → Sound d c m → HasNoLock d → AllWait d c m waiting → EachHasRun c m → (c.runs ≡ map.empty → ⊥) → HasCause c m waiting
+WaitsHaveCause = (d : Deployment) (c : Core) (m : Rows) (waiting : List (ℕ × EventReply)) → Sound d c m → HasNoLock d → AllWait d c m waiting → EachHasRun c m → (c.runs ≡ map.empty → ⊥) → HasCause c m waiting
 
 -- a late run of an intent that has not ended has beside it a live run that was answered more
 abbrev pub AreFollowed : Core → Rows → Type 0

@@ -10,16 +10,16 @@ use Rattle.beldi_value.specs.declared.id.IntentId.{IntentId}
 use Rattle.beldi_tree.specs.declared.deployment.Deployment.{Deployment}
 use Rattle.beldi_lang.specs.declared.effect.Answer.{Answer}
 use Rattle.beldi_row.specs.{Key.RowKey, Table.Rows, declared.table.TableErr.TableErr}
-use Rattle.beldi_walk.specs.{Query.Told}
-use Rattle.beldi_collect.specs.{Collect.collect_says, declared.cursor.Found.Found}
-use Rattle.beldi_step.proofs.Runs.{after_event, either, of_plan}
-use Rattle.beldi_step.specs.{Host.Core, Host.EventBy, Host.EventOn, Host.Followed, Host.after_turn, Host.asks, Host.at_once, Host.collect_next, Host.counted as one_taken, Host.ended_run, Host.has_run, Host.is_crowded, Host.last_moment, Host.may_start, Host.run_next, Host.run_plan, Host.started, Host.turned_core, Run.callee_of, Run.run_asks, Run.run_told, Run.says_of, Next.next_run, Next.reset, declared.event.Event.Event, declared.event.Seen.Seen, declared.run.Begun.Begun, declared.run.Run.Run, declared.run.RunAt.RunAt, declared.run.TurnSays.TurnSays, declared.run.Wait.Wait}
-use Rattle.beldi_book.specs.Order.{count_changes}
-use Rattle.beldi_schedule.specs.{Settle.begun, Settle.by_round as goes_round, Settle.core_for, Settle.counted, Settle.counts, Settle.end_of, Settle.ends_round, Settle.event_of, Settle.first_at, Settle.go_on, Settle.heard_of, Settle.ic_heard, Settle.is_empty, Settle.is_turned_away, Settle.is_waiting, Settle.next_of, Settle.parked, Settle.restless, Settle.round_over, Settle.turn_heard, Settle.turn_or, Settle.turns_of, Settle.unparked, Settle.unless_away, Settle.away}
-use Rattle.beldi_schedule.specs.declared.machine.{At.At, Next.Next, Settled.Settled, Standing.Standing, Standing.TheVariants.Goes, Standing.TheVariants.Over}
+use Rattle.beldi_query.specs.{Query.QueryReply}
+use Rattle.beldi_collect.specs.{Collect.collect_output, declared.cursor.Found.Found}
+use Rattle.beldi_step.proofs.StepRuns.{after_event, either, of_plan}
+use Rattle.beldi_step.specs.{HostStep.Core, HostStep.EventBy, HostStep.EventOn, HostStep.Followed, HostStep.after_turn, HostStep.asks, HostStep.immediate, HostStep.collect_next, HostStep.counted as one_taken, HostStep.ended_run, HostStep.has_run, HostStep.is_crowded, HostStep.last_moment, HostStep.may_start, HostStep.run_next, HostStep.run_plan, HostStep.started, HostStep.turned_core, Run.callee_of, Run.run_asks, Run.run_told, Run.output_of, Next.next_run, Next.reset, declared.event.Event.Event, declared.event.EventReply.EventReply, declared.run.Begun.Begun, declared.run.Run.Run, declared.run.RunAt.RunAt, declared.run.TurnOutput.TurnOutput, declared.run.Wait.Wait}
+use Rattle.beldi_book.specs.LinearOrder.{count_changes}
+use Rattle.beldi_schedule.specs.{Settle.begun, Settle.by_round as goes_round, Settle.core_for, Settle.counted, Settle.counts, Settle.end_of, Settle.ends_round, Settle.event_of, Settle.first_at, Settle.go_on, Settle.on_reply_of, Settle.on_ic_reply, Settle.is_empty, Settle.is_turned_away, Settle.is_waiting, Settle.next_of, Settle.parked, Settle.restless, Settle.round_over, Settle.on_turn_reply, Settle.turn_or, Settle.turns_of, Settle.unparked, Settle.unless_away, Settle.away}
+use Rattle.beldi_schedule.specs.declared.machine.{At.At, Next.Next, Settled.Settled, Standing.Standing, Standing.TheVariants.Working, Standing.TheVariants.Over}
 use Rattle.beldi_schedule.specs.Settles.{Advances, MaySkip, Settles, State, goes, set_to, skips, stands}
-use Rattle.beldi_bound.specs.{Cost.AreAsked, Ends.IsBelowEnd, Ends.Sound, Work.work_of}
-use Rattle.beldi_bound.proofs.{Entries.next_is_past, Entries.none_past, Facts.GoesOn, RoundsPay.ledger_moves, Bringing.settling_brings, ResultsCome.ResultsCome, ResultsCome.results_same, ResultsCome.results_then, RoundsPay.rounds_pay, Starting.ledger_begins}
+use Rattle.beldi_bound.specs.{Cost.AreAsked, Ends.IsBelowEnd, Ends.Sound, SettleWork.work_of}
+use Rattle.beldi_bound.proofs.{BoundEntries.next_is_past, BoundEntries.none_past, Facts.GoesOn, RoundsPay.ledger_moves, Bringing.settling_brings, ResultsCome.ResultsCome, ResultsCome.results_same, ResultsCome.results_then, RoundsPay.rounds_pay, Starting.ledger_begins}
 use Rattle.beldi_bound.proofs.Ledger.{Ledger, Pays, RoundsPay, TurnsPay, due, past_after, total, turn_of}
 
 -- ---- an event of a settling leaves the moment
@@ -32,42 +32,42 @@ module _ (d : Deployment) where
   may_now c None = refl
   may_now c (Some r) = either (λ (p : Core × Option ℕ). p.0.now ≡ c.now) (has_run c.runs r.id || is_crowded c) _ _ (λ t. refl) (λ t. refl)
 
-  after_now : (c : Core) (o : Option Run) (id : IntentId) (x : TurnSays) (w : Option Wait) → (after_turn c o id x w).0.now ≡ c.now
+  after_now : (c : Core) (o : Option Run) (id : IntentId) (x : TurnOutput) (w : Option Wait) → (after_turn c o id x w).0.now ≡ c.now
   after_now c o id x None = either (λ (p : Core × Option ℕ). p.0.now ≡ c.now) x.starts _ _ (λ t. may_now c o) (λ t. refl)
   after_now c o id x (Some (Wait.Held w)) = refl
   after_now c o id x (Some Wait.Worn) = refl
-  after_now c o id x (Some (Wait.Result j)) = either (λ (p : Core × Seen). p.0.now ≡ c.now) (has_run c.runs j) _ _ (λ t. refl) (λ t. either (λ (p : Core × Seen). p.0.now ≡ c.now) (is_crowded c) _ _ (λ u. refl) (λ u. started_now c o))
+  after_now c o id x (Some (Wait.Result j)) = either (λ (p : Core × EventReply). p.0.now ≡ c.now) (has_run c.runs j) _ _ (λ t. refl) (λ t. either (λ (p : Core × EventReply). p.0.now ≡ c.now) (is_crowded c) _ _ (λ u. refl) (λ u. started_now c o))
 
-  run_now : (c : Core) (i : ℕ) (t : Told) (o : Option Run) → (run_next d c i t o).0.now ≡ c.now
+  run_now : (c : Core) (i : ℕ) (t : QueryReply) (o : Option Run) → (run_next d c i t o).0.now ≡ c.now
   run_now c i t None = refl
-  run_now c i t (Some r) = let s = run_told d (count_changes c.book) r t in after_now (turned_core c i r.id s) (callee_of r) r.id (says_of s) s.wait
+  run_now c i t (Some r) = let s = run_told d (count_changes c.book) r t in after_now (turned_core c i r.id s) (callee_of r) r.id (output_of s) s.wait
 
   found_now : (c : Core) (f : Found) → (collect_next d c f).0.now ≡ c.now
   found_now c Found.Round = refl
   found_now c (Found.Passed k) = refl
-  found_now c (Found.Unended k id f) = either (λ (p : Core × Seen). p.0.now ≡ c.now) (has_run c.runs id) _ _ (λ t. refl) (λ t. either (λ (p : Core × Seen). p.0.now ≡ c.now) (is_crowded c) _ _ (λ u. refl) (λ u. refl))
+  found_now c (Found.Unended k id f) = either (λ (p : Core × EventReply). p.0.now ≡ c.now) (has_run c.runs id) _ _ (λ t. refl) (λ t. either (λ (p : Core × EventReply). p.0.now ≡ c.now) (is_crowded c) _ _ (λ u. refl) (λ u. refl))
 
-  module _ (room old new : ℕ) (c b : Core) (m n : Rows) (x : Seen) where
-    turn_came : (z : Core) (i : ℕ) (w : Result Told TableErr) → Followed d (Event.Turn i) z w b (Ok x) → b.now ≡ z.now
-    turn_came z i (Ok t) is = ap (λ (p : Core × Seen). p.0.now) is ∙ run_now z i t (map.get z.runs i)
-    turn_came z i (Err TableErr.OutOfMemory) is = ap (λ (p : Core × Result Seen AllocError). p.0.now) is
-    turn_came z i (Err TableErr.Failed) is = ap (λ (p : Core × Result Seen AllocError). p.0.now) is
-    turn_came z i (Err (TableErr.Full live most)) is = ap (λ (p : Core × Result Seen AllocError). p.0.now) is
+  module _ (room old new : ℕ) (c b : Core) (m n : Rows) (x : EventReply) where
+    turn_came : (z : Core) (i : ℕ) (w : Result QueryReply TableErr) → Followed d (Event.Turn i) z w b (Ok x) → b.now ≡ z.now
+    turn_came z i (Ok t) is = ap (λ (p : Core × EventReply). p.0.now) is ∙ run_now z i t (map.get z.runs i)
+    turn_came z i (Err TableErr.OutOfMemory) is = ap (λ (p : Core × Result EventReply AllocError). p.0.now) is
+    turn_came z i (Err TableErr.Failed) is = ap (λ (p : Core × Result EventReply AllocError). p.0.now) is
+    turn_came z i (Err (TableErr.Full live most)) is = ap (λ (p : Core × Result EventReply AllocError). p.0.now) is
 
     turn_plan : (z : Core) (i : ℕ) (o : Option Run) → EventBy d room old new (Event.Turn i) z (run_plan z i o) m b n (Ok x) → b.now ≡ z.now
     turn_plan z i None s = ap (λ (w : Core). w.now) s.0.0
     turn_plan z i (Some r) s = by_time (nat_lt r.deadline z.now) s
       where
-        by_time : (t : Bool) → EventBy d room old new (Event.Turn i) z (if t then at_once (ended_run z i) Seen.Expired else asks (run_asks r)) m b n (Ok x) → b.now ≡ z.now
+        by_time : (t : Bool) → EventBy d room old new (Event.Turn i) z (if t then immediate (ended_run z i) EventReply.Expired else asks (run_asks r)) m b n (Ok x) → b.now ≡ z.now
         by_time true s = ap (λ (w : Core). w.now) s.0.0
         by_time false s = turn_came z i s.0 s.1
 
     pub turn_now : (i : ℕ) → EventOn d room old new (Event.Turn i) c m b n (Ok x) → b.now ≡ c.now
     turn_now i = of_plan d (Event.Turn i) c (λ p. EventBy d room old new (Event.Turn i) (one_taken c) p m b n (Ok x) → b.now ≡ c.now) (λ t. turn_plan (one_taken c) i (map.get c.runs i)) (λ t s. ap (λ (w : Core). w.now) s.0.0) (λ s. ap (λ (w : Core). w.now) s.0.0)
 
-    round_came : (z : Core) (w : Result Told TableErr) → Followed d Event.Ic z w b (Ok x) → b.now ≡ z.now
-    round_came z (Ok t) is = ap (λ (p : Core × Seen). p.0.now) is ∙ found_now z (collect_says t)
-    round_came z (Err v) is = ap (λ (p : Core × Result Seen AllocError). p.0.now) is
+    round_came : (z : Core) (w : Result QueryReply TableErr) → Followed d Event.Ic z w b (Ok x) → b.now ≡ z.now
+    round_came z (Ok t) is = ap (λ (p : Core × EventReply). p.0.now) is ∙ found_now z (collect_output t)
+    round_came z (Err v) is = ap (λ (p : Core × Result EventReply AllocError). p.0.now) is
 
     pub round_now : EventOn d room old new Event.Ic c m b n (Ok x) → b.now ≡ c.now
     round_now = of_plan d Event.Ic c (λ p. EventBy d room old new Event.Ic (one_taken c) p m b n (Ok x) → b.now ≡ c.now) (λ t s. round_came (one_taken c) s.0 s.1) (λ t s. ap (λ (w : Core). w.now) s.0.0) (λ s. ap (λ (w : Core). w.now) s.0.0)
@@ -94,7 +94,7 @@ module _ (d : Deployment) (room : ℕ) (e : Rows) (asked : IntentId → List Ans
     pub idle : Idle a s.core
 
   abbrev pub Holds : ℕ → Standing → State → Type 0
-  Holds n (Goes a) s = Ready a s n
+  Holds n (Working a) s = Ready a s n
   Holds n (Over x) s = turns_of x ≤ n
 
   -- what comes next finds its ledger
@@ -148,19 +148,19 @@ module _ (d : Deployment) (room : ℕ) (e : Rows) (asked : IntentId → List Ans
     counted_holds a h = either (λ z. Holds (n + failures) z u) (nat_le budget a.turns) _ _ (λ t. let l = h.less in omega (arith, l)) (λ t. h)
 
     -- unless the event was turned away
-    unless_holds : (a : At) (x : Seen) (z : Standing) → a.turns ≤ n → (is_turned_away x ≡ false → Holds (n + failures) z u) → Holds (n + failures) (unless_away a x z) u
+    unless_holds : (a : At) (x : EventReply) (z : Standing) → a.turns ≤ n → (is_turned_away x ≡ false → Holds (n + failures) z u) → Holds (n + failures) (unless_away a x z) u
     unless_holds a x z less h = either (λ y. Holds (n + failures) y u) (is_turned_away x) _ _ (λ t. let same = away_turns a.turns x in omega (arith, less, same)) h
       where
-        away_turns : (k : ℕ) (x : Seen) → turns_of (away k x) ≡ k
-        away_turns k Seen.Shut = refl
+        away_turns : (k : ℕ) (x : EventReply) → turns_of (away k x) ≡ k
+        away_turns k EventReply.Shut = refl
         away_turns k x = refl
 
-    turn_holds : (a : At) (i : ℕ) (x : Seen) (h : Ready a s n) → a.round ≡ None
+    turn_holds : (a : At) (i : ℕ) (x : EventReply) (h : Ready a s n) → a.round ≡ None
         → (is_turned_away x ≡ false → Pays d room e asked first most (past_after d room e asked first most (is_waiting x) i a.past) h.runs h.keys (turn_of d room e asked first most (is_waiting x)) (u.faults - s.faults) u.core u.rows)
-        → Holds (n + failures) (turn_heard budget a i x) u
+        → Holds (n + failures) (on_turn_reply budget a i x) u
     turn_holds a i x h round pays = unless_holds a x _ (let l = h.less in omega (arith, l)) (λ apart. by_wait (is_waiting x) (pays apart))
       where
-        by_wait : (w : Bool) → Pays d room e asked first most (past_after d room e asked first most w i a.past) h.runs h.keys (turn_of d room e asked first most w) (u.faults - s.faults) u.core u.rows → Holds (n + failures) (if w then Goes (parked a i x) else counted budget a) u
+        by_wait : (w : Bool) → Pays d room e asked first most (past_after d room e asked first most w i a.past) h.runs h.keys (turn_of d room e asked first most w) (u.faults - s.faults) u.core u.rows → Holds (n + failures) (if w then Working (parked a i x) else counted budget a) u
         by_wait true p = record { runs = p.runs_then; keys = p.keys_then; ledger = p.ledger; less = let l = h.less in let m = p.less in omega (arith, l, m); idle = λ b is. let clash = sym round ∙ is in cc }
         by_wait false p = counted_holds (record a { turns = a.turns + 1; moved = true }) (record { runs = p.runs_then; keys = p.keys_then; ledger = p.ledger; less = let l = h.less in let m = p.less in omega (arith, l, m); idle = λ b is. let clash = sym round ∙ is in cc })
 
@@ -168,13 +168,13 @@ module _ (d : Deployment) (room : ℕ) (e : Rows) (asked : IntentId → List Ans
     end_turns a None = refl
     end_turns a (Some i) = refl
 
-    round_holds : (a : At) (x : Seen) (live : Option ℕ) (runs : List (ℕ × ℕ)) (keys : List RowKey) → a.turns + total (due d room e asked first most) runs keys ≤ n
+    round_holds : (a : At) (x : EventReply) (live : Option ℕ) (runs : List (ℕ × ℕ)) (keys : List RowKey) → a.turns + total (due d room e asked first most) runs keys ≤ n
         → ((i : ℕ) (r : Run) (g : Begun) → a.past < i → map.get u.core.runs i ≡ Some r → r.at ≡ RunAt.Begins g → ⊥)
         → (is_turned_away x ≡ false → Pays d room e asked first most a.past runs keys (if counts x then 1 else 0) (u.faults - s.faults) u.core u.rows)
-        → Holds (n + failures) (ic_heard budget live a x) u
+        → Holds (n + failures) (on_ic_reply budget live a x) u
     round_holds a x live runs keys less idle pays = unless_holds a x _ (omega (arith, less)) (λ apart. by_end (pays apart))
       where
-        by_count : (t : Bool) → Pays d room e asked first most a.past runs keys (if t then 1 else 0) (u.faults - s.faults) u.core u.rows → Holds (n + failures) (if t then counted budget (record a { round = Some true }) else Goes a) u
+        by_count : (t : Bool) → Pays d room e asked first most a.past runs keys (if t then 1 else 0) (u.faults - s.faults) u.core u.rows → Holds (n + failures) (if t then counted budget (record a { round = Some true }) else Working a) u
         by_count true p = counted_holds (record a { turns = a.turns + 1; moved = true; round = Some true }) (record { runs = p.runs_then; keys = p.keys_then; ledger = p.ledger; less = let m = p.less in omega (arith, less, m); idle = λ b is. idle })
         by_count false p = record { runs = p.runs_then; keys = p.keys_then; ledger = p.ledger; less = let m = p.less in omega (arith, less, m); idle = λ b is. idle }
 
@@ -183,19 +183,19 @@ module _ (d : Deployment) (room : ℕ) (e : Rows) (asked : IntentId → List Ans
         by_round (Some false) p = let same = end_turns a live in omega (arith, less, same)
         by_round None p = let same = end_turns a live in omega (arith, less, same)
 
-        by_end : Pays d room e asked first most a.past runs keys (if counts x then 1 else 0) (u.faults - s.faults) u.core u.rows → Holds (n + failures) (if ends_round x then round_over live a a.round else if counts x then counted budget (record a { round = Some true }) else Goes a) u
+        by_end : Pays d room e asked first most a.past runs keys (if counts x then 1 else 0) (u.faults - s.faults) u.core u.rows → Holds (n + failures) (if ends_round x then round_over live a a.round else if counts x then counted budget (record a { round = Some true }) else Working a) u
         by_end p = either (λ z. Holds (n + failures) z u) (ends_round x) _ _ (λ t. by_round a.round p) (λ t. by_count (counts x) p)
 
   -- ---- an event
   -- the runs past a number that have begun are those from before
-  idle_then : (past old new : ℕ) (c b : Core) (m n : Rows) (x : Seen) → ((i : ℕ) (r : Run) (g : Begun) → past < i → map.get c.runs i ≡ Some r → r.at ≡ RunAt.Begins g → ⊥) → EventOn d room old new Event.Ic c m b n (Ok x)
+  idle_then : (past old new : ℕ) (c b : Core) (m n : Rows) (x : EventReply) → ((i : ℕ) (r : Run) (g : Begun) → past < i → map.get c.runs i ≡ Some r → r.at ≡ RunAt.Begins g → ⊥) → EventOn d room old new Event.Ic c m b n (Ok x)
       → (i : ℕ) (r : Run) (g : Begun) → past < i → map.get b.runs i ≡ Some r → r.at ≡ RunAt.Begins g → ⊥
   idle_then past old new c b m n x idle event i r g less live at =
       (after_event (λ i r. (g : Begun) → past < i → r.at ≡ RunAt.Begins g → ⊥) (λ q t. Unit {0}) d Event.Ic c b (λ i r live g less at. idle i r g less live at) (λ id f g less at. cc) (Ok x) room old new m n (λ q. tt) event).runs i r live g less at
 
   module _ (turns_pay : TurnsPay d room e asked first most) (rounds_pay : RoundsPay d room e asked first most) (z : Core) (in_the_end : Sound d z e) (asks : AreAsked d e asked) (budget : ℕ) where
     module _ (s u : State) (n : ℕ) (before : Sound d s.core s.rows) (after : Sound d u.core u.rows) (goes : GoesOn u.rows e) (come : ResultsCome u.rows e) (below : u.faults < 2 ^ 64 - 1) (soon : s.core.now ≤ last_moment) where
-      next_pays : (w : Next) (x : Seen) → EventOn d room s.faults u.faults (event_of w) (core_for w s.core) s.rows u.core u.rows (Ok x) → NextHolds s n w → Holds (n + failures budget s u n) (heard_of budget u.core w x) u
+      next_pays : (w : Next) (x : EventReply) → EventOn d room s.faults u.faults (event_of w) (core_for w s.core) s.rows u.core u.rows (Ok x) → NextHolds s n w → Holds (n + failures budget s u n) (on_reply_of budget u.core w x) u
       next_pays (Next.Turn a i) x event h = turn_holds budget s u n a i x h.0 h.1 (λ apart. turns_pay a.past s.faults u.faults i s.core u.core s.rows u.rows x h.0.runs h.0.keys z before after in_the_end asks goes come below h.2 event apart h.0.ledger)
       next_pays (Next.Collect a) x event h =
           let idle = h.0.idle h.1 h.2 in
@@ -212,21 +212,21 @@ module _ (d : Deployment) (room : ℕ) (e : Rows) (asked : IntentId → List Ans
 
     -- ---- all events, to these rows in the end
     abbrev Counts : ℕ → Standing → Type 0
-    Counts n (Goes a) = Unit {0}
+    Counts n (Working a) = Unit {0}
     Counts n (Over x) = turns_of x ≤ n
 
     counts_more : (n k : ℕ) (y : Standing) → n ≤ k → Counts n y → Counts k y
-    counts_more n k (Goes a) l h = tt
+    counts_more n k (Working a) l h = tt
     counts_more n k (Over x) l h = omega (arith, l, h)
 
     held : (n : ℕ) (y : Standing) (s : State) → Holds n y s → Counts n y
-    held n (Goes a) s h = tt
+    held n (Working a) s h = tt
     held n (Over x) s h = h
 
     shares : (o m n k : ℕ) → o ≤ m → m ≤ n → (m - o) * k + (n - m) * k ≡ (n - o) * k
     shares o m n k l h = sym (add-mul (m - o) (n - m) k) ∙ ap (λ z. z * k) (omega (arith, l, h))
 
-    now_next : (s u : State) (w : Next) (x : Seen) → EventOn d room s.faults u.faults (event_of w) (core_for w s.core) s.rows u.core u.rows (Ok x) → u.core.now ≡ s.core.now
+    now_next : (s u : State) (w : Next) (x : EventReply) → EventOn d room s.faults u.faults (event_of w) (core_for w s.core) s.rows u.core u.rows (Ok x) → u.core.now ≡ s.core.now
     now_next s u (Next.Turn a i) x event = turn_now d room s.faults u.faults s.core u.core s.rows u.rows x i event
     now_next s u (Next.Collect a) x event = round_now d room s.faults u.faults s.core u.core s.rows u.rows x event
     now_next s u (Next.Reset a) x event = round_now d room s.faults u.faults (reset s.core) u.core s.rows u.rows x event

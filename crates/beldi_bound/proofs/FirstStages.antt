@@ -1,7 +1,7 @@
 -- An effect that begins has no more left than it costs.
-use Rattle.beldi_laws.proofs.Names.{Async, AsyncAt, Bool, Call, CallAt, Caller, CondWrite, Deployment, Effect, End, Instance, IntentId, List, None, Option, Outcome, Own, Read, Return, Rows, RunTx, Some, Stage, TxId, Unlock, Write, [], arith, effect_of, false, first_stage, has_callees, if◌then◌else◌, is_begin, last_stage, length, open_of, own_tx, refl, run_tx, same_some, subst, sym, true, tx_now, ℕ, ◌+◌, ◌∙◌, ◌∷◌, ◌≡◌, ◌≤◌}
-use Rattle.beldi_laws.proofs.Names.map
-use Rattle.beldi_laws.proofs.{Cases.by_option, OpenOf.open_tx, OpenOf.tx_open}
+use Rattle.beldi_invariant.proofs.Names.{Async, AsyncAt, Bool, Call, CallAt, Caller, CondWrite, Deployment, Effect, End, Instance, IntentId, List, None, Option, Outcome, Own, Read, Return, Rows, RunTx, Some, Stage, TxId, Unlock, Write, [], arith, effect_of, false, first_stage, has_callees, if◌then◌else◌, is_begin, last_stage, length, open_of, own_tx, refl, run_tx, same_some, subst, sym, true, tx_now, ℕ, ◌+◌, ◌∙◌, ◌∷◌, ◌≡◌, ◌≤◌}
+use Rattle.beldi_invariant.proofs.Names.map
+use Rattle.beldi_invariant.proofs.{Cases.by_option, OpenOf.open_tx, OpenOf.tx_open}
 use Rattle.beldi_daal.specs.declared.cell.WriteAt.TheVariants.{Try}
 use Rattle.beldi_bound.specs.{Cost.aside_length, Cost.effect_cost, Cost.item_length, Cost.with_answers, Left.aside_there, Left.decided_visit, Left.item_there, Left.left_at, Visits.end_cost, Visits.end_row_cost, Visits.is_ahead, Visits.row_left, Visits.sum_by, Visits.visit_left}
 use Rattle.beldi_bound.proofs.{Facts.FirstStagesAreFew, Lengths.aside_some, Lengths.item_some, Puts.put_few}
@@ -32,7 +32,7 @@ module _ (e m : Rows) (q : Instance) (id : IntentId) (c : Option Caller) (step :
   last_few x o None = omega arith
   last_few x o (Some y) = by_wait y.waits
     where
-      by_wait : (t : Bool) → left_at e m q.func id o step (Return x) (if t then Stage.Back else Stage.Tell) ≤ 2
+      by_wait : (t : Bool) → left_at e m q.func id o step (Return x) (if t then Stage.Back else Stage.Notify) ≤ 2
       by_wait t = grind arith
 
   return_cost : (x : Outcome) (t : Option TxId) → effect_cost e q t step (Return x) ≡ 2

@@ -5,19 +5,19 @@ use Rattle.std.proofs.Common.{◌≡◌, inl, ℕ, suc, ◌+◌, ◌<◌, ◌≤
 use Rattle.beldi_value.specs.declared.{id.IntentId.IntentId, place.Caller.Caller}
 use Rattle.beldi_tree.specs.{Names.func_at, declared.deployment.Deployment.Deployment, declared.deployment.Func.Func}
 use Rattle.beldi_lang.specs.{Machine.begun as machine_begun, declared.effect.Answer.Answer, declared.machine.Machine.Machine}
-use Rattle.beldi_book.specs.Order.{count_changes}
+use Rattle.beldi_book.specs.LinearOrder.{count_changes}
 use Rattle.beldi_row.specs.{Key.RowKey, Table.Rows, declared.row.Body.Body}
-use Rattle.beldi_walk.specs.Query.{rows_after, told_by}
+use Rattle.beldi_query.specs.Query.{rows_after, query_reply}
 use Rattle.beldi_intent.specs.Intent.{body_told}
-use Rattle.beldi_step.specs.{Host.Core, Host.counted, Host.turn_next, Next.next_run, declared.run.Begun.Begun, declared.run.Run.Run, declared.run.RunAt.RunAt, declared.run.RunTx.RunTx, declared.run.Stage.Stage}
-use Rattle.beldi_step.specs.Run.{Turned, asks_at, at_once, begin_in, body_registered, first_stage, goes_from, run_asks, told_at, within}
+use Rattle.beldi_step.specs.{HostStep.Core, HostStep.counted, HostStep.turn_next, Next.next_run, declared.run.Begun.Begun, declared.run.Run.Run, declared.run.RunAt.RunAt, declared.run.RunTx.RunTx, declared.run.Stage.Stage}
+use Rattle.beldi_step.specs.Run.{Turned, asks_at, local_steps, begin_in, body_registered, first_stage, goes_from, run_asks, told_at, inherited_tx}
 use Rattle.beldi_upkeep.specs.Checked.{has_begun, next_turn}
-use Rattle.beldi_bound.specs.{Cost.AreAsked, Cost.cost_from, Cost.step_cost, Ends.Sound, Left.left_at, Work.has_ended, Work.seat}
+use Rattle.beldi_bound.specs.{Cost.AreAsked, Cost.cost_from, Cost.step_cost, Ends.Sound, Left.left_at, SettleWork.has_ended, SettleWork.seat}
 use Rattle.beldi_bound.proofs.{Begun.cover_stage, Costs.front_few, Costs.its_cost, Costs.splits, Ending.knows_it, Ending.over, Ending.some_left, Facts.GoesOn, Facts.Stands, Facts.begun_left, Facts.rest_cost, Facts.rest_left, GoingOn.goes_on}
 use Rattle.beldi_bound.proofs.Ledger.{Covers, HasBody, Ledger, find}
 use Rattle.beldi_bound.proofs.Frames.{Cost, Covered, Due, Spare}
 use Rattle.beldi_bound.proofs.Paying.{own_live}
-use Rattle.beldi_bound.proofs.Turns.{FullStays, Paying}
+use Rattle.beldi_bound.proofs.BoundTurns.{FullStays, Paying}
 
 module _ (d : Deployment) (room : ℕ) (e : Rows) (asked : IntentId → List Answer) (first most : ℕ) (past i : ℕ) (c : Core) (m : Rows) (r : Run) (a : ℕ) (runs : List (ℕ × ℕ)) (keys : List RowKey) (sound : Sound d c m)
     (ledger : Ledger d room e asked first most past c m runs keys) (next : next_run c past ≡ Some i) (live : map.get c.runs i ≡ Some r) (has : find i runs ≡ Some a) (mine : Covered d room e asked first most past c m keys i r a)
@@ -62,10 +62,10 @@ module _ (d : Deployment) (room : ℕ) (e : Rows) (asked : IntentId → List Ans
           let s : Run = record r { at = RunAt.Begins h } in
           let b = (turn_next (counted c) i r (goes_from r z from None (Some w))).0 in
           let open_still = k.open_still s goes_next in
-          let lives = own_live d room e asked first most past i c m r a runs keys ledger sound.upkeep.right.runs.numbers next live has b N keys (Some s) None refl in
+          let lives = own_live d room e asked first most past i c m r a runs keys ledger sound.upkeep.invariant.runs.numbers next live has b N keys (Some s) None refl in
           let q = runs_stand d b N e asked i s h sb goes areas lives refl in
-          let know = knows_it sb.upkeep.right i s h lives refl in
-          let some = some_left sb.upkeep.right s h know.0 e asked know.1 q in
+          let know = knows_it sb.upkeep.invariant i s h lives refl in
+          let some = some_left sb.upkeep.invariant s h know.0 e asked know.1 q in
           goes_on d room e asked first most past i c m r a runs keys sound ledger next live has mine alive b N keys None s h refl refl ledger.since rows full (λ j there. inl there) (λ j there. there) refl refl f refl q some (less s h q refl is open_still)
           (λ x more le. cover_stage d room e asked first most past b N i s h (begun_left N q) x w le (λ v st later. absurd (later (firsts_open r.id from z.1 z.0.steps z.0.effect v (is ∙ ap Some st)))))
           (λ j st. ledger.stuck_paid (seat r) j st open_still) (λ v st. cc) (omega arith)
@@ -90,18 +90,18 @@ module _ (d : Deployment) (room : ℕ) (e : Rows) (asked : IntentId → List Ans
       by_body : (o : Option Func) (b : Option Body) → (next_turn d c m r).next ≡ (begin_in d r o b).next → Turn (begin_in d r o b)
       by_body o None none = is_over none
       by_body None (Some b) none = is_over none
-      by_body (Some o) (Some b) is = let z = at_once d r.id (machine_begun d r.func b.args (is_some b.tx), within b.tx) in by_stage z b.from (first_stage r.id b.from z.1 z.0.steps z.0.effect) refl is
+      by_body (Some o) (Some b) is = let z = local_steps d r.id (machine_begun d r.func b.args (is_some b.tx), inherited_tx b.tx) in by_stage z b.parent (first_stage r.id b.parent z.1 z.0.steps z.0.effect) refl is
 
       pub first_so : Turn (next_turn d c m r)
       first_so = by_at r.at refl yet
         where
-          eq : (x : RunAt) → r.at ≡ x → next_turn d c m r ≡ told_at d (count_changes c.book) r x (told_by (asks_at r x) c.now m)
-          eq x at = ap (λ (y : RunAt). told_at d (count_changes c.book) r y (told_by (asks_at r y) c.now m)) at
+          eq : (x : RunAt) → r.at ≡ x → next_turn d c m r ≡ told_at d (count_changes c.book) r x (query_reply (asks_at r x) c.now m)
+          eq x at = ap (λ (y : RunAt). told_at d (count_changes c.book) r y (query_reply (asks_at r y) c.now m)) at
 
           begun_not : true ≡ false → ⊥
           begun_not h = cc
 
           by_at : (x : RunAt) → r.at ≡ x → has_begun x ≡ false → Turn (next_turn d c m r)
-          by_at RunAt.Looks at not_yet = let t = eq RunAt.Looks at in subst Turn (sym t) (by_body (func_at d r.func) (body_told r.func (told_by (asks_at r RunAt.Looks) c.now m)) (ap (λ (z : Turned). z.next) t))
-          by_at (RunAt.Registers b) at not_yet = let t = eq (RunAt.Registers b) at in subst Turn (sym t) (by_body (func_at d r.func) (body_registered r.func b (told_by (asks_at r (RunAt.Registers b)) c.now m)) (ap (λ (z : Turned). z.next) t))
+          by_at RunAt.Looks at not_yet = let t = eq RunAt.Looks at in subst Turn (sym t) (by_body (func_at d r.func) (body_told r.func (query_reply (asks_at r RunAt.Looks) c.now m)) (ap (λ (z : Turned). z.next) t))
+          by_at (RunAt.Registers b) at not_yet = let t = eq (RunAt.Registers b) at in subst Turn (sym t) (by_body (func_at d r.func) (body_registered r.func b (query_reply (asks_at r (RunAt.Registers b)) c.now m)) (ap (λ (z : Turned). z.next) t))
           by_at (RunAt.Begins g) at not_yet = absurd (begun_not not_yet)

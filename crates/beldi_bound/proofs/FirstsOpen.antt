@@ -30,7 +30,7 @@ last_open : (c : Option Caller) → IsOpen (Some (last_stage c))
 last_open None = λ z is. cc
 last_open (Some c) = by_wait c.waits
   where
-    by_wait : (b : Bool) → IsOpen (Some (if b then Stage.Back else Stage.Tell))
+    by_wait : (b : Bool) → IsOpen (Some (if b then Stage.Back else Stage.Notify))
     by_wait true = λ z is. cc
     by_wait false = λ z is. cc
 

@@ -7,21 +7,21 @@ use Rattle.beldi_value.specs.declared.{id.IntentId.IntentId, place.Caller.Caller
 use Rattle.beldi_tree.specs.declared.deployment.Deployment.{Deployment}
 use Rattle.beldi_lang.specs.declared.effect.Effect.{Effect}
 use Rattle.beldi_lang.specs.declared.machine.Machine.{Machine}
-use Rattle.beldi_book.specs.{Order.count_changes, declared.entry.Entry.Entry}
+use Rattle.beldi_book.specs.{LinearOrder.count_changes, declared.entry.Entry.Entry}
 use Rattle.beldi_plain.specs.Plain.{PlainState}
-use Rattle.beldi_order.proofs.Maps.{same_some}
+use Rattle.beldi_plain_laws.proofs.Maps.{same_some}
 use Rattle.beldi_row.{proofs.Unchanged.looked, specs.Key.RowKey, specs.Key.at_row, specs.Table.Rows, specs.declared.act.Act.Act, specs.declared.row.IntentRow.IntentRow, specs.declared.row.Row.Row}
-use Rattle.beldi_walk.specs.{Query.Told, Query.rows_after, Query.told_by, declared.query.Query.Query}
+use Rattle.beldi_query.specs.{Query.QueryReply, Query.rows_after, Query.query_reply, declared.query.Query.Query}
 use Rattle.beldi_daal.specs.Cell.{cell_key}
 use Rattle.beldi_readlog.specs.ReadLog.{log_key}
 use Rattle.beldi_intent.specs.Intent.{GoesOn as IntentOn, IntentGoesOn, intent_in, intent_key, is_ended}
-use Rattle.beldi_known.{proofs.Cases.by_cases, proofs.Cases.by_option, specs.Known.Known}
-use Rattle.beldi_step.specs.{Host.Core, Run.asks_at, Run.place_of, Run.run_asks, Run.stage_asks, Run.stage_says, Run.Turned, Run.told_at, Run.turned_by, declared.run.Begun.Begun, declared.run.Run.Run, declared.run.RunAt.RunAt, declared.run.RunTx.RunTx, declared.run.Stage.Stage}
+use Rattle.beldi_histories.{proofs.Cases.by_cases, proofs.Cases.by_option, specs.Histories.Histories}
+use Rattle.beldi_step.specs.{HostStep.Core, Run.asks_at, Run.place_of, Run.run_asks, Run.stage_asks, Run.stage_output, Run.Turned, Run.told_at, Run.turned_by, declared.run.Begun.Begun, declared.run.Run.Run, declared.run.RunAt.RunAt, declared.run.RunTx.RunTx, declared.run.Stage.Stage}
 use Rattle.beldi_schedule.specs.{Settle.first_at, Settle.go_on, Settles.Advances, Settles.Settles, Settles.State, Settles.set_to, Settle.core_for, Settle.event_of, Settle.next_of, declared.machine.At.At, declared.machine.Standing.Standing, declared.machine.Standing.TheVariants.Over}
-use Rattle.beldi_laws.specs.{Right.AtStage, Right.Inside, Right.Knows, Right.Right, Right.StandsAt}
-use Rattle.beldi_upkeep.{proofs.Overs.no_turn_over, proofs.Started.started_of_it, specs.Checked.Checked, specs.Checked.next_says, specs.Checked.next_turn}
-use Rattle.beldi_bound.specs.{Ends.IsBelowEnd, Ends.IsLate, Ends.Sound, Ends.is_walk, Work.has_ended, Work.seat}
-use Rattle.beldi_bound.proofs.{Facts.GoesOn, Facts.LatesAreFollowed, LogRows.OwnLog, LogRows.first_puts, LogRows.log_put, LogRows.new_log, LogRows.stage_puts, Steps.Stays, Steps.Turns, Steps.next_steps}
+use Rattle.beldi_invariant.specs.{Invariant.AtStage, Invariant.Inside, Invariant.Knows, Invariant.Invariant, Invariant.StandsAt}
+use Rattle.beldi_upkeep.{proofs.Overs.no_turn_over, proofs.Started.started_of_it, specs.Checked.Checked, specs.Checked.next_output, specs.Checked.next_turn}
+use Rattle.beldi_bound.specs.{Ends.IsBelowEnd, Ends.IsLate, Ends.Sound, Ends.is_walk, SettleWork.has_ended, SettleWork.seat}
+use Rattle.beldi_bound.proofs.{Facts.GoesOn, Facts.LatesAreFollowed, LogRows.OwnLog, LogRows.first_puts, LogRows.log_put, LogRows.new_log, LogRows.stage_puts, BoundSteps.Stays, BoundSteps.Turns, BoundSteps.next_steps}
 use Rattle.beldi_bound.proofs.Lates.{GoesFrom, IsRead, StoodAt, answer_goes, begin_here, begin_no_walk, close_ends, few_steps, is_answer, same_effect, same_open, same_seat, told_there, turn_goes, turn_is, walk_stood, walks_read}
 
 same_begun : {g f : Begun} → RunAt.Begins g ≡ RunAt.Begins f → g ≡ f
@@ -81,12 +81,12 @@ stays_keep c b m n t all i r late live ended =
     lives_on f t.now (t.lives f.number f.run f.live f.in_time)
 
 -- ---- a stage of a read outside transactions: what it says, and where it puts its value
-module _ {d : Deployment} (m : Rows) (p : PlainState) (book : List Entry) {known : Known} {id : IntentId} {home : ℕ} {c : Option Caller} {s : Machine} {o : Option RunTx} (k : StandsAt d known id home c s o) where
+module _ {d : Deployment} (m : Rows) (p : PlainState) (book : List Entry) {histories : Histories} {id : IntentId} {home : ℕ} {c : Option Caller} {s : Machine} {o : Option RunTx} (k : StandsAt d histories id home c s o) where
   -- who puts its value is answered
-  puts_answered : (w : Stage) (t : ℕ) (x : List ℕ) (changes : ℕ) (q : Told) (y : ℕ × Place) → AtStage m p book k w (Effect.Read t x) None → log_put (stage_asks id home c None s.steps (Effect.Read t x) w) ≡ Some y → is_answer (stage_says id home c None changes s.steps (Effect.Read t x) w q) ≡ true
+  puts_answered : (w : Stage) (t : ℕ) (x : List ℕ) (changes : ℕ) (q : QueryReply) (y : ℕ × Place) → AtStage m p book k w (Effect.Read t x) None → log_put (stage_asks id home c None s.steps (Effect.Read t x) w) ≡ Some y → is_answer (stage_output id home c None changes s.steps (Effect.Read t x) w q) ≡ true
   puts_answered Stage.Ask t x changes q y here h = cc
   puts_answered (Stage.Walk r) t x changes q y here h = cc
-  puts_answered (Stage.Keep v seen) t x changes q y here h = refl
+  puts_answered (Stage.Keep v version) t x changes q y here h = refl
   puts_answered (Stage.Write at) t x changes q y here h = let clash = here.0 in cc
   puts_answered w t x changes q y here h = absurd here
 
@@ -95,27 +95,27 @@ module _ {d : Deployment} (m : Rows) (p : PlainState) (book : List Entry) {known
     asking : w ≡ Stage.Ask → Looking w
     walking : (r : ℕ) → w ≡ Stage.Walk r → Looking w
 
-  is_looking : (w : Stage) (t : ℕ) (x : List ℕ) (changes : ℕ) (q : Told) → AtStage m p book k w (Effect.Read t x) None → is_answer (stage_says id home c None changes s.steps (Effect.Read t x) w q) ≡ false → Looking w
+  is_looking : (w : Stage) (t : ℕ) (x : List ℕ) (changes : ℕ) (q : QueryReply) → AtStage m p book k w (Effect.Read t x) None → is_answer (stage_output id home c None changes s.steps (Effect.Read t x) w q) ≡ false → Looking w
   is_looking Stage.Ask t x changes q here h = Looking.asking refl
   is_looking (Stage.Walk r) t x changes q here h = Looking.walking r refl
-  is_looking (Stage.Keep v seen) t x changes q here h = let clash = h in cc
+  is_looking (Stage.Keep v version) t x changes q here h = let clash = h in cc
   is_looking (Stage.Write at) t x changes q here h = let clash = here.0 in cc
   is_looking w t x changes q here h = absurd here
 
 -- ---- a run made its turn
 module _ (d : Deployment) (c b : Core) (m n : Rows) (sound : Sound d c m) (then_sound : Sound d b n) (goes : GoesOn m n) (t : Turns d c m b n) (all : AllFollowed c m) where
-  h : Right d c m
-  h = sound.upkeep.right
+  h : Invariant d c m
+  h = sound.upkeep.invariant
 
   checked : Checked d c m
-  checked = record { right = sound.upkeep.right; rules = sound.rules; roots = started_of_it d c m sound.upkeep.started sound.starts }
+  checked = record { invariant = sound.upkeep.invariant; rules = sound.rules; roots = started_of_it d c m sound.upkeep.started sound.starts }
 
   same_number : (i j : ℕ) → (i == j) ≡ false → i ≡ j → ⊥
   same_number i j apart is = let clash : true ≡ false = sym (eq-eqb i j is) ∙ apart in cc
 
   -- it goes on so far, or its intent has ended
   module _ (g : Begun) (at : t.run.at ≡ RunAt.Begins g) where
-    knows : (k : Knows d h.known t.run g) × Inside m h.plain c.book k g.stage
+    knows : (k : Knows d h.histories t.run g) × Inside m h.plain c.book k g.stage
     knows = knows_it h t.number t.run g t.live at
 
     few : g.machine.steps ≤ 30000
@@ -138,7 +138,7 @@ module _ (d : Deployment) (c b : Core) (m n : Rows) (sound : Sound d c m) (then_
       further = (let more = to.further in omega (arith, less, more));
     }
 
-    said_next : (s : Run) → (next_turn d c m t.run).next ≡ Some s → (turned_by d t.run g (next_says c m t.run g)).next ≡ Some s
+    said_next : (s : Run) → (next_turn d c m t.run).next ≡ Some s → (turned_by d t.run g (next_output c m t.run g)).next ≡ Some s
     said_next s next = sym (ap (λ (z : Turned). z.next) (turn_is d c m t.run g at)) ∙ next
 
   -- ---- a late run that lived before
@@ -147,7 +147,7 @@ module _ (d : Deployment) (c b : Core) (m n : Rows) (sound : Sound d c m) (then_
     f = late.begun
 
     module _ (i : ℕ) (live : map.get c.runs i ≡ Some r) where
-      mine : (k : Knows d h.known r f) × Inside m h.plain c.book k f.stage
+      mine : (k : Knows d h.histories r f) × Inside m h.plain c.book k f.stage
       mine = knows_it h i r f live late.at
 
       reads : IsRead f.machine.effect f.tx
@@ -166,7 +166,7 @@ module _ (d : Deployment) (c b : Core) (m n : Rows) (sound : Sound d c m) (then_
               let at : t.run.at ≡ RunAt.Begins y.begun = sym (ap (λ (z : Run). z.at) same) ∙ y.at in
               let ids : t.run.id ≡ r.id = sym (ap (λ (z : Run). z.id) same) ∙ y.same_id in
               by_option (next_turn d c m t.run).next (λ over. absurd (not_over y.begun at ids over))
-              (λ s next. follows y.begun at r.id f.machine.steps s ids next y.begun.machine.steps y.further (turn_goes d t.run y.begun at (few y.begun at) s (next_says c m t.run y.begun) (said_next y.begun at s next)))
+              (λ s next. follows y.begun at r.id f.machine.steps s ids next y.begun.machine.steps y.further (turn_goes d t.run y.begun at (few y.begun at) s (next_output c m t.run y.begun) (said_next y.begun at s next)))
 
       -- the row is new: who put it stands at the same read, and is answered
       put_by : (g : Begun) (at : t.run.at ≡ RunAt.Begins g) → log_put (run_asks t.run) ≡ Some (r.func, place_of r.id f.machine.steps) → OwnLog t.run.id t.run.func g.tx g.machine.steps (r.func, place_of r.id f.machine.steps) → FollowedBy b r.id f.machine.steps
@@ -180,14 +180,14 @@ module _ (d : Deployment) (c b : Core) (m n : Rows) (sound : Sound d c m) (then_
           let steps : g.machine.steps ≡ f.machine.steps = sym (ap (λ (z : ℕ × Place). z.1.step) is) in
           let effect : g.machine.effect ≡ Effect.Read reads.table reads.key = same_effect h t.run r g f k mine.0 ids steps ∙ reads.effect in
           let out : g.tx ≡ None = same_open h t.run r g f k mine.0 ids steps ∙ reads.out in
-          let q = told_by (stage_asks t.run.id t.run.func g.caller g.tx g.machine.steps g.machine.effect g.stage) c.now m in
+          let q = query_reply (stage_asks t.run.id t.run.func g.caller g.tx g.machine.steps g.machine.effect g.stage) c.now m in
           let here : AtStage m h.plain c.book k g.stage (Effect.Read reads.table reads.key) None = subst (λ e. AtStage m h.plain c.book k g.stage e None) effect (subst (AtStage m h.plain c.book k g.stage g.machine.effect) out (knows g at).1.here) in
           let asks : log_put (stage_asks t.run.id t.run.func g.caller None g.machine.steps (Effect.Read reads.table reads.key) g.stage) ≡ Some (r.func, place_of r.id f.machine.steps) =
           sym (λ j. log_put (stage_asks t.run.id t.run.func g.caller (out j) g.machine.steps (effect j) g.stage)) ∙ sym (ap (λ z. log_put (asks_at t.run z)) at) ∙ puts in
-          let answers : is_answer (next_says c m t.run g) ≡ true =
-          (λ j. is_answer (stage_says t.run.id t.run.func g.caller (out j) (count_changes c.book) g.machine.steps (effect j) g.stage q)) ∙ puts_answered m h.plain c.book k g.stage reads.table reads.key (count_changes c.book) q (r.func, place_of r.id f.machine.steps) here asks in
+          let answers : is_answer (next_output c m t.run g) ≡ true =
+          (λ j. is_answer (stage_output t.run.id t.run.func g.caller (out j) (count_changes c.book) g.machine.steps (effect j) g.stage q)) ∙ puts_answered m h.plain c.book k g.stage reads.table reads.key (count_changes c.book) q (r.func, place_of r.id f.machine.steps) here asks in
           by_option (next_turn d c m t.run).next (λ over. absurd (not_over g at ids over))
-          (λ s next. follows g at r.id f.machine.steps s ids next (g.machine.steps + 1) (omega (arith, steps)) (answer_goes d t.run g at (few g at) s (next_says c m t.run g) answers (said_next g at s next)))
+          (λ s next. follows g at r.id f.machine.steps s ids next (g.machine.steps + 1) (omega (arith, steps)) (answer_goes d t.run g at (few g at) s (next_output c m t.run g) answers (said_next g at s next)))
 
       put_now : map.get m (its_log r f) ≡ None → FollowedBy b r.id f.machine.steps
       put_now none =
@@ -201,21 +201,21 @@ module _ (d : Deployment) (c b : Core) (m n : Rows) (sound : Sound d c m) (then_
 
     -- ---- its own turn left it so
     module _ (next : (next_turn d c m t.run).next ≡ Some r) (there : map.get b.runs t.number ≡ Some r) where
-      then_knows : (k : Knows d then_sound.upkeep.right.known r f) × Inside n then_sound.upkeep.right.plain b.book k f.stage
-      then_knows = knows_it then_sound.upkeep.right t.number r f there late.at
+      then_knows : (k : Knows d then_sound.upkeep.invariant.histories r f) × Inside n then_sound.upkeep.invariant.plain b.book k f.stage
+      then_knows = knows_it then_sound.upkeep.invariant t.number r f there late.at
 
       then_reads : IsRead f.machine.effect f.tx
-      then_reads = walks_read n then_sound.upkeep.right.plain b.book then_knows.0 f.stage f.machine.effect f.tx late.walks then_knows.1.here
+      then_reads = walks_read n then_sound.upkeep.invariant.plain b.book then_knows.0 f.stage f.machine.effect f.tx late.walks then_knows.1.here
 
       module _ (g : Begun) (at : t.run.at ≡ RunAt.Begins g) where
         abbrev e : Effect
         e = Effect.Read then_reads.table then_reads.key
 
-        stood : StoodAt g (next_says c m t.run g) f
-        stood = walk_stood d t.run g at r f late.at late.walks (next_says c m t.run g) (said_next g at r next)
+        stood : StoodAt g (next_output c m t.run g) f
+        stood = walk_stood d t.run g at r f late.at late.walks (next_output c m t.run g) (said_next g at r next)
 
         ids : GoesFrom t.run g.machine.steps r
-        ids = turn_goes d t.run g at (few g at) r (next_says c m t.run g) (said_next g at r next)
+        ids = turn_goes d t.run g at (few g at) r (next_output c m t.run g) (said_next g at r next)
 
         effect : g.machine.effect ≡ e
         effect = ap (λ (z : Machine). z.effect) (sym stood.machine) ∙ then_reads.effect
@@ -234,10 +234,10 @@ module _ (d : Deployment) (c b : Core) (m n : Rows) (sound : Sound d c m) (then_
 
         looks : Looking m h.plain c.book (knows g at).0 g.stage
         looks =
-            let q = told_by (stage_asks t.run.id t.run.func g.caller g.tx g.machine.steps g.machine.effect g.stage) c.now m in
+            let q = query_reply (stage_asks t.run.id t.run.func g.caller g.tx g.machine.steps g.machine.effect g.stage) c.now m in
             is_looking m h.plain c.book (knows g at).0 g.stage then_reads.table then_reads.key (count_changes c.book) q
             (subst (λ z. AtStage m h.plain c.book (knows g at).0 g.stage z None) effect (subst (AtStage m h.plain c.book (knows g at).0 g.stage g.machine.effect) out (knows g at).1.here))
-            (sym (λ j. is_answer (stage_says t.run.id t.run.func g.caller (out j) (count_changes c.book) g.machine.steps (effect j) g.stage q)) ∙ stood.unanswered)
+            (sym (λ j. is_answer (stage_output t.run.id t.run.func g.caller (out j) (count_changes c.book) g.machine.steps (effect j) g.stage q)) ∙ stood.unanswered)
 
         -- it looked: the rows are as they were
         rows_by : (k : RowKey) → run_asks t.run ≡ Query.Act k Act.Look → n ≡ m
@@ -253,8 +253,8 @@ module _ (d : Deployment) (c b : Core) (m n : Rows) (sound : Sound d c m) (then_
         by_looking (Looking.asking is) =
             let kept = kept_before (rows_by (its_log t.run g) (asks_as Stage.Ask is)) in
             by_option (map.get m (its_log t.run g)) (λ none. let clash : false ≡ true = sym (ap is_some none) ∙ kept in cc)
-            (λ v found. let says : is_answer (next_says c m t.run g) ≡ true = ap (λ w. is_answer (stage_says t.run.id t.run.func g.caller g.tx (count_changes c.book) g.machine.steps g.machine.effect w (told_by (stage_asks t.run.id t.run.func g.caller g.tx g.machine.steps g.machine.effect w) c.now m))) is ∙ told_there (its_log t.run g) c.now m v found in
-            let clash : true ≡ false = sym says ∙ stood.unanswered in cc)
+            (λ v found. let output : is_answer (next_output c m t.run g) ≡ true = ap (λ w. is_answer (stage_output t.run.id t.run.func g.caller g.tx (count_changes c.book) g.machine.steps g.machine.effect w (query_reply (stage_asks t.run.id t.run.func g.caller g.tx g.machine.steps g.machine.effect w) c.now m))) is ∙ told_there (its_log t.run g) c.now m v found in
+            let clash : true ≡ false = sym output ∙ stood.unanswered in cc)
         by_looking (Looking.walking w is) =
             let same = rows_by (at_row (cell_key t.run.func then_reads.table then_reads.key) w) (asks_as (Stage.Walk w) is) in
             let was : IsLate m t.run = record { begun = g; at = at; walks = ap is_walk is; kept = kept_before same } in
@@ -285,8 +285,8 @@ module _ (d : Deployment) (c b : Core) (m n : Rows) (sound : Sound d c m) (then_
         where
           by_begun : (x : RunAt) → t.run.at ≡ x → FollowedBy b r.id f.machine.steps
           by_begun (RunAt.Begins g) at = left_it g at
-          by_begun RunAt.Looks at = absurd (begin_no_walk d t.run r f late.at late.walks (count_changes c.book) RunAt.Looks (told_by (asks_at t.run RunAt.Looks) c.now m) refl (ap (λ z. (told_at d (count_changes c.book) t.run z (told_by (asks_at t.run z) c.now m)).next) (sym at) ∙ next))
-          by_begun (RunAt.Registers y) at = absurd (begin_no_walk d t.run r f late.at late.walks (count_changes c.book) (RunAt.Registers y) (told_by (asks_at t.run (RunAt.Registers y)) c.now m) refl (ap (λ z. (told_at d (count_changes c.book) t.run z (told_by (asks_at t.run z) c.now m)).next) (sym at) ∙ next))
+          by_begun RunAt.Looks at = absurd (begin_no_walk d t.run r f late.at late.walks (count_changes c.book) RunAt.Looks (query_reply (asks_at t.run RunAt.Looks) c.now m) refl (ap (λ z. (told_at d (count_changes c.book) t.run z (query_reply (asks_at t.run z) c.now m)).next) (sym at) ∙ next))
+          by_begun (RunAt.Registers y) at = absurd (begin_no_walk d t.run r f late.at late.walks (count_changes c.book) (RunAt.Registers y) (query_reply (asks_at t.run (RunAt.Registers y)) c.now m) refl (ap (λ z. (told_at d (count_changes c.book) t.run z (query_reply (asks_at t.run z) c.now m)).next) (sym at) ∙ next))
 
   turns_keep : AllFollowed b n
   turns_keep i r late live ended = by_cases (i == t.number)
@@ -296,7 +296,7 @@ module _ (d : Deployment) (c b : Core) (m n : Rows) (sound : Sound d c m) (then_
 -- ---- along a settling in which no failure is counted
 module _ (d : Deployment) (room budget : ℕ) where
   numbers : (c : Core) (m : Rows) → Sound d c m → (j : ℕ) (r : Run) → map.get c.runs j ≡ Some r → j ≤ c.last_run
-  numbers c m sound j r live = (sound.upkeep.right.runs.numbers j (ap is_some live)).1
+  numbers c m sound j r live = (sound.upkeep.invariant.runs.numbers j (ap is_some live)).1
 
   one_event : (a : At) (s u : State) (z : Standing) → Sound d s.core s.rows → Advances d room budget a s u z → u.faults ≡ s.faults → IsBelowEnd u.faults → AllFollowed s.core s.rows → AllFollowed u.core u.rows
   one_event a s u z sound step same below all =
@@ -310,7 +310,7 @@ module _ (d : Deployment) (room budget : ℕ) where
 
   followed_on : (z : Standing) (s : State) (y : Standing) (t : State) → Settles d room budget z s y t → Sound d s.core s.rows → t.faults ≡ s.faults → IsBelowEnd t.faults → AllFollowed s.core s.rows → AllFollowed t.core t.rows
   followed_on z s y t (Settles.stands w v) sound same below all = all
-  followed_on z s y t (Settles.skips a v b q w p may rest) sound same below all = followed_on (Standing.Goes b) (set_to q v) w p rest (at_cursor q sound) same below (λ i r late live ended. lives_on (all i r late live ended) refl (all i r late live ended).live)
+  followed_on z s y t (Settles.skips a v b q w p may rest) sound same below all = followed_on (Standing.Working b) (set_to q v) w p rest (at_cursor q sound) same below (λ i r late live ended. lives_on (all i r late live ended) refl (all i r late live ended).live)
   followed_on z s y t (Settles.goes a v w u q p step rest) sound same below all =
       let one = step.later in
       let more = (settling_goes rest).1 in

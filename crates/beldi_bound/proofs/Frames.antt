@@ -1,5 +1,5 @@
 -- What an event leaves of a ledger: the runs that it does not touch are covered as before, and who may get a run has one or may get one.
-use Rattle.beldi_order.proofs.Maps.{same_some}
+use Rattle.beldi_plain_laws.proofs.Maps.{same_some}
 use Rattle.std.specs.FinMap as map
 use Rattle.std.proofs.Common.{◌≡◌, ◌⊎◌, inl, inr, ℕ, ◌+◌, ◌<◌, ◌≤◌, ◌==◌, ◌||◌, eqb-true, Bool, true, false, List, [], ◌∷◌, ◌++◌, length, append-nil, append_assoc, Option, Some, None, is_some, if◌then◌else◌, refl, sym, ap, subst, ◌∙◌, arith}
 use Rattle.beldi_value.specs.{Id.child_of, declared.id.IntentId.IntentId}
@@ -9,11 +9,11 @@ use Rattle.beldi_plain.specs.Plain.{effect_of}
 use Rattle.beldi_row.specs.{Key.RowKey, Table.Rows, declared.key.Kind.Kind, declared.row.Body.Body, declared.row.IntentRow.IntentRow, declared.row.Row.Row}
 use Rattle.beldi_intent.specs.Intent.{GoesOn as IntentStays, IntentGoesOn, intent_in, intent_key, is_ended}
 use Rattle.beldi_call.specs.declared.{async_call.AsyncAt.AsyncAt, call.CallAt.CallAt}
-use Rattle.beldi_known.proofs.Cases.{by_cases, by_option}
-use Rattle.beldi_step.specs.{Host.Core, Next.next_run, declared.run.Begun.Begun, declared.run.Run.Run, declared.run.RunAt.RunAt, declared.run.Stage.Stage}
+use Rattle.beldi_histories.proofs.Cases.{by_cases, by_option}
+use Rattle.beldi_step.specs.{HostStep.Core, Next.next_run, declared.run.Begun.Begun, declared.run.Run.Run, declared.run.RunAt.RunAt, declared.run.Stage.Stage}
 use Rattle.beldi_upkeep.specs.Checked.{body_at}
-use Rattle.beldi_bound.specs.{Cost.cost_from, Cost.step_cost, Cost.with_answers, Ends.IsIn, Work.has_ended, Work.seat}
-use Rattle.beldi_bound.proofs.{Falls.left_falls, Facts.GoesOn, Facts.Stands, Facts.begun_left}
+use Rattle.beldi_bound.specs.{Cost.cost_from, Cost.step_cost, Cost.with_answers, Ends.IsIn, SettleWork.has_ended, SettleWork.seat}
+use Rattle.beldi_bound.proofs.{BoundFalls.left_falls, Facts.GoesOn, Facts.Stands, Facts.begun_left}
 use Rattle.beldi_bound.proofs.Ledger.{CoversAt, Covers, IsCovered, IsMidway, IsPaid, Ledger, callee_key, cost, due, find, if_free, spare, stuck, stuck_by, stuck_in}
 
 -- ---- rows that go on

@@ -1,14 +1,14 @@
 -- A turn of a run that goes on: it has a turn less to take, and may have started a run, which is paid by the key of its intent.
-use Rattle.beldi_order.proofs.Maps.{same_some}
+use Rattle.beldi_plain_laws.proofs.Maps.{same_some}
 use Rattle.std.specs.FinMap as map
 use Rattle.std.proofs.Common.{◌≡◌, ◌⊎◌, inl, inr, ℕ, zero, suc, ◌+◌, ◌*◌, ◌<◌, ◌≤◌, false, List, Some, None, refl, sym, ap, subst, ◌∙◌, arith}
 use Rattle.beldi_value.specs.declared.id.IntentId.{IntentId}
 use Rattle.beldi_tree.specs.declared.deployment.Deployment.{Deployment}
 use Rattle.beldi_lang.specs.declared.effect.Answer.{Answer}
 use Rattle.beldi_row.specs.{Key.RowKey, Table.Rows}
-use Rattle.beldi_step.specs.{Host.Core, Host.put_run, Next.next_run, declared.run.Begun.Begun, declared.run.Run.Run, declared.run.RunAt.RunAt}
-use Rattle.beldi_bound.specs.{Ends.IsIn, Ends.Sound, Work.has_ended, Work.one_more, Work.seat, Work.sum_of}
-use Rattle.beldi_bound.proofs.{Costs.splits, Facts.GoesOn, Facts.Stands, Facts.begun_left, Lists.in_without, Lists.without, Lists.without_in, Lists.without_sum}
+use Rattle.beldi_step.specs.{HostStep.Core, HostStep.put_run, Next.next_run, declared.run.Begun.Begun, declared.run.Run.Run, declared.run.RunAt.RunAt}
+use Rattle.beldi_bound.specs.{Ends.IsIn, Ends.Sound, SettleWork.has_ended, SettleWork.one_more, SettleWork.seat, SettleWork.sum_of}
+use Rattle.beldi_bound.proofs.{Costs.splits, Facts.GoesOn, Facts.Stands, Facts.begun_left, BoundLists.in_without, BoundLists.without, BoundLists.without_in, BoundLists.without_sum}
 use Rattle.beldi_bound.proofs.Ledger.{CoversAt, Covers, Ledger, Pays, find}
 use Rattle.beldi_bound.proofs.Frames.{Cost, Covered, Due, Leaves, Paid, Spare, Stuck, open_before, stuck_free}
 use Rattle.beldi_bound.proofs.Paying.{New, amount_of, paid_by, pays, still_started, with_new}
@@ -72,8 +72,8 @@ module _ (d : Deployment) (room : ℕ) (e : Rows) (asked : IntentId → List Ans
         rows = rows;
         full = full;
         now = now_so;
-        paid = paid_by d room e asked first most past i c m r a runs keys ledger sound.upkeep.right.runs.numbers next live has b n kept (Some s) u runs_so keep
-            (λ k since own why. still_started d room e asked first most past i c m r a runs keys ledger sound.upkeep.right.runs.numbers next live has b n kept (Some s) u runs_so s refl seat_so k since own);
+        paid = paid_by d room e asked first most past i c m r a runs keys ledger sound.upkeep.invariant.runs.numbers next live has b n kept (Some s) u runs_so keep
+            (λ k since own why. still_started d room e asked first most past i c m r a runs keys ledger sound.upkeep.invariant.runs.numbers next live has b n kept (Some s) u runs_so s refl seat_so k since own);
         worth = λ k there. ledger.keys_worth k (within k there);
         since = last_ok;
       }
@@ -98,7 +98,7 @@ module _ (d : Deployment) (room : ℕ) (e : Rows) (asked : IntentId → List Ans
           → ((z : Run × ℕ) → u ≡ Some z → Covered d room e asked first most past b n kept (c.last_run + 1) z.0 z.1)
           → 1 + (x + amount_of u + Keys kept) ≤ a + Keys keys + f * (most + 1) → Pays d room e asked first most past runs keys 1 f b n
       goes_at f x at its cov stuck new fund =
-          pays d room e asked first most past i c m r a runs keys ledger sound.upkeep.right.runs.numbers next live has b n kept (Some s) u runs_so past x leaves
+          pays d room e asked first most past i c m r a runs keys ledger sound.upkeep.invariant.runs.numbers next live has b n kept (Some s) u runs_so past x leaves
           (λ z is. subst (λ y. Covered d room e asked first most past b n kept i y x) (same_some is) (covered x (subst (Covers d room e asked first most past b n kept i s x) (sym at) (its, at_stage, stuck_so)) not_first)) new 1 f fund
         where
           not_first : s.at ≡ RunAt.Looks → ⊥

@@ -10,9 +10,9 @@ use Rattle.beldi_row.specs.{Key.RowKey, Table.Rows, declared.key.Kind.Kind, decl
 use Rattle.beldi_invokelog.specs.InvokeLog.{call_at, invoke_key, registered_in}
 use Rattle.beldi_intent.specs.Intent.{intent_key}
 use Rattle.beldi_call.specs.declared.{async_call.AsyncAt.AsyncAt}
-use Rattle.beldi_step.specs.{Host.Core, Host.EventOn, Host.last_moment, Next.next_run, Run.place_of, declared.event.Event.Event, declared.event.Seen.Seen, declared.run.Begun.Begun, declared.run.Run.Run, declared.run.RunAt.RunAt, declared.run.Stage.Stage}
+use Rattle.beldi_step.specs.{HostStep.Core, HostStep.EventOn, HostStep.last_moment, Next.next_run, Run.place_of, declared.event.Event.Event, declared.event.EventReply.EventReply, declared.run.Begun.Begun, declared.run.Run.Run, declared.run.RunAt.RunAt, declared.run.Stage.Stage}
 use Rattle.beldi_schedule.specs.{Settle.is_turned_away, Settle.counts, Settle.is_waiting}
-use Rattle.beldi_bound.specs.{Cost.AreAsked, Cost.cost_at, Cost.with_answers, Ends.IsIn, Ends.Sound, Work.has_ended, Work.one_more, Work.seat, Work.sum_of}
+use Rattle.beldi_bound.specs.{Cost.AreAsked, Cost.cost_at, Cost.with_answers, Ends.IsIn, Ends.Sound, SettleWork.has_ended, SettleWork.one_more, SettleWork.seat, SettleWork.sum_of}
 use Rattle.beldi_upkeep.specs.Checked.{body_at}
 use Rattle.beldi_bound.proofs.{Facts.GoesOn, Facts.Stands, Facts.begun_left, ResultsCome.ResultsCome}
 
@@ -138,11 +138,11 @@ module _ (d : Deployment) (room : ℕ) (e : Rows) (asked : IntentId → List Ans
 
   -- a turn of the least live run past a number: it waits, or counts one
   abbrev pub TurnsPay : Type 0
-  TurnsPay = (past old new i : ℕ) (c b : Core) (m n : Rows) (x : Seen) (runs : List (ℕ × ℕ)) (keys : List RowKey) (z : Core) → Sound d c m → Sound d b n → Sound d z e → AreAsked d e asked → GoesOn n e → ResultsCome n e → new < 2 ^ 64 - 1 → next_run c past ≡ Some i
+  TurnsPay = (past old new i : ℕ) (c b : Core) (m n : Rows) (x : EventReply) (runs : List (ℕ × ℕ)) (keys : List RowKey) (z : Core) → Sound d c m → Sound d b n → Sound d z e → AreAsked d e asked → GoesOn n e → ResultsCome n e → new < 2 ^ 64 - 1 → next_run c past ≡ Some i
       → EventOn d room old new (Event.Turn i) c m b n (Ok x) → is_turned_away x ≡ false → Ledger past c m runs keys → Pays (past_after (is_waiting x) i past) runs keys (turn_of (is_waiting x)) (new - old) b n
 
   -- an event of the intent collector, while no run past that number is given turns: it counts one where it started a run, or the table failed
   abbrev pub RoundsPay : Type 0
-  RoundsPay = (past old new : ℕ) (c b : Core) (m n : Rows) (x : Seen) (runs : List (ℕ × ℕ)) (keys : List RowKey) (z : Core) → Sound d c m → Sound d b n → Sound d z e → AreAsked d e asked → GoesOn n e → new < 2 ^ 64 - 1 → c.now ≤ last_moment
+  RoundsPay = (past old new : ℕ) (c b : Core) (m n : Rows) (x : EventReply) (runs : List (ℕ × ℕ)) (keys : List RowKey) (z : Core) → Sound d c m → Sound d b n → Sound d z e → AreAsked d e asked → GoesOn n e → new < 2 ^ 64 - 1 → c.now ≤ last_moment
       → ((i : ℕ) (r : Run) (g : Begun) → next_run c past ≡ Some i → map.get c.runs i ≡ Some r → r.at ≡ RunAt.Begins g → ⊥)
       → EventOn d room old new Event.Ic c m b n (Ok x) → is_turned_away x ≡ false → Ledger past c m runs keys → Pays past runs keys (if counts x then 1 else 0) (new - old) b n

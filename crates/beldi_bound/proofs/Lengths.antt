@@ -8,7 +8,7 @@ use Rattle.beldi_chain.specs.Chain.{Chain, chain, most_rows}
 use Rattle.beldi_links.specs.Links.{IsLinked, Linked, LinkedFrom}
 use Rattle.beldi_links.proofs.Meets.{rows_below}
 use Rattle.beldi_daal.specs.Cell.{cell_key, shadow_key}
-use Rattle.beldi_txn.specs.{Visited.RowsStay, Way.Member}
+use Rattle.beldi_txn.specs.{Visited.RowsStay, CallPath.Member}
 use Rattle.beldi_bound.specs.{Cost.aside_length, Cost.item_length, Visits.chain_length, Visits.freed_length, Visits.rows_from}
 
 -- rows from a number on that are there are counted

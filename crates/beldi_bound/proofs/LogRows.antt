@@ -5,15 +5,15 @@ use Rattle.std.proofs.Common.{◌≡◌, ℕ, Bool, true, false, List, Option, S
 use Rattle.beldi_value.specs.{Id.has_callees, declared.id.IntentId.IntentId, declared.place.Caller.Caller, declared.place.Place.Place, declared.value.Value.Value}
 use Rattle.beldi_lang.specs.declared.effect.Effect.{Effect}
 use Rattle.beldi_row.{proofs.Gets.got, proofs.Gets.key_same, specs.Act.act, specs.Key.RowKey, specs.Key.key_cmp, specs.Table.Rows, specs.declared.act.Act.Act, specs.declared.key.Kind.Kind, specs.declared.row.Body.Body}
-use Rattle.beldi_walk.specs.{Query.rows_after, declared.query.Query.Query}
+use Rattle.beldi_query.specs.{Query.rows_after, declared.query.Query.Query}
 use Rattle.beldi_daal.specs.{Cell.shadow_key, declared.cell.CellOp.CellOp, declared.cell.WriteAt.WriteAt}
 use Rattle.beldi_lock.specs.declared.lock.LockAt.{LockAt}
 use Rattle.beldi_readlog.specs.ReadLog.{log_key}
-use Rattle.beldi_txn.specs.{End.visit_asks, Tx.aside_asks, Tx.asks_of, Tx.item_asks, Tx.item_of as item_of_tx, Tx.op_of, declared.end.EndAt.EndAt, declared.end.Visit.Visit, declared.tx.TxAt.TxAt, declared.way.Called.Called}
+use Rattle.beldi_txn.specs.{End.visit_asks, Tx.aside_asks, Tx.asks_of, Tx.item_asks, Tx.item_of as item_of_tx, Tx.op_of, declared.end.EndAt.EndAt, declared.end.EndState.EndState, declared.tx.TxAt.TxAt, declared.call_path.Called.Called}
 use Rattle.beldi_call.specs.declared.{async_call.AsyncAt.AsyncAt, call.CallAt.CallAt}
 use Rattle.beldi_call.specs.{Async.async_asks}
 use Rattle.beldi_intent.specs.Intent.{look_asks}
-use Rattle.beldi_step.specs.{declared.run.Begun.Begun, declared.run.OpenTx.OpenTx, declared.run.Run.Run, declared.run.RunAt.RunAt, declared.run.RunTx.RunTx, declared.run.Stage.Stage, Run.OnCell, Run.asks_at, Run.back_to_asks, Run.cell_op, Run.end_here_asks, Run.own_tx, Run.place_of, Run.put_asks, Run.stage_asks, Run.tell_asks, Run.tx_of}
+use Rattle.beldi_step.specs.{declared.run.Begun.Begun, declared.run.OpenTx.OpenTx, declared.run.Run.Run, declared.run.RunAt.RunAt, declared.run.RunTx.RunTx, declared.run.Stage.Stage, Run.OnCell, Run.asks_at, Run.back_to_asks, Run.cell_op, Run.end_here_asks, Run.own_tx, Run.place_of, Run.put_asks, Run.stage_asks, Run.notify_asks, Run.tx_of}
 
 -- ---- the place of the log's row that a query may put, with the home of the row
 abbrev pub unless_look : Act → ℕ × Place → Option (ℕ × Place)
@@ -105,8 +105,8 @@ module _ (id : IntentId) (func : ℕ) (c : Option Caller) (step : ℕ) where
   by_visit o commit cs after (Some i) v (EndAt.Free (WriteAt.Link n)) x h = cc
   by_visit o commit cs after i v EndAt.Stamp x h = cc
 
-  by_end : (o : Option RunTx) (e : Effect) (v : Visit) → Puts o (end_here_asks id func step e v o)
-  by_end (Some (RunTx.Own o)) (Effect.End commit) v x h = by_visit o commit v.way v.after v.item v.value v.at x h
+  by_end : (o : Option RunTx) (e : Effect) (v : EndState) → Puts o (end_here_asks id func step e v o)
+  by_end (Some (RunTx.Own o)) (Effect.End commit) v x h = by_visit o commit v.path v.after v.item v.value v.at x h
   by_end (Some (RunTx.Inherited t)) (Effect.End commit) v x h = cc
   by_end None (Effect.End commit) v x h = cc
   by_end o e v x h = cc
@@ -123,7 +123,7 @@ module _ (id : IntentId) (func : ℕ) (c : Option Caller) (step : ℕ) where
   by_back o (Some b) (Effect.Return u) x h = cc
   by_back o (Some b) e x h = cc
 
-  by_tell : (o : Option RunTx) (b : Option Caller) → Puts o (tell_asks id func b)
+  by_tell : (o : Option RunTx) (b : Option Caller) → Puts o (notify_asks id func b)
   by_tell o None x h = cc
   by_tell o (Some b) x h = cc
 
@@ -131,7 +131,7 @@ module _ (id : IntentId) (func : ℕ) (c : Option Caller) (step : ℕ) where
   stage_puts o e Stage.Ask x h = cc
   stage_puts o (Effect.Read t k) (Stage.Walk r) x h = cc
   stage_puts o e (Stage.Walk r) x h = cc
-  stage_puts o e (Stage.Keep v seen) x h = OwnLog.here (same_place h)
+  stage_puts o e (Stage.Keep v version) x h = OwnLog.here (same_place h)
   stage_puts o e (Stage.Write at) x h = by_put o at (cell_op e) x h
   stage_puts None e (Stage.Tx a) x h = cc
   stage_puts (Some o) e (Stage.Tx a) x h = by_tx o e a (item_of_tx e) x h
@@ -143,7 +143,7 @@ module _ (id : IntentId) (func : ℕ) (c : Option Caller) (step : ℕ) where
   stage_puts o (Effect.Async f a) (Stage.Async at) x h = by_async o _ at (has_callees id) x h
   stage_puts o e (Stage.Async at) x h = cc
   stage_puts o e Stage.Back x h = by_back o c e x h
-  stage_puts o e Stage.Tell x h = by_tell o c x h
+  stage_puts o e Stage.Notify x h = by_tell o c x h
   stage_puts o (Effect.Return u) Stage.Close x h = cc
   stage_puts o e Stage.Close x h = cc
 

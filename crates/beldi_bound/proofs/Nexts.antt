@@ -1,10 +1,10 @@
 -- The least live run past a number is the same one after it was put anew.
-use Rattle.beldi_known.proofs.Begins.{false_true}
+use Rattle.beldi_histories.proofs.Begins.{false_true}
 use Rattle.std.specs.FinMap as map
 use Rattle.std.proofs.lemmas.Bool.Decides.{nat_tests}
 use Rattle.std.proofs.Common.{◌≡◌, ℕ, ltb-true, nat_lt, false, Option, Some, None, is_some, sym, ap, subst, ◌∙◌, arith}
-use Rattle.beldi_known.proofs.Cases.{by_cases}
-use Rattle.beldi_step.{proofs.PutRun.put_self, specs.Host.Core, specs.Host.put_run, specs.Next.next_run, specs.declared.run.Run.Run}
+use Rattle.beldi_histories.proofs.Cases.{by_cases}
+use Rattle.beldi_step.{proofs.PutRun.put_self, specs.HostStep.Core, specs.HostStep.put_run, specs.Next.next_run, specs.declared.run.Run.Run}
 use Rattle.beldi_bound.proofs.{Numbers.IsLeast, Numbers.next_least, Numbers.put_apart}
 
 module _ (c b : Core) (past i : ℕ) (s : Run) (runs_so : b.runs ≡ put_run c.runs i (Some s)) (next : next_run c past ≡ Some i) where

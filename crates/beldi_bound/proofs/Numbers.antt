@@ -3,7 +3,7 @@ use Rattle.std.specs.Prelude.{T}
 use Rattle.std.{specs.Cmp.nat_cmp_total, specs.Cmp.ranks, specs.FinMap.FinMap, specs.FinMap.find, specs.FinMap.get-empty, specs.FinMap.get-entries, specs.FinMap.nat_cmp-IsAntisymmetric, specs.FinMap.same_map, specs.FinMap.Entries.below_all, specs.FinMap.Entries.is_sorted, specs.Ordering.MatchOrdering, specs.Ordering.is_eq, specs.Ordering.is_lt, specs.Ordering.nat_cmp, specs.Cmp.Equal-is, specs.declared.cmp.Ordering.Ordering, specs.declared.cmp.Ordering.TheVariants.Less, specs.declared.cmp.Ordering.TheVariants.Equal, specs.declared.cmp.Ordering.TheVariants.Greater, proofs.lemmas.Bool.Decides.nat_tests, proofs.lemmas.Cmp.tied_itself}
 use Rattle.std.specs.FinMap as map
 use Rattle.std.proofs.Common.{◌≡◌, ℕ, ◌<◌, ◌≤◌, nat_lt, Bool, true, false, ◌&&◌, cond, List, [], ◌∷◌, Option, None, Some, is_some, refl, ap, sym, ◌∙◌, subst, if◌then◌else◌, arith}
-use Rattle.beldi_step.{specs.Host.Core, specs.Host.put_run, specs.Next.first_past, specs.Next.next_run, specs.declared.run.Run.Run, proofs.PutRun.put_got}
+use Rattle.beldi_step.{specs.HostStep.Core, specs.HostStep.put_run, specs.Next.first_past, specs.Next.next_run, specs.declared.run.Run.Run, proofs.PutRun.put_got}
 
 abbrev Runs : Type 0
 Runs = FinMap nat_cmp Run

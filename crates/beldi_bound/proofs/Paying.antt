@@ -1,5 +1,5 @@
 -- What a turn makes of a ledger: its run's amount is set anew, a run that it starts is put in front, and keys are put in or taken out.
-use Rattle.beldi_order.proofs.Maps.{same_some}
+use Rattle.beldi_plain_laws.proofs.Maps.{same_some}
 use Rattle.std.specs.FinMap as map
 use Rattle.std.specs.{FinMap.FinMap, Ordering.nat_cmp}
 use Rattle.std.proofs.Common.{◌≡◌, ◌⊎◌, inl, inr, ℕ, ◌+◌, ◌*◌, ◌<◌, ◌≤◌, ◌==◌, eq-eqb, eqb-true, true, false, List, ◌∷◌, Option, Some, None, is_some, IsTrue, if◌then◌else◌, refl, sym, ap, subst, ◌∙◌, arith}
@@ -7,10 +7,10 @@ use Rattle.beldi_value.specs.declared.id.IntentId.{IntentId}
 use Rattle.beldi_tree.specs.declared.deployment.Deployment.{Deployment}
 use Rattle.beldi_lang.specs.declared.effect.Answer.{Answer}
 use Rattle.beldi_row.specs.{Key.RowKey, Table.Rows}
-use Rattle.beldi_known.proofs.Cases.{by_cases}
-use Rattle.beldi_step.{proofs.PutRun.put_self, specs.Host.Core, specs.Host.put_run, specs.Next.next_run, specs.declared.run.Run.Run}
-use Rattle.beldi_bound.specs.{Ends.IsIn, Work.has_ended, Work.one_more, Work.seat, Work.sum_of}
-use Rattle.beldi_bound.proofs.{Lists.find_other, Lists.find_put, Lists.put, Lists.sum_put, Numbers.put_apart}
+use Rattle.beldi_histories.proofs.Cases.{by_cases}
+use Rattle.beldi_step.{proofs.PutRun.put_self, specs.HostStep.Core, specs.HostStep.put_run, specs.Next.next_run, specs.declared.run.Run.Run}
+use Rattle.beldi_bound.specs.{Ends.IsIn, SettleWork.has_ended, SettleWork.one_more, SettleWork.seat, SettleWork.sum_of}
+use Rattle.beldi_bound.proofs.{BoundLists.find_other, BoundLists.find_put, BoundLists.put, BoundLists.sum_put, Numbers.put_apart}
 use Rattle.beldi_bound.proofs.Ledger.{Ledger, Pays, amount, find}
 use Rattle.beldi_bound.proofs.Frames.{Cost, Covered, Due, Leaves, Paid, ledger_by, others}
 

@@ -4,17 +4,17 @@ use Rattle.std.specs.FinMap as map
 use Rattle.beldi_value.specs.declared.id.IntentId.{IntentId}
 use Rattle.beldi_tree.specs.declared.deployment.Deployment.{Deployment}
 use Rattle.beldi_lang.specs.declared.effect.Answer.{Answer}
-use Rattle.beldi_step.specs.{Host.last_moment, Host.most_runs, declared.event.Seen.Seen, declared.run.Begun.Begun, declared.run.Run.Run, declared.run.RunAt.RunAt}
+use Rattle.beldi_step.specs.{HostStep.last_moment, HostStep.most_runs, declared.event.EventReply.EventReply, declared.run.Begun.Begun, declared.run.Run.Run, declared.run.RunAt.RunAt}
 use Rattle.beldi_upkeep.specs.Checked.{NoFirstTurnIsOver}
 use Rattle.beldi_schedule.specs.{Settle.first_at, Settle.go_on, Settle.turns_of, Settles.Settles, Settles.State, declared.machine.Settled.Settled, declared.machine.Standing.TheVariants.Over}
-use Rattle.beldi_bound.specs.{Cost.AreAsked, Ends.AllHaveEnded, Ends.HasCause, Ends.HasNoLock, Ends.IsBelowEnd, Ends.IsUnhindered, Ends.NoneIsLate, Ends.SettlesAsPromised, Ends.Sound, Ends.crowded, Ends.hindered, Ends.left, Work.work_of}
+use Rattle.beldi_bound.specs.{Cost.AreAsked, Ends.AllHaveEnded, Ends.HasCause, Ends.HasNoLock, Ends.IsBelowEnd, Ends.IsUnhindered, Ends.NoneIsLate, Ends.SettlesAsPromised, Ends.Sound, Ends.crowded, Ends.hindered, Ends.left, SettleWork.work_of}
 use Rattle.beldi_bound.proofs.{Causes.waits_have_cause, Ended.settled_have_ended, Facts.AllWait, Facts.AreFollowed, Facts.EachHasRun, Followed.lates_followed, Going.waits_leave_rows, Machine.settles_so, Few.turns_are_few, Soundly.sound_then, Used.budget_used}
 
 module _ (d : Deployment) (room budget : ℕ) (s t : State) (sound : Sound d s.core s.rows) where
   abbrev Ends : Settled → Type 0
   Ends x = Settles d room budget (go_on budget first_at) s (Over x) t
 
-  caused : (n : ℕ) (waiting : List (ℕ × Seen)) → Ends (Settled.Stuck n waiting) → HasNoLock d → HasCause t.core t.rows waiting
+  caused : (n : ℕ) (waiting : List (ℕ × EventReply)) → Ends (Settled.Stuck n waiting) → HasNoLock d → HasCause t.core t.rows waiting
   caused n waiting h free = let at_end = settles_so waits_leave_rows d room budget s t (Settled.Stuck n waiting) sound h in by_runs at_end.0 at_end.1 at_end.2
     where
       by_runs : AllWait d t.core t.rows waiting → EachHasRun t.core t.rows ⊎ (most_runs ≤ map.len t.core.runs) → (t.core.runs ≡ map.empty → ⊥) → HasCause t.core t.rows waiting
@@ -29,7 +29,7 @@ module _ (d : Deployment) (room budget : ℕ) (s t : State) (sound : Sound d s.c
     few x h asked areas below = turns_are_few no_first d room budget s t x asked sound early areas below h
 
     -- nothing hinders a wait, and no run is late
-    no_cause : (n : ℕ) (waiting : List (ℕ × Seen)) → IsUnhindered t.core (Settled.Stuck n waiting) → AreFollowed t.core t.rows → HasCause t.core t.rows waiting → ⊥
+    no_cause : (n : ℕ) (waiting : List (ℕ × EventReply)) → IsUnhindered t.core (Settled.Stuck n waiting) → AreFollowed t.core t.rows → HasCause t.core t.rows waiting → ⊥
     no_cause n waiting free followed (hindered w there is) = apart (sym (free.0 w there) ∙ is)
       where
         apart : false ≡ true → ⊥

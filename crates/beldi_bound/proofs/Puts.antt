@@ -3,9 +3,9 @@ use Rattle.std.specs.FinMap as map
 use Rattle.std.proofs.Common.{arith, ◌≡◌, ◌⊎◌, inl, inr, ℕ, suc, ◌+◌, ◌-◌, ◌*◌, ◌<◌, ◌≤◌, ◌==◌, Bool, true, false, cond, if◌then◌else◌, is_some, length, Option, None, Some, eq-eqb, refl, ap, sym, ◌∙◌, subst}
 use Rattle.beldi_value.specs.{Id.age_of, Passes.passes, declared.id.IntentId.IntentId, declared.place.Owner.Owner, declared.place.Place.Place, declared.value.Value.Value, declared.value.Value.TheVariants.Null}
 use Rattle.beldi_row.{proofs.Gets.got, proofs.Gets.key_self, specs.Key.RowKey, specs.Key.at_row, specs.Log.blank, specs.Log.most_entries, specs.Log.note_at, specs.Table.Rows, specs.declared.act.Act.Act, specs.declared.notes.Note.Note, specs.declared.row.Cell.Cell, specs.declared.row.Row.Row}
-use Rattle.beldi_row.specs.Act.{Tell, act, added, cond_to, did, died, entered, given_or, held, held_or, if_owned, if_room, is_full, next, next_or, no_row, not_full, not_owner, noted, noted_or, other_owner, owned_or, owns, packed, present, tested, unless_held, waits_for}
+use Rattle.beldi_row.specs.Act.{ActReply, act, added, cond_to, did, died, entered, given_or, held, held_or, if_owned, if_room, is_full, next, next_or, no_row, not_full, not_owner, noted, noted_or, other_owner, owned_or, owns, packed, present, tested, unless_held, waits_for}
 use Rattle.beldi_daal.proofs.Spares.{write_spares}
-use Rattle.beldi_walk.{proofs.Promises.rows_there, specs.Query.may_remove, specs.Query.rows_after, specs.Query.said, specs.Query.told_by, specs.declared.query.Query.Query}
+use Rattle.beldi_query.{proofs.Promises.rows_there, specs.Query.may_remove, specs.Query.rows_after, specs.Query.replied, specs.Query.query_reply, specs.declared.query.Query.Query}
 use Rattle.beldi_chain.specs.{Chain.Chain, Chain.chain, Chain.content, Chain.most_rows, Content.Content}
 use Rattle.beldi_links.specs.Links.{At, FitsAt, IsLinked, LeadsTo, Linked, Meets, Passed, ReadsAt, SeesAt, StandsAt}
 use Rattle.beldi_links.proofs.{Meets.last_is_last, Meets.next_is_read, Meets.none_noted, Meets.noted_is_noted, Meets.walks_end, Ways.content_is, Ways.few, Ways.one_cell, Ways.same_or}
@@ -16,7 +16,7 @@ use Rattle.beldi_bound.proofs.Lengths.{all_below, counts_row, is_counted, length
 
 -- ---- an operation on a row that is there
 -- what it is told where nothing stands in its way: a lock may die, and what is given back may not be owned
-abbrev OnceDone : CellOp → (Tell → Type 0) → Type 0
+abbrev OnceDone : CellOp → (ActReply → Type 0) → Type 0
 OnceDone (CellOp.Write v) P = P did
 OnceDone (CellOp.Cond r o v) P = (b : Bool) → P (tested b)
 OnceDone CellOp.Lock P = P did × ((a : IntentId) → P (died a))
@@ -27,20 +27,20 @@ abbrev pub MayWait : CellOp → Type 0
 MayWait (CellOp.Free v) = ⊥
 MayWait op = Unit {0}
 
-if_tells : (P : Tell → Type 0) (b : Bool) (y z : Cell × Tell) → P y.1 → P z.1 → P (if b then y else z).1
+if_tells : (P : ActReply → Type 0) (b : Bool) (y z : Cell × ActReply) → P y.1 → P z.1 → P (if b then y else z).1
 if_tells P true y z h k = h
 if_tells P false y z h k = k
 
-if_by : (P : Tell → Type 0) (b : Bool) (y z : Cell × Tell) → (b ≡ true → P y.1) → P z.1 → P (if b then y else z).1
+if_by : (P : ActReply → Type 0) (b : Bool) (y z : Cell × ActReply) → (b ≡ true → P y.1) → P z.1 → P (if b then y else z).1
 if_by P true y z h k = h refl
 if_by P false y z h k = k
 
-if_so : (P : Tell → Type 0) (b : Bool) (y z : Cell × Tell) → b ≡ true → P y.1 → P (if b then y else z).1
+if_so : (P : ActReply → Type 0) (b : Bool) (y z : Cell × ActReply) → b ≡ true → P y.1 → P (if b then y else z).1
 if_so P true y z is h = h
 if_so P false y z is h = cc
 
 -- of a predicate on what is told
-module _ (P : Tell → Type 0) (p : Place) (who : Owner) (now : ℕ) (c : Cell) where
+module _ (P : ActReply → Type 0) (p : Place) (who : Owner) (now : ℕ) (c : Cell) where
   record OnCell (op : CellOp) : Type 0 where
     its : (w : Note) → note_at c.log p ≡ Some w → P (noted w)
     goes : (k : ℕ) → c.next ≡ Some k → P (next k)
@@ -48,31 +48,31 @@ module _ (P : Tell → Type 0) (p : Place) (who : Owner) (now : ℕ) (c : Cell) 
     full : P (packed c.value c.owner)
     once : OnceDone op P
 
-  tail_tells : (n : Option Note) (x : Option ℕ) (z : Cell × Tell) → ((w : Note) → n ≡ Some w → P (noted w)) → ((k : ℕ) → x ≡ Some k → P (next k)) → (n ≡ None → x ≡ None → P z.1) → P (noted_or c n (next_or c x z)).1
+  tail_tells : (n : Option Note) (x : Option ℕ) (z : Cell × ActReply) → ((w : Note) → n ≡ Some w → P (noted w)) → ((k : ℕ) → x ≡ Some k → P (next k)) → (n ≡ None → x ≡ None → P z.1) → P (noted_or c n (next_or c x z)).1
   tail_tells (Some w) x z its goes last = its w refl
   tail_tells None (Some k) z its goes last = goes k refl
   tail_tells None None z its goes last = last refl refl
 
-  held_tells : (o : Option Owner) (z : Cell × Tell) → ((w : Owner) → o ≡ Some w → P (held w)) → P z.1 → P (held_or c o z).1
+  held_tells : (o : Option Owner) (z : Cell × ActReply) → ((w : Owner) → o ≡ Some w → P (held w)) → P z.1 → P (held_or c o z).1
   held_tells None z waits h = h
   held_tells (Some w) z waits h = waits w refl
 
-  room_tells : (z : Cell × Tell) → P (packed c.value c.owner) → P z.1 → P (if_room c z).1
+  room_tells : (z : Cell × ActReply) → P (packed c.value c.owner) → P z.1 → P (if_room c z).1
   room_tells z full h = if_tells P (is_full c) (c, packed c.value c.owner) z full h
 
-  owned_tells : (o : Option Owner) (z : Cell × Tell) → ((w : Owner) → o ≡ Some w → waits_for who w ≡ true → P (held w)) → ((a : IntentId) → P (died a)) → P (packed c.value c.owner) → P z.1 → P (owned_or p who c o z).1
+  owned_tells : (o : Option Owner) (z : Cell × ActReply) → ((w : Owner) → o ≡ Some w → waits_for who w ≡ true → P (held w)) → ((a : IntentId) → P (died a)) → P (packed c.value c.owner) → P z.1 → P (owned_or p who c o z).1
   owned_tells None z waits dies full h = h
-  owned_tells (Some w) z waits dies full h = let y : Cell × Tell = (entered p (Note.Died (age_of w)) c.value c.owner c, died (age_of w)) in if_by P (waits_for who w) (c, held w) (if_room c y) (waits w refl) (room_tells y full (dies (age_of w)))
+  owned_tells (Some w) z waits dies full h = let y : Cell × ActReply = (entered p (Note.Died (age_of w)) c.value c.owner c, died (age_of w)) in if_by P (waits_for who w) (c, held w) (if_room c y) (waits w refl) (room_tells y full (dies (age_of w)))
 
   cell_tells : (op : CellOp) → OnCell op → P (act (op_act p who op) now (Some (Row.Cell c))).1
-  cell_tells (CellOp.Write v) h = let z : Cell × Tell = (entered p Note.Wrote v c.owner c, did) in
+  cell_tells (CellOp.Write v) h = let z : Cell × ActReply = (entered p Note.Wrote v c.owner c, did) in
       tail_tells (note_at c.log p) c.next (unless_held who c (if_room c z)) h.its h.goes (λ none last. held_tells (other_owner who c.owner) (if_room c z) (λ w is. h.waits w none last is (λ e. cc) tt) (room_tells z h.full h.once))
   cell_tells (CellOp.Cond k o v) h = let b = passes c.value k o in
       tail_tells (note_at c.log p) c.next (unless_held who c (if_room c (cond_to b p v c))) h.its h.goes (λ none last. held_tells (other_owner who c.owner) (if_room c (cond_to b p v c)) (λ w is. h.waits w none last is (λ e. cc) tt) (room_tells (cond_to b p v c) h.full (h.once b)))
-  cell_tells CellOp.Lock h = let z : Cell × Tell = (entered p Note.Got c.value (Some who) c, did) in
+  cell_tells CellOp.Lock h = let z : Cell × ActReply = (entered p Note.Got c.value (Some who) c, did) in
       tail_tells (note_at c.log p) c.next (owned_or p who c (other_owner who c.owner) (if_room c z)) h.its h.goes
       (λ none last. owned_tells (other_owner who c.owner) (if_room c z) (λ w is older. h.waits w none last is (λ e. older) tt) h.once.1 h.full (room_tells z h.full h.once.0))
-  cell_tells (CellOp.Free v) h = let z : Cell × Tell = (entered p Note.Freed (given_or v c.value) None c, did) in
+  cell_tells (CellOp.Free v) h = let z : Cell × ActReply = (entered p Note.Freed (given_or v c.value) None c, did) in
       tail_tells (note_at c.log p) c.next (if_owned who c (if_room c z)) h.its h.goes (λ none last. if_tells P (owns who c.owner) (if_room c z) (c, not_owner) (room_tells z h.full h.once.0) h.once.1)
 
   -- a full cell is linked, or was
@@ -80,14 +80,14 @@ module _ (P : Tell → Type 0) (p : Place) (who : Owner) (now : ℕ) (c : Cell) 
   link_tells n (Some k) full goes h = goes k refl
   link_tells n None full goes h = if_so P (is_full c) (record c { next = Some n }, next n) (c, not_full) full h
 
-none_tells : (P : Tell → Type 0) (p : Place) (who : Owner) (now : ℕ) (op : CellOp) → P no_row → P (act (op_act p who op) now None).1
+none_tells : (P : ActReply → Type 0) (p : Place) (who : Owner) (now : ℕ) (op : CellOp) → P no_row → P (act (op_act p who op) now None).1
 none_tells P p who now (CellOp.Write v) h = h
 none_tells P p who now (CellOp.Cond k o v) h = h
 none_tells P p who now CellOp.Lock h = h
 none_tells P p who now (CellOp.Free v) h = h
 
 -- ---- a row that is made, and a lock that is asked for
-module _ (P : Tell → Type 0) (now : ℕ) where
+module _ (P : ActReply → Type 0) (now : ℕ) where
   pub made_tells : (v : Value) (o : Option Owner) (r : Option Row) → P added → P present → P (act (Act.MakeCell v o blank) now r).1
   made_tells v o None new old = new
   made_tells v o (Some r) new old = old
@@ -149,19 +149,19 @@ module _ (f : Chain) (l : Linked f) (r : ℕ) (c : Cell) (meets : Meets f r) (is
 
   none_counts : (p : Place) → Passed f p r → c.next ≡ None → note_at c.log p ≡ None → note_at (content f).notes p ≡ None
   none_counts p passed ends none =
-      let at = last_is_last f l.last l.tail l.way l.there l.ends r c meets is ends in
+      let at = last_is_last f l.last l.tail l.path l.there l.ends r c meets is ends in
       let same = one_cell c l.tail (sym is ∙ ap f at ∙ l.there) in
       none_noted f l p (subst (Passed f p) at passed) (ap (λ (z : Cell). note_at z.log p) (sym same) ∙ none)
 
   owner_counts : c.next ≡ None → c.owner ≡ (content f).owner
   owner_counts none =
-      let at = last_is_last f l.last l.tail l.way l.there l.ends r c meets is none in
+      let at = last_is_last f l.last l.tail l.path l.there l.ends r c meets is none in
       let same = one_cell c l.tail (sym is ∙ ap f at ∙ l.there) in
-      ap (λ (z : Cell). z.owner) same ∙ sym (ap (λ (z : Content). z.owner) (content_is f l.way.0 l.last l.tail l.way.1 l.there l.ends l.few))
+      ap (λ (z : Cell). z.owner) same ∙ sym (ap (λ (z : Content). z.owner) (content_is f l.path.0 l.last l.tail l.path.1 l.there l.ends l.few))
 
 -- .. and where a walk stands is a number of a row
 pub meets_few : (f : Chain) (l : Linked f) (r : ℕ) → Meets f r → r < most_rows
-meets_few f l r meets = let way = walks_end f l.last l.tail l.way l.there l.ends r meets in let most = few f r way.0 l.last way.1 in let last = l.few in omega (arith, most, last)
+meets_few f l r meets = let path = walks_end f l.last l.tail l.path l.there l.ends r meets in let most = few f r path.0 l.last path.1 in let last = l.few in omega (arith, most, last)
 
 -- the row that is next is there, and has the next number
 pub next_stands : (f : Chain) (l : Linked f) (r : ℕ) (c : Cell) (k : ℕ) → f r ≡ Some (Row.Cell c) → c.next ≡ Some k → (k ≡ r + 1) × Meets f k × (y : Row) × (f k ≡ Some y)
@@ -190,7 +190,7 @@ module _ (e m : Rows) (now : ℕ) (head : RowKey) (first : at_row head 0 ≡ hea
   there n = is_some (map.get n head)
 
   abbrev Turns : WriteAt → Type 0
-  Turns w = Turned (put_left c (there (late w))) (put_left c (there m) w) f p who op (write_goes (done_note op) w (told_by (asks w) now m))
+  Turns w = Turned (put_left c (there (late w))) (put_left c (there m) w) f p who op (write_goes (done_note op) w (query_reply (asks w) now m))
 
   some : 1 ≤ c
   some = length_some e head
@@ -199,10 +199,10 @@ module _ (e m : Rows) (now : ℕ) (head : RowKey) (first : at_row head 0 ≡ hea
   first_row r x is = ap (λ k. is_some (map.get m k)) (sym first) ∙ all_below f r x linked is 0 (omega arith)
 
   -- at a row ..
-  abbrev Tried : ℕ → Bool → Tell → Type 0
-  Tried r b t = Turned (put_left c (there (late (Try r)))) (put_left c b (Try r)) f p who op (write_goes (done_note op) (Try r) (said t))
+  abbrev Tried : ℕ → Bool → ActReply → Type 0
+  Tried r b t = Turned (put_left c (there (late (Try r)))) (put_left c b (Try r)) f p who op (write_goes (done_note op) (Try r) (replied t))
 
-  once : (op : CellOp) (r : ℕ) (n : ℕ) (after : WriteAt → ℕ) → OnceDone op (λ t. Turned after n f p who op (write_goes (done_note op) (Try r) (said t)))
+  once : (op : CellOp) (r : ℕ) (n : ℕ) (after : WriteAt → ℕ) → OnceDone op (λ t. Turned after n f p who op (write_goes (done_note op) (Try r) (replied t)))
   once (CellOp.Write v) r n after = tt
   once (CellOp.Cond k o v) r n after = λ b. tt
   once CellOp.Lock r n after = (tt, λ a. tt)
@@ -236,7 +236,7 @@ module _ (e m : Rows) (now : ℕ) (head : RowKey) (first : at_row head 0 ≡ hea
   Makes r = suc (put_left c (there (late (Try r))) Make) ≤ put_left c (there m) (Try r)
 
   -- what is told at a row where a walk may stand, by what is so of each
-  by_stand : (r : ℕ) (P : Bool → Tell → Type 0) → StandsAt (f r) r → (Makes r → P (there m) no_row) → ((x : Cell) → f r ≡ Some (Row.Cell x) → P true (act (op_act p who op) now (Some (Row.Cell x))).1) → P (there m) (act (op_act p who op) now (f r)).1
+  by_stand : (r : ℕ) (P : Bool → ActReply → Type 0) → StandsAt (f r) r → (Makes r → P (there m) no_row) → ((x : Cell) → f r ≡ Some (Row.Cell x) → P true (act (op_act p who op) now (Some (Row.Cell x))).1) → P (there m) (act (op_act p who op) now (f r)).1
   by_stand r P stands makes on_row = by_row (f r) refl stands
     where
       by_row : (o : Option Row) → f r ≡ o → StandsAt o r → P (there m) (act (op_act p who op) now (f r)).1
@@ -268,11 +268,11 @@ module _ (e m : Rows) (now : ℕ) (head : RowKey) (first : at_row head 0 ≡ hea
   makes : Turns Make
   makes =
       let less = ap (λ b. put_left c b (Try 0)) (made_there now m head Null None) in
-      made_tells (λ t. Turned (put_left c (there (late Make))) (put_left c (there m) Make) f p who op (write_goes (done_note op) Make (said t))) now Null None (map.get m head) (omega (arith, less, some)) (omega (arith, less, some))
+      made_tells (λ t. Turned (put_left c (there (late Make))) (put_left c (there m) Make) f p who op (write_goes (done_note op) Make (replied t))) now Null None (map.get m head) (omega (arith, less, some)) (omega (arith, less, some))
 
   appends : (n : ℕ) (t : FullRow) → SeesAt f p (At.Append n t.value t.owner) → RowsStay (late (Append n t)) e → Turns (Append n t)
   appends n t (r, after, meets, passed, told) stay =
-      made_tells (λ z. Turned (put_left c (there (late (Append n t)))) (put_left c (there m) (Append n t)) f p who op (write_goes (done_note op) (Append n t) (said z))) now t.value t.owner (map.get m (at_row head n)) (omega (arith, few)) (omega (arith, few))
+      made_tells (λ z. Turned (put_left c (there (late (Append n t)))) (put_left c (there m) (Append n t)) f p who op (write_goes (done_note op) (Append n t) (replied z))) now t.value t.owner (map.get m (at_row head n)) (omega (arith, few)) (omega (arith, few))
     where
       made : is_some (chain e head n) ≡ true
       made = stay (at_row head n) (made_there now m (at_row head n) t.value t.owner)
@@ -288,8 +288,8 @@ module _ (e m : Rows) (now : ℕ) (head : RowKey) (first : at_row head 0 ≡ hea
       few = counts_row e head n below after.few
 
   -- .. or links it
-  abbrev Linking : ℕ → Tell → Type 0
-  Linking n t = Turned (put_left c (there (late (Link n)))) (put_left c (there m) (Link n)) f p who op (write_goes (done_note op) (Link n) (said t))
+  abbrev Linking : ℕ → ActReply → Type 0
+  Linking n t = Turned (put_left c (there (late (Link n)))) (put_left c (there m) (Link n)) f p who op (write_goes (done_note op) (Link n) (replied t))
 
   links : (n : ℕ) → SeesAt f p (At.Link n) → RowsStay (late (Link n)) e → Turns (Link n)
   links n (r, after, meets, passed, row) stay = by_key (n - 1) (let next = after.next in omega (arith, next))
@@ -326,7 +326,7 @@ module _ (e m : Rows) (now : ℕ) (head : RowKey) (first : at_row head 0 ≡ hea
   frees_late w = rows_after (write_asks head p who (CellOp.Free u) w) now m
 
   abbrev Frees : WriteAt → Type 0
-  Frees w = Freed (put_left (chain_length e head) (is_some (map.get (frees_late w) head))) (put_left (chain_length e head) (is_some (map.get m head)) w) (write_goes Note.Freed w (told_by (write_asks head p who (CellOp.Free u) w) now m))
+  Frees w = Freed (put_left (chain_length e head) (is_some (map.get (frees_late w) head))) (put_left (chain_length e head) (is_some (map.get m head)) w) (write_goes Note.Freed w (query_reply (write_asks head p who (CellOp.Free u) w) now m))
 
   -- it is the turn of a write ..
   frees_by : (after : WriteAt → ℕ) (n : ℕ) (g : WriteGoes) → Turned after n (chain m head) p who (CellOp.Free u) g → Freed after n g
@@ -336,7 +336,7 @@ module _ (e m : Rows) (now : ℕ) (head : RowKey) (first : at_row head 0 ≡ hea
   frees_by after n g h = tt
 
   frees_seen : (w : WriteAt) → SeesAt (chain m head) p (at_of w) → RowsStay (frees_late w) e → Frees w
-  frees_seen w sees stay = frees_by (put_left (chain_length e head) (is_some (map.get (frees_late w) head))) (put_left (chain_length e head) (is_some (map.get m head)) w) (write_goes Note.Freed w (told_by (write_asks head p who (CellOp.Free u) w) now m))
+  frees_seen w sees stay = frees_by (put_left (chain_length e head) (is_some (map.get (frees_late w) head))) (put_left (chain_length e head) (is_some (map.get m head)) w) (write_goes Note.Freed w (query_reply (write_asks head p who (CellOp.Free u) w) now m))
       (put_turn e m now head first p who (CellOp.Free u) linked w sees stay)
 
   -- .. but at a row it needs not to know which rows have its place
@@ -344,8 +344,8 @@ module _ (e m : Rows) (now : ℕ) (head : RowKey) (first : at_row head 0 ≡ hea
     abbrev after : WriteAt → ℕ
     after = put_left (chain_length e head) (is_some (map.get (frees_late (Try r)) head))
 
-    abbrev Tries : Bool → Tell → Type 0
-    Tries b t = Freed after (put_left (chain_length e head) b (Try r)) (write_goes Note.Freed (Try r) (said t))
+    abbrev Tries : Bool → ActReply → Type 0
+    Tries b t = Freed after (put_left (chain_length e head) b (Try r)) (write_goes Note.Freed (Try r) (replied t))
 
     full_frees : (b : Bool) (v : Value) (o : Option Owner) → Freed after (put_left (chain_length e head) true (Try r)) (if b then WriteGoes.Worn else WriteGoes.On (Append (r + 1) (record { value = v; owner = o })))
     full_frees true v o = tt
@@ -376,7 +376,7 @@ module _ (e m : Rows) (now : ℕ) (head : RowKey) (who : Option Owner) (r : ℕ)
   abbrev Reads : ReadGoes → Type 0
   Reads g = ReadOn (chain_length e head) r who (chain m head) g
 
-  pub read_turn : let q = Query.Act (at_row head r) Act.Look in RowsStay (rows_after q now m) e → Reads (read_goes who (told_by q now m))
+  pub read_turn : let q = Query.Act (at_row head r) Act.Look in RowsStay (rows_after q now m) e → Reads (read_goes who (query_reply q now m))
   read_turn stay = by_row (chain m head r) refl
     where
       found : (x : Cell) (o : Option Owner) → ((w : Owner) → o ≡ Some w → Reads (ReadGoes.Held w)) → Reads (got_or_held x o)
@@ -391,9 +391,9 @@ module _ (e m : Rows) (now : ℕ) (head : RowKey) (who : Option Owner) (r : ℕ)
           let there = next_stands (chain m head) l r x k is to in
           (there.0, is_counted e m head k there.2 (λ k h. stay k (there_stays (Query.Act (at_row head r) Act.Look) refl now m k h)) linked there.3 (meets_few (chain m head) l k there.1))
 
-      by_row : (o : Option Row) → chain m head r ≡ o → Reads (read_goes who (said (act Act.Look now (chain m head r)).1))
-      by_row None none = subst (λ y. Reads (read_goes who (said (act Act.Look now y).1))) (sym none) tt
-      by_row (Some (Row.Cell x)) is = subst (λ y. Reads (read_goes who (said (act Act.Look now y).1))) (sym is) (by_next x x.next is refl)
+      by_row : (o : Option Row) → chain m head r ≡ o → Reads (read_goes who (replied (act Act.Look now (chain m head r)).1))
+      by_row None none = subst (λ y. Reads (read_goes who (replied (act Act.Look now y).1))) (sym none) tt
+      by_row (Some (Row.Cell x)) is = subst (λ y. Reads (read_goes who (replied (act Act.Look now y).1))) (sym is) (by_next x x.next is refl)
       by_row (Some y) is = absurd (subst FitsAt is ((linked_by (chain m head) (chain m head 0) r y linked is).fits r))
 
 -- ---- how much is left of a write

@@ -8,15 +8,15 @@ use Rattle.beldi_lang.specs.declared.{effect.Answer.Answer, effect.Effect.Effect
 use Rattle.beldi_book.specs.declared.entry.Entry.{Entry}
 use Rattle.beldi_plain.specs.Plain.{PlainState}
 use Rattle.beldi_row.specs.{Table.Rows, declared.row.Body.Body, declared.row.Row.Row, declared.table.TableErr.TableErr}
-use Rattle.beldi_walk.specs.{Query.CameOn}
+use Rattle.beldi_query.specs.{Query.CameOn}
 use Rattle.beldi_invokelog.specs.InvokeLog.{invoke_key}
 use Rattle.beldi_intent.specs.Intent.{intent_key, look_asks}
 use Rattle.beldi_call.specs.{Async.async_asks, declared.async_call.AsyncAt.AsyncAt}
-use Rattle.beldi_known.specs.Known.{Known}
-use Rattle.beldi_step.specs.{Host.Core, Host.counted, Run.asks_at, Run.async_here_asks, Run.callee_body, Run.place_of, Run.run_asks, Run.stage_asks, declared.run.Begun.Begun, declared.run.Run.Run, declared.run.RunAt.RunAt, declared.run.RunTx.RunTx, declared.run.Stage.Stage}
-use Rattle.beldi_laws.specs.Right.{AtStage, StandsAt}
+use Rattle.beldi_histories.specs.Histories.{Histories}
+use Rattle.beldi_step.specs.{HostStep.Core, HostStep.counted, Run.asks_at, Run.async_here_asks, Run.callee_body, Run.place_of, Run.run_asks, Run.stage_asks, declared.run.Begun.Begun, declared.run.Run.Run, declared.run.RunAt.RunAt, declared.run.RunTx.RunTx, declared.run.Stage.Stage}
+use Rattle.beldi_invariant.specs.Invariant.{AtStage, StandsAt}
 use Rattle.beldi_bound.specs.{Cost.AreAsked, Ends.Sound}
-use Rattle.beldi_bound.proofs.{Ending.knows_it, FirstKnown.ended_costs, Frames.Mid, TurnsPay.AllRefused}
+use Rattle.beldi_bound.proofs.{Ending.knows_it, FirstHistories.ended_costs, Frames.Mid, TurnsPay.AllRefused}
 use Rattle.beldi_bound.proofs.Ledger.{IsMidway}
 
 pub record AsyncHere (id : IntentId) (e : Effect) : Type 0 where
@@ -25,7 +25,7 @@ pub record AsyncHere (id : IntentId) (e : Effect) : Type 0 where
   pub is : e ≡ Effect.Async func args
   pub short : has_callees id ≡ true
 
-module _ {d : Deployment} (m : Rows) (p : PlainState) (book : List Entry) {known : Known} {id : IntentId} {home : ℕ} {c : Option Caller} {s : Machine} {o : Option RunTx} (k : StandsAt d known id home c s o) where
+module _ {d : Deployment} (m : Rows) (p : PlainState) (book : List Entry) {histories : Histories} {id : IntentId} {home : ℕ} {c : Option Caller} {s : Machine} {o : Option RunTx} (k : StandsAt d histories id home c s o) where
   pub async_here : (w : AsyncAt) (e : Effect) (z : Option RunTx) → AtStage m p book k (Stage.Async w) e z → AsyncHere id e
   async_here w (Effect.Async f a) None h = record { func = f; args = a; is = refl; short = h.0 }
   async_here w e z h = absurd h
@@ -49,8 +49,8 @@ module _ (d : Deployment) (room : ℕ) (e : Rows) (asked : IntentId → List Ans
 
   pub full_mid : Sound d c m → map.get c.runs i ≡ Some r → (l k : ℕ) → CameOn (run_asks r) c.now room (Err (TableErr.Full l k)) m m → (w : AsyncAt) → (w ≡ AsyncAt.Open → ⊥) → r.at ≡ RunAt.Begins g → g.stage ≡ Stage.Async w → Mid d room e asked first most past b m i r g
   full_mid sound live l k came w later at stage =
-      let kn = knows_it sound.upkeep.right i r g live at in
-      let here = async_here m sound.upkeep.right.plain c.book kn.0 w g.machine.effect g.tx (subst (λ x. AtStage m sound.upkeep.right.plain c.book kn.0 x g.machine.effect g.tx) stage kn.1.here) in
+      let kn = knows_it sound.upkeep.invariant i r g live at in
+      let here = async_here m sound.upkeep.invariant.plain c.book kn.0 w g.machine.effect g.tx (subst (λ x. AtStage m sound.upkeep.invariant.plain c.book kn.0 x g.machine.effect g.tx) stage kn.1.here) in
       let asks : run_asks r ≡ async_asks r.func (place_of r.id g.machine.steps) (B here.func here.args) w = ap (asks_at r) at ∙ ap (λ x. stage_asks r.id r.func g.caller g.tx g.machine.steps g.machine.effect x) stage ∙ ap (λ f. async_here_asks r.id r.func g.machine.steps f w) here.is
       ∙ ap (λ t. if t then async_asks r.func (place_of r.id g.machine.steps) (B here.func here.args) w else look_asks r.id r.func) here.short in
       by_full w here.func here.args l k later here.is stage (subst (λ q. CameOn q c.now room (Err (TableErr.Full l k)) m m) asks came)

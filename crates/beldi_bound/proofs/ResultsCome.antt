@@ -7,10 +7,10 @@ use Rattle.beldi_value.specs.{Id.child_of, declared.id.IntentId.IntentId}
 use Rattle.beldi_tree.specs.declared.deployment.Deployment.{Deployment}
 use Rattle.beldi_row.specs.{Key.RowKey, Table.Rows, declared.row.InvokeRow.InvokeRow}
 use Rattle.beldi_invokelog.specs.InvokeLog.{CallGoesOn, call_at, invoke_key}
-use Rattle.beldi_step.specs.{Host.Core, Host.EventOn, Run.place_of, declared.event.Event.Event, declared.event.Seen.Seen}
-use Rattle.beldi_known.specs.Stands.{key_in}
-use Rattle.beldi_known.proofs.Cases.{by_option}
-use Rattle.beldi_laws.specs.Right.{Right}
+use Rattle.beldi_step.specs.{HostStep.Core, HostStep.EventOn, Run.place_of, declared.event.Event.Event, declared.event.EventReply.EventReply}
+use Rattle.beldi_histories.specs.Stands.{key_in}
+use Rattle.beldi_histories.proofs.Cases.{by_option}
+use Rattle.beldi_invariant.specs.Invariant.{Invariant}
 
 pub record ResultsCome (m n : Rows) : Type 0 where
   pub keys : (k : RowKey) → is_some (map.get m k) ≡ true → is_some (map.get n k) ≡ true
@@ -20,7 +20,7 @@ pub record ResultsCome (m n : Rows) : Type 0 where
 
 -- so it is of each event
 abbrev pub EventsBringResults : Type 0
-EventsBringResults = (d : Deployment) (room old new : ℕ) (e : Event) (c b : Core) (m n : Rows) (r : Result Seen AllocError) → Right d c m → EventOn d room old new e c m b n r → ResultsCome m n
+EventsBringResults = (d : Deployment) (room old new : ℕ) (e : Event) (c b : Core) (m n : Rows) (r : Result EventReply AllocError) → Invariant d c m → EventOn d room old new e c m b n r → ResultsCome m n
 
 -- .. and of events, one after another
 pub results_same : (m : Rows) → ResultsCome m m

@@ -1,5 +1,5 @@
 -- What a round of the intent collector says: up to where it stands, each intent that has a body and has not ended has a run.
-use Rattle.beldi_order.proofs.Maps.{same_some}
+use Rattle.beldi_plain_laws.proofs.Maps.{same_some}
 use Rattle.std.specs.{Option.option_map, Ordering.MatchOrdering, Ordering.is_eq, Ordering.is_lt, Ordering.nat_cmp, Ordering.ordering_reverse, Ordering.ordering_then, Cmp.Lexicographic.slice_cmp, Cmp.ranks, FinMap.FinMap, declared.cmp.Ordering.Ordering, declared.cmp.Ordering.TheVariants.Less, declared.cmp.Ordering.TheVariants.Equal, declared.cmp.Ordering.TheVariants.Greater}
 use Rattle.std.specs.FinMap as map
 use Rattle.std.specs.declared.alloc.AllocError.{AllocError}
@@ -8,13 +8,13 @@ use Rattle.std.proofs.lemmas.Bool.{leb-true}
 use Rattle.beldi_value.specs.{Id.root_of, declared.id.IntentId.IntentId}
 use Rattle.beldi_tree.specs.declared.deployment.Deployment.{Deployment}
 use Rattle.beldi_row.{proofs.Gets.key_same, proofs.Least.next_row_least, specs.Key.RowKey, specs.Key.key_cmp, specs.Key.kind_cmp, specs.Key.least_key, specs.KeyOrder.key_total, specs.Table.IsNext, specs.Table.Rows, specs.Table.is_open as row_is_open, specs.Table.next_row, specs.declared.key.Kind.Kind, specs.declared.row.Body.Body, specs.declared.row.IntentRow.IntentRow, specs.declared.row.Row.Row, specs.declared.table.TableErr.TableErr}
-use Rattle.beldi_walk.specs.{Query.CameOn, Query.Told, declared.query.Query.Query}
+use Rattle.beldi_query.specs.{Query.CameOn, Query.QueryReply, declared.query.Query.Query}
 use Rattle.beldi_intent.specs.Intent.{is_ended}
-use Rattle.beldi_collect.{proofs.Jumps.none_jumped, specs.Collect.collect_says, specs.Collect.found_says, specs.Collect.open_at, specs.Collect.passing, specs.Collect.row_says}
-use Rattle.beldi_step.proofs.Runs.{of_plan}
-use Rattle.beldi_step.specs.{Host.Core, Host.EventBy, Host.EventOn, Host.Followed, Host.collect_next, Host.counted, Host.has_run, Host.is_crowded, Host.launched, Host.most_runs, Host.new_run, Host.passed, Host.with_run, Next.PassesNoOpen, declared.event.Event.Event, declared.event.Seen.Seen, declared.run.Run.Run}
-use Rattle.beldi_known.{proofs.Cases.by_cases, specs.Rows.RootMatches, specs.Stands.key_in}
-use Rattle.beldi_laws.specs.Right.{Right}
+use Rattle.beldi_collect.{proofs.Jumps.none_jumped, specs.Collect.collect_output, specs.Collect.found_output, specs.Collect.open_at, specs.Collect.passing, specs.Collect.row_output}
+use Rattle.beldi_step.proofs.StepRuns.{of_plan}
+use Rattle.beldi_step.specs.{HostStep.Core, HostStep.EventBy, HostStep.EventOn, HostStep.Followed, HostStep.collect_next, HostStep.counted, HostStep.has_run, HostStep.is_crowded, HostStep.launched, HostStep.most_runs, HostStep.new_run, HostStep.passed, HostStep.with_run, Next.PassesNoOpen, declared.event.Event.Event, declared.event.EventReply.EventReply, declared.run.Run.Run}
+use Rattle.beldi_histories.{proofs.Cases.by_cases, specs.RowMatching.RootMatches, specs.Stands.key_in}
+use Rattle.beldi_invariant.specs.Invariant.{Invariant}
 use Rattle.beldi_bound.specs.Ends.{Sound}
 use Rattle.beldi_bound.proofs.Facts.{EachHasRun}
 
@@ -23,14 +23,14 @@ pub record HaveRunsTo (runs : FinMap nat_cmp Run) (m : Rows) (k : RowKey) : Type
   pub each : (q : RowKey) (id : IntentId) (i : IntentRow) (b : Body) → q.kind ≡ Kind.Intent id → map.get m q ≡ Some (Row.Intent i) → i.body ≡ Some b → is_ended i ≡ false → (has_run runs id ≡ true) ⊎ (key_cmp k q ≡ Less)
 
 -- what an event of the collector makes of the core, where the rows stay
-pub data Went (d : Deployment) (c b : Core) (m : Rows) : Seen → Type 0 where
-  spent : b ≡ c → Went d c b m Seen.Spent
-  shut : b ≡ counted c → c.shut ≡ true → Went d c b m Seen.Shut
-  round : b ≡ record (counted c) { cursor = least_key } → next_row m c.cursor ≡ None → Went d c b m Seen.Round
-  crowded : b ≡ counted c → most_runs ≤ map.len c.runs → Went d c b m Seen.Crowded
-  moved : (k : RowKey) → b ≡ record (counted c) { cursor = k } → (HaveRunsTo c.runs m c.cursor → HaveRunsTo c.runs m k) → Went d c b m Seen.Passed
-  more : (k : RowKey) (id : IntentId) (f : ℕ) → b ≡ with_run (record (counted c) { cursor = k }) (new_run d c id f) → Went d c b m (Seen.Launched (c.last_run + 1) id)
-  dropped : b ≡ counted c → Went d c b m Seen.Dropped
+pub data Went (d : Deployment) (c b : Core) (m : Rows) : EventReply → Type 0 where
+  spent : b ≡ c → Went d c b m EventReply.Spent
+  shut : b ≡ counted c → c.shut ≡ true → Went d c b m EventReply.Shut
+  round : b ≡ record (counted c) { cursor = least_key } → next_row m c.cursor ≡ None → Went d c b m EventReply.Round
+  crowded : b ≡ counted c → most_runs ≤ map.len c.runs → Went d c b m EventReply.Crowded
+  moved : (k : RowKey) → b ≡ record (counted c) { cursor = k } → (HaveRunsTo c.runs m c.cursor → HaveRunsTo c.runs m k) → Went d c b m EventReply.Passed
+  more : (k : RowKey) (id : IntentId) (f : ℕ) → b ≡ with_run (record (counted c) { cursor = k }) (new_run d c id f) → Went d c b m (EventReply.Launched (c.last_run + 1) id)
+  dropped : b ≡ counted c → Went d c b m EventReply.Dropped
 
 -- ---- the row of an intent that has a body and has not ended
 record IsOpen (k : RowKey) (r : Row) (id : IntentId) (b : Body) : Type 0 where
@@ -63,10 +63,10 @@ abbrev zero_key : ℕ → RowKey
 zero_key home = record { home = home; kind = Kind.Intent (record { ticket = 0; hops = [] }) }
 
 none_is_first : (d : Deployment) (c : Core) (m : Rows) → Sound d c m → (home : ℕ) → map.get m (zero_key home) ≡ None
-none_is_first d c m s home = by_cases (home == 0) (λ t. at_zero (eqb-true home 0 t)) (λ t. subst (λ z. RootMatches z (map.get m (zero_key home)) (map.get h.known (root_of 0))) t (h.rows.keys (zero_key home)))
+none_is_first d c m s home = by_cases (home == 0) (λ t. at_zero (eqb-true home 0 t)) (λ t. subst (λ z. RootMatches z (map.get m (zero_key home)) (map.get h.histories (root_of 0))) t (h.rows.keys (zero_key home)))
   where
-    h : Right d c m
-    h = s.upkeep.right
+    h : Invariant d c m
+    h = s.upkeep.invariant
 
     nothing : (r : Option Row) → is_some r ≡ false → r ≡ None
     nothing None e = refl
@@ -173,11 +173,11 @@ module _ (runs : FinMap nat_cmp Run) (m : Rows) (k : RowKey) (e : RowKey × Row)
 
 -- ---- an event of the collector
 module _ (d : Deployment) (c : Core) (m : Rows) (s : Sound d c m) where
-  abbrev Leads : Core × Seen → Type 0
+  abbrev Leads : Core × EventReply → Type 0
   Leads p = Went d c p.0 m p.1
 
-  abbrev if_no_run : RowKey → IntentId → ℕ → Bool → Core × Seen
-  if_no_run k id f t = if t then (counted c, Seen.Crowded) else launched d (record (counted c) { cursor = k }) id f
+  abbrev if_no_run : RowKey → IntentId → ℕ → Bool → Core × EventReply
+  if_no_run k id f t = if t then (counted c, EventReply.Crowded) else launched d (record (counted c) { cursor = k }) id f
 
   module _ (e : RowKey × Row) (next : next_row m c.cursor ≡ Some e) where
     its_cursor : (y : IntentId × Body) → open_at e.0.kind e.1 ≡ Some y → passing e.0 e.0.kind ≡ e.0
@@ -192,34 +192,34 @@ module _ (d : Deployment) (c : Core) (m : Rows) (s : Sound d c m) where
         (passes c.runs m c.cursor e (none_is_first d c m s) next (λ id b u. ap (has_run c.runs) (same_pair (id, b) y (sym (open_there e.0 e.1 id b u) ∙ some)) ∙ has) h))
     by_run y some false none = by_crowd y (is_crowded c) refl
 
-    by_open : (o : Option (IntentId × Body)) → open_at e.0.kind e.1 ≡ o → Leads (collect_next d (counted c) (row_says e.0 o))
+    by_open : (o : Option (IntentId × Body)) → open_at e.0.kind e.1 ≡ o → Leads (collect_next d (counted c) (row_output e.0 o))
     by_open None none = moved (passing e.0 e.0.kind) refl (passes c.runs m c.cursor e (none_is_first d c m s) next (λ id b u. let clash : Some (id, b) ≡ None = sym (open_there e.0 e.1 id b u) ∙ none in cc))
     by_open (Some y) some = by_run y some (has_run c.runs y.0) refl
 
-  by_found : (o : Option (RowKey × Row)) → next_row m c.cursor ≡ o → Leads (collect_next d (counted c) (found_says o))
+  by_found : (o : Option (RowKey × Row)) → next_row m c.cursor ≡ o → Leads (collect_next d (counted c) (found_output o))
   by_found None next = round refl next
   by_found (Some e) next = by_open e next (open_at e.0.kind e.1) refl
 
-  module _ (room old new : ℕ) (b : Core) (n : Rows) (x : Seen) where
-    abbrev Said : Type 0
-    Said = (n ≡ m) × Went d c b m x
+  module _ (room old new : ℕ) (b : Core) (n : Rows) (x : EventReply) where
+    abbrev CameSo : Type 0
+    CameSo = (n ≡ m) × Went d c b m x
 
-    leads : (p : Core × Seen) → ◌≡◌ {A = Core × Seen} (b, x) p → Leads p → Went d c b m x
+    leads : (p : Core × EventReply) → ◌≡◌ {A = Core × EventReply} (b, x) p → Leads p → Went d c b m x
     leads p is h = subst Leads (sym is) h
 
-    by_query : (w : Result Told TableErr) → Followed d Event.Ic (counted c) w b (Ok x) → CameOn (Query.After c.cursor) c.now room w m n → Said
-    by_query (Ok t) is came = (came.0, leads (collect_next d (counted c) (found_says (next_row m c.cursor))) (is ∙ ap (λ z. collect_next d (counted c) (collect_says z)) came.1) (by_found (next_row m c.cursor) refl))
-    by_query (Err TableErr.OutOfMemory) is came = let clash = ap (λ (p : Core × Result Seen AllocError). p.1) is in cc
-    by_query (Err TableErr.Failed) is came = (came, leads (counted c, Seen.Dropped) (λ j. (((is j).0), said (ap (λ (p : Core × Result Seen AllocError). p.1) is) j)) (dropped refl))
+    by_query : (w : Result QueryReply TableErr) → Followed d Event.Ic (counted c) w b (Ok x) → CameOn (Query.After c.cursor) c.now room w m n → CameSo
+    by_query (Ok t) is came = (came.0, leads (collect_next d (counted c) (found_output (next_row m c.cursor))) (is ∙ ap (λ z. collect_next d (counted c) (collect_output z)) came.1) (by_found (next_row m c.cursor) refl))
+    by_query (Err TableErr.OutOfMemory) is came = let clash = ap (λ (p : Core × Result EventReply AllocError). p.1) is in cc
+    by_query (Err TableErr.Failed) is came = (came, leads (counted c, EventReply.Dropped) (λ j. (((is j).0), said (ap (λ (p : Core × Result EventReply AllocError). p.1) is) j)) (dropped refl))
       where
-        said : {v w : Seen} → ◌≡◌ {A = Result Seen AllocError} (Ok v) (Ok w) → v ≡ w
+        said : {v w : EventReply} → ◌≡◌ {A = Result EventReply AllocError} (Ok v) (Ok w) → v ≡ w
         said h = cc
     by_query (Err (TableErr.Full live most)) is came = absurd came
 
-    by_event : EventOn d room old new Event.Ic c m b n (Ok x) → Said
-    by_event = of_plan d Event.Ic c (λ p. EventBy d room old new Event.Ic (counted c) p m b n (Ok x) → Said) (λ t s. by_query s.0 s.1 s.2)
-        (λ t s. (s.1, leads (counted c, Seen.Shut) (λ j. (s.0.0 j, s.0.1 j)) (shut refl t)))
-        (λ s. (s.1, leads (c, Seen.Spent) (λ j. (s.0.0 j, s.0.1 j)) (spent refl)))
+    by_event : EventOn d room old new Event.Ic c m b n (Ok x) → CameSo
+    by_event = of_plan d Event.Ic c (λ p. EventBy d room old new Event.Ic (counted c) p m b n (Ok x) → CameSo) (λ t s. by_query s.0 s.1 s.2)
+        (λ t s. (s.1, leads (counted c, EventReply.Shut) (λ j. (s.0.0 j, s.0.1 j)) (shut refl t)))
+        (λ s. (s.1, leads (c, EventReply.Spent) (λ j. (s.0.0 j, s.0.1 j)) (spent refl)))
 
-pub collector_went : (d : Deployment) (room old new : ℕ) (c b : Core) (m n : Rows) (x : Seen) → Sound d c m → EventOn d room old new Event.Ic c m b n (Ok x) → (n ≡ m) × Went d c b m x
+pub collector_went : (d : Deployment) (room old new : ℕ) (c b : Core) (m n : Rows) (x : EventReply) → Sound d c m → EventOn d room old new Event.Ic c m b n (Ok x) → (n ≡ m) × Went d c b m x
 collector_went d room old new c b m n x s event = by_event d c m s room old new b n x event

@@ -1,6 +1,6 @@
 -- What an event of the intent collector makes of the ledger: it starts a run for a key that is taken out, or the table failed and one of
 -- its failures pays; else all is as it was.
-use Rattle.beldi_order.proofs.Maps.{same_some}
+use Rattle.beldi_plain_laws.proofs.Maps.{same_some}
 use Rattle.std.specs.{FinMap.nat_cmp-IsAntisymmetric, Cmp.Equal-is, Cmp.nat_cmp_total, Option.option_map, Ordering.is_eq, Ordering.nat_cmp}
 use Rattle.std.specs.FinMap as map
 use Rattle.std.specs.Prelude.{IsTrue}
@@ -11,21 +11,21 @@ use Rattle.beldi_value.specs.{Id.child_of, Id.has_no_hops, declared.id.IntentId.
 use Rattle.beldi_tree.specs.declared.deployment.Deployment.{Deployment}
 use Rattle.beldi_lang.specs.declared.effect.{Answer.Answer, Effect.Effect}
 use Rattle.beldi_plain.specs.Plain.{Instance, effect_of}
-use Rattle.beldi_order.specs.Txs.{tx_now}
+use Rattle.beldi_plain_laws.specs.Txs.{tx_now}
 use Rattle.beldi_row.{proofs.Least.next_row_least, specs.Key.RowKey, specs.Table.HasCause, specs.Table.IsNext, specs.Table.Rows, specs.Table.next_row, specs.declared.key.Kind.Kind, specs.declared.row.Body.Body, specs.declared.row.IntentRow.IntentRow, specs.declared.row.Row.Row, specs.declared.table.TableErr.TableErr}
-use Rattle.beldi_walk.specs.{Query.CameOn, Query.Told, declared.query.Query.Query}
+use Rattle.beldi_query.specs.{Query.CameOn, Query.QueryReply, declared.query.Query.Query}
 use Rattle.beldi_intent.specs.Intent.{IntentGoesOn, intent_in, intent_key, is_ended}
-use Rattle.beldi_collect.specs.Collect.{collect_says, found_says, open_at, row_says}
+use Rattle.beldi_collect.specs.Collect.{collect_output, found_output, open_at, row_output}
 use Rattle.beldi_call.specs.declared.{async_call.AsyncAt.AsyncAt}
 use Rattle.beldi_step.{proofs.PutRun.put_got, specs.declared.run.RunAt.RunAt}
-use Rattle.beldi_step.proofs.Runs.{of_plan}
-use Rattle.beldi_step.specs.{Host.Core, Host.EventBy, Host.EventOn, Host.Followed, Host.collect_next, Host.collected, Host.counted, Host.has_run, Host.is_crowded, Host.last_moment, Host.launched, Host.new_run, Host.passed, Next.first_past, Next.next_run, declared.event.Event.Event, declared.event.Seen.Seen, declared.run.Begun.Begun, declared.run.Run.Run, declared.run.Stage.Stage}
-use Rattle.beldi_known.{proofs.Cases.by_cases, proofs.Cases.by_option, specs.Rows.CalleeBodyMatches, specs.Rows.IntentMatches, specs.Rows.RootMatches}
-use Rattle.beldi_known.specs.Matches.{RowMatches, has_ended as tx_has_ended}
+use Rattle.beldi_step.proofs.StepRuns.{of_plan}
+use Rattle.beldi_step.specs.{HostStep.Core, HostStep.EventBy, HostStep.EventOn, HostStep.Followed, HostStep.collect_next, HostStep.collected, HostStep.counted, HostStep.has_run, HostStep.is_crowded, HostStep.last_moment, HostStep.launched, HostStep.new_run, HostStep.passed, Next.first_past, Next.next_run, declared.event.Event.Event, declared.event.EventReply.EventReply, declared.run.Begun.Begun, declared.run.Run.Run, declared.run.Stage.Stage}
+use Rattle.beldi_histories.{proofs.Cases.by_cases, proofs.Cases.by_option, specs.RowMatching.CalleeBodyMatches, specs.RowMatching.IntentMatches, specs.RowMatching.RootMatches}
+use Rattle.beldi_histories.specs.Matches.{RowMatches, has_ended as tx_has_ended}
 use Rattle.beldi_upkeep.specs.Checked.{body_at}
 use Rattle.beldi_schedule.specs.Settle.{is_turned_away, counts}
-use Rattle.beldi_bound.specs.{Cost.body_cost, Cost.cost_from, Cost.effect_cost, Cost.kind_cost, Cost.step_cost, Cost.with_answers, Ends.IsIn, Ends.Sound, Work.has_ended, Work.one_more, Work.seat}
-use Rattle.beldi_bound.proofs.{Entries.run_there, Facts.GoesOn, Facts.begun_left, Lists.in_without, Lists.without, Lists.without_in, Lists.without_sum}
+use Rattle.beldi_bound.specs.{Cost.body_cost, Cost.cost_from, Cost.effect_cost, Cost.kind_cost, Cost.step_cost, Cost.with_answers, Ends.IsIn, Ends.Sound, SettleWork.has_ended, SettleWork.one_more, SettleWork.seat}
+use Rattle.beldi_bound.proofs.{BoundEntries.run_there, Facts.GoesOn, Facts.begun_left, BoundLists.in_without, BoundLists.without, BoundLists.without_in, BoundLists.without_sum}
 use Rattle.beldi_bound.proofs.Ledger.{callee_key, if_free, spare_of, stuck_by, stuck_in, Covers, CoversAt, HasBody, IsCovered, IsMidway, IsStarted, Ledger, Pays, RoundsPay, acts, cost, due, find, spare, stands}
 
 -- a key for which a run may be started, or was
@@ -147,9 +147,9 @@ module _ (d : Deployment) (room : ℕ) (e : Rows) (asked : IntentId → List Ans
 
 -- ---- the row that is found
 -- the row of an intent that has a body stands in the home of that body's function, or the root's
-home_is : (known : TxId → Bool) (home : ℕ) (i : IntentRow) (b : Body) (q : Option Instance) (root : Bool) → i.body ≡ Some b → IntentMatches known root home (Some (Row.Intent i)) q → home ≡ (if root then 0 else b.func)
-home_is known home i b q true has h = by_cases (home == 0) (λ t. eqb-true home 0 t) (λ t. let none : RootMatches false (Some (Row.Intent i)) q = subst (λ z. RootMatches z (Some (Row.Intent i)) q) t h in cc)
-home_is known home i b q false has h = let x = subst (λ z. CalleeBodyMatches home z i.outcome q) has h.body in sym x.1
+home_is : (histories : TxId → Bool) (home : ℕ) (i : IntentRow) (b : Body) (q : Option Instance) (root : Bool) → i.body ≡ Some b → IntentMatches histories root home (Some (Row.Intent i)) q → home ≡ (if root then 0 else b.func)
+home_is histories home i b q true has h = by_cases (home == 0) (λ t. eqb-true home 0 t) (λ t. let none : RootMatches false (Some (Row.Intent i)) q = subst (λ z. RootMatches z (Some (Row.Intent i)) q) t h in cc)
+home_is histories home i b q false has h = let x = subst (λ z. CalleeBodyMatches home z i.outcome q) has h.body in sym x.1
 
 -- an intent that has a body and has not ended
 record IsOpen (k : RowKey) (r : Row) (id : IntentId) (b : Body) : Type 0 where
@@ -207,13 +207,13 @@ module _ (d : Deployment) (room : ℕ) (e : Rows) (asked : IntentId → List Ans
   row_in (Some (Row.Intent i)) j h = cc
   row_in (Some w) j h = cc
 
-  module _ (past old new : ℕ) (c b : Core) (m n : Rows) (x : Seen) (runs : List (ℕ × ℕ)) (keys : List RowKey) (sound : Sound d c m) (goes : GoesOn n e) (below : new < 2 ^ 64 - 1) (soon : c.now ≤ last_moment)
+  module _ (past old new : ℕ) (c b : Core) (m n : Rows) (x : EventReply) (runs : List (ℕ × ℕ)) (keys : List RowKey) (sound : Sound d c m) (goes : GoesOn n e) (below : new < 2 ^ 64 - 1) (soon : c.now ≤ last_moment)
       (idle : (i : ℕ) (r : Run) (g : Begun) → next_run c past ≡ Some i → map.get c.runs i ≡ Some r → r.at ≡ RunAt.Begins g → ⊥) (not_away : is_turned_away x ≡ false) (h : Ledger d room e asked first most past c m runs keys) where
     abbrev Paid : Type 0
     Paid = Pays d room e asked first most past runs keys (if counts x then 1 else 0) (new - old) b n
 
-    abbrev Comes : Core × Seen → Type 0
-    Comes p = ◌≡◌ {A = Core × Seen} (b, x) p
+    abbrev Comes : Core × EventReply → Type 0
+    Comes p = ◌≡◌ {A = Core × EventReply} (b, x) p
 
     abbrev turns : Bool → ℕ
     turns t = if t then 1 else 0
@@ -230,10 +230,10 @@ module _ (d : Deployment) (room : ℕ) (e : Rows) (asked : IntentId → List Ans
     not_counted : counts x ≡ false → turns (counts x) ≤ (new - old) * (most + 1)
     not_counted none = let zero : turns (counts x) ≡ 0 = ap turns none in omega (arith, zero)
 
-    as_before : (z : Core) (y : Seen) → Comes (z, y) → counts y ≡ false → z.runs ≡ c.runs → z.now ≡ c.now → z.last_run ≡ c.last_run → n ≡ m → Paid
+    as_before : (z : Core) (y : EventReply) → Comes (z, y) → counts y ≡ false → z.runs ≡ c.runs → z.now ≡ c.now → z.last_run ≡ c.last_run → n ≡ m → Paid
     as_before z y is none runs_same now last rows =
-        let core : b ≡ z = ap (λ (p : Core × Seen). p.0) is in
-        same (ap (λ (w : Core). w.runs) core ∙ runs_same) (ap (λ (w : Core). w.now) core ∙ now) (ap (λ (w : Core). w.last_run) core ∙ last) rows (not_counted (ap (λ (p : Core × Seen). counts p.1) is ∙ none))
+        let core : b ≡ z = ap (λ (p : Core × EventReply). p.0) is in
+        same (ap (λ (w : Core). w.runs) core ∙ runs_same) (ap (λ (w : Core). w.now) core ∙ now) (ap (λ (w : Core). w.last_run) core ∙ last) rows (not_counted (ap (λ (p : Core × EventReply). counts p.1) is ∙ none))
 
     -- an intent is found that has a body, has not ended and has no run
     module _ (k : RowKey) (r : Row) (y : IntentId × Body) (there : map.get m k ≡ Some r) (found : IsOpen k r y.0 y.1) (rows : n ≡ m) where
@@ -241,9 +241,9 @@ module _ (d : Deployment) (room : ℕ) (e : Rows) (asked : IntentId → List Ans
       at = there ∙ ap Some found.row
 
       its_seat : k ≡ intent_key y.0 y.1.func
-      its_seat = let right = sound.upkeep.right in
-          let matches = subst (λ z. IntentMatches (tx_has_ended d right.known) (has_no_hops y.0.hops) k.home z (map.get right.known y.0)) at (subst (λ z. RowMatches d right.known k.home z (map.get m k)) found.key (right.rows.keys k)) in
-          let home = home_is (tx_has_ended d right.known) k.home found.intent y.1 (map.get right.known y.0) (has_no_hops y.0.hops) found.has matches in
+      its_seat = let right = sound.upkeep.invariant in
+          let matches = subst (λ z. IntentMatches (tx_has_ended d right.histories) (has_no_hops y.0.hops) k.home z (map.get right.histories y.0)) at (subst (λ z. RowMatches d right.histories k.home z (map.get m k)) found.key (right.rows.keys k)) in
+          let home = home_is (tx_has_ended d right.histories) k.home found.intent y.1 (map.get right.histories y.0) (has_no_hops y.0.hops) found.has matches in
           λ i. record { home = home i; kind = found.key i }
 
       has_due : 1 ≤ due d room e asked first most k
@@ -262,40 +262,40 @@ module _ (d : Deployment) (room : ℕ) (e : Rows) (asked : IntentId → List Ans
           intent_is : {v w : IntentId} → Kind.Intent v ≡ Kind.Intent w → v ≡ w
           intent_is h = cc
 
-      abbrev otherwise : Core × Seen
+      abbrev otherwise : Core × EventReply
       otherwise = launched d (record (counted c) { cursor = k }) y.0 y.1.func
 
-      abbrev unless_crowded : Bool → Core × Seen
-      unless_crowded t = if t then (counted c, Seen.Crowded) else otherwise
+      abbrev unless_crowded : Bool → Core × EventReply
+      unless_crowded t = if t then (counted c, EventReply.Crowded) else otherwise
 
       launch : has_run c.runs y.0 ≡ false → Comes otherwise → Paid
       launch none is =
-          let core = ap (λ (p : Core × Seen). p.0) is in
-          let one : turns (counts x) ≡ 1 = ap (λ (p : Core × Seen). turns (counts p.1)) is in
+          let core = ap (λ (p : Core × EventReply). p.0) is in
+          let one : turns (counts x) ≡ 1 = ap (λ (p : Core × EventReply). turns (counts p.1)) is in
           let p = launch_pays d room e asked first most past c m runs keys h (new_run d c y.0 y.1.func) b (ap (λ (w : Core). w.runs) core) (ap (λ (w : Core). w.now) core) (ap (λ (w : Core). w.last_run) core) refl (omega (arith, soon))
-          (λ i r live. (sound.upkeep.right.runs.numbers i (subst (λ (z : Option Run). IsTrue (is_some z)) (sym live) refl)).1) idle (subst (λ z. 1 ≤ due d room e asked first most z) its_seat has_due) (subst (λ z. IsIn z keys) its_seat (in_keys none))
+          (λ i r live. (sound.upkeep.invariant.runs.numbers i (subst (λ (z : Option Run). IsTrue (is_some z)) (sym live) refl)).1) idle (subst (λ z. 1 ≤ due d room e asked first most z) its_seat has_due) (subst (λ z. IsIn z keys) its_seat (in_keys none))
           (record { body = y.1; there = ap (λ z. body_at (map.get m z)) (sym its_seat) ∙ ap body_at at ∙ found.has; func = refl }) in
           record { runs_then = p.runs_then; keys_then = p.keys_then; ledger = subst (λ z. Ledger d room e asked first most past b z p.runs_then p.keys_then) (sym rows) p.ledger; less = let less = p.less in omega (arith, less, one) }
 
       by_run : Comes (collected d (counted c) k y.0 y.1.func) → Paid
       by_run is = by_cases (has_run c.runs y.0)
-          (λ t. as_before (passed (counted c) k).0 Seen.Passed (is ∙ ap (λ z. if z then passed (counted c) k else unless_crowded (is_crowded c)) t) refl refl refl refl rows)
+          (λ t. as_before (passed (counted c) k).0 EventReply.Passed (is ∙ ap (λ z. if z then passed (counted c) k else unless_crowded (is_crowded c)) t) refl refl refl refl rows)
           (λ t. let rest = is ∙ ap (λ z. if z then passed (counted c) k else unless_crowded (is_crowded c)) t in
           by_cases (is_crowded c)
-          (λ u. as_before (counted c) Seen.Crowded (rest ∙ ap unless_crowded u) refl refl refl refl rows)
+          (λ u. as_before (counted c) EventReply.Crowded (rest ∙ ap unless_crowded u) refl refl refl refl rows)
           (λ u. launch t (rest ∙ ap unless_crowded u)))
 
-    by_found : (o : Option (RowKey × Row)) → next_row m c.cursor ≡ o → n ≡ m → Comes (collect_next d (counted c) (found_says o)) → Paid
-    by_found None next rows is = as_before _ Seen.Round is refl refl refl refl rows
+    by_found : (o : Option (RowKey × Row)) → next_row m c.cursor ≡ o → n ≡ m → Comes (collect_next d (counted c) (found_output o)) → Paid
+    by_found None next rows is = as_before _ EventReply.Round is refl refl refl refl rows
     by_found (Some w) next rows is = by_option (open_at w.0.kind w.1)
-        (λ none. as_before _ Seen.Passed (is ∙ ap (λ z. collect_next d (counted c) (row_says w.0 z)) none) refl refl refl refl rows)
-        (λ y some. by_run w.0 w.1 y (subst (IsNext m c.cursor) next (next_row_least m c.cursor)).1 (is_open w.0 w.1 y some) rows (is ∙ ap (λ z. collect_next d (counted c) (row_says w.0 z)) some))
+        (λ none. as_before _ EventReply.Passed (is ∙ ap (λ z. collect_next d (counted c) (row_output w.0 z)) none) refl refl refl refl rows)
+        (λ y some. by_run w.0 w.1 y (subst (IsNext m c.cursor) next (next_row_least m c.cursor)).1 (is_open w.0 w.1 y some) rows (is ∙ ap (λ z. collect_next d (counted c) (row_output w.0 z)) some))
 
-    by_query : (w : Result Told TableErr) → Followed d Event.Ic (counted c) w b (Ok x) → CameOn (Query.After c.cursor) c.now room w m n → HasCause old new w → Paid
-    by_query (Ok t) is came cause = by_found (next_row m c.cursor) refl came.0 (is ∙ ap (λ z. collect_next d (counted c) (collect_says z)) came.1)
-    by_query (Err TableErr.OutOfMemory) is came cause = let clash = ap (λ (p : Core × Result Seen AllocError). p.1) is in cc
+    by_query : (w : Result QueryReply TableErr) → Followed d Event.Ic (counted c) w b (Ok x) → CameOn (Query.After c.cursor) c.now room w m n → HasCause old new w → Paid
+    by_query (Ok t) is came cause = by_found (next_row m c.cursor) refl came.0 (is ∙ ap (λ z. collect_next d (counted c) (collect_output z)) came.1)
+    by_query (Err TableErr.OutOfMemory) is came cause = let clash = ap (λ (p : Core × Result EventReply AllocError). p.1) is in cc
     by_query (Err TableErr.Failed) is came cause =
-        let core = ap (λ (p : Core × Result Seen AllocError). p.0) is in
+        let core = ap (λ (p : Core × Result EventReply AllocError). p.0) is in
         let rose = cause.failed refl in
         let one : turns (counts x) ≤ 1 = at_most (counts x) in
         let paid = one-le-mul {a = new - old} {b = most + 1} (omega (arith, rose, below)) (omega arith) in
@@ -309,7 +309,7 @@ module _ (d : Deployment) (room : ℕ) (e : Rows) (asked : IntentId → List Ans
     by_event : EventOn d room old new Event.Ic c m b n (Ok x) → Paid
     by_event = of_plan d Event.Ic c (λ p. EventBy d room old new Event.Ic (counted c) p m b n (Ok x) → Paid) (λ t s. by_query s.0 s.1 s.2 s.3) (λ t s. absurd (away s.0.1 refl)) (λ s. absurd (away s.0.1 refl))
       where
-        away : {y : Seen} → x ≡ y → is_turned_away y ≡ true → ⊥
+        away : {y : EventReply} → x ≡ y → is_turned_away y ≡ true → ⊥
         away is h = let clash = sym h ∙ sym (ap is_turned_away is) ∙ not_away in cc
 
   pub rounds_pay : RoundsPay d room e asked first most

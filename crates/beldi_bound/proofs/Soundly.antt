@@ -6,16 +6,16 @@ use Rattle.beldi_tree.specs.declared.deployment.Deployment.{Deployment}
 use Rattle.beldi_book.specs.declared.entry.Entry.{Entry}
 use Rattle.beldi_plain.specs.Replies.{starts_of}
 use Rattle.beldi_row.specs.{Key.RowKey, Key.least_key, Table.Rows}
-use Rattle.beldi_step.specs.{Host.Core, Told.bound_of, declared.event.Seen.Seen}
+use Rattle.beldi_step.specs.{HostStep.Core, EventContent.bound_of, declared.event.EventReply.EventReply}
 use Rattle.beldi_schedule.specs.{Settle.core_for, Settle.event_of, Settle.next_of, Settles.Advances, Settles.State, declared.machine.At.At, declared.machine.Next.Next, declared.machine.Standing.Standing}
-use Rattle.beldi_laws.{proofs.Moves.with_runs, proofs.Starts.starts_bound}
+use Rattle.beldi_invariant.{proofs.Moves.with_runs, proofs.Starts.starts_bound}
 use Rattle.beldi_upkeep.{proofs.Together.keeps_upkeep, specs.Checked.StartsAreOfIt}
 use Rattle.beldi_bound.specs.Ends.{Sound}
 
 -- ---- where the intent collector stands
 pub at_cursor : {d : Deployment} {c : Core} {m : Rows} (k : RowKey) → Sound d c m → Sound d (record c { cursor = k }) m
 at_cursor {d} {c} {m} k h = let u = h.upkeep in record {
-  upkeep = record { right = with_runs u.right (record c { cursor = k }) refl refl u.right.runs; seats = u.seats; owe = record { each = u.owe.each }; past = u.past; passes = record { each = u.passes.each }; near = record { soon = u.near.soon; near = u.near.near }; started = u.started };
+  upkeep = record { invariant = with_runs u.invariant (record c { cursor = k }) refl refl u.invariant.runs; seats = u.seats; owe = record { each = u.owe.each }; past = u.past; passes = record { each = u.passes.each }; near = record { soon = u.near.soon; near = u.near.near }; started = u.started };
   rules = h.rules;
   starts = h.starts;
 }
@@ -26,12 +26,12 @@ sound_for {d} {c} {m} (Next.Collect a) h = h
 sound_for {d} {c} {m} (Next.Reset a) h = at_cursor least_key h
 
 -- ---- no event of a settling binds a root
-none_bound : (n : Next) (x : Seen) → bound_of (event_of n) x ≡ []
-none_bound (Next.Turn a i) (Seen.Bound t j) = refl
+none_bound : (n : Next) (x : EventReply) → bound_of (event_of n) x ≡ []
+none_bound (Next.Turn a i) (EventReply.Bound t j) = refl
 none_bound (Next.Turn a i) x = refl
-none_bound (Next.Collect a) (Seen.Bound t j) = refl
+none_bound (Next.Collect a) (EventReply.Bound t j) = refl
 none_bound (Next.Collect a) x = refl
-none_bound (Next.Reset a) (Seen.Bound t j) = refl
+none_bound (Next.Reset a) (EventReply.Bound t j) = refl
 none_bound (Next.Reset a) x = refl
 
 -- so the book starts what it started

@@ -1,5 +1,5 @@
 -- What is left of an effect at any stage is at most what it costs.
-use Rattle.beldi_order.proofs.Maps.{same_some}
+use Rattle.beldi_plain_laws.proofs.Maps.{same_some}
 use Rattle.std.specs.Ordering.{is_eq, is_lt}
 use Rattle.std.proofs.lemmas.Cmp.{tied_itself}
 use Rattle.std.specs.Option.{option_map}
@@ -10,22 +10,22 @@ use Rattle.beldi_tree.specs.declared.deployment.Deployment.{Deployment}
 use Rattle.beldi_lang.specs.declared.{effect.Answer.Answer, effect.Effect.Effect, machine.Machine.Machine}
 use Rattle.beldi_book.specs.declared.entry.Entry.{Entry}
 use Rattle.beldi_plain.specs.Plain.{Instance, PlainState, effect_of}
-use Rattle.beldi_order.specs.Txs.{tx_now}
+use Rattle.beldi_plain_laws.specs.Txs.{tx_now}
 use Rattle.beldi_row.{proofs.Gets.key_same, proofs.Gets.key_self, specs.Key.RowKey, specs.Key.key_cmp, specs.KeyOrder.key_total, specs.Table.Rows, specs.declared.key.Kind.Kind, specs.declared.row.Body.Body, specs.declared.row.Row.Row}
 use Rattle.beldi_daal.specs.{Cell.cell_key, Cell.shadow_key, declared.cell.WriteAt.WriteAt, declared.cell.WriteAt.TheVariants.Try}
 use Rattle.beldi_lock.specs.{Lock.lockset_key, declared.lock.LockAt.LockAt}
-use Rattle.beldi_txn.specs.{TxTurn.Fits, Visited.HasItem, Visited.IsCall, Visited.IsWay, Visited.StartsWithin, Visited.WasAsked, declared.end_walk.EndWalk.EndWalk}
-use Rattle.beldi_txn.specs.{End.visited_by, Invokes.call_key, Invokes.func_called, Way.Member, Way.callee_of, declared.end.EndAt.EndAt, declared.end.Visit.Visit, declared.tx.TxAt.TxAt, declared.way.Called.Called}
+use Rattle.beldi_txn.specs.{TxTurn.Fits, Visited.HasItem, Visited.IsCall, Visited.IsCallPath, Visited.StartsWithin, Visited.WasAsked, declared.end_walk.EndWalk.EndWalk}
+use Rattle.beldi_txn.specs.{End.visited_by, Invokes.call_key, Invokes.func_called, CallPath.Member, CallPath.callee_of, declared.end.EndAt.EndAt, declared.end.EndState.EndState, declared.tx.TxAt.TxAt, declared.call_path.Called.Called}
 use Rattle.beldi_call.specs.declared.{async_call.AsyncAt.AsyncAt, call.CallAt.CallAt}
-use Rattle.beldi_step.specs.{Host.Core, Run.own_tx, Run.tx_at, declared.run.Begun.Begun, declared.run.Run.Run, declared.run.RunAt.RunAt, declared.run.RunTx.RunTx, declared.run.RunTx.TheVariants.Own, declared.run.Stage.Stage}
-use Rattle.beldi_known.{proofs.Cases.by_cases, proofs.Cases.by_option, specs.Known.Known}
-use Rattle.beldi_laws.specs.Inside.{end_walk}
-use Rattle.beldi_laws.specs.Right.{AtStage, KnowsAt, RunAt as LiveAt, StandsAt, open_of}
-use Rattle.beldi_laws.proofs.{Names.is_begin, OpenOf.open_tx, OpenOf.tx_open}
-use Rattle.beldi_txn.proofs.Locks.{Item}
+use Rattle.beldi_step.specs.{HostStep.Core, Run.own_tx, Run.tx_at, declared.run.Begun.Begun, declared.run.Run.Run, declared.run.RunAt.RunAt, declared.run.RunTx.RunTx, declared.run.RunTx.TheVariants.Own, declared.run.Stage.Stage}
+use Rattle.beldi_histories.{proofs.Cases.by_cases, proofs.Cases.by_option, specs.Histories.Histories}
+use Rattle.beldi_invariant.specs.FoundInside.{end_walk}
+use Rattle.beldi_invariant.specs.Invariant.{AtStage, KnowsAt, RunAt as LiveAt, StandsAt, open_of}
+use Rattle.beldi_invariant.proofs.{Names.is_begin, OpenOf.open_tx, OpenOf.tx_open}
+use Rattle.beldi_txn.proofs.LocksetRows.{Item}
 use Rattle.beldi_bound.specs.{Cost.aside_length, Cost.cost_inside, Cost.effect_cost, Cost.item_length, Cost.step_cost, Cost.with_answers, Ends.Sound, Left.aside_there, Left.decided_visit, Left.item_there, Left.left_at, Left.tx_left}
-use Rattle.beldi_bound.specs.Visits.{at_left, behind, call_ahead, call_cost, call_is_ahead, call_turns, chain_length, end_cost, end_row_cost, freed_length, freed_there, given_length, is_ahead, is_call_ahead, is_within, last_left, lock_ahead, lock_cost, lock_is_ahead, lock_turns, put_left, row_left, steps_of, steps_to, sum_by, visit_left, way_left}
-use Rattle.beldi_bound.proofs.{Ahead.lock_here, Ahead.steps_here, Facts.Along, Facts.GoesOn, Lengths.aside_some, Lengths.item_some, Lengths.length_some, Puts.put_few, Sums.sum_less, Sums.sum_lower}
+use Rattle.beldi_bound.specs.Visits.{at_left, behind, call_ahead, call_cost, call_is_ahead, call_turns, chain_length, end_cost, end_row_cost, freed_length, freed_there, given_length, is_ahead, is_call_ahead, is_within, last_left, lock_ahead, lock_cost, lock_is_ahead, lock_turns, put_left, row_left, steps_of, steps_to, sum_by, visit_left, path_left}
+use Rattle.beldi_bound.proofs.{BoundAhead.lock_here, BoundAhead.steps_here, Facts.Along, Facts.GoesOn, Lengths.aside_some, Lengths.item_some, Lengths.length_some, Puts.put_few, Sums.sum_less, Sums.sum_lower}
 
 -- ---- the calls on the way to who is visited
 if_few : (b : Bool) (n : ℕ) → (if b then n else 0) ≤ n
@@ -45,11 +45,11 @@ module _ (m : Rows) where
   callee_is p c call = ap (λ b. if b then child_of p.0 c.step else p.0) call.0
 
   -- callees have more hops, so no row is paid for twice
-  paid_none : (p : Member) (cs : List Called) (k : RowKey) (q : Place) → IsWay m p cs → k.kind ≡ Kind.Invoke q → length q.intent.hops < length p.0.hops → paid p cs k ≡ 0
-  paid_none p [] k q way kind less = refl
-  paid_none p (c ∷ cs) k q way kind less =
-      let more = ap (λ (i : IntentId). length i.hops) (callee_is p c way.0) ∙ length-append p.0.hops (c.step ∷ []) in
-      let rest = paid_none (callee_of p c) cs k q way.1 kind (omega (arith, more, less)) in
+  paid_none : (p : Member) (cs : List Called) (k : RowKey) (q : Place) → IsCallPath m p cs → k.kind ≡ Kind.Invoke q → length q.intent.hops < length p.0.hops → paid p cs k ≡ 0
+  paid_none p [] k q path kind less = refl
+  paid_none p (c ∷ cs) k q path kind less =
+      let more = ap (λ (i : IntentId). length i.hops) (callee_is p c path.0) ∙ length-append p.0.hops (c.step ∷ []) in
+      let rest = paid_none (callee_of p c) cs k q path.1 kind (omega (arith, more, less)) in
       let here : three (is_eq (key_cmp (call_key p.1 p.0 c.step) k)) ≡ 0 = ap three (by_cases (is_eq (key_cmp (call_key p.1 p.0 c.step) k))
       (λ t. let same = place_is (ap (λ (z : RowKey). z.kind) (key_same (call_key p.1 p.0 c.step) k t) ∙ kind) in let hops = ap (λ (z : Place). length z.intent.hops) same in absurd (omega (arith, hops, less))) (λ t. t)) in omega (arith, here, rest)
     where
@@ -88,15 +88,15 @@ counts_more : (t : TxId) (end n : ℕ) (xs : List ℕ) (cs : List Called) → is
 counts_more t end n xs [] h = tt
 counts_more t end n xs (c ∷ cs) h = within_more t end n c.step xs h
 
-module _ (e m : Rows) (t : TxId) (end : ℕ) (v : Visit) where
+module _ (e m : Rows) (t : TxId) (end : ℕ) (v : EndState) where
   -- what the row of a call on the way costs is not left
-  row_paid : (p : Member) (xs : List ℕ) (cs : List Called) → IsWay m p cs → steps_to t p.0 ≡ Some xs → steps_of v.way ≡ xs ++ steps_of cs → Counts t end xs cs → (k : RowKey) (r : Row) → paid p cs k + row_left e t end v k r ≤ end_row_cost e t end k r
-  row_paid p xs [] way to all within k r = let l = if_few (is_ahead t v k k.kind) (end_row_cost e t end k r) in omega (arith, l)
-  row_paid p xs (c ∷ cs) way to all within k r = by_cases (is_eq (key_cmp (call_key p.1 p.0 c.step) k))
+  row_paid : (p : Member) (xs : List ℕ) (cs : List Called) → IsCallPath m p cs → steps_to t p.0 ≡ Some xs → steps_of v.path ≡ xs ++ steps_of cs → Counts t end xs cs → (k : RowKey) (r : Row) → paid p cs k + row_left e t end v k r ≤ end_row_cost e t end k r
+  row_paid p xs [] path to all within k r = let l = if_few (is_ahead t v k k.kind) (end_row_cost e t end k r) in omega (arith, l)
+  row_paid p xs (c ∷ cs) path to all within k r = by_cases (is_eq (key_cmp (call_key p.1 p.0 c.step) k))
       (λ same. subst (λ z. paid p (c ∷ cs) z + row_left e t end v z r ≤ end_row_cost e t end z r) (key_same (call_key p.1 p.0 c.step) k same)
-      (let few = paid_none m (callee_of p c) cs (call_key p.1 p.0 c.step) (record { intent = p.0; step = c.step }) way.1 refl (let more = ap (λ (i : IntentId). length i.hops) (callee_is m p c way.0) ∙ length-append p.0.hops (c.step ∷ []) in omega (arith, more)) in
+      (let few = paid_none m (callee_of p c) cs (call_key p.1 p.0 c.step) (record { intent = p.0; step = c.step }) path.1 refl (let more = ap (λ (i : IntentId). length i.hops) (callee_is m p c path.0) ∙ length-append p.0.hops (c.step ∷ []) in omega (arith, more)) in
       let here = if_few (is_eq (key_cmp (call_key p.1 p.0 c.step) (call_key p.1 p.0 c.step))) 3 in omega (arith, few, here, none_left, whole)))
-      (λ other. let rest = row_paid (callee_of p c) (xs ++ c.step ∷ []) cs way.1 (ap (steps_to t) (callee_is m p c way.0) ∙ steps_more t p.0 xs c.step to) (all ∙ sym (append_assoc xs (c.step ∷ []) (steps_of cs))) (counts_more t end c.step xs cs within) k r in
+      (λ other. let rest = row_paid (callee_of p c) (xs ++ c.step ∷ []) cs path.1 (ap (steps_to t) (callee_is m p c path.0) ∙ steps_more t p.0 xs c.step to) (all ∙ sym (append_assoc xs (c.step ∷ []) (steps_of cs))) (counts_more t end c.step xs cs within) k r in
       let here : three (is_eq (key_cmp (call_key p.1 p.0 c.step) k)) ≡ 0 = ap three other in omega (arith, rest, here))
     where
       none_left : row_left e t end v (call_key p.1 p.0 c.step) r ≡ 0
@@ -123,12 +123,12 @@ module _ (e m : Rows) (stay : (k : RowKey) → is_some (map.get m k) ≡ true �
       by_row None h = cc
       by_row (Some r) h = refl
 
-  rows_paid : (p : Member) (cs : List Called) → IsWay m p cs → 3 * length cs ≤ sum_by (λ k r. paid p cs k) (map.entries e)
-  rows_paid p [] way = omega arith
-  rows_paid p (c ∷ cs) way =
-      let rest = rows_paid (callee_of p c) cs way.1 in
+  rows_paid : (p : Member) (cs : List Called) → IsCallPath m p cs → 3 * length cs ≤ sum_by (λ k r. paid p cs k) (map.entries e)
+  rows_paid p [] path = omega arith
+  rows_paid p (c ∷ cs) path =
+      let rest = rows_paid (callee_of p c) cs path.1 in
       let self : three (is_eq (key_cmp (call_key p.1 p.0 c.step) (call_key p.1 p.0 c.step))) ≡ 3 = ap three (key_self (call_key p.1 p.0 c.step)) in
-      let here = sum_lower (λ k r. paid (callee_of p c) cs k) (λ k r. paid p (c ∷ cs) k) (λ k r. omega arith) 3 (call_key p.1 p.0 c.step) (λ r. omega (arith, self)) e (stay (call_key p.1 p.0 c.step) (call_there p c way.0)) in
+      let here = sum_lower (λ k r. paid (callee_of p c) cs k) (λ k r. paid p (c ∷ cs) k) (λ k r. omega arith) 3 (call_key p.1 p.0 c.step) (λ r. omega (arith, self)) e (stay (call_key p.1 p.0 c.step) (call_there p c path.0)) in
       omega (arith, rest, here)
 
   -- ---- a visit
@@ -150,43 +150,43 @@ module _ (e m : Rows) (stay : (k : RowKey) → is_some (map.get m k) ≡ true �
   free_few c s there last (EndAt.Free w) is one two = let l = put_few c there w one in omega (arith, l)
   free_few c s there last a is one two = cc
 
-  way_few : (cs : List Called) → (way_left cs + last_left cs ≤ 1 + 3 * length cs) × (1 ≤ last_left cs)
+  way_few : (cs : List Called) → (path_left cs + last_left cs ≤ 1 + 3 * length cs) × (1 ≤ last_left cs)
   way_few [] = (omega arith, omega arith)
   way_few (c ∷ cs) = (omega arith, omega arith)
 
-  module _ (t : TxId) (end : ℕ) (commit : Bool) (v : Visit) (way : IsWay m (t.intent, t.func) v.way) (counts : Counts t end [] v.way) where
+  module _ (t : TxId) (end : ℕ) (commit : Bool) (v : EndState) (path : IsCallPath m (t.intent, t.func) v.path) (counts : Counts t end [] v.path) where
     abbrev owner : Member
     owner = (t.intent, t.func)
 
     abbrev p : Member
-    p = visited_by t v.way
+    p = visited_by t v.path
 
     -- what is paid, and what is left, of a row
     abbrev spent : RowKey → Row → ℕ
-    spent k r = paid owner v.way k + row_left e t end v k r
+    spent k r = paid owner v.path k + row_left e t end v k r
 
     within_by : (cs : List Called) → Counts t end [] cs → is_within t end (steps_of cs) ≡ true
     within_by [] h = refl
     within_by (c ∷ cs) h = h
 
     rows_fit : (k : RowKey) (r : Row) → spent k r ≤ end_row_cost e t end k r
-    rows_fit k r = row_paid e m t end v owner [] v.way way (steps_here m t [] tt) refl counts k r
+    rows_fit k r = row_paid e m t end v owner [] v.path path (steps_here m t [] tt) refl counts k r
 
-    sums : 3 * length v.way + sum_by (row_left e t end v) (map.entries e) ≤ sum_by spent (map.entries e)
+    sums : 3 * length v.path + sum_by (row_left e t end v) (map.entries e) ≤ sum_by spent (map.entries e)
     sums =
-        let both = sum_two (λ k r. paid owner v.way k) (row_left e t end v) spent (λ k r. omega arith) (map.entries e) in
-        let calls = rows_paid owner v.way way in
+        let both = sum_two (λ k r. paid owner v.path k) (row_left e t end v) spent (λ k r. omega arith) (map.entries e) in
+        let calls = rows_paid owner v.path path in
         omega (arith, both, calls)
 
     abbrev left_beside : ℕ
-    left_beside = at_left (freed_length e p v.item) (given_length e t p v.item) (freed_there m p v.item) (last_left v.way) v.at
+    left_beside = at_left (freed_length e p v.item) (given_length e t p v.item) (freed_there m p v.item) (last_left v.path) v.at
 
     -- no lock is being given back
     no_lock : is_free v.at ≡ false → visit_left e m t end v ≤ end_cost e t end
     no_lock is =
         let fit = sum_less spent (end_row_cost e t end) rows_fit (map.entries e) in
-        let last = way_few v.way in
-        let few = at_few (freed_length e p v.item) (given_length e t p v.item) (freed_there m p v.item) (last_left v.way) v.at is last.1 in
+        let last = way_few v.path in
+        let few = at_few (freed_length e p v.item) (given_length e t p v.item) (freed_there m p v.item) (last_left v.path) v.at is last.1 in
         let on_way = last.0 in omega (arith, fit, sums, few, on_way)
 
     -- .. or one is, whose row is there, and is not ahead
@@ -200,8 +200,8 @@ module _ (e m : Rows) (stay : (k : RowKey) → is_some (map.get m k) ≡ true �
       abbrev s : ℕ
       s = chain_length e (shadow_key p.1 t j.0 j.1)
 
-      steps : steps_to t p.0 ≡ Some (steps_of v.way)
-      steps = steps_here m t v.way way
+      steps : steps_to t p.0 ≡ Some (steps_of v.path)
+      steps = steps_here m t v.path path
 
       passed_by : (a : EndAt) → is_free a ≡ true → lock_ahead a p t.begin (Some j) key ≡ false
       passed_by (EndAt.Shadow r) h = ap is_lt (tied_itself key_total key)
@@ -210,17 +210,17 @@ module _ (e m : Rows) (stay : (k : RowKey) → is_some (map.get m k) ≡ true �
 
       none_left : (r : Row) → row_left e t end v key r ≡ 0
       none_left r = ap (λ b. if b then end_row_cost e t end key r else 0)
-          (ap (lock_is_ahead t v key) steps ∙ lock_here (call_ahead v.at v.after) (lock_ahead v.at p t.begin v.item key) (steps_of v.way) ∙ ap (λ i. lock_ahead v.at p t.begin i key) item ∙ passed_by v.at is)
+          (ap (lock_is_ahead t v key) steps ∙ lock_here (call_ahead v.at v.after) (lock_ahead v.at p t.begin v.item key) (steps_of v.path) ∙ ap (λ i. lock_ahead v.at p t.begin i key) item ∙ passed_by v.at is)
 
       whole : (r : Row) → end_row_cost e t end key r ≡ 3 * c + s + 2
-      whole r = ap (lock_cost t end c s (t.begin == t.begin)) steps ∙ ap (λ b. lock_turns c s (b && is_within t end (steps_of v.way))) (eq-eqb t.begin t.begin refl) ∙ ap (lock_turns c s) (within_by v.way counts)
+      whole r = ap (lock_cost t end c s (t.begin == t.begin)) steps ∙ ap (λ b. lock_turns c s (b && is_within t end (steps_of v.path))) (eq-eqb t.begin t.begin refl) ∙ ap (lock_turns c s) (within_by v.path counts)
 
       frees : visit_left e m t end v ≤ end_cost e t end
       frees =
-          let fit = sum_lower spent (end_row_cost e t end) rows_fit (3 * c + s + 2) key (λ r. let none = none_paid owner v.way p.1 p.0 t.begin j.0 j.1 in let left = none_left r in let all = whole r in omega (arith, none, left, all)) e (stay key there) in
-          let last = way_few v.way in
-          let few : left_beside ≤ last_left v.way + (3 * c + s + 1) = subst (λ i. at_left (freed_length e p i) (given_length e t p i) (freed_there m p i) (last_left v.way) v.at ≤ last_left v.way + (3 * c + s + 1)) (sym item)
-          (free_few c s (freed_there m p (Some j)) (last_left v.way) v.at is (length_some e (cell_key p.1 j.0 j.1)) (length_some e (shadow_key p.1 t j.0 j.1))) in
+          let fit = sum_lower spent (end_row_cost e t end) rows_fit (3 * c + s + 2) key (λ r. let none = none_paid owner v.path p.1 p.0 t.begin j.0 j.1 in let left = none_left r in let all = whole r in omega (arith, none, left, all)) e (stay key there) in
+          let last = way_few v.path in
+          let few : left_beside ≤ last_left v.path + (3 * c + s + 1) = subst (λ i. at_left (freed_length e p i) (given_length e t p i) (freed_there m p i) (last_left v.path) v.at ≤ last_left v.path + (3 * c + s + 1)) (sym item)
+          (free_few c s (freed_there m p (Some j)) (last_left v.path) v.at is (length_some e (cell_key p.1 j.0 j.1)) (length_some e (shadow_key p.1 t j.0 j.1))) in
           let on_way = last.0 in omega (arith, fit, sums, few, on_way)
 
     visit_few : HasItem v.at v.item → WasAsked v.at (record { tx = t; end = end; commit = commit; visit = v }) p m v.item → visit_left e m t end v ≤ end_cost e t end
@@ -260,7 +260,7 @@ tx_few c s there aside (Effect.CondWrite t k r o v) (TxAt.Write w) one two h = l
 tx_few c s there aside f a one two h = absurd h
 
 -- ---- any stage
-module _ {d : Deployment} (m : Rows) (p : PlainState) (book : List Entry) {known : Known} {id : IntentId} {home : ℕ} {c : Option Caller} {s : Machine} {o : Option RunTx} (k : StandsAt d known id home c s o) where
+module _ {d : Deployment} (m : Rows) (p : PlainState) (book : List Entry) {histories : Histories} {id : IntentId} {home : ℕ} {c : Option Caller} {s : Machine} {o : Option RunTx} (k : StandsAt d histories id home c s o) where
   begin_nowhere : (w : Stage) (o : Option RunTx) → AtStage m p book k w Effect.Begin o → ⊥
   begin_nowhere (Stage.Write at) None h = let none = h.0 in cc
   begin_nowhere (Stage.Tx a) (Some o) h = absurd h.0
@@ -285,7 +285,7 @@ module _ {d : Deployment} (m : Rows) (p : PlainState) (book : List Entry) {known
     few_at : (w : Stage) (f : Effect) (o : Option RunTx) → AtStage m p book k w f o → left_at e m home id o s.steps f w ≤ cost o f
     few_at Stage.Ask (Effect.Read t x) None h = omega arith
     few_at (Stage.Walk r) (Effect.Read t x) None h = let some = item_some e home (Effect.Read t x) in omega (arith, some)
-    few_at (Stage.Keep v seen) (Effect.Read t x) None h = omega arith
+    few_at (Stage.Keep v version) (Effect.Read t x) None h = omega arith
     few_at (Stage.Write w) (Effect.Write t x v) None h = put_is_few (Effect.Write t x v) w
     few_at (Stage.Write w) (Effect.CondWrite t x r u v) None h = put_is_few (Effect.CondWrite t x r u v) w
     few_at (Stage.Write w) (Effect.Lock t x) None h = put_is_few (Effect.Lock t x) w
@@ -300,7 +300,7 @@ module _ {d : Deployment} (m : Rows) (p : PlainState) (book : List Entry) {known
     few_at (Stage.Call CallAt.Look) (Effect.Call f a) (Some o) h = omega arith
     few_at Stage.Back (Effect.Return u) None h = omega arith
     few_at Stage.Back (Effect.Return u) (Some o) h = omega arith
-    few_at Stage.Tell (Effect.Return u) None h = omega arith
+    few_at Stage.Notify (Effect.Return u) None h = omega arith
     few_at Stage.Close (Effect.Return u) None h = omega arith
     few_at Stage.Close (Effect.Return u) (Some o) h = omega arith
     few_at (Stage.Tx a) (Effect.Read t x) (Some o) h = tx_is_few (Effect.Read t x) o a h.0
@@ -309,7 +309,7 @@ module _ {d : Deployment} (m : Rows) (p : PlainState) (book : List Entry) {known
     few_at (Stage.Tx a) f (Some o) h = absurd h.0
     few_at (Stage.Decide w) (Effect.End commit) (Some (Own o)) h = decide_few e m stay (own_tx id home o) s.steps
     few_at (Stage.End v) (Effect.End commit) (Some (Own o)) h =
-        visit_few e m stay (own_tx id home o) s.steps commit v h.1.member.1 (starts (own_tx id home o) s.steps (end_walk id home o s.steps commit v) v.way refl refl h.1.member.0) h.1.item h.1.asked
+        visit_few e m stay (own_tx id home o) s.steps commit v h.1.member.1 (starts (own_tx id home o) s.steps (end_walk id home o s.steps commit v) v.path refl refl h.1.member.0) h.1.item h.1.asked
     few_at w f o h = absurd h
 
 -- ---- of a live run
@@ -325,9 +325,9 @@ begin_is f h = cc
 pub stage_is_few : (d : Deployment) (c : Core) (m e : Rows) (i : ℕ) (r : Run) (g : Begun) (b : Body) (given : List Answer) → Sound d c m → GoesOn m e → map.get c.runs i ≡ Some r → r.at ≡ RunAt.Begins g → (s : Along d r.id b given r g)
     → left_at e m r.func r.id g.tx g.machine.steps g.machine.effect g.stage ≤ step_cost d e r.id b s.answers
 stage_is_few d c m e i r g b given sound goes live at s =
-    let right = sound.upkeep.right in
-    let run : KnowsAt d m right.plain c.book right.known r r.at = subst (LiveAt d m right.plain c.book right.known) live (right.runs.runs i) in
-    let knows : KnowsAt d m right.plain c.book right.known r (RunAt.Begins g) = subst (KnowsAt d m right.plain c.book right.known r) at run in
+    let right = sound.upkeep.invariant in
+    let run : KnowsAt d m right.plain c.book right.histories r r.at = subst (LiveAt d m right.plain c.book right.histories) live (right.runs.runs i) in
+    let knows : KnowsAt d m right.plain c.book right.histories r (RunAt.Begins g) = subst (KnowsAt d m right.plain c.book right.histories r) at run in
     let q = with_answers b s.answers in
     let few = few_at m right.plain c.book knows.0 e q goes.keys g.stage g.machine.effect g.tx knows.1.here in
     let apart : is_begin (effect_of d q) ≡ false = by_cases (is_begin (effect_of d q))

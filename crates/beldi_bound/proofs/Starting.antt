@@ -10,13 +10,13 @@ use Rattle.beldi_lang.specs.declared.effect.{Answer.Answer}
 use Rattle.beldi_plain.specs.Plain.{effect_of}
 use Rattle.beldi_row.{specs.Key.RowKey, specs.KeyOrder.key_exact, specs.Table.Rows, specs.declared.key.Kind.Kind, specs.declared.row.Body.Body, specs.declared.row.Row.Row}
 use Rattle.beldi_call.specs.declared.async_call.AsyncAt.{AsyncAt}
-use Rattle.beldi_step.specs.{Host.Core, declared.run.Begun.Begun, declared.run.Run.Run, declared.run.RunAt.RunAt, declared.run.Stage.Stage}
+use Rattle.beldi_step.specs.{HostStep.Core, declared.run.Begun.Begun, declared.run.Run.Run, declared.run.RunAt.RunAt, declared.run.Stage.Stage}
 use Rattle.beldi_schedule.specs.Settles.{State}
-use Rattle.beldi_known.proofs.Cases.{by_cases}
+use Rattle.beldi_histories.proofs.Cases.{by_cases}
 use Rattle.beldi_upkeep.specs.Checked.{body_at}
 use Rattle.beldi_bound.specs.{Cost.AreAsked, Cost.body_cost, Cost.cost_at, Cost.cost_from, Cost.kind_cost, Cost.step_cost, Cost.with_answers, Ends.IsIn, Ends.Sound}
-use Rattle.beldi_bound.specs.Work.{greatest, has_ended, is_open, most_of, one_more, open_keys, seat, seats, sum_of, work_of}
-use Rattle.beldi_bound.proofs.{Entries.entry_of, Facts.GoesOn, Facts.RunsStand, Facts.Stands, Facts.begun_left, Facts.rest_cost, StageLeft.stage_is_few}
+use Rattle.beldi_bound.specs.SettleWork.{greatest, has_ended, is_open, most_of, one_more, open_keys, seat, seats, sum_of, work_of}
+use Rattle.beldi_bound.proofs.{BoundEntries.entry_of, Facts.GoesOn, Facts.RunsStand, Facts.Stands, Facts.begun_left, Facts.rest_cost, StageLeft.stage_is_few}
 use Rattle.beldi_bound.proofs.Ledger.{Covers, CoversAt, Ledger, amount, callee_key, cost, due, find, if_free, spare, spare_of, stuck, stuck_by, stuck_in, total}
 
 -- ---- lists
@@ -256,7 +256,7 @@ module _ (d : Deployment) (room : ℕ) (s t : State) (asked : IntentId → List 
     }
       where
         old : (i : ℕ) (r : Run) → map.get s.core.runs i ≡ Some r → i ≤ s.core.last_run
-        old i r live = (sound.upkeep.right.runs.numbers i (subst (λ (z : Option Run). IsTrue (is_some z)) (sym live) refl)).1
+        old i r live = (sound.upkeep.invariant.runs.numbers i (subst (λ (z : Option Run). IsTrue (is_some z)) (sym live) refl)).1
 
         keys_few : (k : RowKey) → IsIn k keys_at_start → Cost k ≤ most_at
         keys_few k h = elim (in_either k opens (stucks opens ++ stucks (seats s)) h) [

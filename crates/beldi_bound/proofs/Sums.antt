@@ -5,7 +5,7 @@ use Rattle.std.specs.Ordering.{is_eq}
 use Rattle.std.proofs.Common.{List, Some, [], ap, arith, cond, is_some, subst, sym, true, ℕ, ◌+◌, ◌∙◌, ◌∷◌, ◌≡◌, ◌≤◌}
 use Rattle.beldi_row.specs.{Key.RowKey, Key.key_cmp, Table.Rows, declared.row.Row.Row}
 use Rattle.beldi_row.proofs.Gets.{key_same}
-use Rattle.beldi_known.proofs.Cases.{by_cases}
+use Rattle.beldi_histories.proofs.Cases.{by_cases}
 use Rattle.beldi_bound.specs.Visits.{sum_by}
 
 module _ (f g : RowKey → Row → ℕ) (less : (k : RowKey) (r : Row) → f k r ≤ g k r) where

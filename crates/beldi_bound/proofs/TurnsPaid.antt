@@ -6,11 +6,11 @@ use Rattle.beldi_value.specs.declared.id.IntentId.{IntentId}
 use Rattle.beldi_tree.specs.declared.deployment.Deployment.{Deployment}
 use Rattle.beldi_lang.specs.declared.effect.Answer.{Answer}
 use Rattle.beldi_row.specs.{Key.RowKey, Table.Rows}
-use Rattle.beldi_walk.specs.Query.{rows_after}
-use Rattle.beldi_step.specs.{Host.Core, Next.next_run, Run.run_asks, declared.run.Run.Run}
+use Rattle.beldi_query.specs.Query.{rows_after}
+use Rattle.beldi_step.specs.{HostStep.Core, Next.next_run, Run.run_asks, declared.run.Run.Run}
 use Rattle.beldi_upkeep.{proofs.Started.started_of_it, specs.Checked.NoFirstTurnIsOver, specs.Checked.has_begun}
-use Rattle.beldi_bound.specs.{Cost.AreAsked, Ends.Sound, Work.seat}
-use Rattle.beldi_bound.proofs.{Facts.GoesOn, FirstKnown.begins_open, FirstKnown.ended_costs, FirstKnown.over_ended, FirstKnown.registers_costs, FirstTurns.FirstKnows, Frames.Covered, Frames.ended_stays, Knowing.begun_knows, Refusing.all_refused, Turns.FullStays}
+use Rattle.beldi_bound.specs.{Cost.AreAsked, Ends.Sound, SettleWork.seat}
+use Rattle.beldi_bound.proofs.{Facts.GoesOn, FirstHistories.begins_open, FirstHistories.ended_costs, FirstHistories.over_ended, FirstHistories.registers_costs, FirstTurns.FirstKnows, Frames.Covered, Frames.ended_stays, OfHistories.begun_knows, Refusing.all_refused, BoundTurns.FullStays}
 use Rattle.beldi_bound.proofs.Ledger.{Ledger, TurnsPay, find}
 use Rattle.beldi_bound.proofs.TurnsPay.{AllTurns, turns_pay}
 

@@ -1,5 +1,5 @@
 -- A turn of the least live run past a number keeps the ledger, and where it does not wait the total falls by one at least.
-use Rattle.beldi_known.proofs.Begins.{false_true}
+use Rattle.beldi_histories.proofs.Begins.{false_true}
 use Rattle.beldi_bound.proofs.{Going.events_go_on, StaysFull.events_stay_full}
 use Rattle.beldi_bound.proofs.Going.{goes_same, goes_then}
 use Rattle.std.specs.FinMap as map
@@ -8,17 +8,17 @@ use Rattle.beldi_value.specs.{declared.id.IntentId.IntentId}
 use Rattle.beldi_tree.specs.declared.deployment.Deployment.{Deployment}
 use Rattle.beldi_lang.specs.declared.effect.{Answer.Answer}
 use Rattle.beldi_row.specs.{Key.RowKey, Table.Rows, declared.table.TableErr.TableErr}
-use Rattle.beldi_walk.specs.Query.{CameOn, rows_after}
+use Rattle.beldi_query.specs.Query.{CameOn, rows_after}
 use Rattle.beldi_call.specs.declared.async_call.AsyncAt.{AsyncAt}
-use Rattle.beldi_known.proofs.Cases.{by_option}
+use Rattle.beldi_histories.proofs.Cases.{by_option}
 use Rattle.beldi_schedule.specs.Settle.{is_turned_away}
-use Rattle.beldi_step.specs.{Host.Core, Host.EventOn, Host.counted, Host.ended_run, Host.turn_next, Next.next_run, Run.run_asks, declared.event.Event.Event, declared.event.Seen.Seen, declared.run.Begun.Begun, declared.run.Run.Run, declared.run.RunAt.RunAt, declared.run.Stage.Stage}
+use Rattle.beldi_step.specs.{HostStep.Core, HostStep.EventOn, HostStep.counted, HostStep.ended_run, HostStep.turn_next, Next.next_run, Run.run_asks, declared.event.Event.Event, declared.event.EventReply.EventReply, declared.run.Begun.Begun, declared.run.Run.Run, declared.run.RunAt.RunAt, declared.run.Stage.Stage}
 use Rattle.beldi_upkeep.specs.Checked.{has_begun, next_turn}
-use Rattle.beldi_bound.specs.{Cost.AreAsked, Ends.Sound, Work.has_ended, Work.seat}
+use Rattle.beldi_bound.specs.{Cost.AreAsked, Ends.Sound, SettleWork.has_ended, SettleWork.seat}
 use Rattle.beldi_bound.proofs.{Begun.BegunKnows, Begun.begun_so, Ending.expired, Ending.failed, Ending.waits, Facts.GoesOn, FirstTurns.FirstKnows, FirstTurns.first_so, Numbers.IsLeast, ResultsCome.ResultsCome, Numbers.next_least}
 use Rattle.beldi_bound.proofs.Ledger.{Ledger, TurnsPay, find}
 use Rattle.beldi_bound.proofs.Frames.{Cost, Covered, Mid}
-use Rattle.beldi_bound.proofs.Turns.{FullStays, Paying, Ways, by_event}
+use Rattle.beldi_bound.proofs.BoundTurns.{FullStays, Paying, Ways, by_event}
 
 module _ (d : Deployment) (room : ℕ) (e : Rows) (asked : IntentId → List Answer) (first most : ℕ) (z : Core) (sound_e : Sound d z e) (areas : AreAsked d e asked) where
   module _ (past i : ℕ) (c : Core) (m : Rows) (r : Run) (a : ℕ) (runs : List (ℕ × ℕ)) (keys : List RowKey) (sound : Sound d c m)
@@ -33,7 +33,7 @@ module _ (d : Deployment) (room : ℕ) (e : Rows) (asked : IntentId → List Ans
       pub firsts_know : has_begun r.at ≡ false → FirstKnows d room e asked first most past i c m r a runs keys sound ledger next live has mine alive f areas rows full goes
       pub begun_know : (g : Begun) (at : r.at ≡ RunAt.Begins g) → BegunKnows d room e asked first most past i c m r a runs keys sound ledger next live has mine alive f areas rows full goes g at
 
-    module _ (old new : ℕ) (b : Core) (n : Rows) (x : Seen) (sb : Sound d b n) (goes : GoesOn n e) (come : ResultsCome n e) (fewer : new < 2 ^ 64 - 1) (event : EventOn d room old new (Event.Turn i) c m b n (Ok x)) (not_away : is_turned_away x ≡ false) (refused : Refused)
+    module _ (old new : ℕ) (b : Core) (n : Rows) (x : EventReply) (sb : Sound d b n) (goes : GoesOn n e) (come : ResultsCome n e) (fewer : new < 2 ^ 64 - 1) (event : EventOn d room old new (Event.Turn i) c m b n (Ok x)) (not_away : is_turned_away x ≡ false) (refused : Refused)
         (turns : (alive : r.deadline < c.now → ⊥) (f : ℕ) (rows : GoesOn m (rows_after (run_asks r) c.now m)) (full : FullStays room m (rows_after (run_asks r) c.now m)) (goes : GoesOn (rows_after (run_asks r) c.now m) e) → ResultsCome (rows_after (run_asks r) c.now m) e → Turns alive f rows full goes) where
       abbrev N : Rows
       N = rows_after (run_asks r) c.now m

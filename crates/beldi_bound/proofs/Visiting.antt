@@ -8,26 +8,26 @@ use Rattle.std.proofs.Common.{Bool, List, None, Option, Some, [], ap, arith, eq-
 use Rattle.beldi_value.specs.{Id.has_callees, declared.place.Owner.Owner, declared.place.Place.Place, declared.place.TxId.TxId, declared.value.Value.Value}
 use Rattle.beldi_tree.specs.declared.deployment.Deployment.{Deployment}
 use Rattle.beldi_lang.specs.declared.effect.Effect.{Effect}
-use Rattle.beldi_row.specs.{Act.act, Act.kept_tell, Key.RowKey, Key.key_cmp, KeyOrder.key_total, Table.IsNext, Table.Rows, Table.next_row, declared.act.Act.Act, declared.key.Kind.Kind, declared.notes.Note.Note, declared.row.Row.Row}
+use Rattle.beldi_row.specs.{Act.act, Act.kept_reply, Key.RowKey, Key.key_cmp, KeyOrder.key_total, Table.IsNext, Table.Rows, Table.next_row, declared.act.Act.Act, declared.key.Kind.Kind, declared.notes.Note.Note, declared.row.Row.Row}
 use Rattle.beldi_row.proofs.Least.{next_row_least}
-use Rattle.beldi_walk.specs.{Query.rows_after, Query.said, Query.told_by, declared.query.Query.Query}
+use Rattle.beldi_query.specs.{Query.rows_after, Query.replied, Query.query_reply, declared.query.Query.Query}
 use Rattle.beldi_chain.specs.Chain.{chain}
 use Rattle.beldi_links.specs.Links.{IsLinked, ReadsAt}
 use Rattle.beldi_daal.specs.{Cell.cell_key, Cell.read_goes, Cell.shadow_key, Cell.write_asks, Cell.write_goes, declared.cell.CellOp.CellOp, declared.cell.ReadGoes.ReadGoes, declared.cell.WriteAt.WriteAt, declared.cell.WriteAt.TheVariants.Try, declared.cell.WriteGoes.WriteGoes}
 use Rattle.beldi_lock.specs.{Lock.lockset_key, Lockset.item_after, Lockset.lockset_after}
 use Rattle.beldi_lock.proofs.Last.{split_front}
-use Rattle.beldi_txn.specs.End.{at_calls, back_from, call_goes, calls_after, calls_goes, counts, decide_goes, end_goes, first_visit, free_first, free_place, freed_goes, last_goes, moved, next_goes, value_goes, visit_asks, visited_by}
-use Rattle.beldi_txn.specs.{Invokes.IsAfter, Invokes.call_after, Invokes.call_key, Invokes.invokes_after, Visited.IsFrom, Visited.IsMember, Visited.RowsStay, Visited.SeesFreeing, Visited.StartsWithin, Visited.Visited, Visited.is_own, Visited.item_in, Way.Member, Way.is_owner, declared.end.EndAt.EndAt, declared.end.EndGoes.EndGoes, declared.end.Visit.Visit, declared.end_walk.EndWalk.EndWalk, declared.way.Called.Called}
-use Rattle.beldi_txn.proofs.{Calls.call_past, Calls.is_call, Levels.ends_in, Locks.Item, Locks.is_item}
-use Rattle.beldi_step.specs.{Host.Core, Run.decided_says, Run.asks_at, Run.own_tx, Run.run_asks, Run.stage_asks, Run.stage_says, Run.visit_says, Tables.decision_key, declared.run.Begun.Begun, declared.run.Mark.Mark, declared.run.Run.Run, declared.run.RunAt.RunAt, declared.run.RunTx.RunTx, declared.run.RunTx.TheVariants.Own, declared.run.Stage.Stage}
-use Rattle.beldi_book.specs.Order.{count_changes}
-use Rattle.beldi_laws.specs.{OneAnswer.IsBegun, Right.AtStage, Right.Knows, Right.Right, Right.is_past}
-use Rattle.beldi_upkeep.specs.Checked.{next_says}
+use Rattle.beldi_txn.specs.End.{at_calls, back_from, call_goes, calls_after, calls_goes, counts, decide_goes, end_goes, first_visit, free_first, free_place, freed_goes, last_goes, end_after, next_goes, value_goes, visit_asks, visited_by}
+use Rattle.beldi_txn.specs.{Invokes.IsAfter, Invokes.call_after, Invokes.call_key, Invokes.invokes_after, Visited.IsFrom, Visited.IsMember, Visited.RowsStay, Visited.SeesFreeing, Visited.StartsWithin, Visited.Visited, Visited.is_own, Visited.item_in, CallPath.Member, CallPath.is_owner, declared.end.EndAt.EndAt, declared.end.EndGoes.EndGoes, declared.end.EndState.EndState, declared.end_walk.EndWalk.EndWalk, declared.call_path.Called.Called}
+use Rattle.beldi_txn.proofs.{InvokedInside.call_past, InvokedInside.is_call, Levels.ends_in, LocksetRows.Item, LocksetRows.is_item}
+use Rattle.beldi_step.specs.{HostStep.Core, Run.decided_output, Run.asks_at, Run.own_tx, Run.run_asks, Run.stage_asks, Run.stage_output, Run.visit_output, Tables.decision_key, declared.run.Begun.Begun, declared.run.Mark.Mark, declared.run.Run.Run, declared.run.RunAt.RunAt, declared.run.RunTx.RunTx, declared.run.RunTx.TheVariants.Own, declared.run.Stage.Stage}
+use Rattle.beldi_book.specs.LinearOrder.{count_changes}
+use Rattle.beldi_invariant.specs.{OneAnswer.IsBegun, Invariant.AtStage, Invariant.Knows, Invariant.Invariant, Invariant.is_past}
+use Rattle.beldi_upkeep.specs.Checked.{next_output}
 use Rattle.beldi_upkeep.proofs.Notes.{decisions_are_own, knows}
-use Rattle.beldi_bound.specs.{Ends.Sound, Left.SaysLower, Left.decided_visit, Left.left_at, Visits.at_left, Visits.call_ahead, Visits.call_is_ahead, Visits.call_cost, Visits.call_turns, Visits.chain_length, Visits.end_row_cost, Visits.freed_length, Visits.freed_there, Visits.is_ahead, Visits.is_call_ahead, Visits.is_lock_ahead, Visits.is_within, Visits.last_left, Visits.lock_ahead, Visits.lock_cost, Visits.lock_is_ahead, Visits.lock_past, Visits.lock_turns, Visits.put_left, Visits.row_left, Visits.steps_of, Visits.steps_to, Visits.sum_by, Visits.visit_left, Visits.way_left}
+use Rattle.beldi_bound.specs.{Ends.Sound, Left.OutputLower, Left.decided_visit, Left.left_at, Visits.at_left, Visits.call_ahead, Visits.call_is_ahead, Visits.call_cost, Visits.call_turns, Visits.chain_length, Visits.end_row_cost, Visits.freed_length, Visits.freed_there, Visits.is_ahead, Visits.is_call_ahead, Visits.is_lock_ahead, Visits.is_within, Visits.last_left, Visits.lock_ahead, Visits.lock_cost, Visits.lock_is_ahead, Visits.lock_past, Visits.lock_turns, Visits.put_left, Visits.row_left, Visits.steps_of, Visits.steps_to, Visits.sum_by, Visits.visit_left, Visits.path_left}
 use Rattle.beldi_bound.proofs.{Facts.GoesOn, Lengths.freed_some, Lengths.length_some, Puts.Freed, Puts.ReadOn, Puts.free_turn, Puts.put_falls, Puts.put_some, Puts.read_turn, Puts.there_stays}
 use Rattle.beldi_bound.proofs.Sums.{sum_less, sum_lower}
-use Rattle.beldi_bound.proofs.Ahead.{calls_more, locks_more, calls_pushed, locks_pushed, calls_popped, locks_popped, call_here, call_above, lock_here, steps_more, steps_here}
+use Rattle.beldi_bound.proofs.BoundAhead.{calls_more, locks_more, calls_pushed, locks_pushed, calls_popped, locks_popped, call_here, call_above, lock_here, steps_more, steps_here}
 
 -- ---- small facts
 if_at_most : (a b : Bool) (n : ℕ) → (a ≡ true → b ≡ true) → (if a then n else 0) ≤ (if b then n else 0)
@@ -49,7 +49,7 @@ first_few false false c s last one two = omega (arith, one, two)
 
 -- ---- a call more on the way
 abbrev base : List Called → ℕ
-base cs = way_left cs + last_left cs
+base cs = path_left cs + last_left cs
 
 base_more : (cs : List Called) (c : Called) → base (cs ++ c ∷ []) ≡ base cs + 3
 base_more [] c = refl
@@ -60,11 +60,11 @@ last_more [] c = refl
 last_more (d ∷ ds) c = refl
 
 -- ---- with less ahead, less is left of the rows
-module _ (t : TxId) (z v : Visit) where
+module _ (t : TxId) (z v : EndState) where
   record Fewer : Type 0 where
-    calls : (xs : List ℕ) (n : ℕ) → is_call_ahead (call_ahead z.at z.after) (steps_of z.way) xs n ≡ true → is_call_ahead (call_ahead v.at v.after) (steps_of v.way) xs n ≡ true
-    locks : (k : RowKey) (xs : List ℕ) → is_lock_ahead (call_ahead z.at z.after) (lock_ahead z.at (visited_by t z.way) t.begin z.item k) (steps_of z.way) xs ≡ true
-        → is_lock_ahead (call_ahead v.at v.after) (lock_ahead v.at (visited_by t v.way) t.begin v.item k) (steps_of v.way) xs ≡ true
+    calls : (xs : List ℕ) (n : ℕ) → is_call_ahead (call_ahead z.at z.after) (steps_of z.path) xs n ≡ true → is_call_ahead (call_ahead v.at v.after) (steps_of v.path) xs n ≡ true
+    locks : (k : RowKey) (xs : List ℕ) → is_lock_ahead (call_ahead z.at z.after) (lock_ahead z.at (visited_by t z.path) t.begin z.item k) (steps_of z.path) xs ≡ true
+        → is_lock_ahead (call_ahead v.at v.after) (lock_ahead v.at (visited_by t v.path) t.begin v.item k) (steps_of v.path) xs ≡ true
 
   module _ (e : Rows) (end : ℕ) (fewer : Fewer) where
     fewer_calls : (n : ℕ) (s : Option (List ℕ)) → call_is_ahead z n s ≡ true → call_is_ahead v n s ≡ true
@@ -99,8 +99,8 @@ module _ (t : TxId) (z v : Visit) where
 
 -- ---- the visits of a transaction
 module _ (t : TxId) where
-  abbrev visit : List Called → Option ℕ → Option Item → Option Value → EndAt → Visit
-  visit cs af i u a = record { way = cs; after = af; item = i; value = u; at = a }
+  abbrev visit : List Called → Option ℕ → Option Item → Option Value → EndAt → EndState
+  visit cs af i u a = record { path = cs; after = af; item = i; value = u; at = a }
 
   abbrev who : List Called → Member
   who cs = visited_by t cs
@@ -140,23 +140,23 @@ module _ (t : TxId) where
 
 -- ---- a turn of a visit
 module _ (t : TxId) (end : ℕ) (commit : Bool) (e : Rows) where
-  abbrev at : List Called → Option ℕ → Option Item → Option Value → EndAt → Visit
+  abbrev at : List Called → Option ℕ → Option Item → Option Value → EndAt → EndState
   at cs af i u a = visit t cs af i u a
 
-  abbrev walk : Visit → EndWalk
+  abbrev walk : EndState → EndWalk
   walk v = record { tx = t; end = end; commit = commit; visit = v }
 
-  abbrev sum : Visit → ℕ
+  abbrev sum : EndState → ℕ
   sum v = sum_by (row_left e t end v) (map.entries e)
 
-  abbrev left : Rows → Visit → ℕ
+  abbrev left : Rows → EndState → ℕ
   left m v = visit_left e m t end v
 
   -- what it leaves, by where it goes
-  abbrev Falls : Rows → Rows → Visit → EndGoes → Type 0
+  abbrev Falls : Rows → Rows → EndState → EndGoes → Type 0
   Falls m n v EndGoes.Done = 1 ≤ left m v
   Falls m n v EndGoes.Worn = Unit {0}
-  Falls m n v z = suc (left n (moved commit v z)) ≤ left m v
+  Falls m n v z = suc (left n (end_after commit v z)) ≤ left m v
 
   abbrev Keys : Rows → Type 0
   Keys m = (k : RowKey) → is_some (map.get m k) ≡ true → is_some (map.get e k) ≡ true
@@ -181,7 +181,7 @@ module _ (t : TxId) (end : ℕ) (commit : Bool) (e : Rows) where
       abbrev key : RowKey
       key = call_key p.1 p.0 c.step
 
-      abbrev here : Visit
+      abbrev here : EndState
       here = at cs af i u EndAt.Callees
 
       ahead_by : (cs : List Called) (af : Option ℕ) → IsAfter (calls_after t cs af) c.step → call_ahead EndAt.Callees af c.step ≡ true
@@ -203,7 +203,7 @@ module _ (t : TxId) (end : ℕ) (commit : Bool) (e : Rows) where
       on : is_ahead t here key key.kind ≡ true
       on = ap (call_is_ahead here c.step) steps ∙ call_here (call_ahead EndAt.Callees af) (steps_of cs) c.step ∙ ahead
 
-      abbrev callee : Visit
+      abbrev callee : EndState
       callee = at_calls (cs ++ c ∷ []) None
 
       callee_off : is_ahead t callee key key.kind ≡ false
@@ -216,7 +216,7 @@ module _ (t : TxId) (end : ℕ) (commit : Bool) (e : Rows) where
           let more = base_more cs c in
           omega (arith, rows, more)
 
-      abbrev passed : Visit
+      abbrev passed : EndState
       passed = at cs (Some c.step) i u EndAt.Callees
 
       passed_off : is_ahead t passed key key.kind ≡ false
@@ -257,14 +257,14 @@ module _ (t : TxId) (end : ℕ) (commit : Bool) (e : Rows) where
 
     -- ---- a lock
     module _ (af : Option ℕ) (i : Option Item) (u : Option Value) where
-      abbrev at_next : Visit
+      abbrev at_next : EndState
       at_next = at cs af i u EndAt.Next
 
       abbrev lock_key : Item → RowKey
       lock_key j = lockset_key p.1 p.0 t.begin j.0 j.1
 
       module _ (j : Item) (past : lock_past p t.begin i (lock_key j) ≡ true) (there : is_some (map.get m (lock_key j)) ≡ true) where
-        abbrev freeing : EndAt → Visit
+        abbrev freeing : EndAt → EndState
         freeing a = at cs af (Some j) None a
 
         abbrev c : ℕ
@@ -318,7 +318,7 @@ module _ (t : TxId) (end : ℕ) (commit : Bool) (e : Rows) where
 
   -- ---- an item is given back
   module _ (m n : Rows) (cs : List Called) (af : Option ℕ) (j : Item) (u : Option Value) where
-    abbrev at_item : EndAt → Visit
+    abbrev at_item : EndAt → EndState
     at_item a = at cs af (Some j) u a
 
     abbrev there : Rows → Bool
@@ -343,14 +343,14 @@ module _ (t : TxId) (end : ℕ) (commit : Bool) (e : Rows) where
     aside_key = shadow_key (visited_by t cs).1 t j.0 j.1
 
     frees_fall : (who : Owner) (p : Place) (own : Bool) (w : WriteAt) → IsLinked (chain m item_key) → SeesFreeing own (chain m item_key) p w → let q = write_asks item_key p who (CellOp.Free u) w in RowsStay (rows_after q now m) e
-        → Falls m (rows_after q now m) (at cs af (Some j) u (EndAt.Free w)) (freed_goes (write_goes Note.Freed w (told_by q now m)))
+        → Falls m (rows_after q now m) (at cs af (Some j) u (EndAt.Free w)) (freed_goes (write_goes Note.Freed w (query_reply q now m)))
     frees_fall who p own w linked sees stay = let q = write_asks item_key p who (CellOp.Free u) w in
-        freed_falls m (rows_after q now m) cs af j u w (write_goes Note.Freed w (told_by q now m)) (free_turn e m now item_key refl p who u linked own w sees stay)
+        freed_falls m (rows_after q now m) cs af j u w (write_goes Note.Freed w (query_reply q now m)) (free_turn e m now item_key refl p who u linked own w sees stay)
 
     -- a row of the shadow is looked at, and then the next one, or the item is given back
     shadow_falls : (r : ℕ) → IsLinked (chain m aside_key) → ReadsAt (chain m aside_key) r → let q = visit_asks t end commit cs af (Some j) u (EndAt.Shadow r) in RowsStay (rows_after q now m) e
-        → Falls m (rows_after q now m) (at cs af (Some j) u (EndAt.Shadow r)) (end_goes t end commit cs (EndAt.Shadow r) (told_by q now m))
-    shadow_falls r linked reads stay = goes (read_goes None (told_by q now m)) (read_turn e m now aside_key None r linked reads stay)
+        → Falls m (rows_after q now m) (at cs af (Some j) u (EndAt.Shadow r)) (end_goes t end commit cs (EndAt.Shadow r) (query_reply q now m))
+    shadow_falls r linked reads stay = goes (read_goes None (query_reply q now m)) (read_turn e m now aside_key None r linked reads stay)
       where
         q : Query
         q = visit_asks t end commit cs af (Some j) u (EndAt.Shadow r)
@@ -383,11 +383,11 @@ module _ (t : TxId) (end : ℕ) (commit : Bool) (e : Rows) where
 
   -- ---- any turn past the decision
   module _ (now : ℕ) (m : Rows) where
-    abbrev after : Visit → Rows
-    after v = rows_after (visit_asks t end commit v.way v.after v.item v.value v.at) now m
+    abbrev after : EndState → Rows
+    after v = rows_after (visit_asks t end commit v.path v.after v.item v.value v.at) now m
 
-    abbrev goes : Visit → EndGoes
-    goes v = end_goes t end commit v.way v.at (told_by (visit_asks t end commit v.way v.after v.item v.value v.at) now m)
+    abbrev goes : EndState → EndGoes
+    goes v = end_goes t end commit v.path v.at (query_reply (visit_asks t end commit v.path v.after v.item v.value v.at) now m)
 
     turn_falls : (cs : List Called) (af : Option ℕ) (i : Option Item) (u : Option Value) (a : EndAt) → let v = at cs af i u a in is_past a ≡ true → Visited (walk v) m → Keys (after v) → Falls m (after v) v (goes v)
     turn_falls cs af i u EndAt.Decide past v keys = cc
@@ -402,19 +402,19 @@ module _ (t : TxId) (end : ℕ) (commit : Bool) (e : Rows) where
     turn_falls cs af i u EndAt.Stamp past v keys = stamp_falls m (after (at cs af i u EndAt.Stamp)) cs af i u v.begins
 
 -- ---- what it says
-module _ (t : TxId) (end : ℕ) (commit : Bool) (e m n : Rows) (v : Visit) where
-  says_lower : (f : Stage → ℕ) → ((z : Visit) → f (Stage.End z) ≡ visit_left e n t end z) → (g : EndGoes) → Falls t end commit e m n v g → SaysLower f (visit_left e m t end v) (visit_says commit v g)
-  says_lower f is EndGoes.Done h = h
-  says_lower f is EndGoes.Worn h = tt
-  says_lower f is g h = let same = is (moved commit v g) in omega (arith, h, same)
+module _ (t : TxId) (end : ℕ) (commit : Bool) (e m n : Rows) (v : EndState) where
+  output_lower : (f : Stage → ℕ) → ((z : EndState) → f (Stage.End z) ≡ visit_left e n t end z) → (g : EndGoes) → Falls t end commit e m n v g → OutputLower f (visit_left e m t end v) (visit_output commit v g)
+  output_lower f is EndGoes.Done h = h
+  output_lower f is EndGoes.Worn h = tt
+  output_lower f is g h = let same = is (end_after commit v g) in omega (arith, h, same)
 
 -- the decision is put, or is its own
 decide_lower : (commit : Bool) (w : Mark) (now : ℕ) (r : Option Row) (f : Stage → ℕ) (n : ℕ) → ((z : Row) → r ≡ Some z → z ≡ Row.ReadLog (Value.Bool commit)) → suc (f (Stage.End decided_visit)) ≤ n
-    → SaysLower f n (decided_says commit w (decide_goes commit (said (act (Act.PutRead (Value.Bool commit)) now r).1)))
+    → OutputLower f n (decided_output commit w (decide_goes commit (replied (act (Act.PutRead (Value.Bool commit)) now r).1)))
 decide_lower commit w now None f n its h = h
-decide_lower commit w now (Some z) f n its h = subst (λ y. SaysLower f n (decided_says commit w (decide_goes commit (said (kept_tell (Some y)))))) (sym (its z refl)) (own commit)
+decide_lower commit w now (Some z) f n its h = subst (λ y. OutputLower f n (decided_output commit w (decide_goes commit (replied (kept_reply (Some y)))))) (sym (its z refl)) (own commit)
   where
-    own : (b : Bool) → SaysLower f n (decided_says b w (decide_goes b (said (kept_tell (Some (Row.ReadLog (Value.Bool b)))))))
+    own : (b : Bool) → OutputLower f n (decided_output b w (decide_goes b (replied (kept_reply (Some (Row.ReadLog (Value.Bool b)))))))
     own true = h
     own false = h
 
@@ -426,27 +426,27 @@ is_end s = false
 
 abbrev pub EndsLower : Type 0
 EndsLower = (d : Deployment) (c : Core) (m e : Rows) (i : ℕ) (r : Run) (g : Begun) → Sound d c m → GoesOn (rows_after (run_asks r) c.now m) e → map.get c.runs i ≡ Some r → r.at ≡ RunAt.Begins g → is_end g.stage ≡ true
-    → SaysLower (left_at e (rows_after (run_asks r) c.now m) r.func r.id g.tx g.machine.steps g.machine.effect) (left_at e m r.func r.id g.tx g.machine.steps g.machine.effect g.stage) (next_says c m r g)
+    → OutputLower (left_at e (rows_after (run_asks r) c.now m) r.func r.id g.tx g.machine.steps g.machine.effect) (left_at e m r.func r.id g.tx g.machine.steps g.machine.effect g.stage) (next_output c m r g)
 
-module _ (d : Deployment) (c : Core) (m e : Rows) (r : Run) (g : Begun) (h : Right d c m) (b : IsBegun c r.id r g) (k : Knows d h.known r g) where
+module _ (d : Deployment) (c : Core) (m e : Rows) (r : Run) (g : Begun) (h : Invariant d c m) (b : IsBegun c r.id r g) (k : Knows d h.histories r g) where
   abbrev asks : Stage → Effect → Option RunTx → Query
   asks s f o = stage_asks r.id r.func g.caller o g.machine.steps f s
 
   abbrev Lower : Stage → Effect → Option RunTx → Type 0
   Lower s f o = let n = rows_after (asks s f o) c.now m in
-      SaysLower (left_at e n r.func r.id o g.machine.steps f) (left_at e m r.func r.id o g.machine.steps f s) (stage_says r.id r.func g.caller o (count_changes c.book) g.machine.steps f s (told_by (asks s f o) c.now m))
+      OutputLower (left_at e n r.func r.id o g.machine.steps f) (left_at e m r.func r.id o g.machine.steps f s) (stage_output r.id r.func g.caller o (count_changes c.book) g.machine.steps f s (query_reply (asks s f o) c.now m))
 
   by_decide : (w : Mark) (f : Effect) (o : Option RunTx) → g.machine.effect ≡ f → g.tx ≡ o → AtStage m h.plain c.book k (Stage.Decide w) f o → Lower (Stage.Decide w) f o
   by_decide w (Effect.End commit) (Some (Own o)) ends in_it here =
       decide_lower commit w c.now (map.get m (decision_key (own_tx r.id r.func o))) _ _ (λ z there. decisions_are_own d c m r g o commit z h b in_it ends there) (omega arith)
   by_decide w f o ends in_it here = absurd here
 
-  by_visit : (v : Visit) (f : Effect) (o : Option RunTx) → AtStage m h.plain c.book k (Stage.End v) f o → GoesOn (rows_after (asks (Stage.End v) f o) c.now m) e → Lower (Stage.End v) f o
+  by_visit : (v : EndState) (f : Effect) (o : Option RunTx) → AtStage m h.plain c.book k (Stage.End v) f o → GoesOn (rows_after (asks (Stage.End v) f o) c.now m) e → Lower (Stage.End v) f o
   by_visit v (Effect.End commit) (Some (Own o)) here goes =
       let t = own_tx r.id r.func o in
       let n = rows_after (asks (Stage.End v) (Effect.End commit) (Some (Own o))) c.now m in
-      says_lower t g.machine.steps commit e m n v (left_at e n r.func r.id (Some (Own o)) g.machine.steps (Effect.End commit)) (λ z. refl) _
-      (turn_falls t g.machine.steps commit e c.now m v.way v.after v.item v.value v.at here.0 here.1 goes.keys)
+      output_lower t g.machine.steps commit e m n v (left_at e n r.func r.id (Some (Own o)) g.machine.steps (Effect.End commit)) (λ z. refl) _
+      (turn_falls t g.machine.steps commit e c.now m v.path v.after v.item v.value v.at here.0 here.1 goes.keys)
   by_visit v f o here goes = absurd here
 
   by_stage : (s : Stage) (f : Effect) (o : Option RunTx) → is_end s ≡ true → g.machine.effect ≡ f → g.tx ≡ o → AtStage m h.plain c.book k s f o → GoesOn (rows_after (asks s f o) c.now m) e → Lower s f o
@@ -456,9 +456,9 @@ module _ (d : Deployment) (c : Core) (m e : Rows) (r : Run) (g : Begun) (h : Rig
 
 pub ends_lower : EndsLower
 ends_lower d c m e i r g sound goes live begun is =
-    let h = sound.upkeep.right in
+    let h = sound.upkeep.invariant in
     let b : IsBegun c r.id r g = record { number = i; live = live; same_id = refl; begun = begun } in
     let k = knows d c m h r g b in
     let asked : run_asks r ≡ stage_asks r.id r.func g.caller g.tx g.machine.steps g.machine.effect g.stage = ap (λ (s : RunAt). asks_at r s) begun in
-    subst (λ q. SaysLower (left_at e (rows_after q c.now m) r.func r.id g.tx g.machine.steps g.machine.effect) (left_at e m r.func r.id g.tx g.machine.steps g.machine.effect g.stage) (next_says c m r g)) (sym asked)
+    subst (λ q. OutputLower (left_at e (rows_after q c.now m) r.func r.id g.tx g.machine.steps g.machine.effect) (left_at e m r.func r.id g.tx g.machine.steps g.machine.effect g.stage) (next_output c m r g)) (sym asked)
     (by_stage d c m e r g h b k.0 g.stage g.machine.effect g.tx is refl refl k.1.here (subst (λ q. GoesOn (rows_after q c.now m) e) asked goes))

@@ -5,10 +5,10 @@ use Rattle.beldi_value.specs.declared.{id.IntentId.IntentId, place.TxId.TxId}
 use Rattle.beldi_tree.specs.declared.deployment.Deployment.{Deployment}
 use Rattle.beldi_lang.specs.declared.effect.{Answer.Answer, Effect.Effect}
 use Rattle.beldi_plain.specs.{Plain.Instance, Plain.effect_of}
-use Rattle.beldi_order.specs.Txs.{tx_now}
+use Rattle.beldi_plain_laws.specs.Txs.{tx_now}
 use Rattle.beldi_row.specs.{Key.RowKey, Table.Rows, declared.key.Kind.Kind, declared.row.Body.Body, declared.row.IntentRow.IntentRow, declared.row.Row.Row}
 use Rattle.beldi_daal.specs.Cell.{cell_key, shadow_key}
-use Rattle.beldi_known.specs.Stands.{held_answer}
+use Rattle.beldi_histories.specs.Stands.{held_answer}
 use Rattle.beldi_upkeep.specs.Checked.{body_at}
 use Rattle.beldi_bound.specs.Visits.{chain_length, end_cost}
 
@@ -56,7 +56,7 @@ effect_cost e q (Some t) step f = cost_inside (item_length e q.func f) (aside_le
 -- ---- answers
 -- an instance that was made with this body, and was answered so
 abbrev pub with_answers : Body → List Answer → Instance
-with_answers b given = record { func = b.func; args = b.args; from = b.from; within = b.tx; answers = given; outcome = None }
+with_answers b given = record { func = b.func; args = b.args; parent = b.parent; enclosing = b.tx; answers = given; outcome = None }
 
 -- the answer that the rows hold at the step after these
 abbrev pub next_held : Deployment → Rows → IntentId → Body → List Answer → Option Answer

@@ -2,17 +2,17 @@
 use Rattle.std.specs.Prelude.{◌≡◌, ◌⊎◌, ◌^◌, ◌-◌, ℕ, ◌<◌, ◌≤◌, Bool, true, false, List, [], ◌∷◌, Some, is_some, slice_get}
 use Rattle.std.specs.FinMap as map
 use Rattle.beldi_value.specs.declared.{id.IntentId.IntentId, place.Owner.Owner}
-use Rattle.beldi_tree.specs.{Command.Command, Command.lock, declared.deployment.Deployment.Deployment, declared.deployment.Func.Func}
+use Rattle.beldi_tree.specs.{StatementCommand.Command, StatementCommand.lock, declared.deployment.Deployment.Deployment, declared.deployment.Func.Func}
 use Rattle.beldi_check.specs.{Keeps.KeepsRules, Site.Spot, Site.sites_of}
 use Rattle.beldi_lang.specs.declared.effect.Answer.{Answer}
 use Rattle.beldi_plain.specs.{Legal.run_of, Plain.Instance, Plain.PlainState}
 use Rattle.beldi_row.specs.{Key.RowKey, Table.Rows, declared.row.Body.Body, declared.row.IntentRow.IntentRow, declared.row.Row.Row}
 use Rattle.beldi_readlog.specs.ReadLog.{log_key}
 use Rattle.beldi_intent.specs.Intent.{is_ended}
-use Rattle.beldi_step.specs.{Host.Core, Host.last_moment, Host.most_runs, Run.place_of, declared.event.Seen.Seen, declared.run.Begun.Begun, declared.run.Run.Run, declared.run.RunAt.TheVariants.Begins, declared.run.Stage.Stage}
+use Rattle.beldi_step.specs.{HostStep.Core, HostStep.last_moment, HostStep.most_runs, Run.place_of, declared.event.EventReply.EventReply, declared.run.Begun.Begun, declared.run.Run.Run, declared.run.RunAt.TheVariants.Begins, declared.run.Stage.Stage}
 use Rattle.beldi_schedule.specs.{Settle.first_at, Settle.go_on, Settle.turns_of, Settles.Settles, Settles.State, declared.machine.Settled.Settled, declared.machine.Settled.TheVariants.All, declared.machine.Settled.TheVariants.Shut, declared.machine.Settled.TheVariants.Spent, declared.machine.Settled.TheVariants.Stuck, declared.machine.Settled.TheVariants.Unsettled, declared.machine.Standing.TheVariants.Over}
 use Rattle.beldi_upkeep.specs.{Checked.StartsAreOfIt, Upkeep.Upkeep}
-use Rattle.beldi_bound.specs.{Cost.AreAsked, Work.has_ended, Work.seat, Work.work_of}
+use Rattle.beldi_bound.specs.{Cost.AreAsked, SettleWork.has_ended, SettleWork.seat, SettleWork.work_of}
 
 -- ---- before
 -- the host keeps what every event keeps, runs a deployment that passed the checks, and its book starts functions of it alone
@@ -60,26 +60,26 @@ IsIn x [] = ⊥
 IsIn x (y ∷ ys) = (x ≡ y) ⊎ IsIn x ys
 
 -- a wait for room in the table, or among the runs, or for a row that may follow the last one of an item
-abbrev pub is_hindered : Seen → Bool
-is_hindered (Seen.Full live room) = true
-is_hindered Seen.Crowded = true
-is_hindered Seen.Worn = true
+abbrev pub is_hindered : EventReply → Bool
+is_hindered (EventReply.Full live room) = true
+is_hindered EventReply.Crowded = true
+is_hindered EventReply.Worn = true
 is_hindered x = false
 
 -- a late run of an intent that has not ended waits for the owner of its item, and no live run of its intent was answered more
-pub record IsLeft (c : Core) (m : Rows) (waiting : List (ℕ × Seen)) : Type 0 where
+pub record IsLeft (c : Core) (m : Rows) (waiting : List (ℕ × EventReply)) : Type 0 where
   pub number : ℕ
   pub run : Run
   pub owner : Owner
   pub live : map.get c.runs number ≡ Some run
-  pub waits : IsIn (number, Seen.Held owner) waiting
+  pub waits : IsIn (number, EventReply.Held owner) waiting
   pub late : IsLate m run
   pub unended : has_ended (map.get m (seat run)) ≡ false
   pub furthest : (j : ℕ) (r : Run) (g : Begun) → map.get c.runs j ≡ Some r → r.id ≡ run.id → r.at ≡ Begins g → g.machine.steps ≤ late.begun.machine.steps
 
 -- why all that live wait
-pub data HasCause (c : Core) (m : Rows) (waiting : List (ℕ × Seen)) : Type 0 where
-  hindered : (w : ℕ × Seen) → IsIn w waiting → is_hindered w.1 ≡ true → HasCause c m waiting
+pub data HasCause (c : Core) (m : Rows) (waiting : List (ℕ × EventReply)) : Type 0 where
+  hindered : (w : ℕ × EventReply) → IsIn w waiting → is_hindered w.1 ≡ true → HasCause c m waiting
   crowded : most_runs ≤ map.len c.runs → HasCause c m waiting
   left : IsLeft c m waiting → HasCause c m waiting
 
@@ -87,7 +87,7 @@ pub data HasCause (c : Core) (m : Rows) (waiting : List (ℕ × Seen)) : Type 0 
 abbrev pub IsUnhindered : Core → Settled → Type 0
 IsUnhindered c (Spent n) = ⊥
 IsUnhindered c (Shut n) = ⊥
-IsUnhindered c (Stuck n waiting) = ((w : ℕ × Seen) → IsIn w waiting → is_hindered w.1 ≡ false) × (map.len c.runs < most_runs)
+IsUnhindered c (Stuck n waiting) = ((w : ℕ × EventReply) → IsIn w waiting → is_hindered w.1 ≡ false) × (map.len c.runs < most_runs)
 IsUnhindered c x = Unit {0}
 
 pub record Promises (d : Deployment) (budget : ℕ) (s t : State) (x : Settled) : Type 0 where
@@ -100,7 +100,7 @@ pub record Promises (d : Deployment) (budget : ℕ) (s t : State) (x : Settled) 
   -- it ends as shut only where the reading of the last halt failed
   pub shut : (n : ℕ) → x ≡ Shut n → t.core.shut ≡ true
   -- it is stuck only with a cause
-  pub cause : (n : ℕ) (waiting : List (ℕ × Seen)) → HasNoLock d → x ≡ Stuck n waiting → HasCause t.core t.rows waiting
+  pub cause : (n : ℕ) (waiting : List (ℕ × EventReply)) → HasNoLock d → x ≡ Stuck n waiting → HasCause t.core t.rows waiting
   -- with a budget above the work what can end ends
   pub completes : (asked : IntentId → List Answer) → AreAsked d t.rows asked → HasNoLock d → NoneIsLate s.core s.rows → t.faults ≡ s.faults → IsBelowEnd t.faults → IsUnhindered t.core x → work_of d asked s t < budget → (n : ℕ) × (x ≡ All n)
 
@@ -108,6 +108,6 @@ pub record Promises (d : Deployment) (budget : ℕ) (s t : State) (x : Settled) 
 abbrev pub SettlesAsPromised : Type 0
 SettlesAsPromised = (d : Deployment) (room budget : ℕ) (s t : State) (x : Settled) → Sound d s.core s.rows → s.core.now ≤ last_moment → Settles d room budget (go_on budget first_at) s (Over x) t → Promises d budget s t x
 
--- and where the rows are right, each intent that has a body has a list of answers that they hold
+-- and where the rows have the invariant, each intent that has a body has a list of answers that they hold
 abbrev pub IntentsAreAsked : Type 0
 IntentsAreAsked = (d : Deployment) (c : Core) (m : Rows) → Upkeep d c m → (asked : IntentId → List Answer) × AreAsked d m asked

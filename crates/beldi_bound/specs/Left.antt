@@ -4,15 +4,15 @@ use Rattle.std.specs.FinMap as map
 use Rattle.beldi_value.specs.{Id.has_callees, declared.id.IntentId.IntentId, declared.place.Caller.Caller, declared.place.Place.Place}
 use Rattle.beldi_lang.specs.declared.effect.Effect.{Effect}
 use Rattle.beldi_row.specs.{Log.note_at, Table.Rows, declared.notes.Note.Note}
-use Rattle.beldi_walk.specs.Query.{rows_after, told_by}
+use Rattle.beldi_query.specs.Query.{rows_after, query_reply}
 use Rattle.beldi_chain.specs.Chain.{Chain, chain, content}
 use Rattle.beldi_links.specs.Links.{IsLinked, ReadsAt, SeesAt}
 use Rattle.beldi_daal.specs.{Cell.cell_key, Cell.shadow_key, Logged.at_of, declared.cell.WriteAt.WriteAt, declared.cell.WriteAt.TheVariants.Try}
 use Rattle.beldi_lock.specs.declared.lock.LockAt.{LockAt}
 use Rattle.beldi_invokelog.specs.InvokeLog.{invoke_key, call_at}
-use Rattle.beldi_txn.specs.{End.first_visit, TxTurn.Fits, TxTurn.Sees, Visited.RowsStay, declared.end.EndAt.EndAt, declared.end.Visit.Visit, declared.tx.TxAt.TxAt}
+use Rattle.beldi_txn.specs.{End.first_visit, TxTurn.Fits, TxTurn.Sees, Visited.RowsStay, declared.end.EndAt.EndAt, declared.end.EndState.EndState, declared.tx.TxAt.TxAt}
 use Rattle.beldi_call.specs.declared.{async_call.AsyncAt.AsyncAt, call.CallAt.CallAt}
-use Rattle.beldi_step.specs.{Run.own_tx, Run.place_of, Run.stage_asks, Run.stage_says, Run.tx_at, Run.tx_of, declared.run.RunTx.RunTx, declared.run.RunTx.TheVariants.Own, declared.run.Says.Says, declared.run.Stage.Stage}
+use Rattle.beldi_step.specs.{Run.own_tx, Run.place_of, Run.stage_asks, Run.stage_output, Run.tx_at, Run.tx_of, declared.run.RunTx.RunTx, declared.run.RunTx.TheVariants.Own, declared.run.StageOutput.StageOutput, declared.run.Stage.Stage}
 use Rattle.beldi_bound.specs.{Cost.aside_length, Cost.item_length, Visits.put_left, Visits.visit_left}
 
 -- ---- walks over the rows of an item, by how many it has in the end, and whether its first row is there
@@ -46,13 +46,13 @@ tx_left c s there aside e (TxAt.Write w) = put_left s aside w
 
 -- ---- any stage; v is what is left of a visit at an end
 -- the visit once the end is decided
-abbrev pub decided_visit : Visit
+abbrev pub decided_visit : EndState
 decided_visit = record first_visit { at = EndAt.Callees }
 
-abbrev pub stage_left : ℕ → ℕ → Bool → Bool → (Visit → ℕ) → Effect → Stage → ℕ
+abbrev pub stage_left : ℕ → ℕ → Bool → Bool → (EndState → ℕ) → Effect → Stage → ℕ
 stage_left c s there aside v e Stage.Ask = c + 2
 stage_left c s there aside v e (Stage.Walk r) = read_left c r
-stage_left c s there aside v e (Stage.Keep u seen) = 1
+stage_left c s there aside v e (Stage.Keep u version) = 1
 stage_left c s there aside v e (Stage.Write w) = put_left c there w
 stage_left c s there aside v e (Stage.Tx a) = tx_left c s there aside e a
 stage_left c s there aside v e (Stage.Decide m) = 1 + v decided_visit
@@ -63,7 +63,7 @@ stage_left c s there aside v e (Stage.Async AsyncAt.Open) = 3
 stage_left c s there aside v e (Stage.Async AsyncAt.Register) = 2
 stage_left c s there aside v e (Stage.Async AsyncAt.Note) = 1
 stage_left c s there aside v e Stage.Back = 2
-stage_left c s there aside v e Stage.Tell = 2
+stage_left c s there aside v e Stage.Notify = 2
 stage_left c s there aside v e Stage.Close = 1
 
 -- ---- the rows that a stage looks at
@@ -83,14 +83,14 @@ aside_there m func id (Some o) (Effect.CondWrite t k r u v) = is_some (map.get m
 aside_there m func id (Some o) e = false
 
 -- over the rows m, with the rows e in the end
-abbrev pub end_left : Rows → Rows → ℕ → IntentId → Option RunTx → ℕ → Visit → ℕ
+abbrev pub end_left : Rows → Rows → ℕ → IntentId → Option RunTx → ℕ → EndState → ℕ
 end_left e m func id (Some (Own o)) step v = visit_left e m (own_tx id func o) step v
 end_left e m func id o step v = 0
 
 abbrev pub left_at : Rows → Rows → ℕ → IntentId → Option RunTx → ℕ → Effect → Stage → ℕ
 left_at e m func id o step f s = stage_left (item_length e func f) (aside_length e func (tx_at id func o) f) (item_there m func f) (aside_there m func id o f) (end_left e m func id o step) f s
 
--- ---- what a turn needs so as to move: each is a fact that a right host has
+-- ---- what a turn needs so as to move: each is a fact that a host with the invariant has
 -- a lock leaves a lock, or a death
 abbrev pub OfLock : Option Note → Type 0
 OfLock None = Unit {0}
@@ -123,20 +123,20 @@ pub record CanWork (e : Effect) (a : TxAt) (p : Place) (f g : Chain) : Type 0 wh
   pub sees : Sees a p f g
 
 -- ---- what a turn says, by what is left after
-abbrev pub SaysLower : (Stage → ℕ) → ℕ → Says → Type 0
-SaysLower after n (Says.On s m) = suc (after s) ≤ n
-SaysLower after n Says.Stays = ⊥
-SaysLower after n (Says.Opens m) = suc (after (Stage.Call CallAt.Look)) ≤ n
-SaysLower after n (Says.Starts a) = 1 ≤ n
-SaysLower after n (Says.Waits w) = Unit {0}
-SaysLower after n (Says.Answers a m) = 1 ≤ n
-SaysLower after n (Says.Ends m o) = 1 ≤ n
+abbrev pub OutputLower : (Stage → ℕ) → ℕ → StageOutput → Type 0
+OutputLower after n (StageOutput.On s m) = suc (after s) ≤ n
+OutputLower after n StageOutput.Stays = ⊥
+OutputLower after n (StageOutput.Opens m) = suc (after (Stage.Call CallAt.Look)) ≤ n
+OutputLower after n (StageOutput.Starts a) = 1 ≤ n
+OutputLower after n (StageOutput.Waits w) = Unit {0}
+OutputLower after n (StageOutput.Answers a m) = 1 ≤ n
+OutputLower after n (StageOutput.Ends m o) = 1 ≤ n
 
 -- ---- what each stage needs of the rows
 abbrev pub Needs : Rows → IntentId → ℕ → Option Caller → Option RunTx → ℕ → Effect → Stage → Type 0
 Needs m id func c None step (Effect.Read t k) Stage.Ask = Unit {0}
 Needs m id func c None step (Effect.Read t k) (Stage.Walk r) = CanRead (chain m (cell_key func t k)) r
-Needs m id func c None step (Effect.Read t k) (Stage.Keep u seen) = Unit {0}
+Needs m id func c None step (Effect.Read t k) (Stage.Keep u version) = Unit {0}
 Needs m id func c None step (Effect.Write t k v) (Stage.Write w) = CanPut (chain m (cell_key func t k)) (place_of id step) w
 Needs m id func c None step (Effect.CondWrite t k r o v) (Stage.Write w) = CanPut (chain m (cell_key func t k)) (place_of id step) w
 Needs m id func c None step (Effect.Lock t k) (Stage.Write w) = CanPut (chain m (cell_key func t k)) (place_of id step) w
@@ -149,12 +149,12 @@ Needs m id func c o step (Effect.Async f a) (Stage.Async AsyncAt.Open) = Unit {0
 Needs m id func c o step (Effect.Async f a) (Stage.Async AsyncAt.Register) = Unit {0}
 Needs m id func c o step (Effect.Async f a) (Stage.Async AsyncAt.Note) = (has_callees id ≡ true) × (is_some (call_at m (invoke_key func (place_of id step))) ≡ true)
 Needs m id func c o step (Effect.Return x) Stage.Back = Unit {0}
-Needs m id func c o step (Effect.Return x) Stage.Tell = Unit {0}
+Needs m id func c o step (Effect.Return x) Stage.Notify = Unit {0}
 Needs m id func c o step (Effect.Return x) Stage.Close = Unit {0}
 Needs m id func c o step e s = ⊥
 
 -- a turn that does not wait leaves less of its effect, at any stage but those of an end, where no row goes that is there after it
 abbrev pub StagesLower : Type 0
-StagesLower = (v : Visit → ℕ) (e m : Rows) (now : ℕ) (id : IntentId) (func : ℕ) (c : Option Caller) (o : Option RunTx) (changes step : ℕ) (f : Effect) (s : Stage) → Needs m id func c o step f s
+StagesLower = (v : EndState → ℕ) (e m : Rows) (now : ℕ) (id : IntentId) (func : ℕ) (c : Option Caller) (o : Option RunTx) (changes step : ℕ) (f : Effect) (s : Stage) → Needs m id func c o step f s
     → let q = stage_asks id func c o step f s in let n = rows_after q now m in let x = item_length e func f in let y = aside_length e func (tx_at id func o) f in RowsStay n e
-    → SaysLower (stage_left x y (item_there n func f) (aside_there n func id o f) v f) (stage_left x y (item_there m func f) (aside_there m func id o f) v f s) (stage_says id func c o changes step f s (told_by q now m))
+    → OutputLower (stage_left x y (item_there n func f) (aside_there n func id o f) v f) (stage_left x y (item_there m func f) (aside_there m func id o f) v f s) (stage_output id func c o changes step f s (query_reply q now m))

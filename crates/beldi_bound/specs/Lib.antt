@@ -1,5 +1,5 @@
 pub mod Cost
 pub mod Ends
 pub mod Left
+pub mod SettleWork
 pub mod Visits
-pub mod Work

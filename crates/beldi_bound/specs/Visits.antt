@@ -8,7 +8,7 @@ use Rattle.beldi_row.specs.{Key.RowKey, Key.key_cmp, Table.Rows, declared.key.Ki
 use Rattle.beldi_chain.specs.Chain.{Chain, chain, most_rows}
 use Rattle.beldi_daal.specs.{Cell.cell_key, Cell.shadow_key, declared.cell.WriteAt.WriteAt, declared.cell.WriteAt.TheVariants.Try, declared.cell.WriteAt.TheVariants.Make, declared.cell.WriteAt.TheVariants.Append, declared.cell.WriteAt.TheVariants.Link}
 use Rattle.beldi_lock.specs.Lock.{lockset_key}
-use Rattle.beldi_txn.specs.{End.visited_by, Way.Member, declared.end.EndAt.EndAt, declared.end.Visit.Visit, declared.way.Called.Called}
+use Rattle.beldi_txn.specs.{End.visited_by, CallPath.Member, declared.end.EndAt.EndAt, declared.end.EndState.EndState, declared.call_path.Called.Called}
 
 -- ---- sums over rows
 abbrev pub sum_by : {K X : Type 0} → (K → X → ℕ) → List (K × X) → ℕ
@@ -104,20 +104,20 @@ is_lock_ahead ahead here (p ∷ ps) (x ∷ xs) = if p == x then is_lock_ahead ah
 abbrev pub steps_of : List Called → List ℕ
 steps_of cs = map (λ (c : Called). c.step) cs
 
-abbrev pub call_is_ahead : Visit → ℕ → Option (List ℕ) → Bool
+abbrev pub call_is_ahead : EndState → ℕ → Option (List ℕ) → Bool
 call_is_ahead v n None = false
-call_is_ahead v n (Some xs) = is_call_ahead (call_ahead v.at v.after) (steps_of v.way) xs n
+call_is_ahead v n (Some xs) = is_call_ahead (call_ahead v.at v.after) (steps_of v.path) xs n
 
-abbrev pub lock_is_ahead : TxId → Visit → RowKey → Option (List ℕ) → Bool
+abbrev pub lock_is_ahead : TxId → EndState → RowKey → Option (List ℕ) → Bool
 lock_is_ahead t v k None = false
-lock_is_ahead t v k (Some xs) = is_lock_ahead (call_ahead v.at v.after) (lock_ahead v.at (visited_by t v.way) t.begin v.item k) (steps_of v.way) xs
+lock_is_ahead t v k (Some xs) = is_lock_ahead (call_ahead v.at v.after) (lock_ahead v.at (visited_by t v.path) t.begin v.item k) (steps_of v.path) xs
 
-abbrev pub is_ahead : TxId → Visit → RowKey → Kind → Bool
+abbrev pub is_ahead : TxId → EndState → RowKey → Kind → Bool
 is_ahead t v k (Kind.Invoke p) = call_is_ahead v p.step (steps_to t p.intent)
 is_ahead t v k (Kind.Lockset i b n x) = lock_is_ahead t v k (steps_to t i)
 is_ahead t v k kind = false
 
-abbrev pub row_left : Rows → TxId → ℕ → Visit → RowKey → Row → ℕ
+abbrev pub row_left : Rows → TxId → ℕ → EndState → RowKey → Row → ℕ
 row_left e t end v k r = if is_ahead t v k k.kind then end_row_cost e t end k r else 0
 
 -- ---- turns beside those of rows
@@ -143,9 +143,9 @@ at_left c s there last (EndAt.Free w) = last + put_left c there w
 at_left c s there last EndAt.Stamp = 1
 
 -- the same of those on the way to it, who go on with their next call
-abbrev pub way_left : List Called → ℕ
-way_left [] = 0
-way_left (c ∷ cs) = 2 + 3 * length cs
+abbrev pub path_left : List Called → ℕ
+path_left [] = 0
+path_left (c ∷ cs) = 2 + 3 * length cs
 
 -- the first row of the item that is given back is there
 abbrev pub freed_there : Rows → Member → Option (ℕ × List ℕ) → Bool
@@ -162,6 +162,6 @@ given_length e t p None = 1
 given_length e t p (Some i) = chain_length e (shadow_key p.1 t i.0 i.1)
 
 -- what is left of a visit, over the rows m, with the rows e in the end
-abbrev pub visit_left : Rows → Rows → TxId → ℕ → Visit → ℕ
-visit_left e m t end v = let p = visited_by t v.way in
-    way_left v.way + at_left (freed_length e p v.item) (given_length e t p v.item) (freed_there m p v.item) (last_left v.way) v.at + sum_by (row_left e t end v) (finite.entries e)
+abbrev pub visit_left : Rows → Rows → TxId → ℕ → EndState → ℕ
+visit_left e m t end v = let p = visited_by t v.path in
+    path_left v.path + at_left (freed_length e p v.item) (given_length e t p v.item) (freed_there m p v.item) (last_left v.path) v.at + sum_by (row_left e t end v) (finite.entries e)

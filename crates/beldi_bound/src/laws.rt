@@ -11,7 +11,7 @@ pub fn settlings_are_as_promised()
     no_first_turn_is_over();
 }
 
-/// Where the rows are right, the answers that they hold for an intent are a list, so each intent has its cost.
+/// Where the rows have the invariant, the answers that they hold for an intent are a list, so each intent has its cost.
 pub fn intents_are_asked()
     ensures { IntentsAreAsked }
 {}

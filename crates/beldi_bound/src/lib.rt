@@ -7,23 +7,23 @@
 //!   its outcome; it is stuck, where no function takes a lock by a statement, only where a run waits for room in the table or among
 //!   the runs, 1,024 runs live, or a late run waits for an owner and no live run of its intent was answered more; and where none of
 //!   that is so, none was late at the start, and the table failed at nothing, it is settled with any budget above the work.
-//! - Each intent has its cost: the answers that right rows hold for it are a list (`intents_are_asked`).
+//! - Each intent has its cost: the answers that rows with the invariant hold for it are a list (`intents_are_asked`).
 //!
-//! The work is a sum over the live runs and the open intents, of what each costs (`specs/Work`). An intent costs a turn and what its effects
+//! The work is a sum over the live runs and the open intents, of what each costs (`specs/SettleWork`). An intent costs a turn and what its effects
 //! cost, by the answers that the rows hold at the end (`specs/Cost`); the end of a transaction costs by the calls and locks that were made in
 //! it (`specs/Visits`). What is left of an effect, by stage, is `specs/Left`.
 //!
 //! Lemmas (`proofs/`); `Promised` has all together, and `Facts` the statements that the parts hand one another:
-//! - Answers: `AskedOnce`, `KnownAsked` what is asked; `Standing` where a run stands along it.
-//! - Turns lower what is left: `FirstStages`, `Puts`, `Inside`, `Stages` by stage; `Ahead`, `Sums`, `Visiting` at the end of a
+//! - Answers: `AskedOnce`, `HistoryAsked` what is asked; `Standing` where a run stands along it.
+//! - Turns lower what is left: `FirstStages`, `Puts`, `BoundInside`, `Stages` by stage; `BoundAhead`, `Sums`, `Visiting` at the end of a
 //!   transaction; `Turning` all of them.
-//! - The ledger, an amount for each live run and the keys for which one may be started: `Ledger`, `Lists`, `Entries`, `Paying`,
-//!   `Frames`; `Costs`, `Falls`, `StageLeft` what amounts are worth; `Turns`, `FirstTurns`, `Ending`, `GoingOn`, `Waited`, `Begun`,
-//!   `Refusing`, `Rising`, `Closed`, `FirstsOpen`, `FirstKnown`, `Bodies`, `Saying`, `Calling`, `Knowing`, `Nexts`, `StaysFull`,
+//! - The ledger, an amount for each live run and the keys for which one may be started: `Ledger`, `BoundLists`, `BoundEntries`, `Paying`,
+//!   `Frames`; `Costs`, `BoundFalls`, `StageLeft` what amounts are worth; `BoundTurns`, `FirstTurns`, `Ending`, `GoingOn`, `Waited`, `Begun`,
+//!   `Refusing`, `Rising`, `Closed`, `FirstsOpen`, `FirstHistories`, `Bodies`, `Outputs`, `Calling`, `OfHistories`, `Nexts`, `StaysFull`,
 //!   `ResultsCome`, `Coming`, `Bringing` a turn, by case; `TurnsPay`, `TurnsPaid` each turn; `RoundsPay` each event of the collector;
 //!   `Starting`, `Few` the whole.
 //! - Ends: `Going` what events leave of rows; `Soundly` that the host stays so; `Numbers`, `Parked`, `Rounds`, `Machine` what is so at the end;
-//!   `Used`, `Ended`; `Chain`, `Waits`, `NoLocks`, `Fronts`, `Causes` why all wait; `LogRows`, `Lates`, `Steps`, `Followed` that a
+//!   `Used`, `Ended`; `Chain`, `Waits`, `NoLocks`, `Fronts`, `Causes` why all wait; `LogRows`, `Lates`, `BoundSteps`, `Followed` that a
 //!   late run is followed.
 #![tactic(auto)]
 

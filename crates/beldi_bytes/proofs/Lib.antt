@@ -1,6 +1,6 @@
 pub mod Again
+mod ByteLists
 mod Exact
-mod Lists
 mod Midway
 pub mod Ordered
 mod Refused

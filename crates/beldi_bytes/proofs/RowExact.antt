@@ -187,8 +187,8 @@ body_exact a b s t e =
     let p = two_exact a.func b.func _ _ e in
     let q = value_exact a.args b.args _ _ p.1 in
     let r = option_exact tx_bytes tx_exact a.tx b.tx _ _ q.1 in
-    let o = option_exact caller_bytes caller_exact a.from b.from s t r.1 in
-    let same : a ≡ b = λ i. record { func = p.0 i; args = q.0 i; tx = r.0 i; from = o.0 i } in
+    let o = option_exact caller_bytes caller_exact a.parent b.parent s t r.1 in
+    let same : a ≡ b = λ i. record { func = p.0 i; args = q.0 i; tx = r.0 i; parent = o.0 i } in
     (same, o.1)
 
 pub intent_exact : Exact intent_bytes

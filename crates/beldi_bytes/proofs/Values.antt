@@ -7,7 +7,7 @@ use Rattle.beldi_value.specs.Injective.{list_of, pairs_of, list_back, pairs_back
 use Rattle.beldi_bytes.specs.Coding.{one, truth_bytes}
 use Rattle.beldi_bytes.specs.KeyBytes.{four}
 use Rattle.beldi_bytes.specs.RowBytes.{int_bytes, str_bytes, datum_bytes, items_bytes, fields_bytes, IsInt}
-use Rattle.beldi_bytes.specs.Reading.{list_bytes, counted_items, AreItems, record_bytes, counted_fields, AreFields}
+use Rattle.beldi_bytes.specs.BytesReading.{list_bytes, counted_items, AreItems, record_bytes, counted_fields, AreFields}
 use Rattle.beldi_bytes.proofs.Tagged.{first}
 
 pub datum_tag : (old : List ℕ) (d : Datum) (s : List ℕ) → old ≡ datum_bytes d s → (n : ℕ) × (t : List ℕ) × Unit {0} × (old ≡ one n t)

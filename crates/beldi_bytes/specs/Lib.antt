@@ -1,4 +1,4 @@
+pub mod BytesReading
 pub mod Coding
 pub mod KeyBytes
-pub mod Reading
 pub mod RowBytes

@@ -102,7 +102,7 @@ log_bytes es s = four (length es) (entries_bytes es s)
 
 -- what an instance is to do: the function, its arguments, the transaction and the caller
 abbrev pub body_bytes : Body → List ℕ → List ℕ
-body_bytes b s = two b.func (value_bytes b.args (option_bytes tx_bytes b.tx (option_bytes caller_bytes b.from s)))
+body_bytes b s = two b.func (value_bytes b.args (option_bytes tx_bytes b.tx (option_bytes caller_bytes b.parent s)))
 
 -- an intent: when it was issued, its body, its outcome, and when it was finished
 abbrev pub intent_bytes : IntentRow → List ℕ → List ℕ
@@ -180,7 +180,7 @@ IsLog es = (length es ≤ most_entries) × AreEntries es
 
 -- a body
 abbrev pub IsBody : Body → Type 0
-IsBody b = IsValue b.args × IfThere IsTx b.tx × IfThere IsCaller b.from
+IsBody b = IsValue b.args × IfThere IsTx b.tx × IfThere IsCaller b.parent
 
 -- an intent
 abbrev pub IsIntent : IntentRow → Type 0

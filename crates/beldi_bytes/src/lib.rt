@@ -1,6 +1,6 @@
 //! The bytes of keys and of rows, by which a table keeps its rows outside. It stands on `beldi_row`. Its definitions:
 //! `specs/KeyBytes` (the bytes of a key, part by part), `specs/RowBytes` (the bytes of a row), `specs/Coding` (what is written behind
-//! bytes, and what is read off their front), `specs/Reading` (what is read of values, and the moments of rows).
+//! bytes, and what is read off their front), `specs/BytesReading` (what is read of values, and the moments of rows).
 //!
 //! The bytes: numbers stand with the greatest byte first, in as many bytes as their type has; a whole number of a value after
 //! whether it is below 0. What may be there stands after a byte, as does each kind of key, row, value, outcome, owner or note. In a
@@ -29,7 +29,7 @@
 //!   same parts, read; `laws`.
 //! - Lemmas (`proofs/`): `Ordered` the order of keys, part by part, `RowExact` parts of rows with the same bytes are one, `Again` what was
 //!   written is read again, these three also for the crates above; `Exact` parts of keys with the same bytes are one; `Refused` where a
-//!   part is refused, so is the whole; `Midway` lists that are read item by item, `Texts` hops and texts of keys so, `Lists` lists, logs and
+//!   part is refused, so is the whole; `Midway` lists that are read item by item, `Texts` hops and texts of keys so, `ByteLists` lists, logs and
 //!   records so; `Tagged` and `Values` what stands behind the number of a kind.
 #![tactic(auto)]
 

@@ -9,7 +9,7 @@ use crate::cursor::{Cursor, ReadErr, given};
 use crate::key_in::{read_id, read_place, read_tx};
 use crate::value_in::read_value;
 use beldi_row::{Blank, Entry, Log, MOST_ENTRIES, Note};
-use beldi_value::{Apart, Caller, Cause, Code, IntentId, Outcome, Owner, Place, TxId, Value};
+use beldi_value::{Boxed, Caller, Cause, Code, IntentId, Outcome, Owner, Place, TxId, Value};
 use std::alloc::Global;
 
 pub(crate) fn read_moment(from: &mut Cursor<'_>) -> Result<u64, ReadErr>
@@ -54,17 +54,17 @@ fn read_code(from: &mut Cursor<'_>) -> Result<Code, ReadErr>
     }
 }
 
-fn read_apart(alloc: Global, from: &mut Cursor<'_>) -> Result<Apart<IntentId>, ReadErr>
+fn read_apart(alloc: Global, from: &mut Cursor<'_>) -> Result<Boxed<IntentId>, ReadErr>
     ensures { Reads id_bytes IsId from.old from.new result }
 {
     let id = given!(read_id(alloc, from));
-    match Apart::new(alloc, id) {
+    match Boxed::new(alloc, id) {
         Ok(id) => Ok(id),
         Err(_) => Err(ReadErr::OutOfMemory),
     }
 }
 
-fn read_holder(alloc: Global, from: &mut Cursor<'_>) -> Result<Option<Apart<IntentId>>, ReadErr>
+fn read_holder(alloc: Global, from: &mut Cursor<'_>) -> Result<Option<Boxed<IntentId>>, ReadErr>
     ensures { Reads (option_bytes id_bytes) (IfThere IsId) from.old from.new result }
 {
     if given!(from.truth()) {
@@ -79,7 +79,7 @@ fn read_cause(alloc: Global, from: &mut Cursor<'_>) -> Result<Cause, ReadErr>
 {
     let place = given!(read_place(alloc, from));
     let holder = given!(read_holder(alloc, from); place);
-    match Apart::new(alloc, place) {
+    match Boxed::new(alloc, place) {
         Ok(place) => Ok(Cause { place, holder }),
         Err(_) => {
             drop(holder);

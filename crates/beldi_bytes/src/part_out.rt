@@ -8,7 +8,7 @@ use crate::key_out::{put_id, put_place, put_tx};
 use crate::number_out::{put_byte, put_count, put_truth, put_two};
 use crate::value_out::put_value;
 use beldi_row::{Entry, Log, Note};
-use beldi_value::{Apart, Caller, Cause, Code, IntentId, Outcome, Owner, Place};
+use beldi_value::{Boxed, Caller, Cause, Code, IntentId, Outcome, Owner, Place};
 use std::alloc::AllocError;
 
 fn code(code: Code) -> u8
@@ -25,7 +25,7 @@ fn code(code: Code) -> u8
     }
 }
 
-fn put_holder(out: &mut Vec<u8>, holder: &Option<Apart<IntentId>>) -> Result<(), AllocError>
+fn put_holder(out: &mut Vec<u8>, holder: &Option<Boxed<IntentId>>) -> Result<(), AllocError>
     ensures { OnOk result (Adds out.old.items out.new.items (option_bytes id_bytes holder.now) × IfThere IsId holder.now) }
 {
     match holder {

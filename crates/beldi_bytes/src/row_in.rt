@@ -1,7 +1,7 @@
 // Reading rows.
 ghost use Rattle.std.specs.Prelude.{IfOk};
 ghost use Rattle.beldi_bytes.specs.Coding.{Reads, option_bytes, IfThere};
-ghost use Rattle.beldi_bytes.specs.Reading.{links_bytes, AreLinks, IsIntentInTime, IsCellInTime, IsRowInTime};
+ghost use Rattle.beldi_bytes.specs.BytesReading.{links_bytes, AreLinks, IsIntentInTime, IsCellInTime, IsRowInTime};
 ghost use Rattle.beldi_bytes.specs.RowBytes.{body_bytes, intent_bytes, invoke_bytes, cell_bytes, row_then, IsBody, IsInvoke, ReadsRow};
 
 use crate::cursor::{Cursor, ReadErr, given};
@@ -24,7 +24,7 @@ fn read_body(alloc: Global, from: &mut Cursor<'_>) -> Result<Body, ReadErr>
         func,
         args,
         tx,
-        from: caller,
+        parent: caller,
     })
 }
 

@@ -30,7 +30,7 @@ fn put_body(out: &mut Vec<u8>, body: &Body) -> Result<(), AllocError>
     put_two(out, body.func)?;
     put_value(out, &body.args)?;
     put_tx_if(out, &body.tx)?;
-    put_caller_if(out, &body.from)
+    put_caller_if(out, &body.parent)
 }
 
 fn put_body_if(out: &mut Vec<u8>, part: &Option<Body>) -> Result<(), AllocError>

@@ -2,7 +2,7 @@
 ghost use Rattle.std.specs.Prelude.{IsTrue, ◌↔◌};
 ghost use Rattle.beldi_value.specs.Datum.{IsRecord};
 ghost use Rattle.beldi_bytes.specs.Coding.{Reads};
-ghost use Rattle.beldi_bytes.specs.Reading.{ReadsValue, ReadsField, counted_items, counted_fields, AreItems, AreFields, IsNext};
+ghost use Rattle.beldi_bytes.specs.BytesReading.{ReadsValue, ReadsField, counted_items, counted_fields, AreItems, AreFields, IsNext};
 ghost use Rattle.beldi_bytes.specs.RowBytes.{int_bytes, IsInt};
 
 use crate::cursor::{Cursor, ReadErr, given};

@@ -1,2 +1,2 @@
+pub mod CallTurns
 pub mod Callees
-pub mod Turns

@@ -1,13 +1,13 @@
 // A call that nobody waits for: what is asked, and what follows; as parts, and as a walk.
 ghost use Rattle.std.specs.Prelude.{◌≡◌, ◌<◌, true, length, IfOk, OnErr};
-ghost use Rattle.beldi_walk.specs.Query.{told_of, lends};
-ghost use Rattle.beldi_call.specs.Async.{async_asks, async_says, async_next as next_of, callee_of, first_async};
+ghost use Rattle.beldi_query.specs.Query.{query_reply_of, lends};
+ghost use Rattle.beldi_call.specs.Async.{async_asks, async_output, async_next as next_of, callee_of, first_async};
 
 use beldi_intent::register_query;
 use beldi_invokelog::{Back, back_told, invoked_told, open_query, registered_query};
+use beldi_query::{Query, QueryReplyRef, Walk};
 use beldi_row::Body;
-use beldi_value::{Apart, IntentId, Place};
-use beldi_walk::{Heard, Query, Walk};
+use beldi_value::{Boxed, IntentId, Place};
 use std::alloc::{AllocError, Global};
 use std::marker::Model;
 
@@ -65,7 +65,7 @@ pub enum AsyncAt {
 
 /// What a turn of an asynchronous call says.
 #[derive(Clone, Copy, Debug, PartialEq, Eq)]
-pub enum AsyncSays {
+pub enum AsyncOutput {
     /// The call goes on.
     Going,
     /// The call is there and not registered; `first` says that this act put it.
@@ -81,7 +81,7 @@ pub fn async_query(
     place: &CallPlace,
     body: &Body,
     at: AsyncAt,
-) -> Result<Apart<Query>, AllocError>
+) -> Result<Boxed<Query>, AllocError>
     ensures { IfOk result (λ q. q ≡ async_asks home place.now body.now at) }
 {
     match at {
@@ -99,36 +99,36 @@ pub fn async_told(
     alloc: Global,
     func: u16,
     at: AsyncAt,
-    heard: Heard<'_>,
-) -> Result<AsyncSays, AllocError>
-    ensures ok { IfOk result (λ s. s ≡ async_says func at (told_of heard.entry)) }
-    ensures err { OnErr result (lends (told_of heard.entry) ≡ true) }
+    heard: QueryReplyRef<'_>,
+) -> Result<AsyncOutput, AllocError>
+    ensures ok { IfOk result (λ s. s ≡ async_output func at (query_reply_of heard.entry)) }
+    ensures err { OnErr result (lends (query_reply_of heard.entry) ≡ true) }
 {
     match at {
         AsyncAt::Open => {
             let call = invoked_told(alloc, func, heard)?;
-            let says = if call.registered {
-                AsyncSays::Done
+            let output = if call.registered {
+                AsyncOutput::Done
             } else {
-                AsyncSays::Opened { first: call.added }
+                AsyncOutput::Opened { first: call.added }
             };
             drop(call);
-            Ok(says)
+            Ok(output)
         }
-        AsyncAt::Register => Ok(AsyncSays::Going),
+        AsyncAt::Register => Ok(AsyncOutput::Going),
         AsyncAt::Note => match back_told(heard) {
-            Back::Set | Back::AlreadySet => Ok(AsyncSays::Done),
-            Back::Absent => Ok(AsyncSays::Going),
+            Back::Set | Back::AlreadySet => Ok(AsyncOutput::Done),
+            Back::Absent => Ok(AsyncOutput::Going),
         },
     }
 }
 
 /// Where a call stands after it said so.
-pub fn async_next(at: AsyncAt, says: AsyncSays) -> AsyncAt
-    ensures { result ≡ next_of at says }
+pub fn async_next(at: AsyncAt, output: AsyncOutput) -> AsyncAt
+    ensures { result ≡ next_of at output }
 {
-    match (at, says) {
-        (AsyncAt::Open, AsyncSays::Opened { .. }) => AsyncAt::Register,
+    match (at, output) {
+        (AsyncAt::Open, AsyncOutput::Opened { .. }) => AsyncAt::Register,
         (AsyncAt::Open, _) => AsyncAt::Open,
         (AsyncAt::Register | AsyncAt::Note, _) => AsyncAt::Note,
     }
@@ -145,24 +145,28 @@ pub struct AsyncWalk {
 }
 
 impl Walk for AsyncWalk {
-    ghost use Rattle.beldi_call.specs.Async.{walk_asks, walk_next, walk_says};
+    ghost use Rattle.beldi_call.specs.Async.{walk_asks, walk_next, walk_output};
 
-    type Says = AsyncSays;
+    type Output = AsyncOutput;
 
     ghost asks = { walk_asks };
 
     ghost next = { walk_next };
 
-    ghost says = { walk_says };
+    ghost output = { walk_output };
 
-    fn ask(&self, alloc: Global) -> Result<Apart<Query>, AllocError> {
+    fn ask(&self, alloc: Global) -> Result<Boxed<Query>, AllocError> {
         async_query(alloc, self.home, &self.place, &self.body, self.at)
     }
 
-    fn told(&mut self, alloc: Global, heard: Heard<'_>) -> Result<AsyncSays, AllocError> {
-        let says = async_told(alloc, self.body.func, self.at, heard)?;
-        self.at = async_next(self.at, says);
-        Ok(says)
+    fn resume(
+        &mut self,
+        alloc: Global,
+        heard: QueryReplyRef<'_>,
+    ) -> Result<AsyncOutput, AllocError> {
+        let output = async_told(alloc, self.body.func, self.at, heard)?;
+        self.at = async_next(self.at, output);
+        Ok(output)
     }
 }
 

@@ -1,11 +1,11 @@
 // A call that waits for its result: what is asked of its row, and what follows; as parts, and as a walk.
 ghost use Rattle.std.specs.Prelude.{◌≡◌, true, IfOk, OnErr};
-ghost use Rattle.beldi_walk.specs.Query.{told_of, lends};
-ghost use Rattle.beldi_call.specs.Call.{call_asks, call_says, call_next as next_of, first_call};
+ghost use Rattle.beldi_query.specs.Query.{query_reply_of, lends};
+ghost use Rattle.beldi_call.specs.Call.{call_asks, call_output, call_next as next_of, first_call};
 
 use beldi_invokelog::{invoked_told, open_query, result_query, result_told};
-use beldi_value::{Apart, Outcome, Place};
-use beldi_walk::{Heard, Query, Walk};
+use beldi_query::{Query, QueryReplyRef, Walk};
+use beldi_value::{Boxed, Outcome, Place};
 use std::alloc::{AllocError, Global};
 
 /// Where a call stands.
@@ -19,7 +19,7 @@ pub enum CallAt {
 
 /// What a turn of a call says.
 #[derive(Drop)]
-pub enum CallSays {
+pub enum CallOutput {
     /// The call is there and has no result; `first` says that this act put it. A run of the callee may be started.
     Opened { first: bool },
     /// The call, which was opened before, has no result yet.
@@ -35,7 +35,7 @@ pub fn call_query(
     place: Place,
     func: u16,
     at: CallAt,
-) -> Result<Apart<Query>, AllocError>
+) -> Result<Boxed<Query>, AllocError>
     ensures { IfOk result (λ q. q ≡ call_asks home place func at) }
 {
     match at {
@@ -49,33 +49,33 @@ pub fn call_told(
     alloc: Global,
     func: u16,
     at: CallAt,
-    heard: Heard<'_>,
-) -> Result<CallSays, AllocError>
-    ensures ok { IfOk result (λ s. s ≡ call_says func at (told_of heard.entry)) }
-    ensures err { OnErr result (lends (told_of heard.entry) ≡ true) }
+    heard: QueryReplyRef<'_>,
+) -> Result<CallOutput, AllocError>
+    ensures ok { IfOk result (λ s. s ≡ call_output func at (query_reply_of heard.entry)) }
+    ensures err { OnErr result (lends (query_reply_of heard.entry) ≡ true) }
 {
     match at {
         CallAt::Open => {
             let call = invoked_told(alloc, func, heard)?;
             match call.result {
-                None => Ok(CallSays::Opened { first: call.added }),
-                Some(outcome) => Ok(CallSays::Done(outcome)),
+                None => Ok(CallOutput::Opened { first: call.added }),
+                Some(outcome) => Ok(CallOutput::Done(outcome)),
             }
         }
         CallAt::Look => match result_told(alloc, heard)? {
-            None => Ok(CallSays::NotYet),
-            Some(outcome) => Ok(CallSays::Done(outcome)),
+            None => Ok(CallOutput::NotYet),
+            Some(outcome) => Ok(CallOutput::Done(outcome)),
         },
     }
 }
 
 /// Where a call stands after it said so.
-pub fn call_next(at: CallAt, says: &CallSays) -> CallAt
-    ensures { result ≡ next_of at says.now }
+pub fn call_next(at: CallAt, output: &CallOutput) -> CallAt
+    ensures { result ≡ next_of at output.now }
 {
-    match says {
-        CallSays::Opened { .. } => CallAt::Look,
-        CallSays::NotYet | CallSays::Done(_) => at,
+    match output {
+        CallOutput::Opened { .. } => CallAt::Look,
+        CallOutput::NotYet | CallOutput::Done(_) => at,
     }
 }
 
@@ -90,17 +90,17 @@ pub struct CallWalk {
 }
 
 impl Walk for CallWalk {
-    ghost use Rattle.beldi_call.specs.Call.{walk_asks, walk_next, walk_says};
+    ghost use Rattle.beldi_call.specs.Call.{walk_asks, walk_next, walk_output};
 
-    type Says = CallSays;
+    type Output = CallOutput;
 
     ghost asks = { walk_asks };
 
     ghost next = { walk_next };
 
-    ghost says = { walk_says };
+    ghost output = { walk_output };
 
-    fn ask(&self, alloc: Global) -> Result<Apart<Query>, AllocError> {
+    fn ask(&self, alloc: Global) -> Result<Boxed<Query>, AllocError> {
         call_query(
             alloc,
             self.home,
@@ -110,10 +110,14 @@ impl Walk for CallWalk {
         )
     }
 
-    fn told(&mut self, alloc: Global, heard: Heard<'_>) -> Result<CallSays, AllocError> {
-        let says = call_told(alloc, self.func, self.at, heard)?;
-        self.at = call_next(self.at, &says);
-        Ok(says)
+    fn resume(
+        &mut self,
+        alloc: Global,
+        heard: QueryReplyRef<'_>,
+    ) -> Result<CallOutput, AllocError> {
+        let output = call_told(alloc, self.func, self.at, heard)?;
+        self.at = call_next(self.at, &output);
+        Ok(output)
     }
 }
 

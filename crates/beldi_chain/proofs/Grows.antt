@@ -4,9 +4,9 @@ use Rattle.std.specs.Ordering.{is_eq}
 use Rattle.std.proofs.Common.{◌≡◌, ◌⊎◌, ℕ, zero, suc, Bool, true, false, cond, List, [], ◌∷◌, ◌++◌, Option, None, Some, nat_lt, if◌then◌else◌, inl, inr, refl, ap, sym, ◌∙◌, subst, append-nil}
 use Rattle.beldi_value.specs.{Id.age_of, Passes.passes, declared.place.Owner.Owner, declared.place.Place.Place, declared.value.Value.Value}
 use Rattle.beldi_row.specs.declared.act.Act.TheVariants.{Look, Issue, Bind, Register, End, Stamp, PutRead, OpenInvoke, CallBack, NoteRegistered, PutLockset, MakeCell, WriteCell, CondCell, LockCell, FreeCell, LinkCell, DropIntent, DropRow, MarkCell, SkipCell, DangleCell, DropCell}
-use Rattle.beldi_row.specs.Act.{Tell, act, prunes, removes, stays_unless, gone, did, held, died, no_row, tested, not_owner, next, packed, not_full, on, on_intent, on_invoke, on_cell, bind_to, end_with, stamp_with, call_back_to, register_to, noted_or, next_or, held_or, waits_for, owned_or, at_tail, unless_held, if_owned, if_room, is_full, link_to, owns, given_or, other_owner, entered, write_at, cond_at, lock_at, free_at}
+use Rattle.beldi_row.specs.Act.{ActReply, act, prunes, removes, stays_unless, gone, did, held, died, no_row, tested, not_owner, next, packed, not_full, on, on_intent, on_invoke, on_cell, bind_to, end_with, stamp_with, call_back_to, register_to, noted_or, next_or, held_or, waits_for, owned_or, at_tail, unless_held, if_owned, if_room, is_full, link_to, owns, given_or, other_owner, entered, write_at, cond_at, lock_at, free_at}
 use Rattle.beldi_row.{specs.Key.RowKey, specs.Key.at_row, specs.Key.key_cmp, specs.Table.Rows, specs.Table.after_act, proofs.Gets.got, proofs.Gets.key_same, proofs.Removed.not_removed, proofs.Removed.spares, specs.declared.act.Act.Act, specs.declared.notes.Note.Note, specs.declared.notes.Note.TheVariants.Wrote, specs.declared.notes.Note.TheVariants.Cond, specs.declared.notes.Note.TheVariants.Got, specs.declared.notes.Note.TheVariants.Died, specs.declared.notes.Note.TheVariants.Freed, specs.declared.row.Cell.Cell, specs.declared.row.IntentRow.IntentRow, specs.declared.row.InvokeRow.InvokeRow, specs.declared.row.Row.Row, specs.Log.note_at, specs.Log.place_eq}
-use Rattle.beldi_chain.specs.{Chain.Chain, Chain.above, Chain.chain, Chain.content, Chain.most_rows, Chain.next_of, Chain.notes_from, Chain.on_next, Chain.tail_from, Content.held_in, Content.log_of, Laws.NotesStay}
+use Rattle.beldi_chain.specs.{Chain.Chain, Chain.above, Chain.chain, Chain.content, Chain.most_rows, Chain.next_of, Chain.notes_from, Chain.on_next, Chain.tail_from, Content.held_in, Content.log_of, ChainLaws.NotesStay}
 
 front_note : (es fs : List (Place × Note)) (p : Place) (n : Note) → note_at es p ≡ Some n → note_at (es ++ fs) p ≡ Some n
 front_note [] fs p n is = cc
@@ -36,34 +36,34 @@ abbrev GrowsTo : Cell → Cell → Type 0
 GrowsTo c d = (d ≡ c) ⊎ More c d
 
 module _ (c : Cell) where
-  abbrev Keeps : Cell × Tell → Type 0
+  abbrev Keeps : Cell × ActReply → Type 0
   Keeps z = GrowsTo c z.0
 
-  by_note : (o : Option Note) (z : Cell × Tell) → Keeps z → Keeps (noted_or c o z)
+  by_note : (o : Option Note) (z : Cell × ActReply) → Keeps z → Keeps (noted_or c o z)
   by_note None z h = h
   by_note (Some n) z h = inl refl
 
-  by_next : (o : Option ℕ) (z : Cell × Tell) → c.next ≡ o → (c.next ≡ None → Keeps z) → Keeps (next_or c o z)
+  by_next : (o : Option ℕ) (z : Cell × ActReply) → c.next ≡ o → (c.next ≡ None → Keeps z) → Keeps (next_or c o z)
   by_next None z is h = h is
   by_next (Some n) z is h = inl refl
 
-  by_other : (o : Option Owner) (z : Cell × Tell) → Keeps z → Keeps (held_or c o z)
+  by_other : (o : Option Owner) (z : Cell × ActReply) → Keeps z → Keeps (held_or c o z)
   by_other None z h = h
   by_other (Some o) z h = inl refl
 
-  by_own : (b : Bool) (z : Cell × Tell) → Keeps z → Keeps (if b then z else (c, not_owner))
+  by_own : (b : Bool) (z : Cell × ActReply) → Keeps z → Keeps (if b then z else (c, not_owner))
   by_own true z h = h
   by_own false z h = inl refl
 
-  last : (p : Place) (z : Cell × Tell) → (c.next ≡ None → Keeps z) → Keeps (at_tail p c z)
+  last : (p : Place) (z : Cell × ActReply) → (c.next ≡ None → Keeps z) → Keeps (at_tail p c z)
   last p z h = by_note (note_at c.log p) (next_or c c.next z) (by_next c.next z refl h)
 
   -- an entry is put at the end ..
-  put : (p : Place) (m : Note) (v : Value) (o : Option Owner) (t : Tell) → c.next ≡ None → Keeps (entered p m v o c, t)
+  put : (p : Place) (m : Note) (v : Value) (o : Option Owner) (t : ActReply) → c.next ≡ None → Keeps (entered p m v o c, t)
   put p m v o t is = inr (record { last = is; entries = (p, m) ∷ []; log = refl })
 
   -- .. where there is room for it
-  room : (z : Cell × Tell) → Keeps z → Keeps (if_room c z)
+  room : (z : Cell × ActReply) → Keeps z → Keeps (if_room c z)
   room z h = by_test (is_full c)
     where
       by_test : (b : Bool) → Keeps (if b then (c, packed c.value c.owner) else z)
@@ -71,25 +71,25 @@ module _ (c : Cell) where
       by_test false = h
 
   -- .. where no other owner is, or where who asks is the owner
-  unheld : (p : Place) (w : Owner) (m : Note) (v : Value) (o : Option Owner) (t : Tell) → Keeps (at_tail p c (unless_held w c (if_room c (entered p m v o c, t))))
-  unheld p w m v o t = let z : Cell × Tell = (entered p m v o c, t) in last p (unless_held w c (if_room c z)) (λ is. by_other (other_owner w c.owner) (if_room c z) (room z (put p m v o t is)))
+  unheld : (p : Place) (w : Owner) (m : Note) (v : Value) (o : Option Owner) (t : ActReply) → Keeps (at_tail p c (unless_held w c (if_room c (entered p m v o c, t))))
+  unheld p w m v o t = let z : Cell × ActReply = (entered p m v o c, t) in last p (unless_held w c (if_room c z)) (λ is. by_other (other_owner w c.owner) (if_room c z) (room z (put p m v o t is)))
 
   -- .. and so is a death
-  by_age : (b : Bool) (o : Owner) (z : Cell × Tell) → Keeps z → Keeps (if b then (c, held o) else z)
+  by_age : (b : Bool) (o : Owner) (z : Cell × ActReply) → Keeps z → Keeps (if b then (c, held o) else z)
   by_age true o z h = inl refl
   by_age false o z h = h
 
-  dies : (p : Place) (w : Owner) (o : Option Owner) (z : Cell × Tell) → c.next ≡ None → Keeps z → Keeps (owned_or p w c o z)
+  dies : (p : Place) (w : Owner) (o : Option Owner) (z : Cell × ActReply) → c.next ≡ None → Keeps z → Keeps (owned_or p w c o z)
   dies p w None z is h = h
-  dies p w (Some o) z is h = (let dead : Cell × Tell = (entered p (Died (age_of o)) c.value c.owner c, died (age_of o)) in by_age (waits_for w o) o (if_room c dead) (room dead (put p (Died (age_of o)) c.value c.owner (died (age_of o)) is)))
+  dies p w (Some o) z is h = (let dead : Cell × ActReply = (entered p (Died (age_of o)) c.value c.owner c, died (age_of o)) in by_age (waits_for w o) o (if_room c dead) (room dead (put p (Died (age_of o)) c.value c.owner (died (age_of o)) is)))
 
   locked : (p : Place) (w : Owner) → Keeps (lock_at p w c)
   locked p w =
-      let z : Cell × Tell = (entered p Got c.value (Some w) c, did) in
+      let z : Cell × ActReply = (entered p Got c.value (Some w) c, did) in
       last p (owned_or p w c (other_owner w c.owner) (if_room c z)) (λ is. dies p w (other_owner w c.owner) (if_room c z) is (room z (put p Got c.value (Some w) did is)))
 
-  owned : (p : Place) (w : Owner) (m : Note) (v : Value) (o : Option Owner) (t : Tell) → Keeps (at_tail p c (if_owned w c (if_room c (entered p m v o c, t))))
-  owned p w m v o t = let z : Cell × Tell = (entered p m v o c, t) in last p (if_owned w c (if_room c z)) (λ is. by_own (owns w c.owner) (if_room c z) (room z (put p m v o t is)))
+  owned : (p : Place) (w : Owner) (m : Note) (v : Value) (o : Option Owner) (t : ActReply) → Keeps (at_tail p c (if_owned w c (if_room c (entered p m v o c, t))))
+  owned p w m v o t = let z : Cell × ActReply = (entered p m v o c, t) in last p (if_owned w c (if_room c z)) (λ is. by_own (owns w c.owner) (if_room c z) (room z (put p m v o t is)))
 
   -- a next is given to the last row
   linked : (n : ℕ) → Keeps (link_to n c)
@@ -116,21 +116,21 @@ row_stays : (r : Option Row) → RowGrows r r
 row_stays None = tt
 row_stays (Some r) = stays r
 
-on_intents : (f : IntentRow → IntentRow × Tell) (t : Tell) (r : Row) → RowGrows (Some r) (Some (on_intent f t r).0)
+on_intents : (f : IntentRow → IntentRow × ActReply) (t : ActReply) (r : Row) → RowGrows (Some r) (Some (on_intent f t r).0)
 on_intents f t (Row.Intent i) = tt
 on_intents f t (Row.Cell c) = inl refl
 on_intents f t (Row.ReadLog v) = tt
 on_intents f t (Row.Invoke i) = tt
 on_intents f t Row.Lockset = tt
 
-on_calls : (f : InvokeRow → InvokeRow × Tell) (t : Tell) (r : Row) → RowGrows (Some r) (Some (on_invoke f t r).0)
+on_calls : (f : InvokeRow → InvokeRow × ActReply) (t : ActReply) (r : Row) → RowGrows (Some r) (Some (on_invoke f t r).0)
 on_calls f t (Row.Invoke i) = tt
 on_calls f t (Row.Cell c) = inl refl
 on_calls f t (Row.Intent i) = tt
 on_calls f t (Row.ReadLog v) = tt
 on_calls f t Row.Lockset = tt
 
-on_cells : (f : Cell → Cell × Tell) (t : Tell) → ((c : Cell) → Keeps c (f c)) → (r : Row) → RowGrows (Some r) (Some (on_cell f t r).0)
+on_cells : (f : Cell → Cell × ActReply) (t : ActReply) → ((c : Cell) → Keeps c (f c)) → (r : Row) → RowGrows (Some r) (Some (on_cell f t r).0)
 on_cells f t h (Row.Cell c) = h c
 on_cells f t h (Row.Intent i) = tt
 on_cells f t h (Row.ReadLog v) = tt

@@ -1,3 +1,3 @@
 pub mod Chain
+pub mod ChainLaws
 pub mod Content
-pub mod Laws

@@ -1,5 +1,5 @@
 -- That a function leads to another one by its cells exactly where there is a path.
-use Rattle.beldi_check.specs.Calls.{through}
+use Rattle.beldi_check.specs.CallGraph.{through}
 use Rattle.beldi_check.proofs.Names.{Bool, Func, IsPath, IsTrue, Link, List, None, ReachesByPaths, Some, [], arith, edge, edge_to, false, inl, inr, length, ltb-true, nat_lt, nat_tests, reaches, refl, slice_get, slice_get_within, subst, suc, true, zero, ℕ, ◌&&◌, ◌++◌, ◌<◌, ◌||◌, ◌∷◌, ◌≡◌, ◌⊎◌}
 
 left : (a b : Bool) → IsTrue a → IsTrue (a || b)

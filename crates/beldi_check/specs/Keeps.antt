@@ -1,7 +1,7 @@
 -- What it is to keep every rule, said of each function, table and statement.
 use Rattle.std.specs.Prelude.{◌≡◌, ◌↔◌, ◌<◌, ◌≤◌, ℕ, false, List, length, slice_get, Some, None}
 use Rattle.beldi_tree.specs.{declared.deployment.Deployment.Deployment, declared.deployment.Func.Func, declared.deployment.TableHead.TableHead, Bindings.is_name}
-use Rattle.beldi_check.specs.{Site.Spot, Site.sites_of, Calls.reaches, Calls.blocks, declared.calls.Link.TheVariants.Call, declared.calls.Link.TheVariants.Start, declared.rules.Rule.Rule, Rules.named, Rules.IsChecked}
+use Rattle.beldi_check.specs.{Site.Spot, Site.sites_of, CallGraph.reaches, CallGraph.blocks, declared.calls.Link.TheVariants.Call, declared.calls.Link.TheVariants.Start, declared.rules.Rule.Rule, Rules.named, Rules.IsChecked}
 
 pub record KeepsRules (fs : List Func) : Type 0 where
   -- no two functions have one name, nor two tables of a function

@@ -1,4 +1,4 @@
-pub mod Calls
+pub mod CallGraph
 pub mod Keeps
 pub mod Rules
 pub mod Site

@@ -1,10 +1,10 @@
 -- The rules that a deployment keeps, and the first place where it breaks one.
 use Rattle.std.specs.Prelude.{◌≡◌, ℕ, ◌+◌, nat_lt, Bool, true, false, not, ◌&&◌, ◌||◌, List, [], ◌∷◌, ◌++◌, slice_get, Option, Some, None, option_map, option_and_then, if◌then◌else◌}
 use Rattle.std.specs.{Option.option_or, List.list_any}
-use Rattle.beldi_tree.specs.Command.{Command, read, write, condwrite, call, async, lock, unlock, transaction, break, return}
+use Rattle.beldi_tree.specs.StatementCommand.{Command, read, write, condwrite, call, async, lock, unlock, transaction, break, return}
 use Rattle.beldi_tree.specs.{declared.deployment.Deployment.Deployment, declared.deployment.Func.Func, declared.deployment.TableHead.TableHead, Bindings.is_name, Names.func_place}
 use Rattle.beldi_check.specs.declared.why.Why.TheVariants.{UnknownFunction, UnknownTable, Duplicate, TooMany, BreakOutside, NestedTx, LeavesTx, CallCycle, AsyncInTx, LockInTx}
-use Rattle.beldi_check.specs.{Site.Spot, Site.sites_of, Site.line_at, Calls.reaches, Calls.blocks, declared.calls.Link.TheVariants.Call, declared.calls.Link.TheVariants.Start, declared.rules.Rule.Rule, declared.why.Why.Why, declared.why.CheckErr.CheckErr, declared.why.CheckErr.TheVariants.OutOfMemory, declared.why.CheckErr.TheVariants.Refused}
+use Rattle.beldi_check.specs.{Site.Spot, Site.sites_of, Site.line_at, CallGraph.reaches, CallGraph.blocks, declared.calls.Link.TheVariants.Call, declared.calls.Link.TheVariants.Start, declared.rules.Rule.Rule, declared.why.Why.Why, declared.why.CheckErr.CheckErr, declared.why.CheckErr.TheVariants.OutOfMemory, declared.why.CheckErr.TheVariants.Refused}
 
 -- a line, and the rule that it breaks
 abbrev pub Offence : Type 0

@@ -1,6 +1,6 @@
 -- The statements of a body, and where each stands.
 use Rattle.std.specs.Prelude.{true, false, ℕ, List, [], ◌∷◌, ◌++◌}
-use Rattle.beldi_tree.specs.Command.{Command, Commands, no_commands, command, set, read, write, condwrite, call, async, lock, unlock, transaction, abort, break, choose, repeat, return, commands_of}
+use Rattle.beldi_tree.specs.StatementCommand.{Command, Commands, no_commands, command, set, read, write, condwrite, call, async, lock, unlock, transaction, abort, break, choose, repeat, return, commands_of}
 use Rattle.beldi_tree.specs.Statement.{command_of}
 use Rattle.beldi_check.specs.declared.site.Place.{Place}
 use Rattle.beldi_check.specs.declared.site.Site as site

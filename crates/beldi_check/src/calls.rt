@@ -2,7 +2,7 @@
 ghost use Rattle.std.specs.Prelude.{◌≡◌, ◌+◌, ◌<◌, ◌&&◌, ◌||◌, ℕ, Bool, length, IfOk, option_copied, slice_get};
 ghost use Rattle.std.specs.List.{list_any};
 ghost use Rattle.beldi_tree.specs.Statement.{command_of};
-ghost use Rattle.beldi_check.specs.Calls.{leads, leads_to, leads_within, edge, edge_to, over, reaches, IsRow, IsGrid, row_at, at, cell};
+ghost use Rattle.beldi_check.specs.CallGraph.{leads, leads_to, leads_within, edge, edge_to, over, reaches, IsRow, IsGrid, row_at, at, cell};
 ghost use Rattle.beldi_check.specs.Site.{site_of, sites_of};
 
 use crate::listed::Listed;

@@ -1,5 +1,5 @@
 // What follows from the definitions alone.
-ghost use Rattle.beldi_check.specs.Calls.{ReachesByPaths};
+ghost use Rattle.beldi_check.specs.CallGraph.{ReachesByPaths};
 ghost use Rattle.beldi_check.specs.Keeps.{AcceptsExactly};
 
 /// A function reaches another one, as the rules on cycles and on transactions have it, exactly where there is a path of calls.

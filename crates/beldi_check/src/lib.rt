@@ -1,5 +1,5 @@
 //! The checks of a deployment: what a host asks of one before it runs it. It stands on `beldi_tree`.
-//! Its definitions: `specs/Site` (the statements of a body, and where each stands), `specs/Calls` (which function leads to
+//! Its definitions: `specs/Site` (the statements of a body, and where each stands), `specs/CallGraph` (which function leads to
 //! which), `specs/Rules` (the first place that breaks each rule, and the first of all) and `specs/Keeps` (the same rules, said
 //! of each function, table and statement).
 //!

@@ -3,7 +3,7 @@ ghost use Rattle.std.specs.Prelude.{◌≡◌, ◌+◌, [], not, length, slice_g
 ghost use Rattle.std.specs.List.{list_any};
 ghost use Rattle.beldi_tree.specs.Bindings.{is_name};
 ghost use Rattle.beldi_tree.specs.Statement.{command_of};
-ghost use Rattle.beldi_check.specs.Calls.{reaches, IsGrid};
+ghost use Rattle.beldi_check.specs.CallGraph.{reaches, IsGrid};
 ghost use Rattle.beldi_check.specs.Rules.{Refuses, has_function, has_table, double_table, double_name, past_most, some_if, func_in, table_in, is_break, is_return, is_transaction, is_async, is_lock, named, why_of, offence_at, first_site, first_statement, first_cycle, first_broken};
 ghost use Rattle.beldi_check.specs.Site.{site_of, sites_of};
 ghost use Rattle.beldi_check.specs.declared.calls.Link.TheVariants.{Call, Start};

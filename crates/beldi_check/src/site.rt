@@ -1,6 +1,6 @@
 // The statements of a body, and where each stands.
 ghost use Rattle.std.specs.Prelude.{◌≡◌, ◌++◌, map, IfOk, OnOk};
-ghost use Rattle.beldi_tree.specs.Command.{commands_of};
+ghost use Rattle.beldi_tree.specs.StatementCommand.{commands_of};
 ghost use Rattle.beldi_check.specs.Site.{outside, repeated, transacted, sites, inside, sites_of, site_of, line_at};
 ghost use Rattle.beldi_tree.specs.Statement.{command_of};
 

@@ -1,2 +1,2 @@
+pub mod CollectTurns
 pub mod Jumps
-pub mod Turns

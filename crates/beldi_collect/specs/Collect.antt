@@ -4,7 +4,7 @@ use Rattle.std.specs.Option.{option_map}
 use denote.Bor.{Bor}
 use Rattle.beldi_value.specs.declared.id.IntentId.{IntentId}
 use Rattle.beldi_row.specs.{Key.RowKey, declared.key.Kind.Kind, declared.row.Body.Body, declared.row.Row.Row}
-use Rattle.beldi_walk.specs.{declared.query.Query.Query, declared.query.Query.TheVariants.After, Query.Told, Query.found}
+use Rattle.beldi_query.specs.{declared.query.Query.Query, declared.query.Query.TheVariants.After, Query.QueryReply, Query.found}
 use Rattle.beldi_intent.specs.Intent.{open_body}
 use Rattle.beldi_collect.specs.declared.cursor.Found.{Found, TheVariants.Passed, TheVariants.Unended, TheVariants.Round}
 
@@ -26,17 +26,17 @@ abbrev pub open_at : Kind → Row → Option (IntentId × Body)
 open_at (Kind.Intent id) (Row.Intent i) = option_map (λ b. (id, b)) (open_body i)
 open_at kind r = None
 
-abbrev pub row_says : RowKey → Option (IntentId × Body) → Found
-row_says k None = Passed (passing k k.kind)
-row_says k (Some e) = Unended k e.0 e.1.func
+abbrev pub row_output : RowKey → Option (IntentId × Body) → Found
+row_output k None = Passed (passing k k.kind)
+row_output k (Some e) = Unended k e.0 e.1.func
 
-abbrev pub found_says : Option (RowKey × Row) → Found
-found_says None = Round
-found_says (Some e) = row_says e.0 (open_at e.0.kind e.1)
+abbrev pub found_output : Option (RowKey × Row) → Found
+found_output None = Round
+found_output (Some e) = row_output e.0 (open_at e.0.kind e.1)
 
-abbrev pub collect_says : Told → Found
-collect_says (found e) = found_says e
-collect_says t = Round
+abbrev pub collect_output : QueryReply → Found
+collect_output (found e) = found_output e
+collect_output t = Round
 
 -- an intent, without where it lies in memory
 abbrev pub lent_intent : Option (Bor IntentId × Bor Body) → Option (IntentId × Body)

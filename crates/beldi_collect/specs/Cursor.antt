@@ -3,9 +3,9 @@ use Rattle.std.specs.Prelude.{◌≡◌, ℕ, false, Option, Some, None, Ok}
 use Rattle.std.specs.declared.cmp.Ordering.TheVariants.{Less}
 use Rattle.beldi_value.specs.declared.id.IntentId.{IntentId}
 use Rattle.beldi_row.specs.{Key.RowKey, Key.key_cmp, Key.least_key, declared.row.Body.Body, declared.row.IntentRow.IntentRow, declared.row.Row.Row, Table.Rows, Table.TableState, Table.Tells, Table.next_row, declared.key.Kind.Kind}
-use Rattle.beldi_walk.specs.{declared.query.Query.Query, Query.Told, Query.found, Walk.Turned}
+use Rattle.beldi_query.specs.{declared.query.Query.Query, Query.QueryReply, Query.found, Walk.Turned}
 use Rattle.beldi_intent.specs.Intent.{is_ended}
-use Rattle.beldi_collect.specs.{Collect.collect_asks, Collect.collect_says, Collect.open_at, Collect.passing, declared.cursor.Found.Found, declared.intent_cursor.IcSays.IcSays, declared.intent_cursor.IcSays.TheVariants.Passed, declared.intent_cursor.IcSays.TheVariants.Unended, declared.intent_cursor.IcSays.TheVariants.Round, declared.intent_cursor.IntentCursor.IntentCursor}
+use Rattle.beldi_collect.specs.{Collect.collect_asks, Collect.collect_output, Collect.open_at, Collect.passing, declared.cursor.Found.Found, declared.intent_cursor.IcOutput.IcOutput, declared.intent_cursor.IcOutput.TheVariants.Passed, declared.intent_cursor.IcOutput.TheVariants.Unended, declared.intent_cursor.IcOutput.TheVariants.Round, declared.intent_cursor.IntentCursor.IntentCursor}
 
 abbrev pub first_cursor : IntentCursor
 first_cursor = record { at = least_key; kept = None }
@@ -19,20 +19,20 @@ goes_on c (Found.Passed k) = record { at = k; kept = None }
 goes_on c (Found.Unended k id f) = record { at = c.at; kept = Some k }
 goes_on c Found.Round = first_cursor
 
-abbrev pub cursor_next : IntentCursor → Told → IntentCursor
-cursor_next c t = goes_on c (collect_says t)
+abbrev pub cursor_next : IntentCursor → QueryReply → IntentCursor
+cursor_next c t = goes_on c (collect_output t)
 
-abbrev pub open_says : Option (IntentId × Body) → IcSays
-open_says None = Passed
-open_says (Some e) = Unended e.0 e.1
+abbrev pub open_output : Option (IntentId × Body) → IcOutput
+open_output None = Passed
+open_output (Some e) = Unended e.0 e.1
 
-abbrev pub row_told : Option (RowKey × Row) → IcSays
+abbrev pub row_told : Option (RowKey × Row) → IcOutput
 row_told None = Round
-row_told (Some e) = open_says (open_at e.0.kind e.1)
+row_told (Some e) = open_output (open_at e.0.kind e.1)
 
-abbrev pub cursor_says : IntentCursor → Told → IcSays
-cursor_says c (found e) = row_told e
-cursor_says c t = Round
+abbrev pub cursor_output : IntentCursor → QueryReply → IcOutput
+cursor_output c (found e) = row_told e
+cursor_output c t = Round
 
 -- ---- what a turn promises
 -- the row is that of an intent which has a body and has not ended
@@ -44,18 +44,18 @@ pub record IsUnended (k : RowKey) (r : Row) (id : IntentId) (b : Body) : Type 0 
   pub body : intent.body ≡ Some b
 
 -- by the row after the cursor
-abbrev pub SaidOf : IntentCursor → IntentCursor → Rows → IcSays → Type 0
-SaidOf c x m Passed = (e : RowKey × Row) × (next_row m c.at ≡ Some e) × (x.at ≡ passing e.0 e.0.kind) × ((id : IntentId) (b : Body) → IsUnended e.0 e.1 id b → ⊥)
-SaidOf c x m (Unended id b) = (e : RowKey × Row) × (next_row m c.at ≡ Some e) × IsUnended e.0 e.1 id b × (x.at ≡ c.at) × (x.kept ≡ Some e.0)
-SaidOf c x m Round = (next_row m c.at ≡ None) × (x ≡ first_cursor)
+abbrev pub IsOutputOf : IntentCursor → IntentCursor → Rows → IcOutput → Type 0
+IsOutputOf c x m Passed = (e : RowKey × Row) × (next_row m c.at ≡ Some e) × (x.at ≡ passing e.0 e.0.kind) × ((id : IntentId) (b : Body) → IsUnended e.0 e.1 id b → ⊥)
+IsOutputOf c x m (Unended id b) = (e : RowKey × Row) × (next_row m c.at ≡ Some e) × IsUnended e.0 e.1 id b × (x.at ≡ c.at) × (x.kept ≡ Some e.0)
+IsOutputOf c x m Round = (next_row m c.at ≡ None) × (x ≡ first_cursor)
 
-pub record CursorTurn (c x : IntentCursor) (m n : Rows) (s : IcSays) : Type 0 where
+pub record CursorTurn (c x : IntentCursor) (m n : Rows) (s : IcOutput) : Type 0 where
   pub rows : n ≡ m
-  pub said : SaidOf c x m s
+  pub said : IsOutputOf c x m s
 
 -- so it is of each turn that says something, over every table that tells its rows
 abbrev pub NextIntentIsTold : Type 0
-NextIntentIsTold = (c x : IntentCursor) (now : ℕ) (old new : TableState) (s : IcSays) → Turned (cursor_asks c) now (cursor_next c) (cursor_says c) c x old new (Ok s)
+NextIntentIsTold = (c x : IntentCursor) (now : ℕ) (old new : TableState) (s : IcOutput) → Turned (cursor_asks c) now (cursor_next c) (cursor_output c) c x old new (Ok s)
     → Tells old.rows new.rows (λ m n. CursorTurn c x m n s)
 
 -- between a row and where the cursor is set past it no intent has its key

@@ -1,12 +1,12 @@
 // The intent collector: what is asked of a table, and what follows.
 ghost use Rattle.std.specs.Prelude.{◌≡◌, true, IfOk, OnErr};
-ghost use Rattle.beldi_walk.specs.Query.{told_of, lends};
-ghost use Rattle.beldi_collect.specs.Collect.{collect_asks, collect_says, lent_intent, open_at, passing as passing_of};
+ghost use Rattle.beldi_query.specs.Query.{query_reply_of, lends};
+ghost use Rattle.beldi_collect.specs.Collect.{collect_asks, collect_output, lent_intent, open_at, passing as passing_of};
 
 use beldi_intent::open_body;
+use beldi_query::{Query, QueryReplyRef};
 use beldi_row::{Body, Kind, Row, RowKey};
-use beldi_value::{Apart, IntentId, or_drop};
-use beldi_walk::{Heard, Query};
+use beldi_value::{Boxed, IntentId, or_drop};
 use std::alloc::{AllocError, Global};
 
 /// What the intent collector finds after its cursor.
@@ -25,18 +25,18 @@ pub enum Found {
 }
 
 /// Asks for the row after the cursor.
-pub fn collect_query(alloc: Global, cursor: &RowKey) -> Result<Apart<Query>, AllocError>
+pub fn collect_query(alloc: Global, cursor: &RowKey) -> Result<Boxed<Query>, AllocError>
     ensures { IfOk result (λ q. q ≡ collect_asks cursor.now) }
 {
     Query::after(alloc, cursor.copy(alloc)?)
 }
 
 /// What is found there. Out of memory only for what was lent.
-pub fn collect_told(alloc: Global, heard: Heard<'_>) -> Result<Found, AllocError>
-    ensures ok { IfOk result (λ f. f ≡ collect_says (told_of heard.entry)) }
-    ensures err { OnErr result (lends (told_of heard.entry) ≡ true) }
+pub fn collect_told(alloc: Global, heard: QueryReplyRef<'_>) -> Result<Found, AllocError>
+    ensures ok { IfOk result (λ f. f ≡ collect_output (query_reply_of heard.entry)) }
+    ensures err { OnErr result (lends (query_reply_of heard.entry) ≡ true) }
 {
-    let Heard::Found(Some((key, row))) = heard else {
+    let QueryReplyRef::Found(Some((key, row))) = heard else {
         return Ok(Found::Round);
     };
     match open_intent(key, row) {

@@ -1,20 +1,20 @@
 // The intent collector as a walk of its own.
 ghost use Rattle.std.specs.Prelude.{◌≡◌, Some, None, IsSome, IfOk, OnErr};
 ghost use Rattle.beldi_row.specs.Key.{RowKey};
-ghost use Rattle.beldi_walk.specs.Walk.{Turned};
-ghost use Rattle.beldi_collect.specs.declared.intent_cursor.IcSays.TheVariants as IcSays;
-ghost use Rattle.beldi_collect.specs.Cursor.{first_cursor, cursor_asks, cursor_next, cursor_says};
+ghost use Rattle.beldi_query.specs.Walk.{Turned};
+ghost use Rattle.beldi_collect.specs.declared.intent_cursor.IcOutput.TheVariants as IcOutput;
+ghost use Rattle.beldi_collect.specs.Cursor.{first_cursor, cursor_asks, cursor_next, cursor_output};
 
 use crate::cursor::{collect_query, open_intent, passing};
+use beldi_query::{Query, QueryReplyRef, Walk};
 use beldi_row::{Body, RowKey, Table, TableErr};
-use beldi_value::{Apart, IntentId, or_drop};
-use beldi_walk::{Heard, Query, Walk};
+use beldi_value::{Boxed, IntentId, or_drop};
 use std::alloc::{AllocError, Global};
 use std::mem::replace;
 
 /// What a turn of the intent collector says.
 #[derive(Drop)]
-pub enum IcSays {
+pub enum IcOutput {
     /// A row was passed.
     Passed,
     /// The next row is that of an intent which has this body and has not ended. The cursor stands before it.
@@ -32,29 +32,29 @@ pub struct IntentCursor {
 }
 
 impl Walk for IntentCursor {
-    ghost use Rattle.beldi_collect.specs.Cursor.{cursor_asks, cursor_next, cursor_says};
+    ghost use Rattle.beldi_collect.specs.Cursor.{cursor_asks, cursor_next, cursor_output};
 
-    type Says = IcSays;
+    type Output = IcOutput;
 
     ghost asks = { cursor_asks };
 
     ghost next = { cursor_next };
 
-    ghost says = { cursor_says };
+    ghost output = { cursor_output };
 
-    fn ask(&self, alloc: Global) -> Result<Apart<Query>, AllocError> {
+    fn ask(&self, alloc: Global) -> Result<Boxed<Query>, AllocError> {
         collect_query(alloc, &self.at)
     }
 
-    fn told(&mut self, alloc: Global, heard: Heard<'_>) -> Result<IcSays, AllocError> {
-        let Heard::Found(Some((key, row))) = heard else {
+    fn resume(&mut self, alloc: Global, heard: QueryReplyRef<'_>) -> Result<IcOutput, AllocError> {
+        let QueryReplyRef::Found(Some((key, row))) = heard else {
             self.go_to(RowKey::least(alloc));
-            return Ok(IcSays::Round);
+            return Ok(IcOutput::Round);
         };
         match open_intent(key, row) {
             None => {
                 self.go_to(passing(alloc, key)?);
-                Ok(IcSays::Passed)
+                Ok(IcOutput::Passed)
             }
             Some((id, body)) => self.stop_at(alloc, key, id, body),
         }
@@ -86,21 +86,21 @@ impl IntentCursor {
         key: &RowKey,
         id: &IntentId,
         body: &Body,
-    ) -> Result<IcSays, AllocError>
-        ensures ok { IfOk result (λ s. (self.new ≡ record self.old { kept = Some key.now }) × (s ≡ IcSays.Unended id.now body.now)) }
+    ) -> Result<IcOutput, AllocError>
+        ensures ok { IfOk result (λ s. (self.new ≡ record self.old { kept = Some key.now }) × (s ≡ IcOutput.Unended id.now body.now)) }
         ensures err { OnErr result (self.new ≡ self.old) }
     {
         let id = id.copy(alloc)?;
         let body = or_drop!(body.copy(alloc); id);
         let key = or_drop!(key.copy(alloc); id, body);
         drop(self.kept.replace(key));
-        Ok(IcSays::Unended { id, body })
+        Ok(IcOutput::Unended { id, body })
     }
 
     /// One step to the next row; the rows are as before. After `Unended` the walk still stands before that row, and after an
     /// `Err` it stands where it stood. `Failed` comes only where the table failed, and `Full` never.
-    pub fn turn<T: Table>(&mut self, alloc: Global, table: &mut T) -> Result<IcSays, TableErr>
-        ensures { Turned (cursor_asks self.old) 0 (cursor_next self.old) (cursor_says self.old) self.old self.new (T.state table.old) (T.state table.new) result }
+    pub fn turn<T: Table>(&mut self, alloc: Global, table: &mut T) -> Result<IcOutput, TableErr>
+        ensures { Turned (cursor_asks self.old) 0 (cursor_next self.old) (cursor_output self.old) self.old self.new (T.state table.old) (T.state table.new) result }
     {
         Walk::turn(self, alloc, table, 0)
     }

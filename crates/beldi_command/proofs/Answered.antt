@@ -1,7 +1,7 @@
 -- What the two endings of a parse say of the words.
 use Rattle.clap.{specs.Walk.Text, specs.Simple.App, specs.Simple.HasMatchesOf, specs.Simple.is_simple, specs.Simple.subcommand_rows_of, specs.Kinds.HasKind, specs.Kinds.IsAmong, specs.Faults.fault_of, specs.Faults.is_simple_and_free, specs.Values.kind_of, specs.declared.error.Error.Error, specs.declared.error.kind.ErrorKind.TheVariants.OutOfMemory, specs.declared.parser.matches.ArgMatches.ArgMatches, proofs.OnLiterals.clap_on_literals}
 use Rattle.std.proofs.Common.{◌≡◌, inl, inr, true, false, List, [], None, option_and_then, refl, ap, sym, subst, ◌∙◌}
-use Rattle.beldi_command.{specs.Command.named_of, specs.Parser.command_met, specs.Parser.commands, specs.Parser.has_divider, proofs.Asked.IsAsked, proofs.Asked.is_asked, proofs.Asked.met}
+use Rattle.beldi_command.{specs.CommandLine.named_of, specs.Parser.command_met, specs.Parser.commands, specs.Parser.has_divider, proofs.Asked.IsAsked, proofs.Asked.is_asked, proofs.Asked.met}
 
 -- `clap` says of such a command which matches it gives, and how it fails
 is_told : is_simple commands ≡ true

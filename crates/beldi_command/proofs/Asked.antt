@@ -5,7 +5,7 @@ use Rattle.clap.specs.Faults.{check_fault, defaults_fault, entered_fault, fault_
 use Rattle.clap.{specs.Lexer.long_of, specs.Kinds.Kinds, specs.Kinds.or_else, proofs.FaultLemmas.stopped_fault, proofs.OnLiterals.clap_on_literals}
 use Rattle.std.proofs.Common.{◌≡◌, ◌⊎◌, inl, inr, Bool, true, false, List, [], ◌∷◌, Option, Some, None, fold, option_and_then, bytes_eq, codes, refl, sym, ap, subst, subst₂, is_some, ◌∙◌}
 use Rattle.std.proofs.lemmas.{Bool.or_parts, Slice.Eq.bytes_eq-Decides}
-use Rattle.beldi_command.{specs.declared.command.Command.Command, specs.Command.named_of, specs.Parser.command_met, specs.Parser.commands, specs.Parser.has_divider}
+use Rattle.beldi_command.{specs.declared.command.Command.Command, specs.CommandLine.named_of, specs.Parser.command_met, specs.Parser.commands, specs.Parser.has_divider}
 use Rattle.beldi_command.proofs.{Entered.entered, Refused.Fails, Refused.by_first, Refused.by_next, Refused.strayed, Serving.ends, Serving.found, Serving.serve_is_read, Serving.shape, Serving.start}
 
 -- the command that the subcommand that was met is

@@ -4,7 +4,7 @@ use Rattle.clap.specs.{Lexer.long_of, Lexer.long_of_rest, Lexer.name_and_value, 
 use Rattle.clap.specs.Simple.{filled}
 use Rattle.std.proofs.Common.{◌≡◌, ◌⊎◌, inl, inr, ◌==◌, ◌+◌, ℕ, suc, Bool, true, false, List, [], ◌∷◌, ◌++◌, Option, Some, None, option_and_then, bytes_eq, codes, arith, refl, sym, ap, ap₂, subst, ◌∙◌, append-nil, if◌then◌else◌}
 use Rattle.std.proofs.lemmas.{Bool.eqb-true, Slice.Eq.bytes_eq-Decides}
-use Rattle.beldi_command.specs.{Command.behind, Command.option_first, Parser.wanted}
+use Rattle.beldi_command.specs.{CommandLine.behind, CommandLine.option_first, Parser.wanted}
 
 -- one of the options, and its word
 abbrev pub named : Bool → Text

@@ -3,7 +3,7 @@ use Rattle.clap.specs.Walk.{Text}
 use Rattle.std.proofs.Common.{◌≡◌, ◌⊎◌, inl, inr, ◌||◌, ℕ, Bool, true, false, not, List, [], ◌∷◌, ◌++◌, Option, Some, None, option_and_then, bytes_eq, codes, refl, sym, subst, if◌then◌else◌}
 use Rattle.std.proofs.lemmas.{Slice.Eq.bytes_eq-Decides}
 use Rattle.beldi_value.specs.Number.{numeral_at}
-use Rattle.beldi_command.{specs.declared.command.Command.Command, specs.Command.last_value, specs.Command.named_of, specs.Command.named_with, specs.Command.option_alone, specs.Command.serve_by, specs.Command.serve_of, specs.Command.serve_with, specs.Parser.has_divider}
+use Rattle.beldi_command.{specs.declared.command.Command.Command, specs.CommandLine.last_value, specs.CommandLine.named_of, specs.CommandLine.named_with, specs.CommandLine.option_alone, specs.CommandLine.serve_by, specs.CommandLine.serve_of, specs.CommandLine.serve_with, specs.Parser.has_divider}
 use Rattle.beldi_command.proofs.Options.{IsOther, dashed, word_is}
 
 pub no_number : (most : ℕ) (t : Text) → numeral_at most (45 ∷ t) ≡ None

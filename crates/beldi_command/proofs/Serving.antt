@@ -8,7 +8,7 @@ use Rattle.std.specs.List.{fold}
 use Rattle.std.proofs.Common.{◌≡◌, ◌⊎◌, inl, inr, ◌==◌, ℕ, Bool, true, false, not, nat_lt, length, List, [], ◌∷◌, ◌++◌, Option, Some, None, option_and_then, bytes_eq, codes, refl, sym, subst, subst₂, ◌∙◌, if◌then◌else◌}
 use Rattle.std.proofs.lemmas.Bool.{eqb-true, or_parts}
 use Rattle.beldi_value.specs.Number.{numeral_at}
-use Rattle.beldi_command.{specs.declared.command.Command.Command, specs.Command.last_value, specs.Command.option_alone, specs.Command.serve_with}
+use Rattle.beldi_command.{specs.declared.command.Command.Command, specs.CommandLine.last_value, specs.CommandLine.option_alone, specs.CommandLine.serve_with}
 use Rattle.beldi_command.{specs.Parser.commands, specs.Parser.has_divider, specs.Parser.serve, specs.Parser.serve_given}
 use Rattle.beldi_command.proofs.{Pairs.no_number, Pairs.none_alone, Pairs.none_first, Pairs.none_other, Pairs.pair, Options.IsOther, Options.dashed, Options.named, Options.rule, Options.word_is, Refused.Fails, Refused.at, Refused.by_first, Refused.held, Refused.one_kind, Refused.strayed, Refused.too_late, Refused.value_taken}
 

@@ -4,7 +4,7 @@ use Rattle.std.specs.Prelude.{ℕ, Bool, true, List, Option, Some, None, codes, 
 use Rattle.std.specs.{List.list_any, Str.bytes_eq}
 use Rattle.clap.specs.Simple.{App, Shape, new_app, new_rule, new_shape, with_rule, with_subcommand}
 use Rattle.clap.specs.Walk.{Row, Rule, first_of}
-use Rattle.beldi_command.specs.{declared.command.Command.Command, declared.command.Command.TheVariants.Run, declared.command.Command.TheVariants.Check, Command.serve_of}
+use Rattle.beldi_command.specs.{declared.command.Command.Command, declared.command.Command.TheVariants.Run, declared.command.Command.TheVariants.Check, CommandLine.serve_of}
 
 -- no program's name among the words, no help, no version, and a subcommand is wanted
 abbrev pub settings : Shape → Shape

@@ -1,5 +1,5 @@
 //! Which command the words of a command line ask for. It stands on `beldi_value` (texts, numbers) and `clap`, which reads the words.
-//! Its definitions: `specs/Command` (the grammar `run | check | serve --port P --requests M | gen SEED N`, in its own words) and
+//! Its definitions: `specs/CommandLine` (the grammar `run | check | serve --port P --requests M | gen SEED N`, in its own words) and
 //! `specs/Parser` (the command that `clap` is given, and what is read off its matches).
 //!
 //! Proved:

@@ -2,7 +2,7 @@
 ghost use Rattle.std.specs.Prelude.{◌≡◌, IfOk, false, codes, option_and_then};
 ghost use Rattle.clap.specs.declared.builder.command.Command.TheViews.{out-Command as fields_of};
 ghost use Rattle.clap.specs.Words.{app_of, first_value, found_of, rule_of, subcommand_rows_of};
-ghost use Rattle.beldi_command.specs.Command.{serve_of};
+ghost use Rattle.beldi_command.specs.CommandLine.{serve_of};
 ghost use Rattle.beldi_command.specs.Parser.{beldi, command_met, commands, serve, serve_given, wanted, with_plain, with_serve};
 
 use crate::command::Command;

@@ -1,6 +1,6 @@
 // The words, read by the parser.
 ghost use Rattle.std.specs.Prelude.{◌≡◌, IfOk, false, map};
-ghost use Rattle.beldi_command.specs.Command.{command_of, gen_of, gen_with, named_of};
+ghost use Rattle.beldi_command.specs.CommandLine.{command_of, gen_of, gen_with, named_of};
 ghost use Rattle.beldi_command.specs.Parser.{has_divider};
 
 use crate::command::Command;

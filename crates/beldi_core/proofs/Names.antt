@@ -8,15 +8,15 @@ pub use Rattle.std.specs.FinMap as map
 pub use Rattle.std.proofs.Common.{Bool, Err, List, None, Ok, Option, Result, Some, T, [], ap, arith, cond, false, if◌then◌else◌, inl, inr, is_none, is_some, refl, rules, subst, suc, sym, true, zero, ℕ, ◌&&◌, ◌+◌, ◌-◌, ◌<◌, ◌||◌, ◌∙◌, ◌∷◌, ◌≡◌, ◌≢◌, ◌≤◌, ◌⊎◌}
 pub use Rattle.beldi_value.{proofs.Maps.get_made, proofs.Maps.set_made, proofs.Maps.unset_made, specs.Id.id_cmp, specs.Id.id_exact, specs.Id.id_total, specs.declared.id.IntentId.IntentId}
 pub use Rattle.beldi_tree.specs.declared.deployment.Deployment.{Deployment}
-pub use Rattle.beldi_book.specs.Order.{count_changes}
-pub use Rattle.beldi_row.{proofs.Rows.entries_rows, proofs.Rows.get_rows, proofs.Rows.len_rows, proofs.Rows.none_removed, proofs.Rows.one_set, specs.Key.row_of, specs.Table.TableState, specs.declared.table.TableErr.TableErr, specs.declared.table.TableErr.TheVariants.OutOfMemory}
-pub use Rattle.beldi_walk.{proofs.Queries.unasked, specs.Query.Came, specs.Query.Told, specs.Query.told_of, specs.declared.query.Query.Query}
-pub use Rattle.beldi_step.specs.Host.{Core, Followed, Plan, StepBy, Stepped, after_turn, asks, at_once, crash_plan, ended_run, has_run, marked, no_run, plan, plan_of, put_run, reads_all, run_next, run_plan, unheard_next}
+pub use Rattle.beldi_book.specs.LinearOrder.{count_changes}
+pub use Rattle.beldi_row.{proofs.TableRows.entries_rows, proofs.TableRows.get_rows, proofs.TableRows.len_rows, proofs.TableRows.none_removed, proofs.TableRows.one_set, specs.Key.row_of, specs.Table.TableState, specs.declared.table.TableErr.TableErr, specs.declared.table.TableErr.TheVariants.OutOfMemory}
+pub use Rattle.beldi_query.{proofs.Queries.unasked, specs.Query.Came, specs.Query.QueryReply, specs.Query.query_reply_of, specs.declared.query.Query.Query}
+pub use Rattle.beldi_step.specs.HostStep.{Core, Followed, Plan, StepBy, Stepped, after_turn, asks, immediate, crash_plan, ended_run, has_run, marked, no_run, plan, plan_of, put_run, reads_all, run_next, run_plan, unheard_next}
 pub use Rattle.beldi_step.specs.Next.{first_past}
-pub use Rattle.beldi_step.specs.Stride.{past_first, unless_first, walked, walking}
-pub use Rattle.beldi_step.specs.Run.{Turned, Turns, followed, going, run_asks, run_told, says_of}
-pub use Rattle.beldi_step.{proofs.PutRun.remove_put, specs.declared.event.Event.Event, specs.declared.event.Event.TheVariants.Lost, specs.declared.event.Event.TheVariants.Turn, specs.declared.event.Seen.Seen, specs.declared.run.Mark.Mark, specs.declared.run.Run.Run, specs.declared.run.TurnSays.TurnSays, specs.declared.run.Walking.Walking}
+pub use Rattle.beldi_step.specs.RunStride.{past_first, unless_first, walked, walking}
+pub use Rattle.beldi_step.specs.Run.{Turned, Turns, followed, going, run_asks, run_told, output_of}
+pub use Rattle.beldi_step.{proofs.PutRun.remove_put, specs.declared.event.Event.Event, specs.declared.event.Event.TheVariants.Lost, specs.declared.event.Event.TheVariants.Turn, specs.declared.event.EventReply.EventReply, specs.declared.run.Mark.Mark, specs.declared.run.Run.Run, specs.declared.run.TurnOutput.TurnOutput, specs.declared.run.Walking.Walking}
 pub use Rattle.beldi_core.specs.Counts.{AllCounted, CountMap, LoweredAt, LoweredTo, RaisedAt, count_at, counted, is_of, kept_as, less, more, more_if, number_of}
-pub use Rattle.beldi_core.specs.Parts.{Asked, Copied, IsWalk, NoMemory, PlannedOf, TellsTurn, WalkTold, as_seen, base, core_in, entered, event_of, mark_told, turn_event}
-pub use Rattle.beldi_core.specs.Runs.{AllGiven, AllKept, IsLeastPast, Numbered, RunMap, RunTold, ends_run, map_of, settled, settled_counts, uncounted, walked_in, withdrawn}
+pub use Rattle.beldi_core.specs.PlannedEvent.{Asked, Copied, IsWalk, NoMemory, PlannedOf, TellsTurn, WalkTold, as_reply, base, core_in, entered, event_of, mark_told, turn_event}
+pub use Rattle.beldi_core.specs.LiveRuns.{AllGiven, AllKept, IsLeastPast, Numbered, RunMap, RunTold, ends_run, map_of, settled, settled_counts, uncounted, walked_in, withdrawn}
 pub use Rattle.beldi_core.specs.declared.{events.Pending.Pending, events.Planned.Planned, runs.Copies.Copies}

@@ -1,60 +1,60 @@
 -- An event that was planned, and then followed, is one step.
 use Rattle.std.proofs.lemmas.List.{append-nil}
-use Rattle.beldi_step.specs.{Host.counted, Run.plain_says}
-use Rattle.beldi_core.proofs.Names.{AllocError, Asked, Bool, Came, Copied, Copies, Core, Deployment, Err, Event, Followed, Lost, Mark, NoMemory, None, Numbered, Ok, Option, OutOfMemory, Pending, Plan, Planned, PlannedOf, Query, Result, Run, RunMap, RunTold, Seen, Some, StepBy, Stepped, TableErr, TableState, TellsTurn, Told, Turn, TurnSays, after_turn, ap, asks, at_once, base, count_changes, crash_plan, ended_run, entered, event_of, false, if◌then◌else◌, mark_told, marked, nat_lt, no_run, plan, plan_of, reads_all, refl, remove_put, run_asks, run_next, run_plan, run_told, subst, sym, true, turn_event, unasked, unheard_next, ℕ, ◌∙◌, ◌≡◌}
+use Rattle.beldi_step.specs.{HostStep.counted, Run.plain_output}
+use Rattle.beldi_core.proofs.Names.{AllocError, Asked, Bool, Came, Copied, Copies, Core, Deployment, Err, Event, Followed, Lost, Mark, NoMemory, None, Numbered, Ok, Option, OutOfMemory, Pending, Plan, Planned, PlannedOf, Query, Result, Run, RunMap, RunTold, EventReply, Some, StepBy, Stepped, TableErr, TableState, TellsTurn, QueryReply, Turn, TurnOutput, after_turn, ap, asks, immediate, base, count_changes, crash_plan, ended_run, entered, event_of, false, if◌then◌else◌, mark_told, marked, nat_lt, no_run, plan, plan_of, reads_all, refl, remove_put, run_asks, run_next, run_plan, run_told, subst, sym, true, turn_event, unasked, unheard_next, ℕ, ◌∙◌, ◌≡◌}
 use Rattle.beldi_core.proofs.Names.map
 
 -- ---- the step
-no_memory_by : (d : Deployment) (e : Event) (c z : Core) (r : Result Seen AllocError) (s : TableState) (p : Plan) → NoMemory e c p z r → StepBy d e c p z s s r
-no_memory_by d e c z r s (at_once b y) h = (h, refl)
+no_memory_by : (d : Deployment) (e : Event) (c z : Core) (r : Result EventReply AllocError) (s : TableState) (p : Plan) → NoMemory e c p z r → StepBy d e c p z s s r
+no_memory_by d e c z r s (immediate b y) h = (h, refl)
 no_memory_by d e c z r s (asks q) h = (Err OutOfMemory, h, unasked q c.now s)
 no_memory_by d e c z r s reads_all h = absurd h
 
-pub no_memory : (d : Deployment) (e : Event) (c z : Core) (r : Result Seen AllocError) (s : TableState) → NoMemory e (counted c) (plan d e c) z r → Stepped d e c z s s r
+pub no_memory : (d : Deployment) (e : Event) (c z : Core) (r : Result EventReply AllocError) (s : TableState) → NoMemory e (counted c) (plan d e c) z r → Stepped d e c z s s r
 no_memory d e c z r s h = no_memory_by d e (counted c) z r s (plan d e c) h
 
 -- .. a halt's, by what is read
-pub reads : (d : Deployment) (e : Event) (c b z : Core) (p : Plan) (old new : TableState) (r : Result Seen AllocError) → (p ≡ reads_all) × (b ≡ c) → StepBy d e b reads_all z old new r → StepBy d e c p z old new r
+pub reads : (d : Deployment) (e : Event) (c b z : Core) (p : Plan) (old new : TableState) (r : Result EventReply AllocError) → (p ≡ reads_all) × (b ≡ c) → StepBy d e b reads_all z old new r → StepBy d e c p z old new r
 reads d e c b z p old new r planned h = subst (λ (q : Plan). StepBy d e c q z old new r) (sym planned.0) (subst (λ (x : Core). StepBy d e x reads_all z old new r) planned.1 h)
 
 -- ---- the answer to a turn
-pub query_asked : (d k : Deployment) (p : Pending) (c z : Core) (q : Query) (old new : TableState) (w : Result Told TableErr) (r : Result Seen AllocError) → k ≡ d → Followed k (event_of p) (base (event_of p) c) w z r → Came q c.now w old new → Asked d p c z q old new r
+pub query_asked : (d k : Deployment) (p : Pending) (c z : Core) (q : Query) (old new : TableState) (w : Result QueryReply TableErr) (r : Result EventReply AllocError) → k ≡ d → Followed k (event_of p) (base (event_of p) c) w z r → Came q c.now w old new → Asked d p c z q old new r
 query_asked d k p c z q old new w r code followed came = (w, subst (λ (y : Deployment). Followed y (event_of p) (base (event_of p) c) w z r) code followed, came)
 
-module _ (d : Deployment) (c z : Core) (a : RunMap) (i : ℕ) (t : Told) (n : Copies) where
-  unheard_by : (o : Option Run) (x : Result TurnSays (Option Mark)) (m : Option Mark) → RunTold d (count_changes c.book) c.runs a i o t x → Copied n o → m ≡ mark_told x → z ≡ record c { runs = map.remove a i; book = marked c.book n.id m } → z ≡ unheard_next d c i t o
+module _ (d : Deployment) (c z : Core) (a : RunMap) (i : ℕ) (t : QueryReply) (n : Copies) where
+  unheard_by : (o : Option Run) (x : Result TurnOutput (Option Mark)) (m : Option Mark) → RunTold d (count_changes c.book) c.runs a i o t x → Copied n o → m ≡ mark_told x → z ≡ record c { runs = map.remove a i; book = marked c.book n.id m } → z ≡ unheard_next d c i t o
   unheard_by None x m h name at is = absurd h
   unheard_by (Some r) (Ok x) m h name at is =
       let s = run_told d (count_changes c.book) r t in
-      is ∙ (λ k. record c { runs = map.remove (h.0 k) i; book = marked c.book (name k).id ((at ∙ ap (λ (y : TurnSays). y.mark) h.1) k) }) ∙ ap (λ q. record c { runs = q; book = marked c.book r.id s.mark }) (remove_put c.runs i s.next)
+      is ∙ (λ k. record c { runs = map.remove (h.0 k) i; book = marked c.book (name k).id ((at ∙ ap (λ (y : TurnOutput). y.mark) h.1) k) }) ∙ ap (λ q. record c { runs = q; book = marked c.book r.id s.mark }) (remove_put c.runs i s.next)
   unheard_by (Some r) (Err m') m h name at is =
       is ∙ (λ k. record c { runs = map.remove (h.0 k) i; book = marked c.book (name k).id ((at ∙ h.1) k) }) ∙ ap (λ q. record c { runs = q; book = marked c.book r.id (run_told d (count_changes c.book) r t).mark }) (remove_put c.runs i None)
 
-  pub unheard : (x : Result TurnSays (Option Mark)) (m : Option Mark) → RunTold d (count_changes c.book) c.runs a i (map.get c.runs i) t x → Copied n (map.get c.runs i) → m ≡ mark_told x → z ≡ record c { runs = map.remove a i; book = marked c.book n.id m } → Followed d (Lost i) c (Ok t) z (Ok Seen.Dropped)
-  unheard x m h name at is = λ j. (unheard_by (map.get c.runs i) x m h name at is j, Seen.Dropped)
+  pub unheard : (x : Result TurnOutput (Option Mark)) (m : Option Mark) → RunTold d (count_changes c.book) c.runs a i (map.get c.runs i) t x → Copied n (map.get c.runs i) → m ≡ mark_told x → z ≡ record c { runs = map.remove a i; book = marked c.book n.id m } → Followed d (Lost i) c (Ok t) z (Ok EventReply.Dropped)
+  unheard x m h name at is = λ j. (unheard_by (map.get c.runs i) x m h name at is j, EventReply.Dropped)
 
   -- .. and where there was no memory for what follows
-  unheard_made : (x : TurnSays) → RunTold d (count_changes c.book) c.runs a i (map.get c.runs i) t (Ok x) → Copied n (map.get c.runs i) → z ≡ record c { runs = map.remove a i; book = marked c.book n.id x.mark } → Some (unheard_next d c i t (map.get c.runs i)) ≡ Some z
+  unheard_made : (x : TurnOutput) → RunTold d (count_changes c.book) c.runs a i (map.get c.runs i) t (Ok x) → Copied n (map.get c.runs i) → z ≡ record c { runs = map.remove a i; book = marked c.book n.id x.mark } → Some (unheard_next d c i t (map.get c.runs i)) ≡ Some z
   unheard_made x h name is = ap Some (sym (unheard_by (map.get c.runs i) (Ok x) x.mark h name refl is))
 
-turned_by : (d : Deployment) (c : Core) (a : RunMap) (i : ℕ) (t : Told) (n : Copies) (o : Option Run) (x : TurnSays) → RunTold d (count_changes c.book) c.runs a i o t (Ok x) → Copied n o
+turned_by : (d : Deployment) (c : Core) (a : RunMap) (i : ℕ) (t : QueryReply) (n : Copies) (o : Option Run) (x : TurnOutput) → RunTold d (count_changes c.book) c.runs a i o t (Ok x) → Copied n o
     → after_turn (record c { runs = a; book = marked c.book n.id x.mark }) n.callee n.id x x.wait ≡ run_next d c i t o
 turned_by d c a i t n None x h name = absurd h
 turned_by d c a i t n (Some r) x h name =
     λ j. after_turn (record c { runs = h.0 j; book = marked c.book (name j).id (h.1 j).mark }) (name j).callee (name j).id (h.1 j) (h.1 j).wait
 
-turned : (d : Deployment) (c k : Core) (a : RunMap) (i : ℕ) (t : Told) (n : Copies) (x : TurnSays) (z : Core × Seen) → RunTold d (count_changes c.book) c.runs a i (map.get c.runs i) t (Ok x) → Copied n (map.get c.runs i) → k ≡ record c { runs = a; book = marked c.book n.id x.mark }
+turned : (d : Deployment) (c k : Core) (a : RunMap) (i : ℕ) (t : QueryReply) (n : Copies) (x : TurnOutput) (z : Core × EventReply) → RunTold d (count_changes c.book) c.runs a i (map.get c.runs i) t (Ok x) → Copied n (map.get c.runs i) → k ≡ record c { runs = a; book = marked c.book n.id x.mark }
     → z ≡ after_turn k n.callee n.id x x.wait → z ≡ run_next d c i t (map.get c.runs i)
 turned d c k a i t n x z h name at is = is ∙ ap (λ q. after_turn q n.callee n.id x x.wait) at ∙ turned_by d c a i t n (map.get c.runs i) x h name
 
 -- .. where it says no more than whether the run is over
-pub plain_turn : (c : Core) (i : ℕ) (n : Copies) (x : TurnSays) (b : Bool) → x ≡ plain_says None b → TellsTurn c i n x c (Ok (Seen.Acted None None b None))
+pub plain_turn : (c : Core) (i : ℕ) (n : Copies) (x : TurnOutput) (b : Bool) → x ≡ plain_output None b → TellsTurn c i n x c (Ok (EventReply.Acted None None b None))
 plain_turn c i n x b is =
-    subst (λ (y : TurnSays). TellsTurn c i n y c (Ok (Seen.Acted None None b None))) (sym is)
-    (λ j. (record c { book = sym (append-nil c.book) j }, Seen.Acted None None b None))
+    subst (λ (y : TurnOutput). TellsTurn c i n y c (Ok (EventReply.Acted None None b None))) (sym is)
+    (λ j. (record c { book = sym (append-nil c.book) j }, EventReply.Acted None None b None))
 
 -- .. which is told, or there is no memory for that
-pub told_turn : (d : Deployment) (c k z : Core) (a : RunMap) (i : ℕ) (t : Told) (n : Copies) (x : TurnSays) (r : Result Seen AllocError) → RunTold d (count_changes c.book) c.runs a i (map.get c.runs i) t (Ok x) → Copied n (map.get c.runs i)
+pub told_turn : (d : Deployment) (c k z : Core) (a : RunMap) (i : ℕ) (t : QueryReply) (n : Copies) (x : TurnOutput) (r : Result EventReply AllocError) → RunTold d (count_changes c.book) c.runs a i (map.get c.runs i) t (Ok x) → Copied n (map.get c.runs i)
     → k ≡ record c { runs = a } → TellsTurn k i n x z r → Followed d (Turn i) c (Ok t) z r
 told_turn d c k z a i t n x (Ok y) h name at is = turned d c (entered k n x) a i t n x (z, y) h name (ap (λ q. entered q n x) at) is
 told_turn d c k z a i t n x (Err e) h name at is = unheard_made d c z a i t n x h name (is ∙ ap (λ q. ended_run (entered q n x) i) at)
@@ -68,18 +68,18 @@ pub planned_as : (d : Deployment) (f : Event) (c z : Core) (e : Event) (spare : 
 planned_as d f c z e spare r is h = subst (λ (x : Event). PlannedOf d x c z spare r) (sym is) h
 
 -- ---- a run that is not live
-pub idle : (c : Core) (i : ℕ) (o : Option Run) (x : Seen) → o ≡ None → x ≡ no_run c i → at_once c x ≡ crash_plan c i o
-idle c i None x none is = ap (at_once c) is
+pub idle : (c : Core) (i : ℕ) (o : Option Run) (x : EventReply) → o ≡ None → x ≡ no_run c i → immediate c x ≡ crash_plan c i o
+idle c i None x none is = ap (immediate c) is
 idle c i (Some r) x none is = cc
 
 -- .. and one that is, in time
 asks_in_time : (c : Core) (i : ℕ) (o : Option Run) (r : Run) → o ≡ Some r → nat_lt r.deadline c.now ≡ false → run_plan c i o ≡ asks (run_asks r)
-asks_in_time c i o r is early = ap (run_plan c i) is ∙ ap (λ b. if b then at_once (ended_run c i) Seen.Expired else asks (run_asks r)) early
+asks_in_time c i o r is early = ap (run_plan c i) is ∙ ap (λ b. if b then immediate (ended_run c i) EventReply.Expired else asks (run_asks r)) early
 
 -- ---- a turn, whether its answer is lost or not
-pub idle_turn : (d : Deployment) (c : Core) (i : ℕ) (lost : Bool) (x : Seen) → map.get c.runs i ≡ None → x ≡ no_run c i → plan_of d (turn_event i lost) c ≡ at_once c x
-idle_turn d c i false x none is = ap (run_plan c i) none ∙ ap (at_once c) (sym is)
-idle_turn d c i true x none is = ap (run_plan c i) none ∙ ap (at_once c) (sym is)
+pub idle_turn : (d : Deployment) (c : Core) (i : ℕ) (lost : Bool) (x : EventReply) → map.get c.runs i ≡ None → x ≡ no_run c i → plan_of d (turn_event i lost) c ≡ immediate c x
+idle_turn d c i false x none is = ap (run_plan c i) none ∙ ap (immediate c) (sym is)
+idle_turn d c i true x none is = ap (run_plan c i) none ∙ ap (immediate c) (sym is)
 
 pub turn_without_memory : (d : Deployment) (c z : Core) (i : ℕ) (lost : Bool) (r : Run) (w : AllocError) → map.get c.runs i ≡ Some r → nat_lt r.deadline c.now ≡ false → z ≡ ended_run c i → NoMemory (turn_event i lost) c (plan_of d (turn_event i lost) c) z (Err w)
 turn_without_memory d c z i false r w is early ends = subst (λ (k : Plan). NoMemory (Turn i) c k z (Err w)) (sym (asks_in_time c i (map.get c.runs i) r is early)) (ap (λ (z : Core). (z, Err w)) ends)

@@ -1,5 +1,5 @@
 -- The runs as a map, and a turn of one of them.
-use Rattle.beldi_core.proofs.Names.{AllCounted, AllGiven, AllKept, Bool, Core, CountMap, Deployment, Equal-is, Err, IsSome, IsWalk, List, Mark, None, Ok, Option, Result, Run, RunMap, RunTold, Some, Told, TurnSays, Turned, Turns, WalkTold, Walking, ap, arith, cond, ends_run, eq_by_cmp, eq_by_cmp_equiv, false, followed, get-empty, get-insert, get-remove, get_rows, going, id_cmp, is_at, is_eq, is_none, is_of, kept_as, lookup, ltb-false, ltb-true, more, nat_cmp, nat_cmp-IsAntisymmetric, nat_cmp_total, nat_lt, none_removed, past_first, put_run, refl, remove_put, row_of, run_told, same_map, says_of, settled, settled_counts, subst, suc, sym, tied_itself, true, uncounted, unless_first, walked, walked_in, walking, withdrawn, ℕ, ◌+◌, ◌-◌, ◌<◌, ◌==◌, ◌∙◌, ◌≡◌, ◌≤◌}
+use Rattle.beldi_core.proofs.Names.{AllCounted, AllGiven, AllKept, Bool, Core, CountMap, Deployment, Equal-is, Err, IsSome, IsWalk, List, Mark, None, Ok, Option, Result, Run, RunMap, RunTold, Some, QueryReply, TurnOutput, Turned, Turns, WalkTold, Walking, ap, arith, cond, ends_run, eq_by_cmp, eq_by_cmp_equiv, false, followed, get-empty, get-insert, get-remove, get_rows, going, id_cmp, is_at, is_eq, is_none, is_of, kept_as, lookup, ltb-false, ltb-true, more, nat_cmp, nat_cmp-IsAntisymmetric, nat_cmp_total, nat_lt, none_removed, past_first, put_run, refl, remove_put, row_of, run_told, same_map, output_of, settled, settled_counts, subst, suc, sym, tied_itself, true, uncounted, unless_first, walked, walked_in, walking, withdrawn, ℕ, ◌+◌, ◌-◌, ◌<◌, ◌==◌, ◌∙◌, ◌≡◌, ◌≤◌}
 use Rattle.beldi_core.proofs.Counting.{inside, none_counted, put_counted, removed_counted, same_counted, counted_lower, gone_here, put_there}
 use Rattle.beldi_core.proofs.Names.map
 
@@ -117,13 +117,13 @@ over_back : (s : Run) (over : Bool) → is_none (going s over) ≡ over
 over_back s true = refl
 over_back s false = refl
 
-says_back : (s : Run) (x : TurnSays) → x ≡ says_of (followed s x)
-says_back s x = λ j. record { mark = x.mark; over = sym (over_back s x.over) j; starts = x.starts; wait = x.wait; reply = x.reply }
+output_back : (s : Run) (x : TurnOutput) → x ≡ output_of (followed s x)
+output_back s x = λ j. record { mark = x.mark; over = sym (over_back s x.over) j; starts = x.starts; wait = x.wait; reply = x.reply }
 
-pub run_was_told : (d : Deployment) (changes : ℕ) (a b c : RunMap) (i : ℕ) (r s : Run) (t : Told) (x : Result TurnSays (Option Mark)) → map.get a i ≡ Some r → b ≡ map.insert a i s → c ≡ settled (ends_run x) b i
+pub run_was_told : (d : Deployment) (changes : ℕ) (a b c : RunMap) (i : ℕ) (r s : Run) (t : QueryReply) (x : Result TurnOutput (Option Mark)) → map.get a i ≡ Some r → b ≡ map.insert a i s → c ≡ settled (ends_run x) b i
     → Turns s x (run_told d changes r t) → RunTold d changes a c i (map.get a i) t x
 run_was_told d changes a b c i r s t (Ok x) here set is h = subst (λ (o : Option Run). RunTold d changes a c i o t (Ok x)) (sym here)
-    (is ∙ ap (λ q. settled x.over q i) set ∙ put_back a i s x.over ∙ ap (λ (z : Turned). put_run a i z.next) h, says_back s x ∙ ap says_of h)
+    (is ∙ ap (λ q. settled x.over q i) set ∙ put_back a i s x.over ∙ ap (λ (z : Turned). put_run a i z.next) h, output_back s x ∙ ap output_of h)
 run_was_told d changes a b c i r s t (Err m) here set is h = subst (λ (o : Option Run). RunTold d changes a c i o t (Err m)) (sym here) (is ∙ ap (λ q. map.remove q i) set ∙ remove_put a i (Some s), h)
 
 pub absent_run : (o : Option Run) → IsSome o → o ≡ None → ⊥

@@ -1,3 +1,3 @@
 pub mod Counts
-pub mod Parts
-pub mod Runs
+pub mod LiveRuns
+pub mod PlannedEvent

@@ -2,15 +2,15 @@
 ghost use Rattle.std.specs.Prelude.{◌≡◌, ◌++◌, ◌+◌, ◌-◌, ◌≤◌, ◌<◌, ◌^◌, if◌then◌else◌, Ok, Some, None, IfOk, IfSome, OnOk, OnErr, IsSome, option_to_list};
 ghost use Rattle.std.specs.Option.{option_map};
 ghost use Rattle.std.specs.FinMap as map;
-ghost use Rattle.beldi_walk.specs.Query.{told_of};
+ghost use Rattle.beldi_query.specs.Query.{query_reply_of};
 ghost use Rattle.beldi_intent.specs.Intent.{bind_asks};
 ghost use Rattle.beldi_step.specs.declared.event.Event.TheVariants as events;
 ghost use Rattle.beldi_step.specs.declared.run.Wait.TheVariants as waits;
 ghost use Rattle.beldi_tree.specs.declared.deployment.Deployment.{Deployment};
-ghost use Rattle.beldi_step.specs.Run.{plain_says};
-ghost use Rattle.beldi_step.specs.Host.{collected as collected_of, launched, passed, Core, Followed, acted as acted_by, after_turn as after_turn_of, may_start as may_start_of, started, at_once, asks, crash_plan, tick_plan, new_run as new_run_of, entry_of as entry_by, no_run as no_run_of, refused, refused_by, ticket_next, unbound, is_halt, halt_next};
+ghost use Rattle.beldi_step.specs.Run.{plain_output};
+ghost use Rattle.beldi_step.specs.HostStep.{collected as collected_of, launched, passed, Core, Followed, acted as acted_by, after_turn as after_turn_of, may_start as may_start_of, started, immediate, asks, crash_plan, tick_plan, new_run as new_run_of, entry_of as entry_by, no_run as no_run_of, refused, refused_by, ticket_next, unbound, is_halt, halt_next};
 ghost use Rattle.beldi_core.specs.declared.events.Planned.TheVariants as planned;
-ghost use Rattle.beldi_core.specs.Parts.{as_seen, core_in, Planned as IsPlanned, PlannedBy, PlannedOf, Ready, HasPlace, event_of, base, BoundBy, Copied, TellsTurn, acted_unless, mark_told, turn_event, turn_pending, WalkTold, strode};
+ghost use Rattle.beldi_core.specs.PlannedEvent.{as_reply, core_in, Planned as IsPlanned, PlannedBy, PlannedOf, Ready, HasPlace, event_of, base, BoundBy, Copied, TellsTurn, acted_unless, mark_told, turn_event, turn_pending, WalkTold, strode};
 
 use crate::host_core::HostCore;
 use crate::runs::{Copies, asked};
@@ -19,11 +19,11 @@ use beldi_collect::{Found, collect_query, collect_told};
 use beldi_intent::{Binding, bind_query, bind_told, issue_query, issue_told};
 use beldi_lang::Deployment;
 use beldi_prune::Collectors;
+use beldi_query::{Query, QueryReplyRef};
 use beldi_row::{RowKey, TableErr};
-use beldi_step::{Event, Mark, Run, RunAt, Seen, TurnSays, Wait, Walking};
+use beldi_step::{Event, EventReply, Mark, Run, RunAt, TurnOutput, Wait, Walking};
 use beldi_turn::{may_stride, walking};
-use beldi_value::{Apart, IntentId, Outcome, Value, or_drop};
-use beldi_walk::{Heard, Query};
+use beldi_value::{Boxed, IntentId, Outcome, Value, or_drop};
 use std::alloc::{AllocError, Global};
 use std::mem::{forget, replace};
 
@@ -58,7 +58,7 @@ impl Pending {
     }
 }
 
-/// The answer to an event that asks nothing: one of those of `Seen` that have no long parts.
+/// The answer to an event that asks nothing: one of those of `EventReply` that have no long parts.
 #[derive(Drop)]
 pub enum Immediate {
     NoTicket,
@@ -77,22 +77,22 @@ pub enum Immediate {
 
 impl Immediate {
     /// The same answer, as all events are answered.
-    pub fn seen(self) -> Seen
-        ensures { result ≡ as_seen self }
+    pub fn into_reply(self) -> EventReply
+        ensures { result ≡ as_reply self }
     {
         match self {
-            Immediate::NoTicket => Seen::NoTicket,
-            Immediate::Unknown(ticket) => Seen::Unknown(ticket),
-            Immediate::Crowded => Seen::Crowded,
-            Immediate::Spent => Seen::Spent,
-            Immediate::Expired => Seen::Expired,
-            Immediate::NoRun => Seen::NoRun,
-            Immediate::RunOver => Seen::RunOver,
-            Immediate::Crashed => Seen::Crashed,
-            Immediate::Started(run) => Seen::Started(run),
-            Immediate::Now(moment) => Seen::Now(moment),
-            Immediate::ClockEnd => Seen::ClockEnd,
-            Immediate::Shut => Seen::Shut,
+            Immediate::NoTicket => EventReply::NoTicket,
+            Immediate::Unknown(ticket) => EventReply::Unknown(ticket),
+            Immediate::Crowded => EventReply::Crowded,
+            Immediate::Spent => EventReply::Spent,
+            Immediate::Expired => EventReply::Expired,
+            Immediate::NoRun => EventReply::NoRun,
+            Immediate::RunOver => EventReply::RunOver,
+            Immediate::Crashed => EventReply::Crashed,
+            Immediate::Started(run) => EventReply::Started(run),
+            Immediate::Now(moment) => EventReply::Now(moment),
+            Immediate::ClockEnd => EventReply::ClockEnd,
+            Immediate::Shut => EventReply::Shut,
         }
     }
 }
@@ -103,7 +103,7 @@ pub enum Planned {
     /// It is answered.
     Now(Immediate),
     /// It asks this.
-    Asks(Apart<Query>, Pending),
+    Asks(Boxed<Query>, Pending),
     /// It is a halt, which reads the keys of all rows.
     ReadsAll,
 }
@@ -115,19 +115,19 @@ fn is_halt(event: &Event) -> bool
 }
 
 // An error of the table, as an event is answered.
-fn refuse(why: TableErr) -> Result<Seen, AllocError>
+fn refuse(why: TableErr) -> Result<EventReply, AllocError>
     ensures { result ≡ refused_by why }
 {
     match why {
         TableErr::OutOfMemory => Err(AllocError),
-        TableErr::Failed => Ok(Seen::Dropped),
-        TableErr::Full { live, room } => Ok(Seen::Full { live, room }),
+        TableErr::Failed => Ok(EventReply::Dropped),
+        TableErr::Full { live, room } => Ok(EventReply::Full { live, room }),
     }
 }
 
 // What is said of a number that no live run has, where so many were given.
 fn no_run(run: u64, given: u64) -> Immediate
-    ensures { (c : Core) → c.last_run ≡ given → as_seen result ≡ no_run_of c run }
+    ensures { (c : Core) → c.last_run ≡ given → as_reply result ≡ no_run_of c run }
 {
     if run == 0 || run > given {
         Immediate::NoRun
@@ -136,14 +136,14 @@ fn no_run(run: u64, given: u64) -> Immediate
     }
 }
 
-fn not_bound(ticket: u32, binding: Binding) -> Seen
+fn not_bound(ticket: u32, binding: Binding) -> EventReply
     ensures { result ≡ unbound ticket binding }
 {
     match binding {
-        Binding::Running => Seen::Running(ticket),
-        Binding::Other { func, args } => Seen::Other { ticket, func, args },
-        Binding::Ended(outcome) => Seen::Replied { ticket, outcome },
-        Binding::Bound | Binding::Gone => Seen::Gone(ticket),
+        Binding::Running => EventReply::Running(ticket),
+        Binding::Other { func, args } => EventReply::Other { ticket, func, args },
+        Binding::Ended(outcome) => EventReply::Replied { ticket, outcome },
+        Binding::Bound | Binding::Gone => EventReply::Gone(ticket),
     }
 }
 
@@ -151,10 +151,10 @@ fn entry_of(id: IntentId, mark: Mark) -> Entry
     ensures { result ≡ entry_by id mark }
 {
     match mark {
-        Mark::Read(seen) => Entry::Read { id, seen },
+        Mark::Read(seen) => Entry::Read { id, version: seen },
         Mark::Step => Entry::Step { id },
-        Mark::Tx => Entry::Tx { id },
-        Mark::Try { place, holder } => Entry::Try { id, place, holder },
+        Mark::CommittedTx => Entry::CommittedTx { id },
+        Mark::AbortedTx { place, holder } => Entry::AbortedTx { id, place, holder },
     }
 }
 
@@ -178,22 +178,22 @@ fn write(book: &mut Book, entry: Option<Entry>)
 }
 
 // The answer to a turn that was made, which started this run.
-fn acted(id: IntentId, says: TurnSays, started: Option<u64>) -> Seen
-    ensures { result ≡ acted_by id says.mark says.over says.reply started }
+fn acted(id: IntentId, output: TurnOutput, started: Option<u64>) -> EventReply
+    ensures { result ≡ acted_by id output.mark output.over output.reply started }
 {
-    let TurnSays {
+    let TurnOutput {
         mark,
         over,
         starts: _,
         wait,
         reply,
-    } = says;
+    } = output;
     drop(wait);
     let reply = match reply {
         Some(outcome) => Some((id.ticket, outcome)),
         None => None,
     };
-    Seen::Acted {
+    EventReply::Acted {
         entry: entry_if(id, mark),
         started,
         over,
@@ -205,16 +205,16 @@ fn acted(id: IntentId, says: TurnSays, started: Option<u64>) -> Seen
 #[inline(always)]
 fn acted_if(
     id: IntentId,
-    says: TurnSays,
+    output: TurnOutput,
     started: Result<Option<u64>, AllocError>,
-) -> Result<Seen, AllocError>
-    ensures { result ≡ acted_unless id says.mark says.over says.reply started }
+) -> Result<EventReply, AllocError>
+    ensures { result ≡ acted_unless id output.mark output.over output.reply started }
 {
     match started {
-        Ok(started) => return Ok(acted(id, says, started)),
+        Ok(started) => return Ok(acted(id, output, started)),
         Err(why) => {
             drop(id);
-            drop(says);
+            drop(output);
             return Err(why);
         }
     }
@@ -235,11 +235,11 @@ fn copy_entry(
 }
 
 // Whether a run is over, where its turn says no more than that.
-fn plainly(says: &TurnSays) -> Option<bool>
-    ensures { IfSome result (λ over. says.now ≡ plain_says None over) }
+fn plainly(output: &TurnOutput) -> Option<bool>
+    ensures { IfSome result (λ over. output.now ≡ plain_output None over) }
 {
-    match says {
-        TurnSays {
+    match output {
+        TurnOutput {
             mark: None,
             over,
             starts: false,
@@ -251,11 +251,11 @@ fn plainly(says: &TurnSays) -> Option<bool>
 }
 
 // The mark of a run's act, whatever followed.
-fn told_mark(turn: Result<TurnSays, Option<Mark>>) -> Option<Mark>
+fn told_mark(turn: Result<TurnOutput, Option<Mark>>) -> Option<Mark>
     ensures { result ≡ mark_told turn }
 {
     match turn {
-        Ok(says) => says.mark,
+        Ok(output) => output.mark,
         Err(mark) => mark,
     }
 }
@@ -417,7 +417,7 @@ impl HostCore {
         ticket: u32,
         func: u16,
         args: &Value,
-    ) -> Result<Apart<Query>, AllocError>
+    ) -> Result<Boxed<Query>, AllocError>
         ensures query { IfOk result (λ q. q ≡ bind_asks ticket func args.now) }
         ensures room { OnOk result (1 ≤ self.new.book.spare) }
         ensures core { core_in self.new ≡ core_in self.old }
@@ -427,7 +427,7 @@ impl HostCore {
     }
 
     // A run of an intent, which may act for the deployment's life from now on.
-    fn new_run(&self, code: &Deployment, id: IntentId, func: u16) -> Result<Apart<Run>, AllocError>
+    fn new_run(&self, code: &Deployment, id: IntentId, func: u16) -> Result<Boxed<Run>, AllocError>
         ensures { IfOk result (λ r. r ≡ new_run_of code.now (core_in self.entry.now) id func) }
     {
         let run = Run {
@@ -436,12 +436,12 @@ impl HostCore {
             deadline: self.now.saturating_add(code.life),
             at: RunAt::Looks,
         };
-        Apart::new(self.alloc, run)
+        Boxed::new(self.alloc, run)
     }
 
     // Ends a run between two turns.
     fn crash(&mut self, run: u64) -> Immediate
-        ensures { at_once (core_in self.new) (as_seen result) ≡ crash_plan (core_in self.old) run (map.get self.old.runs.runs run) }
+        ensures { immediate (core_in self.new) (as_reply result) ≡ crash_plan (core_in self.old) run (map.get self.old.runs.runs run) }
     {
         let Some(found) = self.runs.get(run) else {
             return no_run(run, self.runs.given());
@@ -457,7 +457,7 @@ impl HostCore {
 
     // So many ticks pass, if the moment stays at most the last one.
     fn tick(&mut self, ticks: u64) -> Immediate
-        ensures { at_once (core_in self.new) (as_seen result) ≡ tick_plan (core_in self.old) ticks }
+        ensures { immediate (core_in self.new) (as_reply result) ≡ tick_plan (core_in self.old) ticks }
     {
         if ticks > LAST_MOMENT - self.now {
             return Immediate::ClockEnd;
@@ -479,14 +479,14 @@ impl HostCore {
     }
 
     /// What follows of an event where the table told.
-    pub fn told(
+    pub fn resume(
         &mut self,
         code: &Deployment,
         pending: Pending,
-        heard: Heard<'_>,
-    ) -> Result<Seen, AllocError>
+        heard: QueryReplyRef<'_>,
+    ) -> Result<EventReply, AllocError>
         requires { Ready code.now pending (core_in self.old) self.old.book.spare }
-        ensures { Followed code.now (event_of pending) (base (event_of pending) (core_in self.old)) (Ok (told_of heard.entry)) (core_in self.new) result }
+        ensures { Followed code.now (event_of pending) (base (event_of pending) (core_in self.old)) (Ok (query_reply_of heard.entry)) (core_in self.new) result }
     {
         // An answer that is returned is written once, and as the value of an arm twice.
         match pending {
@@ -499,7 +499,7 @@ impl HostCore {
     }
 
     /// What follows of an event where the table refused.
-    pub fn refused(&mut self, pending: Pending, why: TableErr) -> Result<Seen, AllocError>
+    pub fn refused(&mut self, pending: Pending, why: TableErr) -> Result<EventReply, AllocError>
         requires { HasPlace pending (core_in self.old) }
         ensures { (core_in self.new, result) ≡ refused (event_of pending) (base (event_of pending) (core_in self.old)) why }
     {
@@ -523,14 +523,14 @@ impl HostCore {
                 self.runs.remove(run);
                 match why {
                     TableErr::OutOfMemory => Err(AllocError),
-                    _ => Ok(Seen::Dropped),
+                    _ => Ok(EventReply::Dropped),
                 }
             }
         }
     }
 
     /// What follows of a halt, by the newest ticket that was read, or by what the reading met.
-    pub fn halted(&mut self, read: Result<u32, TableErr>) -> Result<Seen, AllocError>
+    pub fn halted(&mut self, read: Result<u32, TableErr>) -> Result<EventReply, AllocError>
         ensures { (core_in self.new, result) ≡ halt_next (core_in self.old) read }
     {
         self.runs.clear(self.alloc);
@@ -540,22 +540,22 @@ impl HostCore {
             Ok(newest) => {
                 self.newest = newest;
                 self.shut = false;
-                Ok(Seen::Halted)
+                Ok(EventReply::Halted)
             }
             Err(TableErr::OutOfMemory) => Err(AllocError),
             Err(_) => {
                 self.shut = true;
-                Ok(Seen::Dropped)
+                Ok(EventReply::Dropped)
             }
         }
     }
 
     // The run is over, unless there was no room for its act.
-    fn turn_refused(&mut self, run: u64, why: TableErr) -> Result<Seen, AllocError>
+    fn turn_refused(&mut self, run: u64, why: TableErr) -> Result<EventReply, AllocError>
         ensures { (core_in self.new, result) ≡ refused (events.Turn run) (core_in self.old) why }
     {
         match why {
-            TableErr::Full { live, room } => Ok(Seen::Full { live, room }),
+            TableErr::Full { live, room } => Ok(EventReply::Full { live, room }),
             why => {
                 self.runs.remove(run);
                 refuse(why)
@@ -563,16 +563,16 @@ impl HostCore {
         }
     }
 
-    fn issued(&mut self, added: bool) -> Seen
+    fn issued(&mut self, added: bool) -> EventReply
         requires { self.old.newest < 2 ^ 32 - 1 }
         ensures { (core_in self.new, result) ≡ ticket_next (core_in self.old) added }
     {
         let ticket = self.newest + 1;
         if added {
             self.newest = ticket;
-            Seen::Issued(ticket)
+            EventReply::Issued(ticket)
         } else {
-            Seen::Gone(ticket)
+            EventReply::Gone(ticket)
         }
     }
 
@@ -582,16 +582,16 @@ impl HostCore {
         ticket: u32,
         func: u16,
         args: Value,
-        heard: Heard<'_>,
-    ) -> Result<Seen, AllocError>
+        heard: QueryReplyRef<'_>,
+    ) -> Result<EventReply, AllocError>
         requires spare { 1 ≤ self.old.book.spare }
         requires given { 1 ≤ self.old.runs.given }
-        ensures { BoundBy (core_in self.old) ticket func args (told_of heard.entry) (core_in self.new) result }
+        ensures { BoundBy (core_in self.old) ticket func args (query_reply_of heard.entry) (core_in self.new) result }
     {
         match bind_told(self.alloc, heard) {
             Ok(Binding::Bound) => {
                 self.book.push(Entry::Start { ticket, func, args });
-                Ok(Seen::Bound {
+                Ok(EventReply::Bound {
                     ticket,
                     run: self.runs.given(),
                 })
@@ -614,17 +614,17 @@ impl HostCore {
         code: &Deployment,
         run: u64,
         copies: Copies,
-        heard: Heard<'_>,
-    ) -> Result<Seen, AllocError>
+        heard: QueryReplyRef<'_>,
+    ) -> Result<EventReply, AllocError>
         requires spare { 1 ≤ self.old.book.spare }
         requires live { IsSome (map.get self.old.runs.runs run) }
         requires copies { Copied copies (map.get self.old.runs.runs run) }
         requires given { self.old.runs.given < self.old.taken }
-        ensures { Followed code.now (events.Turn run) (core_in self.old) (Ok (told_of heard.entry)) (core_in self.new) result }
+        ensures { Followed code.now (events.Turn run) (core_in self.old) (Ok (query_reply_of heard.entry)) (core_in self.new) result }
     {
         let changes = self.book.changes();
-        match self.runs.told(run, self.alloc, code, changes, heard) {
-            Ok(says) => return self.tell(run, copies, says),
+        match self.runs.resume(run, self.alloc, code, changes, heard) {
+            Ok(output) => return self.tell(run, copies, output),
             Err(mark) => {
                 write(&mut self.book, entry_if(copies.id, mark));
                 return Err(AllocError);
@@ -633,36 +633,46 @@ impl HostCore {
     }
 
     // A turn was made. Most turns say no more than whether the run is over: what is handed on for all others is not made for them.
-    fn tell(&mut self, run: u64, copies: Copies, says: TurnSays) -> Result<Seen, AllocError>
+    fn tell(
+        &mut self,
+        run: u64,
+        copies: Copies,
+        output: TurnOutput,
+    ) -> Result<EventReply, AllocError>
         requires spare { 1 ≤ self.old.book.spare }
         requires given { self.old.runs.given < self.old.taken }
-        ensures { TellsTurn (core_in self.old) run copies says (core_in self.new) result }
+        ensures { TellsTurn (core_in self.old) run copies output (core_in self.new) result }
     {
-        if let Some(over) = plainly(&says) {
+        if let Some(over) = plainly(&output) {
             drop(copies);
             // It owns nothing.
-            forget(says);
-            return Ok(Seen::Acted {
+            forget(output);
+            return Ok(EventReply::Acted {
                 entry: None,
                 started: None,
                 over,
                 reply: None,
             });
         }
-        return self.tell_all(run, copies, says);
+        return self.tell_all(run, copies, output);
     }
 
     // A turn was made: its entry is in the book, also where there is no memory to tell of it. Then the run is over.
-    fn tell_all(&mut self, run: u64, copies: Copies, says: TurnSays) -> Result<Seen, AllocError>
+    fn tell_all(
+        &mut self,
+        run: u64,
+        copies: Copies,
+        output: TurnOutput,
+    ) -> Result<EventReply, AllocError>
         requires spare { 1 ≤ self.old.book.spare }
         requires given { self.old.runs.given < self.old.taken }
-        ensures { TellsTurn (core_in self.old) run copies says (core_in self.new) result }
+        ensures { TellsTurn (core_in self.old) run copies output (core_in self.new) result }
     {
         let Copies { id, callee } = copies;
-        match copy_entry(self.alloc, &id, &says.mark) {
+        match copy_entry(self.alloc, &id, &output.mark) {
             Ok(entry) => {
                 write(&mut self.book, entry);
-                let seen = self.after_turn(callee, id, says);
+                let seen = self.after_turn(callee, id, output);
                 if seen.is_err() {
                     self.runs.remove(run);
                 }
@@ -671,7 +681,7 @@ impl HostCore {
             Err(why) => {
                 drop(callee);
                 self.runs.remove(run);
-                write(&mut self.book, entry_if(id, told_mark(Ok(says))));
+                write(&mut self.book, entry_if(id, told_mark(Ok(output))));
                 return Err(why);
             }
         }
@@ -681,60 +691,60 @@ impl HostCore {
     // for it, nothing is done.
     fn after_turn(
         &mut self,
-        callee: Option<Apart<Run>>,
+        callee: Option<Boxed<Run>>,
         id: IntentId,
-        mut says: TurnSays,
-    ) -> Result<Seen, AllocError>
+        mut output: TurnOutput,
+    ) -> Result<EventReply, AllocError>
         requires given { self.old.runs.given < self.old.taken }
-        ensures ok { IfOk result (λ x. (core_in self.new, x) ≡ after_turn_of (core_in self.old) callee id says says.wait) }
+        ensures ok { IfOk result (λ x. (core_in self.new, x) ≡ after_turn_of (core_in self.old) callee id output output.wait) }
         ensures err { OnErr result (core_in self.new ≡ core_in self.old) }
     {
-        match says.wait.take() {
+        match output.wait.take() {
             None => {
-                let started = self.may_start(says.starts, callee);
-                return acted_if(id, says, started);
+                let started = self.may_start(output.starts, callee);
+                return acted_if(id, output, started);
             }
             Some(Wait::Held(owner)) => {
                 drop(callee);
                 drop(id);
-                drop(says);
-                return Ok(Seen::Held(owner));
+                drop(output);
+                return Ok(EventReply::Held(owner));
             }
             Some(Wait::Worn) => {
                 drop(callee);
                 drop(id);
-                drop(says);
-                return Ok(Seen::Worn);
+                drop(output);
+                return Ok(EventReply::Worn);
             }
-            Some(Wait::Result(awaited)) => return self.after_call(awaited, callee, id, says),
+            Some(Wait::Result(awaited)) => return self.after_call(awaited, callee, id, output),
         }
     }
 
     // .. where the run waits for what it calls.
     fn after_call(
         &mut self,
-        awaited: Apart<IntentId>,
-        callee: Option<Apart<Run>>,
+        awaited: Boxed<IntentId>,
+        callee: Option<Boxed<Run>>,
         id: IntentId,
-        says: TurnSays,
-    ) -> Result<Seen, AllocError>
+        output: TurnOutput,
+    ) -> Result<EventReply, AllocError>
         requires given { self.old.runs.given < self.old.taken }
-        ensures ok { IfOk result (λ x. (core_in self.new, x) ≡ after_turn_of (core_in self.old) callee id says (Some (waits.Result awaited))) }
+        ensures ok { IfOk result (λ x. (core_in self.new, x) ≡ after_turn_of (core_in self.old) callee id output (Some (waits.Result awaited))) }
         ensures err { OnErr result (core_in self.new ≡ core_in self.old) }
     {
         let seen = if self.runs.has_run(awaited.get()) {
-            Seen::NotYet(awaited)
+            EventReply::NotYet(awaited)
         } else if self.runs.len() >= MOST_RUNS {
             drop(awaited);
-            Seen::Crowded
+            EventReply::Crowded
         } else {
             drop(awaited);
             let started = self.start(callee);
-            return acted_if(id, says, started);
+            return acted_if(id, output, started);
         };
         drop(callee);
         drop(id);
-        drop(says);
+        drop(output);
         Ok(seen)
     }
 
@@ -742,7 +752,7 @@ impl HostCore {
     fn may_start(
         &mut self,
         starts: bool,
-        callee: Option<Apart<Run>>,
+        callee: Option<Boxed<Run>>,
     ) -> Result<Option<u64>, AllocError>
         requires given { self.old.runs.given < self.old.taken }
         ensures ok { IfOk result (λ n. (core_in self.new, n) ≡ (if starts then may_start_of (core_in self.old) callee else (core_in self.old, None))) }
@@ -759,7 +769,7 @@ impl HostCore {
     }
 
     // Starts a run of what is called.
-    fn start(&mut self, callee: Option<Apart<Run>>) -> Result<Option<u64>, AllocError>
+    fn start(&mut self, callee: Option<Boxed<Run>>) -> Result<Option<u64>, AllocError>
         requires given { self.old.runs.given < self.old.taken }
         ensures ok { IfOk result (λ n. (core_in self.new, n) ≡ started (core_in self.old) callee) }
         ensures err { OnErr result (core_in self.new ≡ core_in self.old) }
@@ -771,14 +781,18 @@ impl HostCore {
     }
 
     // What follows of what the intent collector found.
-    fn collected(&mut self, code: &Deployment, heard: Heard<'_>) -> Result<Seen, AllocError>
+    fn collected(
+        &mut self,
+        code: &Deployment,
+        heard: QueryReplyRef<'_>,
+    ) -> Result<EventReply, AllocError>
         requires given { self.old.runs.given < self.old.taken }
-        ensures { Followed code.now events.Ic (core_in self.old) (Ok (told_of heard.entry)) (core_in self.new) result }
+        ensures { Followed code.now events.Ic (core_in self.old) (Ok (query_reply_of heard.entry)) (core_in self.new) result }
     {
         match collect_told(self.alloc, heard)? {
             Found::Round => {
                 self.go_to(RowKey::least(self.alloc));
-                Ok(Seen::Round)
+                Ok(EventReply::Round)
             }
             Found::Passed(key) => Ok(self.pass(key)),
             Found::Unended { key, id, func } => self.launch(code, key, id, func),
@@ -792,11 +806,11 @@ impl HostCore {
         self.cursor = key;
     }
 
-    fn pass(&mut self, key: RowKey) -> Seen
+    fn pass(&mut self, key: RowKey) -> EventReply
         ensures { (core_in self.new, result) ≡ passed (core_in self.old) key }
     {
         self.go_to(key);
-        Seen::Passed
+        EventReply::Passed
     }
 
     // Launches a run of an intent that has not ended, where it has none and there is a place for one.
@@ -806,7 +820,7 @@ impl HostCore {
         key: RowKey,
         id: IntentId,
         func: u16,
-    ) -> Result<Seen, AllocError>
+    ) -> Result<EventReply, AllocError>
         requires given { self.old.runs.given < self.old.taken }
         ensures ok { IfOk result (λ x. (core_in self.new, x) ≡ collected_of code.now (core_in self.old) key id func) }
         ensures err { OnErr result (core_in self.new ≡ core_in self.old) }
@@ -818,7 +832,7 @@ impl HostCore {
         if self.runs.len() >= MOST_RUNS {
             drop(id);
             drop(key);
-            return Ok(Seen::Crowded);
+            return Ok(EventReply::Crowded);
         }
         let seen = or_drop!(self.launch_new(code, id, func); key);
         self.go_to(key);
@@ -826,7 +840,12 @@ impl HostCore {
     }
 
     // Launches a run of an intent.
-    fn launch_new(&mut self, code: &Deployment, id: IntentId, func: u16) -> Result<Seen, AllocError>
+    fn launch_new(
+        &mut self,
+        code: &Deployment,
+        id: IntentId,
+        func: u16,
+    ) -> Result<EventReply, AllocError>
         requires given { self.old.runs.given < self.old.taken }
         ensures ok { IfOk result (λ x. (core_in self.new, x) ≡ launched code.now (core_in self.old) id func) }
         ensures err { OnErr result (core_in self.new ≡ core_in self.old) }
@@ -834,23 +853,29 @@ impl HostCore {
         let name = or_drop!(id.copy(self.alloc); id);
         let run = or_drop!(self.new_run(code, id, func); name);
         let number = or_drop!(self.runs.start(self.alloc, run); name);
-        Ok(Seen::Launched {
+        Ok(EventReply::Launched {
             run: number,
             id: name,
         })
     }
 
     // The answer is lost: the run is over, and the book has the entry of its act, if any.
-    fn unheard(&mut self, code: &Deployment, run: u64, copies: Copies, heard: Heard<'_>) -> Seen
+    fn unheard(
+        &mut self,
+        code: &Deployment,
+        run: u64,
+        copies: Copies,
+        heard: QueryReplyRef<'_>,
+    ) -> EventReply
         requires spare { 1 ≤ self.old.book.spare }
         requires live { IsSome (map.get self.old.runs.runs run) }
         requires copies { Copied copies (map.get self.old.runs.runs run) }
-        ensures { Followed code.now (events.Lost run) (core_in self.old) (Ok (told_of heard.entry)) (core_in self.new) (Ok result) }
+        ensures { Followed code.now (events.Lost run) (core_in self.old) (Ok (query_reply_of heard.entry)) (core_in self.new) (Ok result) }
     {
         let changes = self.book.changes();
-        let mark = told_mark(self.runs.told(run, self.alloc, code, changes, heard));
+        let mark = told_mark(self.runs.resume(run, self.alloc, code, changes, heard));
         self.runs.remove(run);
         write(&mut self.book, entry_if(copies.id, mark));
-        Seen::Dropped
+        EventReply::Dropped
     }
 }

@@ -1,9 +1,9 @@
 //! The host without its table: it plans each event, and follows what the table told. It stands on `beldi_step`, which says what one
-//! event does, and on `beldi_turn`, which carries out a run's turn. Its definitions: `specs/Parts` (what holds between an event's
-//! question and its answer), `specs/Runs` (the live runs by number) and `specs/Counts` (how many of them each intent has).
+//! event does, and on `beldi_turn`, which carries out a run's turn. Its definitions: `specs/PlannedEvent` (what holds between an event's
+//! question and its answer), `specs/LiveRuns` (the live runs by number) and `specs/Counts` (how many of them each intent has).
 //!
 //! Proved:
-//! - `HostCore::plan` answers an event at once, asks one thing, or says of a halt that all rows are to be read; `told`, `refused` and
+//! - `HostCore::plan` answers an event at once, asks one thing, or says of a halt that all rows are to be read; `resume`, `refused` and
 //!   `halted` follow what was told, refused or read, as the definition of an event says (`PlannedOf`, `Asked`, `halt_next`); crashes, lost answers, restarts, faults, want of room and out of memory are
 //!   cases of it.
 //! - `Runs::next_after` is the least live run past a number (`IsLeastPast`), the first one in their order (`first_past`).

@@ -1,20 +1,20 @@
 // The live runs of a host, by number.
 ghost use Rattle.std.specs.Prelude.{◌≡◌, ℕ, ◌+◌, ◌-◌, ◌^◌, ◌<◌, ◌≤◌, Some, IsSome, IfOk, IfErr, IfSome, OnOk, OnErr, option_copied};
 ghost use Rattle.std.specs.FinMap as map;
-ghost use Rattle.beldi_walk.specs.Query.{told_of};
-ghost use Rattle.beldi_core.specs.Runs.{map_of, IsLeastPast, started, withdrawn, ends_run, settled, uncounted, settled_counts, AllKept, asked_of, RunTold, walked_in};
+ghost use Rattle.beldi_query.specs.Query.{query_reply_of};
+ghost use Rattle.beldi_core.specs.LiveRuns.{map_of, IsLeastPast, started, withdrawn, ends_run, settled, uncounted, settled_counts, AllKept, asked_of, RunTold, walked_in};
 ghost use Rattle.beldi_step.specs.Next.{first_past};
 ghost use Rattle.beldi_core.specs.Counts.{CountMap, count_at, more, kept_as};
-ghost use Rattle.beldi_step.specs.Host.{has_run};
+ghost use Rattle.beldi_step.specs.HostStep.{has_run};
 ghost use Rattle.beldi_step.specs.Run.{run_asks};
 
 use crate::counts::Counts;
 use beldi_book::Book;
 use beldi_lang::Deployment;
-use beldi_step::{Mark, Run, TurnSays};
-use beldi_turn::{ask, callee, told, walk_to};
-use beldi_value::{Apart, IntentId, or_drop};
-use beldi_walk::{Heard, Query};
+use beldi_query::{Query, QueryReplyRef};
+use beldi_step::{Mark, Run, TurnOutput};
+use beldi_turn::{ask, callee, resume, walk_to};
+use beldi_value::{Boxed, IntentId, or_drop};
 use std::alloc::{AllocError, Global};
 use std::collections::BTreeMap;
 use std::marker::Model;
@@ -23,7 +23,7 @@ use std::ops::Bound;
 /// The live runs. Numbers rise from 1, and none is given twice.
 #[derive(Drop)]
 pub struct Runs {
-    live: BTreeMap<u64, Apart<Run>>,
+    live: BTreeMap<u64, Boxed<Run>>,
     counts: Counts,
     given: u64,
 }
@@ -33,7 +33,7 @@ impl Model for Runs {
     ghost use Rattle.std.specs.FinMap as map;
     ghost use Rattle.std.specs.Ordering.{nat_cmp};
     ghost use Rattle.beldi_step.specs.contracts.run.Run as run;
-    ghost use Rattle.beldi_core.specs.Runs.{Numbered, AllKept, map_of};
+    ghost use Rattle.beldi_core.specs.LiveRuns.{Numbered, AllKept, map_of};
 
     ghost Value = { Numbered };
 
@@ -45,7 +45,7 @@ impl Model for Runs {
 }
 
 // Out of memory, the run is given back.
-fn put(live: &mut BTreeMap<u64, Apart<Run>>, number: u64, run: Apart<Run>) -> Result<(), Apart<Run>>
+fn put(live: &mut BTreeMap<u64, Boxed<Run>>, number: u64, run: Boxed<Run>) -> Result<(), Boxed<Run>>
     ensures ok { OnOk result (map_of live.new ≡ map.insert (map_of live.old) number run) }
     ensures err { IfErr result (λ r. (r ≡ run) × (map_of live.new ≡ map_of live.old)) }
 {
@@ -55,7 +55,7 @@ fn put(live: &mut BTreeMap<u64, Apart<Run>>, number: u64, run: Apart<Run>) -> Re
     }
 }
 
-fn take(live: &mut BTreeMap<u64, Apart<Run>>, number: u64) -> Option<Apart<Run>>
+fn take(live: &mut BTreeMap<u64, Boxed<Run>>, number: u64) -> Option<Boxed<Run>>
     ensures run { result ≡ map.get (map_of live.old) number }
     ensures rest { map_of live.new ≡ map.remove (map_of live.old) number }
 {
@@ -64,11 +64,11 @@ fn take(live: &mut BTreeMap<u64, Apart<Run>>, number: u64) -> Option<Apart<Run>>
 
 // Out of memory, a count that was raised is lowered again.
 fn begin(
-    live: &mut BTreeMap<u64, Apart<Run>>,
+    live: &mut BTreeMap<u64, Boxed<Run>>,
     counts: &mut Counts,
     alloc: Global,
     number: u64,
-    run: Apart<Run>,
+    run: Boxed<Run>,
 ) -> Result<(), AllocError>
     requires { count_at counts.old run.id < 2 ^ 64 - 1 }
     ensures ok { OnOk result (map_of live.new ≡ map.insert (map_of live.old) number run) }
@@ -88,7 +88,7 @@ fn begin(
 }
 
 // Ends the run of this number, if it is live.
-fn end(live: &mut BTreeMap<u64, Apart<Run>>, counts: &mut Counts, number: u64)
+fn end(live: &mut BTreeMap<u64, Boxed<Run>>, counts: &mut Counts, number: u64)
     ensures rest { map_of live.new ≡ map.remove (map_of live.old) number }
     ensures counts { counts.new ≡ uncounted counts.old (map.get (map_of live.old) number) }
 {
@@ -98,16 +98,16 @@ fn end(live: &mut BTreeMap<u64, Apart<Run>>, counts: &mut Counts, number: u64)
 }
 
 // Whether a run is gone after this.
-fn ends(turn: &Result<TurnSays, Option<Mark>>) -> bool
+fn ends(turn: &Result<TurnOutput, Option<Mark>>) -> bool
     ensures { result ≡ ends_run turn.now }
 {
     match turn {
-        Ok(says) => says.over,
+        Ok(output) => output.over,
         Err(_) => true,
     }
 }
 
-fn settle(live: &mut BTreeMap<u64, Apart<Run>>, counts: &mut Counts, number: u64, over: bool)
+fn settle(live: &mut BTreeMap<u64, Boxed<Run>>, counts: &mut Counts, number: u64, over: bool)
     ensures rest { map_of live.new ≡ settled over (map_of live.old) number }
     ensures counts { counts.new ≡ settled_counts over counts.old (map.get (map_of live.old) number) }
 {
@@ -118,28 +118,28 @@ fn settle(live: &mut BTreeMap<u64, Apart<Run>>, counts: &mut Counts, number: u64
 
 // The run of this number, which is live, is told.
 fn tell(
-    live: &mut BTreeMap<u64, Apart<Run>>,
+    live: &mut BTreeMap<u64, Boxed<Run>>,
     counts: &mut Counts,
     number: u64,
     alloc: Global,
     code: &Deployment,
     changes: u64,
-    heard: Heard<'_>,
-) -> Result<TurnSays, Option<Mark>>
+    heard: QueryReplyRef<'_>,
+) -> Result<TurnOutput, Option<Mark>>
     requires { IsSome (map.get (map_of live.old) number) }
-    ensures told { RunTold code.now changes (map_of live.old) (map_of live.new) number (map.get (map_of live.old) number) (told_of heard.entry) result }
+    ensures resume { RunTold code.now changes (map_of live.old) (map_of live.new) number (map.get (map_of live.old) number) (query_reply_of heard.entry) result }
     ensures kept { (g : ℕ) → AllKept g (map_of live.old) counts.old → AllKept g (map_of live.new) counts.new }
 {
     let Some(run) = live.get_mut(&number) else {
         unreachable!()
     };
-    let result = told(alloc, run.get_mut(), code, changes, heard);
+    let result = resume(alloc, run.get_mut(), code, changes, heard);
     settle(live, counts, number, ends(&result));
     result
 }
 
 // The walk of the run of this number, if it is live, is set to another row.
-fn set_forward(live: &mut BTreeMap<u64, Apart<Run>>, number: u64, row: u32)
+fn set_forward(live: &mut BTreeMap<u64, Boxed<Run>>, number: u64, row: u32)
     ensures walked { map_of live.new ≡ walked_in (map_of live.old) number row (map.get (map_of live.old) number) }
     ensures kept { (g : ℕ) (n : CountMap) → AllKept g (map_of live.old) n → AllKept g (map_of live.new) n }
 {
@@ -153,7 +153,7 @@ fn set_forward(live: &mut BTreeMap<u64, Apart<Run>>, number: u64, row: u32)
 #[derive(Drop)]
 pub struct Copies {
     pub id: IntentId,
-    pub callee: Option<Apart<Run>>,
+    pub callee: Option<Boxed<Run>>,
 }
 
 /// What a run asks, and its copies. A place in the book is taken for the entry of its act.
@@ -161,7 +161,7 @@ pub fn asked(
     run: &Run,
     book: &mut Book,
     alloc: Global,
-) -> Result<(Apart<Query>, Copies), AllocError>
+) -> Result<(Boxed<Query>, Copies), AllocError>
     ensures ok { IfOk result (λ x. x ≡ asked_of run.now) }
     ensures room { OnOk result (1 ≤ book.new.spare) }
     ensures entries { book.new.entries ≡ book.old.entries }
@@ -278,7 +278,7 @@ impl Runs {
     }
 
     /// Gives a run the next number, which is the answer.
-    pub fn start(&mut self, alloc: Global, run: Apart<Run>) -> Result<u64, AllocError>
+    pub fn start(&mut self, alloc: Global, run: Boxed<Run>) -> Result<u64, AllocError>
         requires { self.old.given < 2 ^ 64 - 1 }
         ensures number { IfOk result (λ n. n ≡ self.old.given + 1) }
         ensures ok { OnOk result (self.new ≡ started self.old run) }
@@ -318,16 +318,16 @@ impl Runs {
     /// The run of this number, which is live, is told, when so many changes had been made. A run that is over is gone
     /// afterwards, and so is one that was out of memory.
     #[inline(always)]
-    pub fn told(
+    pub fn resume(
         &mut self,
         number: u64,
         alloc: Global,
         code: &Deployment,
         changes: u64,
-        heard: Heard<'_>,
-    ) -> Result<TurnSays, Option<Mark>>
+        heard: QueryReplyRef<'_>,
+    ) -> Result<TurnOutput, Option<Mark>>
         requires { IsSome (map.get self.old.runs number) }
-        ensures told { RunTold code.now changes self.old.runs self.new.runs number (map.get self.old.runs number) (told_of heard.entry) result }
+        ensures resume { RunTold code.now changes self.old.runs self.new.runs number (map.get self.old.runs number) (query_reply_of heard.entry) result }
         ensures given { self.new.given ≡ self.old.given }
     {
         tell(

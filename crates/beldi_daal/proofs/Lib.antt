@@ -2,4 +2,4 @@ pub mod Bars
 pub mod Logged
 pub mod OneRow
 pub mod Spares
-pub mod Turns
+pub mod WalkTurns

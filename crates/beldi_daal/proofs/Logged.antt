@@ -2,16 +2,16 @@
 use Rattle.std.specs.FinMap as map
 use Rattle.std.proofs.Common.{◌≡◌, ℕ, ◌+◌, ◌-◌, ◌<◌, Bool, true, false, if◌then◌else◌, [], length, Option, None, Some, Ok, Err, refl, ap, sym, ◌∙◌, subst, arith, eq-eqb}
 use Rattle.beldi_value.specs.declared.{place.Owner.Owner, value.Value.Value, value.Value.TheVariants.Null}
-use Rattle.beldi_row.specs.Act.{Tell, act, next, not_full, next_or, is_full}
+use Rattle.beldi_row.specs.Act.{ActReply, act, next, not_full, next_or, is_full}
 use Rattle.beldi_row.{specs.declared.notes.Note.Note, specs.declared.row.Cell.Cell, specs.declared.row.Row.Row, specs.declared.act.Act.TheVariants.LinkCell, specs.declared.act.Act.TheVariants.Look, specs.declared.act.Act.TheVariants.MakeCell, specs.declared.table.TableErr.TableErr, specs.declared.table.TableErr.TheVariants.OutOfMemory, specs.declared.table.TableErr.TheVariants.Failed, specs.declared.table.TableErr.TheVariants.Full, specs.Key.RowKey, specs.Key.at_row, specs.Log.blank, specs.Log.most_entries, specs.Log.note_at, specs.Table.Rows, specs.Table.after_act, specs.Table.set_row, proofs.Tells.tells_map, proofs.Unchanged.left}
 use Rattle.beldi_chain.{specs.Chain.Chain, specs.Chain.chain, specs.Chain.content, specs.Chain.most_rows, specs.Chain.most_rows_are, specs.Content.Content, proofs.OneRow.no_content}
 use Rattle.beldi_links.specs.Links.{At, Fits, FitsAt, GrowsBy, IsAfter, IsLinked, Linkable, Linked, LinkedFrom, Meets, Passed, ReadsAt, RowsGrow, SeesAt, SetTo, StandsAt}
-use Rattle.beldi_links.proofs.{Grows.making_grows, Grows.one_grows, Grows.others_keep, Keeps.first_linked, Keeps.linked as link_changes_nothing, Keeps.linking_keeps, Keeps.made as making_changes_nothing, Keeps.making_keeps, Meets.linked_is_seen, Meets.next_is_read, Meets.spare_is_made, Meets.spare_is_seen, Meets.walks_begin, Ways.content_is, Ways.one_cell}
-use Rattle.beldi_walk.{specs.Query.Told, specs.Query.said, specs.Query.rows_after, specs.Query.told_by, specs.Query.CameOn, proofs.Looks.look_stands, proofs.Looks.never_full}
-use Rattle.beldi_daal.specs.{Cell.op_act, Cell.done_note, Cell.write_asks, Cell.write_goes, Cell.cell_goes, Cell.got_or_held, Cell.in_the_way, Cell.read_goes, Logged.LoggedTurn, Logged.LooksOn, Logged.ReadTurn, Logged.ReadsAreContents, Logged.WritesAreLogged, Logged.at_of, ReadWalk.read_asks, ReadWalk.read_at, ReadWalk.read_key, ReadWalk.read_next, ReadWalk.read_says, ReadWalk.read_so, Walk.walk_asks, Walk.walk_at, Walk.walk_key, Walk.walk_next, Walk.walk_says, Walk.walk_so}
-use Rattle.beldi_daal.specs.declared.{cell.FullRow.FullRow, cell.ReadGoes.ReadGoes, cell.WriteAt.WriteAt, cell.WriteAt.TheVariants.Append, cell.WriteAt.TheVariants.Link, cell.WriteAt.TheVariants.Make, cell.WriteAt.TheVariants.Try, cell.WriteGoes.WriteGoes, read_walk.ReadSays.ReadSays, read_walk.ReadWalk.ReadWalk, walk.WriteSays.TheVariants.Going, walk.WriteWalk.WriteWalk}
+use Rattle.beldi_links.proofs.{Grows.making_grows, Grows.one_grows, Grows.others_keep, LinkKeeps.first_linked, LinkKeeps.linked as link_changes_nothing, LinkKeeps.linking_keeps, LinkKeeps.made as making_changes_nothing, LinkKeeps.making_keeps, Meets.linked_is_seen, Meets.next_is_read, Meets.spare_is_made, Meets.spare_is_seen, Meets.walks_begin, Ways.content_is, Ways.one_cell}
+use Rattle.beldi_query.{specs.Query.QueryReply, specs.Query.replied, specs.Query.rows_after, specs.Query.query_reply, specs.Query.CameOn, proofs.Looks.look_stands, proofs.Looks.never_full}
+use Rattle.beldi_daal.specs.{Cell.op_act, Cell.done_note, Cell.write_asks, Cell.write_goes, Cell.cell_goes, Cell.got_or_held, Cell.in_the_way, Cell.read_goes, Logged.LoggedTurn, Logged.LooksOn, Logged.ReadTurn, Logged.ReadsAreContents, Logged.WritesAreLogged, Logged.at_of, ReadWalk.read_asks, ReadWalk.read_at, ReadWalk.read_key, ReadWalk.read_next, ReadWalk.read_output, ReadWalk.read_so, WriteWalk.walk_asks, WriteWalk.walk_at, WriteWalk.walk_key, WriteWalk.walk_next, WriteWalk.walk_output, WriteWalk.walk_so}
+use Rattle.beldi_daal.specs.declared.{cell.FullRow.FullRow, cell.ReadGoes.ReadGoes, cell.WriteAt.WriteAt, cell.WriteAt.TheVariants.Append, cell.WriteAt.TheVariants.Link, cell.WriteAt.TheVariants.Make, cell.WriteAt.TheVariants.Try, cell.WriteGoes.WriteGoes, read_walk.ReadOutput.ReadOutput, read_walk.ReadWalk.ReadWalk, walk.WriteOutput.TheVariants.Going, walk.WriteWalk.WriteWalk}
 use Rattle.beldi_daal.proofs.OneRow.{AtEnd, on_cell, on_none}
-use Rattle.beldi_daal.proofs.Turns.{Turn, at_last, content_here, first_head, is_set, is_tail, linked_by, moved, none_at_all, still, tried_cell}
+use Rattle.beldi_daal.proofs.WalkTurns.{Turn, at_last, content_here, first_head, is_set, is_tail, linked_by, moved, none_at_all, still, tried_cell}
 
 -- ---- a cell that is made
 abbrev made_cell : Value → Option Owner → Cell
@@ -64,7 +64,7 @@ module _ (w : WriteWalk) (m : Rows) (linked : IsLinked (chain m (walk_key w))) (
     abbrev more : Chain
     more = chain (set_row m (at_row (walk_key w) n) (Some (Row.Cell spare))) (walk_key w)
 
-    made_more : (l : Linked f) → f n ≡ None → Turn w m (Append n t) n (Some (Row.Cell spare), Tell.added)
+    made_more : (l : Linked f) → f n ≡ None → Turn w m (Append n t) n (Some (Row.Cell spare), ActReply.added)
     made_more l is =
         let made = spare_is_made f l w.place n t.value t.owner spare sees is refl refl refl refl in
         let set : SetTo f n (Some (Row.Cell spare)) more = is_set w m n (Some (Row.Cell spare)) in
@@ -90,7 +90,7 @@ module _ (w : WriteWalk) (m : Rows) (linked : IsLinked (chain m (walk_key w))) (
     abbrev full : Cell
     full = link.cell
 
-    abbrev Links : Cell × Tell → Type 0
+    abbrev Links : Cell × ActReply → Type 0
     Links z = Turn w m (Link n) r (Some (Row.Cell z.0), z.1)
 
     abbrev onto : Cell
@@ -130,27 +130,27 @@ module _ (w : WriteWalk) (m : Rows) (linked : IsLinked (chain m (walk_key w))) (
     before_one = let a = after.next in omega (arith, a)
 
   -- ---- all stages
-  abbrev Stage : WriteAt → Type 0
-  Stage at =
-      LoggedTurn w (walk_at w (write_goes (done_note w.op) at (told_by (write_asks (walk_key w) w.place w.who w.op at) now m))) m (rows_after (write_asks (walk_key w) w.place w.who w.op at) now m)
-      (walk_so (write_goes (done_note w.op) at (told_by (write_asks (walk_key w) w.place w.who w.op at) now m)))
+  abbrev IsLogged : WriteAt → Type 0
+  IsLogged at =
+      LoggedTurn w (walk_at w (write_goes (done_note w.op) at (query_reply (write_asks (walk_key w) w.place w.who w.op at) now m))) m (rows_after (write_asks (walk_key w) w.place w.who w.op at) now m)
+      (walk_so (write_goes (done_note w.op) at (query_reply (write_asks (walk_key w) w.place w.who w.op at) now m)))
 
-  by_stage : (at : WriteAt) → SeesAt f w.place (at_of at) → Stage at
+  by_stage : (at : WriteAt) → SeesAt f w.place (at_of at) → IsLogged at
   by_stage (Try r) sees = tried r sees (f r) refl
   by_stage Make sees =
-      subst (λ (q : RowKey). LoggedTurn w (walk_at w (write_goes (done_note w.op) Make (said (act (MakeCell Null None blank) now (map.get m q)).1))) m (set_row m q (act (MakeCell Null None blank) now (map.get m q)).0)
-      (walk_so (write_goes (done_note w.op) Make (said (act (MakeCell Null None blank) now (map.get m q)).1))))
+      subst (λ (q : RowKey). LoggedTurn w (walk_at w (write_goes (done_note w.op) Make (replied (act (MakeCell Null None blank) now (map.get m q)).1))) m (set_row m q (act (MakeCell Null None blank) now (map.get m q)).0)
+      (walk_so (write_goes (done_note w.op) Make (replied (act (MakeCell Null None blank) now (map.get m q)).1))))
       (first_head w.home w.item).first (made_first (f 0) refl)
   by_stage (Append n t) (r, after, meets, passed, told) = appended n t (r, after, meets, passed, told) (linked_by f linked r (Row.Cell told.cell) told.there) (f n) refl
   by_stage (Link n) (r, after, meets, passed, link) = subst (λ z. Turn w m (Link n) z (act (LinkCell n) now (f z))) (before_one n r after meets passed link) (linked_on n r after meets passed link)
 
 pub by_op : (w : WriteWalk) (m n : Rows) (now : ℕ) → IsLinked (chain m (walk_key w)) → SeesAt (chain m (walk_key w)) w.place (at_of w.at) → n ≡ rows_after (walk_asks w) now m
-    → LoggedTurn w (walk_next w (told_by (walk_asks w) now m)) m n (walk_says w (told_by (walk_asks w) now m))
-by_op w m n now linked sees is = subst (λ z. LoggedTurn w (walk_next w (told_by (walk_asks w) now m)) m z (walk_says w (told_by (walk_asks w) now m))) (sym is) (by_stage w m linked sees now w.at sees)
+    → LoggedTurn w (walk_next w (query_reply (walk_asks w) now m)) m n (walk_output w (query_reply (walk_asks w) now m))
+by_op w m n now linked sees is = subst (λ z. LoggedTurn w (walk_next w (query_reply (walk_asks w) now m)) m z (walk_output w (query_reply (walk_asks w) now m))) (sym is) (by_stage w m linked sees now w.at sees)
 
 pub writes_are_logged : WritesAreLogged
 writes_are_logged w x now old new s (Ok t, h, c) = tells_map {P = λ m n. CameOn (walk_asks w) now old.room (Ok t) m n} {Q = λ m n. IsLinked (chain m (walk_key w)) → SeesAt (chain m (walk_key w)) w.place (at_of w.at) → LoggedTurn w x m n s} old.rows new.rows
-    (λ m n p linked sees. subst (λ y. LoggedTurn w y m n s) (sym (h.0 ∙ ap (walk_next w) p.1)) (subst (LoggedTurn w (walk_next w (told_by (walk_asks w) now m)) m n) (sym (h.1 ∙ ap (walk_says w) p.1)) (by_op w m n now linked sees p.0))) c.rows
+    (λ m n p linked sees. subst (λ y. LoggedTurn w y m n s) (sym (h.0 ∙ ap (walk_next w) p.1)) (subst (LoggedTurn w (walk_next w (query_reply (walk_asks w) now m)) m n) (sym (h.1 ∙ ap (walk_output w) p.1)) (by_op w m n now linked sees p.0))) c.rows
 writes_are_logged w x now old new s (Err v, h, c) = absurd h
 
 -- ---- where the place has its note, no row changes
@@ -231,29 +231,29 @@ module _ (w : ReadWalk) (m : Rows) (now : ℕ) (linked : IsLinked (chain m (read
       let here = content_here rows l w.row c stood.0 is ends in
       by_way c (ap (λ (z : Content). z.value) here) (ap (λ (z : Content). z.owner) here) (in_the_way w.who c.owner) refl
 
-  by_row : (y : Option Row) → rows w.row ≡ y → ReadBy (read_goes w.who (said (act Look now y).1))
+  by_row : (y : Option Row) → rows w.row ≡ y → ReadBy (read_goes w.who (replied (act Look now y).1))
   by_row None is =
       let first : w.row ≡ 0 = subst (λ z. StandsAt z w.row) is stood.1 in
       record { reads = no_content rows (ap rows (sym first) ∙ is); sees = stood }
   by_row (Some y) is = let l : Linked rows = linked_by rows linked w.row y is in by_kind y l is (subst FitsAt is (l.fits w.row))
     where
-      by_kind : (y : Row) → Linked rows → rows w.row ≡ Some y → FitsAt (Some y) → ReadBy (read_goes w.who (said (act Look now (Some y)).1))
+      by_kind : (y : Row) → Linked rows → rows w.row ≡ Some y → FitsAt (Some y) → ReadBy (read_goes w.who (replied (act Look now (Some y)).1))
       by_kind (Row.Cell c) l is fits = by_end l c c.next is refl
       by_kind y l is fits = absurd fits
 
 pub by_read : (w : ReadWalk) (m : Rows) (now : ℕ) → IsLinked (chain m (read_key w)) → ReadsAt (chain m (read_key w)) w.row
-    → ReadTurn w (read_next w (told_by (read_asks w) now m)) m (read_says w (told_by (read_asks w) now m))
+    → ReadTurn w (read_next w (query_reply (read_asks w) now m)) m (read_output w (query_reply (read_asks w) now m))
 by_read w m now linked sees = by_row w m now linked sees (chain m (read_key w) w.row) refl
 
 module _ (w x : ReadWalk) (now room : ℕ) (m n : Rows) where
-  read : (s : ReadSays) (t : Told) → x ≡ read_next w t → s ≡ read_says w t → CameOn (read_asks w) now room (Ok t) m n → LooksOn w x m n (Ok s)
-  read s t goes says h = (
+  read : (s : ReadOutput) (t : QueryReply) → x ≡ read_next w t → s ≡ read_output w t → CameOn (read_asks w) now room (Ok t) m n → LooksOn w x m n (Ok s)
+  read s t goes output h = (
     look_stands (at_row (read_key w) w.row) now room m n (Ok t) h,
-    λ linked sees. subst (λ y. ReadTurn w y m s) (sym (goes ∙ ap (read_next w) h.1)) (subst (ReadTurn w (read_next w (told_by (read_asks w) now m)) m) (sym (says ∙ ap (read_says w) h.1)) (by_read w m now linked sees)),
+    λ linked sees. subst (λ y. ReadTurn w y m s) (sym (goes ∙ ap (read_next w) h.1)) (subst (ReadTurn w (read_next w (query_reply (read_asks w) now m)) m) (sym (output ∙ ap (read_output w) h.1)) (by_read w m now linked sees)),
   )
 
   -- it was out of memory after the Look, or there was none
-  lost : (e : TableErr) (t : Told) → e ≡ OutOfMemory → CameOn (read_asks w) now room (Ok t) m n → LooksOn w x m n (Err e)
+  lost : (e : TableErr) (t : QueryReply) → e ≡ OutOfMemory → CameOn (read_asks w) now room (Ok t) m n → LooksOn w x m n (Err e)
   lost e t is h = subst (λ v. LooksOn w x m n (Err v)) (sym is) (look_stands (at_row (read_key w) w.row) now room m n (Ok t) h)
 
   refused : (e v : TableErr) → e ≡ v → CameOn (read_asks w) now room (Err v) m n → LooksOn w x m n (Err e)

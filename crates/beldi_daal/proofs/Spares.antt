@@ -2,7 +2,7 @@
 use Rattle.std.proofs.Common.{◌≡◌, false, refl}
 use Rattle.beldi_value.specs.declared.place.{Owner.Owner, Place.Place}
 use Rattle.beldi_row.specs.{Act.prunes, Key.RowKey}
-use Rattle.beldi_walk.specs.Query.{may_remove}
+use Rattle.beldi_query.specs.Query.{may_remove}
 use Rattle.beldi_daal.specs.{Cell.op_act, Cell.write_asks, declared.cell.CellOp.CellOp, declared.cell.WriteAt.WriteAt}
 
 op_spares : (p : Place) (w : Owner) (op : CellOp) → prunes (op_act p w op) ≡ false

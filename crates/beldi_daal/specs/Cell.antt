@@ -3,7 +3,7 @@ use Rattle.std.specs.Prelude.{ℕ, ◌+◌, ◌-◌, ◌^◌, ◌==◌, List, tr
 use Rattle.beldi_value.specs.{declared.value.Value.TheVariants.Null, declared.place.Place.Place, declared.place.Owner.Owner, declared.place.TxId.TxId, Spare.spare}
 use Rattle.beldi_row.specs.Act.{absent, here, added, present, no_row, did, died, noted, next, held, not_owner, tested, packed, other_owner}
 use Rattle.beldi_row.specs.{declared.key.Kind.TheVariants.Shadow, declared.act.Act.Act, declared.notes.Note.Note, declared.notes.Note.TheVariants.Wrote, declared.notes.Note.TheVariants.Cond, declared.notes.Note.TheVariants.Got, declared.notes.Note.TheVariants.Died, declared.notes.Note.TheVariants.Freed, declared.row.Cell.Cell, declared.act.Act.TheVariants.MakeCell, declared.act.Act.TheVariants.WriteCell, declared.act.Act.TheVariants.CondCell, declared.act.Act.TheVariants.LockCell, declared.act.Act.TheVariants.FreeCell, declared.act.Act.TheVariants.LinkCell, Key.RowKey, Key.at_row, Key.head_key, Log.blank, declared.row.Row.Row}
-use Rattle.beldi_walk.specs.{declared.query.Query.Query, Query.Told, Query.said}
+use Rattle.beldi_query.specs.{declared.query.Query.Query, Query.QueryReply, Query.replied}
 use Rattle.beldi_daal.specs.declared.cell.{CellOp.CellOp, FullRow.FullRow, WriteAt.WriteAt, WriteAt.TheVariants.Try, WriteAt.TheVariants.Make, WriteAt.TheVariants.Append, WriteAt.TheVariants.Link, WriteGoes.WriteGoes, ReadGoes.ReadGoes}
 
 -- the key of an item's first row
@@ -53,18 +53,18 @@ made_goes (Append n t) = WriteGoes.On (Link n)
 made_goes at = WriteGoes.Stays
 
 -- where a write goes after it was told, by the note that it leaves where it was done, and where it stood
-abbrev pub write_goes : Note → WriteAt → Told → WriteGoes
-write_goes d at (said no_row) = WriteGoes.On Make
-write_goes d at (said added) = made_goes at
-write_goes d at (said present) = made_goes at
-write_goes d at (said did) = WriteGoes.Done d true
-write_goes d at (said (tested b)) = WriteGoes.Done (Cond b) true
-write_goes d at (said (died a)) = WriteGoes.Done (Died a) true
-write_goes d at (said (noted n)) = WriteGoes.Done n false
-write_goes d at (said (next n)) = WriteGoes.On (Try n)
-write_goes d at (said (held o)) = WriteGoes.Held o
-write_goes d at (said not_owner) = WriteGoes.NotOwner
-write_goes d at (said (packed v o)) = full_goes (record { value = v; owner = o }) at
+abbrev pub write_goes : Note → WriteAt → QueryReply → WriteGoes
+write_goes d at (replied no_row) = WriteGoes.On Make
+write_goes d at (replied added) = made_goes at
+write_goes d at (replied present) = made_goes at
+write_goes d at (replied did) = WriteGoes.Done d true
+write_goes d at (replied (tested b)) = WriteGoes.Done (Cond b) true
+write_goes d at (replied (died a)) = WriteGoes.Done (Died a) true
+write_goes d at (replied (noted n)) = WriteGoes.Done n false
+write_goes d at (replied (next n)) = WriteGoes.On (Try n)
+write_goes d at (replied (held o)) = WriteGoes.Held o
+write_goes d at (replied not_owner) = WriteGoes.NotOwner
+write_goes d at (replied (packed v o)) = full_goes (record { value = v; owner = o }) at
 write_goes d at t = WriteGoes.Stays
 
 -- the owner that stands in the way of who reads: none does where the read is for nobody
@@ -83,7 +83,7 @@ cell_goes who c None = got_or_held c (in_the_way who c.owner)
 cell_goes who c (Some n) = ReadGoes.On n
 
 -- where a read goes after it was told
-abbrev pub read_goes : Option Owner → Told → ReadGoes
-read_goes who (said absent) = ReadGoes.Got None
-read_goes who (said (here (Row.Cell c))) = cell_goes who c c.next
+abbrev pub read_goes : Option Owner → QueryReply → ReadGoes
+read_goes who (replied absent) = ReadGoes.Got None
+read_goes who (replied (here (Row.Cell c))) = cell_goes who c c.next
 read_goes who t = ReadGoes.Stays

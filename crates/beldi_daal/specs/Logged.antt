@@ -3,10 +3,10 @@
 use Rattle.std.specs.Prelude.{◌≡◌, ℕ, Bool, true, false, if◌then◌else◌, [], ◌∷◌, ◌++◌, Option, Some, None, Result, Ok, Err}
 use Rattle.beldi_value.specs.{declared.id.IntentId.IntentId, declared.place.Owner.Owner, Id.age_of, Id.is_older, declared.place.Place.Place, declared.value.Value.Value, Passes.passes}
 use Rattle.beldi_row.specs.{declared.notes.Note.Note, Act.other_owner, Act.owns, Act.given_or, Log.note_at, declared.table.TableErr.TableErr, declared.table.TableErr.TheVariants.OutOfMemory, declared.table.TableErr.TheVariants.Failed, declared.table.TableErr.TheVariants.Full, Table.Rows, Table.TableState, Table.Tells}
-use Rattle.beldi_walk.specs.Walk.{Turned}
+use Rattle.beldi_query.specs.Walk.{Turned}
 use Rattle.beldi_chain.specs.{Chain.ChangedAlone, Chain.chain, Chain.content, Content.Content, Content.content_in}
 use Rattle.beldi_links.specs.Links.{AllGrow, At, IsLinked, ReadsAt, SeesAt}
-use Rattle.beldi_daal.specs.{declared.cell.CellOp.CellOp, declared.cell.CellOp.TheVariants.Write, declared.cell.CellOp.TheVariants.Cond, declared.cell.CellOp.TheVariants.Lock, declared.cell.CellOp.TheVariants.Free, declared.cell.WriteAt.WriteAt, declared.walk.WriteSays.WriteSays, declared.walk.WriteSays.TheVariants.Going, declared.walk.WriteSays.TheVariants.Done, declared.walk.WriteSays.TheVariants.NotOwner, declared.walk.WriteSays.TheVariants.Held, declared.walk.WriteSays.TheVariants.Worn, declared.walk.WriteWalk.WriteWalk, declared.read_walk.ReadWalk.ReadWalk, declared.read_walk.ReadSays.ReadSays, Cell.in_the_way, ReadWalk.read_key, ReadWalk.read_asks, ReadWalk.read_next, ReadWalk.read_says, Walk.walk_key, Walk.walk_asks, Walk.walk_next, Walk.walk_says}
+use Rattle.beldi_daal.specs.{declared.cell.CellOp.CellOp, declared.cell.CellOp.TheVariants.Write, declared.cell.CellOp.TheVariants.Cond, declared.cell.CellOp.TheVariants.Lock, declared.cell.CellOp.TheVariants.Free, declared.cell.WriteAt.WriteAt, declared.walk.WriteOutput.WriteOutput, declared.walk.WriteOutput.TheVariants.Going, declared.walk.WriteOutput.TheVariants.Done, declared.walk.WriteOutput.TheVariants.NotOwner, declared.walk.WriteOutput.TheVariants.Held, declared.walk.WriteOutput.TheVariants.Worn, declared.walk.WriteWalk.WriteWalk, declared.read_walk.ReadWalk.ReadWalk, declared.read_walk.ReadOutput.ReadOutput, Cell.in_the_way, ReadWalk.read_key, ReadWalk.read_asks, ReadWalk.read_next, ReadWalk.read_output, WriteWalk.walk_key, WriteWalk.walk_asks, WriteWalk.walk_next, WriteWalk.walk_output}
 
 -- ---- the walk of a write
 -- where it stands
@@ -57,15 +57,15 @@ dies (Owner.Tx t) Lock o = died_of (Owner.Tx t) (other_owner (Owner.Tx t) o)
 dies (Owner.Tx t) (Free v) o = None
 
 -- what bars it, as the walk says: another owner, or, where it gives the item back, that who asks does not own it
-abbrev pub held_by : Option Owner → Option WriteSays
+abbrev pub held_by : Option Owner → Option WriteOutput
 held_by None = None
 held_by (Some o) = Some (Held o)
 
-abbrev pub unless_owned : Bool → Option WriteSays
+abbrev pub unless_owned : Bool → Option WriteOutput
 unless_owned true = None
 unless_owned false = Some NotOwner
 
-abbrev pub barred : CellOp → Owner → Option Owner → Option WriteSays
+abbrev pub barred : CellOp → Owner → Option Owner → Option WriteOutput
 barred (Write v) who o = held_by (other_owner who o)
 barred (Cond r u v) who o = held_by (other_owner who o)
 barred Lock who o = held_by (waited who (other_owner who o))
@@ -91,12 +91,12 @@ DidOnce p who op true c d = (note_at c.notes p ≡ None) × DidAs p who op (dies
 DidOnce p who op false c d = d ≡ c
 
 -- .. and what one left that says that the operation was barred
-abbrev pub WasBarred : Place → Owner → CellOp → WriteSays → Content → Content → Type 0
+abbrev pub WasBarred : Place → Owner → CellOp → WriteOutput → Content → Content → Type 0
 WasBarred p who op s c d = (note_at c.notes p ≡ None) × (barred op who c.owner ≡ Some s) × (d ≡ c)
 
 -- what a walk for a place says, by the content before its turn, and after it. `Done`: the content has the note at the place.
 -- `Held`, `NotOwner`: the place has no note, and this barred the operation. `Worn`: the place has no note.
-abbrev pub Logs : Place → Owner → CellOp → WriteSays → Content → Content → Type 0
+abbrev pub Logs : Place → Owner → CellOp → WriteOutput → Content → Content → Type 0
 Logs p who op (Done n first) c d = (note_at d.notes p ≡ Some n) × DidOnce p who op first c d
 Logs p who op NotOwner c d = WasBarred p who op NotOwner c d
 Logs p who op (Held o) c d = WasBarred p who op (Held o) c d
@@ -104,7 +104,7 @@ Logs p who op Going c d = d ≡ c
 Logs p who op Worn c d = (note_at c.notes p ≡ None) × (d ≡ c)
 
 -- what a turn of a walk leaves, where its item's rows are linked, and it sees what it has to
-pub record LoggedTurn (w x : WriteWalk) (m n : Rows) (s : WriteSays) : Type 0 where
+pub record LoggedTurn (w x : WriteWalk) (m n : Rows) (s : WriteOutput) : Type 0 where
   -- all rows are as before but those of its item, which are linked, and grow
   pub others : ChangedAlone (walk_key w) m n
   pub linked : IsLinked (chain n (walk_key w))
@@ -115,28 +115,28 @@ pub record LoggedTurn (w x : WriteWalk) (m n : Rows) (s : WriteSays) : Type 0 wh
 
 -- for every turn that says something, over every table that tells its rows
 abbrev pub WritesAreLogged : Type 0
-WritesAreLogged = (w x : WriteWalk) (now : ℕ) (old new : TableState) (s : WriteSays) → Turned (walk_asks w) now (walk_next w) (walk_says w) w x old new (Ok s)
+WritesAreLogged = (w x : WriteWalk) (now : ℕ) (old new : TableState) (s : WriteOutput) → Turned (walk_asks w) now (walk_next w) (walk_output w) w x old new (Ok s)
     → Tells old.rows new.rows (λ m n. IsLinked (chain m (walk_key w)) → SeesAt (chain m (walk_key w)) w.place (at_of w.at) → LoggedTurn w x m n s)
 
 -- ---- the walk of a read
 -- what it says is so of the content: the value, none where the item has no row; or the owner that is in the way
-abbrev pub ReadsContent : Option Owner → ReadSays → Content → Type 0
-ReadsContent who (ReadSays.Got None) c = c ≡ content_in None
-ReadsContent who (ReadSays.Got (Some v)) c = (in_the_way who c.owner ≡ None) × (v ≡ c.value)
-ReadsContent who (ReadSays.Held o) c = in_the_way who c.owner ≡ Some o
-ReadsContent who ReadSays.Going c = Unit {0}
+abbrev pub ReadsContent : Option Owner → ReadOutput → Content → Type 0
+ReadsContent who (ReadOutput.Got None) c = c ≡ content_in None
+ReadsContent who (ReadOutput.Got (Some v)) c = (in_the_way who c.owner ≡ None) × (v ≡ c.value)
+ReadsContent who (ReadOutput.Held o) c = in_the_way who c.owner ≡ Some o
+ReadsContent who ReadOutput.Going c = Unit {0}
 
 -- what a turn leaves, where the item's rows are linked, and the walk sees what it has to: what is said is so, and it sees that again
-pub record ReadTurn (w x : ReadWalk) (m : Rows) (s : ReadSays) : Type 0 where
+pub record ReadTurn (w x : ReadWalk) (m : Rows) (s : ReadOutput) : Type 0 where
   pub reads : ReadsContent w.who s (content (chain m (read_key w)))
   pub sees : ReadsAt (chain m (read_key w)) x.row
 
 -- the rows are as before, and a Look adds none, so it is never refused as Full
-abbrev pub LooksOn : ReadWalk → ReadWalk → Rows → Rows → Result ReadSays TableErr → Type 0
+abbrev pub LooksOn : ReadWalk → ReadWalk → Rows → Rows → Result ReadOutput TableErr → Type 0
 LooksOn w x m n (Ok s) = (n ≡ m) × (IsLinked (chain m (read_key w)) → ReadsAt (chain m (read_key w)) w.row → ReadTurn w x m s)
 LooksOn w x m n (Err OutOfMemory) = n ≡ m
 LooksOn w x m n (Err Failed) = n ≡ m
 LooksOn w x m n (Err (Full live most)) = ⊥
 
 abbrev pub ReadsAreContents : Type 0
-ReadsAreContents = (w x : ReadWalk) (now : ℕ) (old new : TableState) (r : Result ReadSays TableErr) → Turned (read_asks w) now (read_next w) (read_says w) w x old new r → Tells old.rows new.rows (λ m n. LooksOn w x m n r)
+ReadsAreContents = (w x : ReadWalk) (now : ℕ) (old new : TableState) (r : Result ReadOutput TableErr) → Turned (read_asks w) now (read_next w) (read_output w) w x old new r → Tells old.rows new.rows (λ m n. LooksOn w x m n r)

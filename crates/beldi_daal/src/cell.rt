@@ -1,19 +1,19 @@
 // What is asked of the rows of an item, and what follows from what is told.
 ghost use Rattle.std.specs.Prelude.{◌≡◌, ◌<◌, ◌+◌, ◌-◌, ◌^◌, None, true, IfOk, OnErr};
 ghost use Rattle.std.specs.Option.{option_copied};
-ghost use Rattle.beldi_walk.specs.Query.{told_of, lends};
+ghost use Rattle.beldi_query.specs.Query.{query_reply_of, lends};
 ghost use Rattle.beldi_value.specs.declared.value.Value.TheVariants.{Null};
 ghost use Rattle.beldi_row.specs.Key.{at_row};
 ghost use Rattle.beldi_row.specs.Log.{blank};
 ghost use Rattle.beldi_row.specs.declared.act.Act.TheVariants as acts;
-ghost use Rattle.beldi_walk.specs.declared.query.Query.TheVariants as queries;
+ghost use Rattle.beldi_query.specs.declared.query.Query.TheVariants as queries;
 ghost use Rattle.beldi_daal.specs.declared.cell.WriteAt.TheVariants as stages;
 ghost use Rattle.beldi_daal.specs.declared.cell.WriteGoes.TheVariants as goes;
 ghost use Rattle.beldi_daal.specs.Cell.{cell_key as key_of, shadow_key as shadow_key_of, op_act, done_note as done_note_of, write_asks, full_goes, made_goes, write_goes, read_goes, cell_goes, in_the_way};
 
-use beldi_row::{Act, Blank, Cell, Kind, Note, Row, RowKey, Said, copy_owner, copy_tx};
-use beldi_value::{Apart, Owner, Place, Rel, Spare, Str, TxId, Value, or_drop};
-use beldi_walk::{Heard, Query};
+use beldi_query::{Query, QueryReplyRef};
+use beldi_row::{Act, ActReplyRef, Blank, Cell, Kind, Note, Row, RowKey, copy_owner, copy_tx};
+use beldi_value::{Boxed, Owner, Place, Rel, Spare, Str, TxId, Value, or_drop};
 use std::alloc::{AllocError, Global};
 
 /// What is done to an item.
@@ -113,7 +113,7 @@ pub enum WriteAt {
     /// The item's first row is made next.
     Make,
     /// The row of this number is made next, which is to follow the one before it, a full one that told this.
-    Append(u32, Apart<FullRow>),
+    Append(u32, Boxed<FullRow>),
     /// The row of this number is linked next, to the one before it.
     Link(u32),
 }
@@ -197,7 +197,7 @@ pub fn write_query(
     who: Owner,
     op: CellOp,
     at: &WriteAt,
-) -> Result<Apart<Query>, AllocError>
+) -> Result<Boxed<Query>, AllocError>
     ensures { IfOk result (λ q. q ≡ write_asks key place who op at.now) }
 {
     if let WriteAt::Try(row) = at {
@@ -215,7 +215,7 @@ pub fn write_query(
 }
 
 // Asks that an item's first row be made.
-fn make_query(alloc: Global, key: RowKey) -> Result<Apart<Query>, AllocError>
+fn make_query(alloc: Global, key: RowKey) -> Result<Boxed<Query>, AllocError>
     ensures { IfOk result (λ q. q ≡ queries.Act key (acts.MakeCell Null None blank)) }
 {
     let blank = or_drop!(Blank::new(alloc); key);
@@ -228,7 +228,7 @@ fn make_query(alloc: Global, key: RowKey) -> Result<Apart<Query>, AllocError>
 }
 
 // Asks that a row be made with the value and the owner of a full one.
-fn append_query(alloc: Global, key: RowKey, told: &FullRow) -> Result<Apart<Query>, AllocError>
+fn append_query(alloc: Global, key: RowKey, told: &FullRow) -> Result<Boxed<Query>, AllocError>
     ensures { IfOk result (λ q. q ≡ queries.Act key (acts.MakeCell told.now.value told.now.owner blank)) }
 {
     let value = or_drop!(told.value.copy(alloc); key);
@@ -243,7 +243,7 @@ fn append_query(alloc: Global, key: RowKey, told: &FullRow) -> Result<Apart<Quer
 }
 
 // Asks that the row of this number be linked to the one before it.
-fn link_query(alloc: Global, key: RowKey, row: u32) -> Result<Apart<Query>, AllocError>
+fn link_query(alloc: Global, key: RowKey, row: u32) -> Result<Boxed<Query>, AllocError>
     ensures { IfOk result (λ q. q ≡ queries.Act (at_row key (row - 1)) (acts.LinkCell row)) }
 {
     Query::act(
@@ -269,40 +269,40 @@ pub fn write_told(
     alloc: Global,
     done: Note,
     at: &WriteAt,
-    heard: Heard<'_>,
+    heard: QueryReplyRef<'_>,
 ) -> Result<WriteGoes, AllocError>
-    ensures ok { IfOk result (λ s. s ≡ write_goes done at.now (told_of heard.entry)) }
-    ensures err { OnErr result (lends (told_of heard.entry) ≡ true) }
+    ensures ok { IfOk result (λ s. s ≡ write_goes done at.now (query_reply_of heard.entry)) }
+    ensures err { OnErr result (lends (query_reply_of heard.entry) ≡ true) }
 {
-    if let Heard::Said(Said::Did) = heard {
+    if let QueryReplyRef::Act(ActReplyRef::Did) = heard {
         return Ok(WriteGoes::Done {
             note: done,
             first: true,
         });
     }
     drop(done);
-    let Heard::Said(said) = heard else {
+    let QueryReplyRef::Act(said) = heard else {
         return Ok(WriteGoes::Stays);
     };
     match said {
-        Said::NoRow => Ok(WriteGoes::On(WriteAt::Make)),
-        Said::Added | Said::Present => Ok(made(at)),
-        Said::Tested(passed) => Ok(WriteGoes::Done {
+        ActReplyRef::NoRow => Ok(WriteGoes::On(WriteAt::Make)),
+        ActReplyRef::Added | ActReplyRef::Present => Ok(made(at)),
+        ActReplyRef::Tested(passed) => Ok(WriteGoes::Done {
             note: Note::Cond(passed),
             first: true,
         }),
-        Said::Died(age) => Ok(WriteGoes::Done {
+        ActReplyRef::Died(age) => Ok(WriteGoes::Done {
             note: Note::Died(age.copy(alloc)?),
             first: true,
         }),
-        Said::Noted(note) => Ok(WriteGoes::Done {
+        ActReplyRef::Noted(note) => Ok(WriteGoes::Done {
             note: note.copy(alloc)?,
             first: false,
         }),
-        Said::Next(row) => Ok(WriteGoes::On(WriteAt::Try(row))),
-        Said::Held(owner) => Ok(WriteGoes::Held(copy_owner(owner, alloc)?)),
-        Said::NotOwner => Ok(WriteGoes::NotOwner),
-        Said::Packed(value, owner) => packed(alloc, at, value, owner),
+        ActReplyRef::Next(row) => Ok(WriteGoes::On(WriteAt::Try(row))),
+        ActReplyRef::Held(owner) => Ok(WriteGoes::Held(copy_owner(owner, alloc)?)),
+        ActReplyRef::NotOwner => Ok(WriteGoes::NotOwner),
+        ActReplyRef::Packed(value, owner) => packed(alloc, at, value, owner),
         _ => Ok(WriteGoes::Stays),
     }
 }
@@ -345,7 +345,7 @@ fn append(
 {
     let value = value.copy(alloc)?;
     let owner = or_drop!(owner_of(alloc, owner); value);
-    let told = Apart::new(alloc, FullRow { value, owner })?;
+    let told = Boxed::new(alloc, FullRow { value, owner })?;
     Ok(WriteGoes::On(WriteAt::Append(row + 1, told)))
 }
 
@@ -353,17 +353,17 @@ fn append(
 pub fn read_told(
     alloc: Global,
     who: &Option<Owner>,
-    heard: Heard<'_>,
+    heard: QueryReplyRef<'_>,
 ) -> Result<ReadGoes, AllocError>
-    ensures ok { IfOk result (λ s. s ≡ read_goes who.now (told_of heard.entry)) }
-    ensures err { OnErr result (lends (told_of heard.entry) ≡ true) }
+    ensures ok { IfOk result (λ s. s ≡ read_goes who.now (query_reply_of heard.entry)) }
+    ensures err { OnErr result (lends (query_reply_of heard.entry) ≡ true) }
 {
-    let Heard::Said(said) = heard else {
+    let QueryReplyRef::Act(said) = heard else {
         return Ok(ReadGoes::Stays);
     };
     match said {
-        Said::Absent => Ok(ReadGoes::Got(None)),
-        Said::Row(Row::Cell(cell)) => read_cell(alloc, who, cell),
+        ActReplyRef::Absent => Ok(ReadGoes::Got(None)),
+        ActReplyRef::Row(Row::Cell(cell)) => read_cell(alloc, who, cell),
         _ => Ok(ReadGoes::Stays),
     }
 }

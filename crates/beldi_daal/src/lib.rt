@@ -1,7 +1,7 @@
 //! The walks over the rows of an item, and their parts, which runs share. An item is a chain of rows with eight entries at most: a walk
 //! goes along them to the last one; where a write finds that full, it makes a further row, with the value and the owner that the
-//! full one told, and links it. It stands on `beldi_walk`, `beldi_chain` and `beldi_links`.
-//! Their definitions: `specs/Cell` (what is asked of the rows of an item, and what follows from what is told), `specs/Walk`
+//! full one told, and links it. It stands on `beldi_query`, `beldi_chain` and `beldi_links`.
+//! Their definitions: `specs/Cell` (what is asked of the rows of an item, and what follows from what is told), `specs/WriteWalk`
 //! (the walk of a write), `specs/ReadWalk` (the walk of a read) and `specs/Logged` (that turns leave the content of each chain as it
 //! is, but for one effect a place).
 //!
@@ -11,7 +11,7 @@
 //!   `Worn` exactly where the last row is full and has the greatest number (`full_goes`).
 //! - `WriteWalk::turn` and `ReadWalk::turn` ask what the definition asks, in at most one call of the table, and go and say by
 //!   what was told, whatever the table tells; unless a walk goes on, it stands where it stood, and so does every walk
-//!   at an error (`Turned`), which leaves the rows as before (`an_error_leaves_the_rows` of `beldi_walk`).
+//!   at an error (`Turned`), which leaves the rows as before (`an_error_leaves_the_rows` of `beldi_query`).
 //! - Laws: where an item's rows are linked, and a write's walk sees what it has to where it stands, a turn of it leaves that so, and
 //!   lets the rows of every item only grow. It leaves the content of every item as it is, but for its own operation's effect, of which a place has one, however many walks there are for it. The
 //!   operation sets the value, sets it where it passes a test, takes the lock, or gives it back; a transaction that asks for the
@@ -37,5 +37,5 @@ pub use cell::{
     write_told,
 };
 pub use laws::{a_chain_is_a_logged_cell, a_read_gives_the_content};
-pub use read_walk::{ReadSays, ReadWalk};
-pub use walk::{Item, WriteSays, WriteWalk};
+pub use read_walk::{ReadOutput, ReadWalk};
+pub use walk::{Item, WriteOutput, WriteWalk};

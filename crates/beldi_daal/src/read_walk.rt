@@ -4,13 +4,13 @@ ghost use Rattle.beldi_daal.specs.ReadWalk.{first_read};
 
 use crate::cell::{ReadGoes, read_told};
 use crate::walk::Item;
-use beldi_value::{Apart, Owner, Value};
-use beldi_walk::{Heard, Query, Walk};
+use beldi_query::{Query, QueryReplyRef, Walk};
+use beldi_value::{Boxed, Owner, Value};
 use std::alloc::{AllocError, Global};
 
 /// What a turn of a walk of a read says.
 #[derive(Drop)]
-pub enum ReadSays {
+pub enum ReadOutput {
     /// The walk goes on.
     Going,
     /// The item has this value; none where it has no row.
@@ -30,32 +30,36 @@ pub struct ReadWalk {
 }
 
 impl Walk for ReadWalk {
-    ghost use Rattle.beldi_daal.specs.ReadWalk.{read_asks, read_next, read_says};
+    ghost use Rattle.beldi_daal.specs.ReadWalk.{read_asks, read_next, read_output};
 
-    type Says = ReadSays;
+    type Output = ReadOutput;
 
     ghost asks = { read_asks };
 
     ghost next = { read_next };
 
-    ghost says = { read_says };
+    ghost output = { read_output };
 
-    fn ask(&self, alloc: Global) -> Result<Apart<Query>, AllocError> {
+    fn ask(&self, alloc: Global) -> Result<Boxed<Query>, AllocError> {
         Query::look(
             alloc,
             self.item.first_key(alloc, self.home)?.at_row(self.row),
         )
     }
 
-    fn told(&mut self, alloc: Global, heard: Heard<'_>) -> Result<ReadSays, AllocError> {
+    fn resume(
+        &mut self,
+        alloc: Global,
+        heard: QueryReplyRef<'_>,
+    ) -> Result<ReadOutput, AllocError> {
         match read_told(alloc, &self.who, heard)? {
             ReadGoes::On(row) => {
                 self.row = row;
-                Ok(ReadSays::Going)
+                Ok(ReadOutput::Going)
             }
-            ReadGoes::Stays => Ok(ReadSays::Going),
-            ReadGoes::Got(value) => Ok(ReadSays::Got(value)),
-            ReadGoes::Held(owner) => Ok(ReadSays::Held(owner)),
+            ReadGoes::Stays => Ok(ReadOutput::Going),
+            ReadGoes::Got(value) => Ok(ReadOutput::Got(value)),
+            ReadGoes::Held(owner) => Ok(ReadOutput::Held(owner)),
         }
     }
 }

@@ -1,11 +1,11 @@
 // The walk of a write, as a call of its own: one act a turn.
 ghost use Rattle.std.specs.Prelude.{◌≡◌, IfOk};
-ghost use Rattle.beldi_daal.specs.Walk.{first_walk, first_key};
+ghost use Rattle.beldi_daal.specs.WriteWalk.{first_walk, first_key};
 
 use crate::cell::{CellOp, WriteAt, WriteGoes, cell_key, shadow_key, write_query, write_told};
+use beldi_query::{Query, QueryReplyRef, Walk};
 use beldi_row::{Note, RowKey, copy_owner};
-use beldi_value::{Apart, Owner, Place, Str, TxId, or_drop};
-use beldi_walk::{Heard, Query, Walk};
+use beldi_value::{Boxed, Owner, Place, Str, TxId, or_drop};
 use std::alloc::{AllocError, Global};
 use std::mem::replace;
 
@@ -32,7 +32,7 @@ impl Item {
 
 /// What a turn of a walk of a write says.
 #[derive(Drop)]
-pub enum WriteSays {
+pub enum WriteOutput {
     /// The walk goes on.
     Going,
     /// The place has this note; `first` says that this act made it.
@@ -57,17 +57,17 @@ pub struct WriteWalk {
 }
 
 impl Walk for WriteWalk {
-    ghost use Rattle.beldi_daal.specs.Walk.{walk_asks, walk_next, walk_says};
+    ghost use Rattle.beldi_daal.specs.WriteWalk.{walk_asks, walk_next, walk_output};
 
-    type Says = WriteSays;
+    type Output = WriteOutput;
 
     ghost asks = { walk_asks };
 
     ghost next = { walk_next };
 
-    ghost says = { walk_says };
+    ghost output = { walk_output };
 
-    fn ask(&self, alloc: Global) -> Result<Apart<Query>, AllocError> {
+    fn ask(&self, alloc: Global) -> Result<Boxed<Query>, AllocError> {
         let key = self.item.first_key(alloc, self.home)?;
         let place = or_drop!(self.place.copy(alloc); key);
         let who = or_drop!(copy_owner(&self.who, alloc); key, place);
@@ -75,17 +75,21 @@ impl Walk for WriteWalk {
         write_query(alloc, key, place, who, op, &self.at)
     }
 
-    fn told(&mut self, alloc: Global, heard: Heard<'_>) -> Result<WriteSays, AllocError> {
+    fn resume(
+        &mut self,
+        alloc: Global,
+        heard: QueryReplyRef<'_>,
+    ) -> Result<WriteOutput, AllocError> {
         match write_told(alloc, self.op.done_note(), &self.at, heard)? {
             WriteGoes::On(at) => {
                 self.stand(at);
-                Ok(WriteSays::Going)
+                Ok(WriteOutput::Going)
             }
-            WriteGoes::Stays => Ok(WriteSays::Going),
-            WriteGoes::Done { note, first } => Ok(WriteSays::Done { note, first }),
-            WriteGoes::NotOwner => Ok(WriteSays::NotOwner),
-            WriteGoes::Held(owner) => Ok(WriteSays::Held(owner)),
-            WriteGoes::Worn => Ok(WriteSays::Worn),
+            WriteGoes::Stays => Ok(WriteOutput::Going),
+            WriteGoes::Done { note, first } => Ok(WriteOutput::Done { note, first }),
+            WriteGoes::NotOwner => Ok(WriteOutput::NotOwner),
+            WriteGoes::Held(owner) => Ok(WriteOutput::Held(owner)),
+            WriteGoes::Worn => Ok(WriteOutput::Worn),
         }
     }
 }

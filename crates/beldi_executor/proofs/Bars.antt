@@ -1,6 +1,6 @@
 -- What bars an effect from being carried out, and a transaction from being one step.
-use Rattle.beldi_plain.specs.Entries.{after}
-use Rattle.beldi_executor.proofs.Names.{Actor, Bar, Begins, Bool, Change, Deployment, Did, DidStep, Effect, Err, Inside, Instance, IntentId, IsFree, Kind, Machine, NoEnd, None, NotEnabled, Ok, Option, OtherEffect, OutOfMemory, Outcome, Pieced, Place, PlainErr, PlainState, Read, Some, StandsAtBegin, StandsFree, Tried, Try, Tx, Unbuilt, ap, bar_made, bar_no, bar_of, bar_open, bar_piece, bar_step, bar_try, bar_waiting, can_step, effect_of, false, if_built, if_open, is_none, is_waiting, kind_of, piece_from, refl, step_by, sym, true, try_from, unless, ◌∙◌, ◌≡◌}
+use Rattle.beldi_plain.specs.PlainEntries.{after}
+use Rattle.beldi_executor.proofs.Names.{Actor, Bar, Begins, Bool, Change, Deployment, Did, DidStep, Effect, Err, Inside, Instance, IntentId, IsFree, Kind, Machine, NoEnd, None, NotEnabled, Ok, Option, OtherEffect, OutOfMemory, Outcome, CommittedSo, Place, PlainErr, PlainState, Read, Some, StandsAtBegin, StandsFree, AbortedSo, AbortedTx, CommittedTx, Unbuilt, ap, bar_made, bar_no, bar_of, bar_open, bar_commit, bar_step, bar_abort, bar_waiting, can_step, effect_of, false, if_built, if_open, is_none, is_waiting, kind_of, commit_from, refl, step_by, sym, true, abort_from, unless, ◌∙◌, ◌≡◌}
 use Rattle.beldi_executor.proofs.Names.map
 
 -- an instance that has not returned, and does not wait
@@ -55,21 +55,21 @@ other_begin d p id m r n = λ f g other.
       barred d p id m r _ ∙ ap (g q) (sym r.ready.stands.0) ∙ none.1,
     )
 
-other_piece : (d : Deployment) (p : PlainState) (id : IntentId) (q : Instance) (e : Effect) → (e ≡ Effect.Begin → ⊥) → (piece_from d p id q e ≡ None) × (bar_piece d p id q e ≡ Some OtherEffect)
-other_piece d p id q Effect.Begin n = absurd (n refl)
-other_piece d p id q e n = (refl, refl)
+other_commit : (d : Deployment) (p : PlainState) (id : IntentId) (q : Instance) (e : Effect) → (e ≡ Effect.Begin → ⊥) → (commit_from d p id q e ≡ None) × (bar_commit d p id q e ≡ Some OtherEffect)
+other_commit d p id q Effect.Begin n = absurd (n refl)
+other_commit d p id q e n = (refl, refl)
 
-other_try : (d : Deployment) (p : PlainState) (id : IntentId) (at : Place) (h : Option IntentId) (q : Instance) (e : Effect) → (e ≡ Effect.Begin → ⊥) → (try_from d p id at h q e ≡ None) × (bar_try d p id at h q e ≡ Some OtherEffect)
-other_try d p id at h q Effect.Begin n = absurd (n refl)
-other_try d p id at h q e n = (refl, refl)
+other_abort : (d : Deployment) (p : PlainState) (id : IntentId) (at : Place) (h : Option IntentId) (q : Instance) (e : Effect) → (e ≡ Effect.Begin → ⊥) → (abort_from d p id at h q e ≡ None) × (bar_abort d p id at h q e ≡ Some OtherEffect)
+other_abort d p id at h q Effect.Begin n = absurd (n refl)
+other_abort d p id at h q e n = (refl, refl)
 
-pub no_piece : (d : Deployment) (p r : PlainState) (id : IntentId) (why : PlainErr) → StandsAtBegin d p id (Err why) → r ≡ p → Did d (Tx id) p r (Err why)
-no_piece d p r id OutOfMemory h same = same
-no_piece d p r id (NotEnabled b) h same = let none = h (piece_from d p id) (bar_piece d p id) (other_piece d p id) in (same, none.0, none.1)
+pub no_commit : (d : Deployment) (p r : PlainState) (id : IntentId) (why : PlainErr) → StandsAtBegin d p id (Err why) → r ≡ p → Did d (CommittedTx id) p r (Err why)
+no_commit d p r id OutOfMemory h same = same
+no_commit d p r id (NotEnabled b) h same = let none = h (commit_from d p id) (bar_commit d p id) (other_commit d p id) in (same, none.0, none.1)
 
-pub no_try : (d : Deployment) (p r : PlainState) (id : IntentId) (at : Place) (hold : Option IntentId) (why : PlainErr) → StandsAtBegin d p id (Err why) → r ≡ p → Did d (Try id at hold) p r (Err why)
-no_try d p r id at hold OutOfMemory h same = same
-no_try d p r id at hold (NotEnabled b) h same = let none = h (try_from d p id at hold) (bar_try d p id at hold) (other_try d p id at hold) in (same, none.0, none.1)
+pub no_abort : (d : Deployment) (p r : PlainState) (id : IntentId) (at : Place) (hold : Option IntentId) (why : PlainErr) → StandsAtBegin d p id (Err why) → r ≡ p → Did d (AbortedTx id at hold) p r (Err why)
+no_abort d p r id at hold OutOfMemory h same = same
+no_abort d p r id at hold (NotEnabled b) h same = let none = h (abort_from d p id at hold) (bar_abort d p id at hold) (other_abort d p id at hold) in (same, none.0, none.1)
 
 -- at its begin
 module _ (d : Deployment) (p : PlainState) (id : IntentId) (m : Machine) (h : Begins d p id m) where
@@ -79,29 +79,29 @@ module _ (d : Deployment) (p : PlainState) (id : IntentId) (m : Machine) (h : Be
   at_begin : effect_of d q ≡ Effect.Begin
   at_begin = sym h.free.ready.stands.0 ∙ h.begins
 
-  piece_is : after d p (Tx id) ≡ piece_from d p id q Effect.Begin
-  piece_is = stepped d p id m h.free (λ q. piece_from d p id q (effect_of d q)) ∙ ap (piece_from d p id q) at_begin
+  commit_is : after d p (CommittedTx id) ≡ commit_from d p id q Effect.Begin
+  commit_is = stepped d p id m h.free (λ q. commit_from d p id q (effect_of d q)) ∙ ap (commit_from d p id q) at_begin
 
-  piece_bar : bar_of d p (Tx id) ≡ bar_piece d p id q Effect.Begin
-  piece_bar = barred d p id m h.free (λ q. bar_piece d p id q (effect_of d q)) ∙ ap (bar_piece d p id q) at_begin
+  commit_bar : bar_of d p (CommittedTx id) ≡ bar_commit d p id q Effect.Begin
+  commit_bar = barred d p id m h.free (λ q. bar_commit d p id q (effect_of d q)) ∙ ap (bar_commit d p id q) at_begin
 
-  pub piece_done : (r : PlainState) (k : Actor) → Pieced d p id q r (Ok k) → Did d (Tx id) p r (Ok tt)
-  piece_done r k did = (piece_is ∙ did.2, piece_bar ∙ ap (λ o. bar_no NoEnd o None) did.2)
+  pub commit_done : (r : PlainState) (k : Actor) → CommittedSo d p id q r (Ok k) → Did d (CommittedTx id) p r (Ok tt)
+  commit_done r k did = (commit_is ∙ did.2, commit_bar ∙ ap (λ o. bar_no NoEnd o None) did.2)
 
-  pub piece_not : (r : PlainState) (why : PlainErr) → Pieced d p id q r (Err why) → Did d (Tx id) p r (Err why)
-  piece_not r OutOfMemory did = did
-  piece_not r (NotEnabled b) did = (did.0, piece_is ∙ did.1, piece_bar ∙ ap (λ o. bar_no NoEnd o None) did.1 ∙ ap (λ b. Some b) (sym did.2))
+  pub commit_not : (r : PlainState) (why : PlainErr) → CommittedSo d p id q r (Err why) → Did d (CommittedTx id) p r (Err why)
+  commit_not r OutOfMemory did = did
+  commit_not r (NotEnabled b) did = (did.0, commit_is ∙ did.1, commit_bar ∙ ap (λ o. bar_no NoEnd o None) did.1 ∙ ap (λ b. Some b) (sym did.2))
 
   module _ (at : Place) (hold : Option IntentId) where
-    try_is : after d p (Try id at hold) ≡ try_from d p id at hold q Effect.Begin
-    try_is = stepped d p id m h.free (λ q. try_from d p id at hold q (effect_of d q)) ∙ ap (try_from d p id at hold q) at_begin
+    abort_is : after d p (AbortedTx id at hold) ≡ abort_from d p id at hold q Effect.Begin
+    abort_is = stepped d p id m h.free (λ q. abort_from d p id at hold q (effect_of d q)) ∙ ap (abort_from d p id at hold q) at_begin
 
-    try_bar : bar_of d p (Try id at hold) ≡ bar_try d p id at hold q Effect.Begin
-    try_bar = barred d p id m h.free (λ q. bar_try d p id at hold q (effect_of d q)) ∙ ap (bar_try d p id at hold q) at_begin
+    abort_bar : bar_of d p (AbortedTx id at hold) ≡ bar_abort d p id at hold q Effect.Begin
+    abort_bar = barred d p id m h.free (λ q. bar_abort d p id at hold q (effect_of d q)) ∙ ap (bar_abort d p id at hold q) at_begin
 
-    pub try_done : (r : PlainState) (k : Actor) → Tried d p id q at hold r (Ok k) → Did d (Try id at hold) p r (Ok tt)
-    try_done r k did = (try_is ∙ did.2, try_bar ∙ did.3)
+    pub abort_done : (r : PlainState) (k : Actor) → AbortedSo d p id q at hold r (Ok k) → Did d (AbortedTx id at hold) p r (Ok tt)
+    abort_done r k did = (abort_is ∙ did.2, abort_bar ∙ did.3)
 
-    pub try_not : (r : PlainState) (why : PlainErr) → Tried d p id q at hold r (Err why) → Did d (Try id at hold) p r (Err why)
-    try_not r OutOfMemory did = did
-    try_not r (NotEnabled b) did = (did.0, try_is ∙ did.1, try_bar ∙ did.2)
+    pub abort_not : (r : PlainState) (why : PlainErr) → AbortedSo d p id q at hold r (Err why) → Did d (AbortedTx id at hold) p r (Err why)
+    abort_not r OutOfMemory did = did
+    abort_not r (NotEnabled b) did = (did.0, abort_is ∙ did.1, abort_bar ∙ did.2)

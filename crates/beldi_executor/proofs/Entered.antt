@@ -1,6 +1,6 @@
--- A call of the one at the front.
-use Rattle.beldi_executor.proofs.Names.{Actor, AllocError, Bool, Caller, Deployment, Draft, Effect, Err, GoesOn, Going, IfOk, Instance, IntentId, IsDraft, Moved, None, Ok, OnErr, Option, PlainState, Result, Some, TxId, Value, [], all_gone, ap, arith, at_begin, begun, can_move, child_of, false, going, has_callees, id_cmp, id_total, if◌then◌else◌, is_eq, is_some, length, length-append, ltb-true, moves_by, new_member, not, refl, seen, subst, sym, true, unless, wants_answer, with_instance, ℕ, ◌&&◌, ◌++◌, ◌<◌, ◌∙◌, ◌∷◌, ◌≡◌}
-use Rattle.beldi_executor.proofs.{Finite.apart, Finite.there, Made.none_of, Drafts.Instances, Drafts.same_id, Drafts.draft_kept, Drafts.absent_gone, Drafts.entered_gone, Lines.shorter, Lines.its_step, Lines.its_func, Lines.line_kept}
+-- A call of the active one.
+use Rattle.beldi_executor.proofs.Names.{Actor, AllocError, Bool, Caller, Deployment, Draft, Effect, Err, GoesOn, Going, IfOk, Instance, IntentId, IsDraft, Moved, None, Ok, OnErr, Option, PlainState, Result, Some, TxId, Value, [], all_gone, ap, arith, at_begin, begun, can_move, child_of, false, going, has_callees, id_cmp, id_total, if◌then◌else◌, is_eq, is_some, length, length-append, ltb-true, moves_by, new_member, not, refl, visible, subst, sym, true, unless, wants_answer, with_instance, ℕ, ◌&&◌, ◌++◌, ◌<◌, ◌∙◌, ◌∷◌, ◌≡◌}
+use Rattle.beldi_executor.proofs.{Finite.apart, Finite.there, Made.none_of, Drafts.Instances, Drafts.same_id, Drafts.draft_kept, Drafts.absent_gone, Drafts.entered_gone, CallStacks.shorter, CallStacks.its_step, CallStacks.its_func, CallStacks.line_kept}
 use Rattle.beldi_executor.proofs.Names.map
 
 and_both : (a b : Bool) → (a && b) ≡ true → (a ≡ true) × (b ≡ true)
@@ -60,13 +60,13 @@ module _ (d : Deployment) (t : TxId) (p : PlainState) (q : Instance) (r : PlainS
       record {
         draft = record { tx = entered_draft.tx; undone = entered_draft.undone; others = entered_draft.others; longer = entered_draft.longer };
         acts = record { instance = member; made = there id_total r.made k k member (same_id k); yet = refl; func = refl; stands = at_begin d f v true };
-        line = (
+        stack = (
           record {
             callee = member;
             called = record {
               made = there id_total r.made k k member (same_id k);
               caller = from;
-              from = refl;
+              parent = refl;
               told = refl;
               is = refl;
               since = gone_on k (absent_gone r.made h.members k absent);
@@ -75,23 +75,23 @@ module _ (d : Deployment) (t : TxId) (p : PlainState) (q : Instance) (r : PlainS
             };
             acts = record { instance = g.acts.instance; made = off a.id (shorter a.id k longer) ∙ g.acts.made; yet = g.acts.yet; func = g.acts.func; stands = g.acts.stands };
           },
-          line_kept d t r s h.members deeper.members k off gone_on a.id h.waiting longer g.line,
+          line_kept d t r s h.members deeper.members k off gone_on a.id h.waiting longer g.stack,
         );
       }
 
-  pub entered_moves : (x : Instance) → map.get r.made a.id ≡ Some x → moves_by t (seen r h.undo) a.id x a.machine.effect ≡ Some (going s (record deeper { waiting = a ∷ h.waiting }) callee)
+  pub entered_moves : (x : Instance) → map.get r.made a.id ≡ Some x → moves_by t (visible r h.undo) a.id x a.machine.effect ≡ Some (going s (record deeper { waiting = a ∷ h.waiting }) callee)
   entered_moves x here =
       let step = its_step d r a g.acts x here in
       let func = its_func d r a g.acts x here in
       let both = and_both (has_callees a.id) (not (is_some (map.get r.made k))) can_call in
-      ap (moves_by t (seen r h.undo) a.id x) calls
+      ap (moves_by t (visible r h.undo) a.id x) calls
       ∙ ap (λ n. if has_callees a.id then unless_there (child_of a.id n) x n else None) (sym step)
       ∙ ap (λ b. if b then unless_there k x a.machine.steps else None) both.0
       ∙ ap (λ o. unless (is_some o) (Some (made_by t k x a.machine.steps))) absent
-      ∙ (λ i. Some (record { state = with_instance (seen r h.undo) k (new_member (sym g.draft.tx i) f v (record { place = record { intent = a.id; step = a.machine.steps }; func = sym func i; waits = true })); front = k }))
+      ∙ (λ i. Some (record { state = with_instance (visible r h.undo) k (new_member (sym g.draft.tx i) f v (record { place = record { intent = a.id; step = a.machine.steps }; func = sym func i; waits = true })); active = k }))
     where
       made_by : TxId → IntentId → Instance → ℕ → Going
-      made_by t j x n = record { state = with_instance (seen r h.undo) j (new_member t f v (record { place = record { intent = a.id; step = n }; func = x.func; waits = true })); front = j }
+      made_by t j x n = record { state = with_instance (visible r h.undo) j (new_member t f v (record { place = record { intent = a.id; step = n }; func = x.func; waits = true })); active = j }
 
       unless_there : IntentId → Instance → ℕ → Option Going
       unless_there j x n = unless (is_some (map.get r.made j)) (Some (made_by t j x n))

@@ -203,13 +203,13 @@ unsent p r id q n f a now free step is does =
     λ i. record { items = (is i).items; made = same i }
 
 -- a return that is told to who waits
-pub tells_so : (p : PlainState) (id c : IntentId) (q found : Instance) (w : Option IntentId) (o ends : Outcome) (x y : Answer) (one two : FinMap id_cmp Instance) → map.get p.made id ≡ Some found → w ≡ waiter found.from → w ≡ Some c → ends ≡ o → x ≡ answer_of o → y ≡ answer_of o → one ≡ at_one p.made c (λ r. answered r x) (map.get p.made c) → two ≡ at_one one id (λ r. ended r ends) (map.get one id) → map.get p.made id ≡ Some q → Made p (record { items = p.items; made = two }) id q (Effect.Return o) (Ok (Next.Tells c y))
+pub tells_so : (p : PlainState) (id c : IntentId) (q found : Instance) (w : Option IntentId) (o ends : Outcome) (x y : Answer) (one two : FinMap id_cmp Instance) → map.get p.made id ≡ Some found → w ≡ waiter found.parent → w ≡ Some c → ends ≡ o → x ≡ answer_of o → y ≡ answer_of o → one ≡ at_one p.made c (λ r. answered r x) (map.get p.made c) → two ≡ at_one one id (λ r. ended r ends) (map.get one id) → map.get p.made id ≡ Some q → Made p (record { items = p.items; made = two }) id q (Effect.Return o) (Ok (Next.Tells c y))
 tells_so p id c q found w o ends x y one two there waits is same first also answers ends_so here =
     let found_is : found ≡ q = let both = sym there ∙ here in cc in
-    let told : waiter q.from ≡ Some c = ap (λ (r : Instance). waiter r.from) (sym found_is) ∙ sym waits ∙ is in (
+    let told : waiter q.parent ≡ Some c = ap (λ (r : Instance). waiter r.parent) (sym found_is) ∙ sym waits ∙ is in (
       told_first p id c q o one two here
           (answers ∙ ap (λ a. at_one p.made c (λ r. answered r a) (map.get p.made c)) first)
           (ends_so ∙ ap (λ z. at_one one id (λ r. ended r z) (map.get one id)) same)
-          ∙ sym (caller_told (with_instance p id (ended q o)) q.from o ∙ ap (λ w. tell (with_instance p id (ended q o)) w o) told),
+          ∙ sym (caller_told (with_instance p id (ended q o)) q.parent o ∙ ap (λ w. tell (with_instance p id (ended q o)) w o) told),
       ap (λ a. Next.Tells c a) also ∙ sym (ap (λ w. next_told w o) told),
     )

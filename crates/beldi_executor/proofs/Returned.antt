@@ -1,6 +1,6 @@
--- A return of the one at the front, whose caller is answered.
-use Rattle.beldi_executor.proofs.Names.{Actor, AllocError, Bool, Deployment, Draft, Err, Gave, GoesOn, Instance, IntentId, IsCallee, Left, Line, List, Moved, None, Ok, Option, Outcome, PlainState, Result, Some, TxId, [], all_gone, answer_of, answered, ap, at_one, can_move, cond, ended, false, get-insert, id_cmp, id_exact, id_total, if◌then◌else◌, is_eq, is_owner, length, moves_by, not, refl, returns_to, same_map, seen, subst, sym, true, with_instance, ◌<◌, ◌∙◌, ◌∷◌, ◌≡◌, Effect}
-use Rattle.beldi_executor.proofs.{Finite.apart, Finite.same_key, Drafts.Instances, Drafts.same_id, Drafts.same_instance, Drafts.draft_member, Drafts.member_gone, Drafts.answered_gone, Lines.shorter, Lines.line_kept, Lines.line_one}
+-- A return of the active one, whose caller is answered.
+use Rattle.beldi_executor.proofs.Names.{Actor, AllocError, Bool, Deployment, Draft, Err, Gave, GoesOn, Instance, IntentId, IsCallee, Left, CallStack, List, Moved, None, Ok, Option, Outcome, PlainState, Result, Some, TxId, [], all_gone, answer_of, answered, ap, at_one, can_move, cond, ended, false, get-insert, id_cmp, id_exact, id_total, if◌then◌else◌, is_eq, is_owner, length, moves_by, not, refl, returns_to, same_map, visible, subst, sym, true, with_instance, ◌<◌, ◌∙◌, ◌∷◌, ◌≡◌, Effect}
+use Rattle.beldi_executor.proofs.{Finite.apart, Finite.same_key, Drafts.Instances, Drafts.same_id, Drafts.same_instance, Drafts.draft_member, Drafts.member_gone, Drafts.answered_gone, CallStacks.shorter, CallStacks.line_kept, CallStacks.line_one}
 use Rattle.beldi_executor.proofs.Names.map
 
 not_false : (b : Bool) → not b ≡ true → b ≡ false
@@ -52,7 +52,7 @@ module _ (d : Deployment) (t : TxId) (p : PlainState) (q : Instance) (r m s : Pl
 
   since : map.get (all_gone m.made h.members) id ≡ None
   since = ap (λ (n : PlainState). map.get (all_gone n.made h.members) id) (gave.2 y g.acts.made)
-      ∙ answered_gone t p q r h g.draft w.id y (answered y (answer_of o)) g.acts.made (line_one d t r h.members w.id h.waiting g.line) id callee.since
+      ∙ answered_gone t p q r h g.draft w.id y (answered y (answer_of o)) g.acts.made (line_one d t r h.members w.id h.waiting g.stack) id callee.since
 
   goes : GoesOn d t p q (with_instance m id (ended x o)) h b
   goes =
@@ -62,7 +62,7 @@ module _ (d : Deployment) (t : TxId) (p : PlainState) (q : Instance) (r m s : Pl
       record {
         draft = draft_member t p q m h gave.0.draft id x (ended x o) still since;
         acts = record { instance = gave.0.acts.instance; made = at b.id (shorter b.id id few) ∙ gave.0.acts.made; yet = gave.0.acts.yet; func = gave.0.acts.func; stands = gave.0.acts.stands };
-        line = line_kept d t m n h.members h.members id at (member_gone t p q m h gave.0.draft id x (ended x o) still since) b.id h.waiting few gave.0.line;
+        stack = line_kept d t m n h.members h.members id at (member_gone t p q m h gave.0.draft id x (ended x o) still since) b.id h.waiting few gave.0.stack;
       }
 
   pub left : Left d t p q r h id x o w s (Ok b)
@@ -75,7 +75,7 @@ module _ (d : Deployment) (t : TxId) (p : PlainState) (q : Instance) (r m s : Pl
         ∙ (λ i. record { items = r.items; made = set_both r.made w.id id (answered z (answer_of o)) (ended x o) off i }),
   )
 
--- the callee at the front ends
+-- the active callee ends
 module _ (d : Deployment) (t : TxId) (p : PlainState) (q : Instance) (r : PlainState) (h : Draft) (a w : Actor) (ws : List Actor) (o : Outcome)
     (g : GoesOn d t p q r h a)
     (returns : a.machine.effect ≡ Effect.Return o)
@@ -83,11 +83,11 @@ module _ (d : Deployment) (t : TxId) (p : PlainState) (q : Instance) (r : PlainS
   abbrev popped : Draft
   popped = record h { waiting = ws }
 
-  line : Line d t r h.members a.id (w ∷ ws)
-  line = subst (Line d t r h.members a.id) waits g.line
+  line : CallStack d t r h.members a.id (w ∷ ws)
+  line = subst (CallStack d t r h.members a.id) waits g.stack
 
   pub popped_goes : GoesOn d t p q r popped w
-  popped_goes = record { draft = record { tx = g.draft.tx; undone = g.draft.undone; others = g.draft.others; longer = g.draft.longer }; acts = line.0.acts; line = line.1 }
+  popped_goes = record { draft = record { tx = g.draft.tx; undone = g.draft.undone; others = g.draft.others; longer = g.draft.longer }; acts = line.0.acts; stack = line.1 }
 
   abbrev own : Instance
   own = g.acts.instance
@@ -96,7 +96,7 @@ module _ (d : Deployment) (t : TxId) (p : PlainState) (q : Instance) (r : PlainS
   popped_callee =
       let c = line.0.called in
       let is = same_instance (map.get r.made a.id) own line.0.callee g.acts.made c.made in
-      record { made = g.acts.made; caller = c.caller; from = ap (λ (i : Instance). i.from) is ∙ c.from; told = c.told; is = c.is; since = c.since; below = c.below; wants = c.wants }
+      record { made = g.acts.made; caller = c.caller; parent = ap (λ (i : Instance). i.parent) is ∙ c.parent; told = c.told; is = c.is; since = c.since; below = c.below; wants = c.wants }
 
   apart_from : is_eq (id_cmp w.id a.id) ≡ false
   apart_from = shorter w.id a.id popped_callee.below
@@ -110,16 +110,16 @@ module _ (d : Deployment) (t : TxId) (p : PlainState) (q : Instance) (r : PlainS
         let is = same_instance (map.get r.made a.id) z own here g.acts.made in
         let y = line.0.acts.instance in
         let other : is_owner t a.id ≡ false = not_false (is_owner t a.id) (ap (can_move t r.made a.id a.machine.steps) (sym returns) ∙ can) in
-        let now = with_instance (seen r h.undo) a.id (ended own o) in
+        let now = with_instance (visible r h.undo) a.id (ended own o) in
         let at : map.get now.made w.id ≡ Some y = apart id_total r.made a.id w.id (ended own o) apart_from ∙ line.0.acts.made in
-        ap (λ z. moves_by t (seen r h.undo) a.id z a.machine.effect) is
-        ∙ ap (moves_by t (seen r h.undo) a.id own) returns
-        ∙ ap (λ b. if b then None else returns_to (seen r h.undo) a.id own o own.from) other
-        ∙ ap (returns_to (seen r h.undo) a.id own o) popped_callee.from
-        ∙ ap (λ b. Some (record { state = if b then by_give now c.place.intent else now; front = c.place.intent })) popped_callee.told
-        ∙ ap (λ i. Some (record { state = by_give now i; front = i })) popped_callee.is
-        ∙ ap (λ e. Some (record { state = give_one now w.id e; front = w.id })) at
-        ∙ (λ i. Some (record { state = seen (sym (l.2 y line.0.acts.made) i) h.undo; front = sym l.1 i })),
+        ap (λ z. moves_by t (visible r h.undo) a.id z a.machine.effect) is
+        ∙ ap (moves_by t (visible r h.undo) a.id own) returns
+        ∙ ap (λ b. if b then None else returns_to (visible r h.undo) a.id own o own.parent) other
+        ∙ ap (returns_to (visible r h.undo) a.id own o) popped_callee.parent
+        ∙ ap (λ b. Some (record { state = if b then by_give now c.place.intent else now; active = c.place.intent })) popped_callee.told
+        ∙ ap (λ i. Some (record { state = by_give now i; active = i })) popped_callee.is
+        ∙ ap (λ e. Some (record { state = give_one now w.id e; active = w.id })) at
+        ∙ (λ i. Some (record { state = visible (sym (l.2 y line.0.acts.made) i) h.undo; active = sym l.1 i })),
   )
     where
       give_one : PlainState → IntentId → Option Instance → PlainState
@@ -132,7 +132,7 @@ module _ (d : Deployment) (t : TxId) (p : PlainState) (q : Instance) (r : PlainS
 -- who is not the owner is waited for
 pub awaited : (d : Deployment) (t : TxId) (p : PlainState) (q : Instance) (r : PlainState) (h : Draft) (a : Actor) (o : Outcome) → GoesOn d t p q r h a → a.machine.effect ≡ Effect.Return o → h.waiting ≡ [] → can_move t r.made a.id a.machine.steps a.machine.effect ≡ true → ⊥
 awaited d t p q r h a o g returns none can =
-    let is : a.id ≡ t.intent = subst (Line d t r h.members a.id) none g.line in
+    let is : a.id ≡ t.intent = subst (CallStack d t r h.members a.id) none g.stack in
     let other : is_owner t a.id ≡ false = not_false (is_owner t a.id) (ap (can_move t r.made a.id a.machine.steps) (sym returns) ∙ can) in
     let clash = sym other ∙ ap (is_owner t) is ∙ same_id t.intent in
     cc

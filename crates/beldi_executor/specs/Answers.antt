@@ -4,8 +4,8 @@ use Rattle.std.specs.FinMap as map
 use Rattle.beldi_value.specs.{Id.root_of, declared.id.IntentId.IntentId, declared.outcome.Outcome.Outcome, declared.place.Place.Place}
 use Rattle.beldi_tree.specs.declared.deployment.Deployment.{Deployment}
 use Rattle.beldi_lang.specs.declared.{effect.Effect.Effect, machine.Machine.Machine}
-use Rattle.beldi_book.specs.declared.entry.Entry.{Entry, TheVariants.Start, TheVariants.Read, TheVariants.Step, TheVariants.Tx, TheVariants.Try}
-use Rattle.beldi_plain.specs.{Plain.PlainState, Plain.Instance, Plain.effect_of, Plain.kind_of, Plain.is_waiting, Plain.step, Entries.after, Legal.run_from, Piece.enough, Piece.opened, Piece.tx_begun, Piece.ends_on, Piece.try_on, Piece.is_holder, declared.kind.Kind.Kind}
+use Rattle.beldi_book.specs.declared.entry.Entry.{Entry, TheVariants.Start, TheVariants.Read, TheVariants.Step, TheVariants.CommittedTx, TheVariants.AbortedTx}
+use Rattle.beldi_plain.specs.{Plain.PlainState, Plain.Instance, Plain.effect_of, Plain.kind_of, Plain.is_waiting, Plain.step, PlainEntries.after, Legal.run_from, Transaction.enough, Transaction.opened, Transaction.tx_begun, Transaction.ends_on, Transaction.abort_on, Transaction.is_holder, declared.kind.Kind.Kind}
 use Rattle.beldi_executor.specs.declared.plain.Bar.TheVariants.{AlreadyStarted, NotStarted, Over, Waiting, OtherEffect, NoEnd, NoPlace, NotOlder}
 use Rattle.beldi_executor.specs.{Executor.StandsFor, declared.plain.Bar.Bar, declared.plain.PlainErr.PlainErr, declared.plain.PlainErr.TheVariants.OutOfMemory, declared.plain.PlainErr.TheVariants.NotEnabled}
 
@@ -50,25 +50,25 @@ abbrev pub bar_no : {X : Type 0} → Bar → Option X → Option Bar → Option 
 bar_no b None c = Some b
 bar_no b (Some x) c = c
 
-abbrev pub bar_piece : Deployment → PlainState → IntentId → Instance → Effect → Option Bar
-bar_piece d p id q Effect.Begin = bar_no NoEnd (ends_on d enough (tx_begun id q) true (opened p id q)) None
-bar_piece d p id q e = Some OtherEffect
+abbrev pub bar_commit : Deployment → PlainState → IntentId → Instance → Effect → Option Bar
+bar_commit d p id q Effect.Begin = bar_no NoEnd (ends_on d enough (tx_begun id q) true (opened p id q)) None
+bar_commit d p id q e = Some OtherEffect
 
 -- .. and one that aborts: that it does not reach the place, or that its holder is none
 abbrev pub bar_holder : Bool → Option Bar
 bar_holder true = None
 bar_holder false = Some NotOlder
 
-abbrev pub bar_try : Deployment → PlainState → IntentId → Place → Option IntentId → Instance → Effect → Option Bar
-bar_try d p id a h q Effect.Begin = bar_no NoPlace (try_on d enough (tx_begun id q) a h (opened p id q)) (bar_holder (is_holder p id h))
-bar_try d p id a h q e = Some OtherEffect
+abbrev pub bar_abort : Deployment → PlainState → IntentId → Place → Option IntentId → Instance → Effect → Option Bar
+bar_abort d p id a h q Effect.Begin = bar_no NoPlace (abort_on d enough (tx_begun id q) a h (opened p id q)) (bar_holder (is_holder p id h))
+bar_abort d p id a h q e = Some OtherEffect
 
 abbrev pub bar_of : Deployment → PlainState → Entry → Option Bar
 bar_of d p (Start t f a) = bar_start t (map.get p.made (root_of t))
 bar_of d p (Read id seen) = bar_step (map.get p.made id) (is_waiting d p id) (λ q. bar_as true (kind_of id (effect_of d q)))
 bar_of d p (Step id) = bar_step (map.get p.made id) (is_waiting d p id) (λ q. bar_as false (kind_of id (effect_of d q)))
-bar_of d p (Tx id) = bar_step (map.get p.made id) (is_waiting d p id) (λ q. bar_piece d p id q (effect_of d q))
-bar_of d p (Try id place holder) = bar_step (map.get p.made id) (is_waiting d p id) (λ q. bar_try d p id place holder q (effect_of d q))
+bar_of d p (CommittedTx id) = bar_step (map.get p.made id) (is_waiting d p id) (λ q. bar_commit d p id q (effect_of d q))
+bar_of d p (AbortedTx id place holder) = bar_step (map.get p.made id) (is_waiting d p id) (λ q. bar_abort d p id place holder q (effect_of d q))
 
 -- an entry: Ok exactly where it is enabled, and then the state is the one after it; else nothing changed, and the answer
 -- is what bars it, unless out of memory

@@ -16,8 +16,8 @@ use Rattle.beldi_executor.specs.Executor.{Executor}
 abbrev pub coded_instance : Coded Instance
 coded_instance = code_by (ℕ × (Value × (Option Caller × (Option TxId × (List Answer × Option Outcome)))))
     (coded× coded_ℕ (coded× coded_value (coded× (coded_option caller.the_row.coded) (coded× (coded_option transaction.the_row.coded) (coded× (coded_list answer.the_row.coded) (coded_option outcome.the_row.coded))))))
-    (λ q. (q.func, (q.args, (q.from, (q.within, (q.answers, q.outcome))))))
-    (λ p. record { func = p.0; args = p.1.0; from = p.1.1.0; within = p.1.1.1.0; answers = p.1.1.1.1.0; outcome = p.1.1.1.1.1 }) (λ _. refl)
+    (λ q. (q.func, (q.args, (q.parent, (q.enclosing, (q.answers, q.outcome))))))
+    (λ p. record { func = p.0; args = p.1.0; parent = p.1.1.0; enclosing = p.1.1.1.0; answers = p.1.1.1.1.0; outcome = p.1.1.1.1.1 }) (λ _. refl)
 
 abbrev pub coded_state : Coded PlainState
 coded_state = code_by (FinMap item_cmp Value × FinMap id_cmp Instance) (coded× (map.code coded_item coded_value) (map.code coded_id coded_instance))

@@ -21,7 +21,7 @@ StandsAfter d func args inherited answers m = (m.effect ≡ wants d func args in
 
 -- .. after the answers of an instance
 abbrev pub StandsFor : Deployment → Instance → Machine → Type 0
-StandsFor d q m = StandsAfter d q.func q.args (is_some q.within) q.answers m
+StandsFor d q m = StandsAfter d q.func q.args (is_some q.enclosing) q.answers m
 
 -- .. that has not returned
 abbrev pub StandsForOne : Deployment → Option Instance → Machine → Type 0
@@ -98,7 +98,7 @@ next_told (Some c) o = Next.Tells c (answer_of o)
 
 abbrev pub next_by : FinMap item_cmp Value → Instance → Effect → Next
 next_by items q (Effect.Async f a) = Next.Answered Answer.Done
-next_by items q (Effect.Return o) = next_told (waiter q.from) o
+next_by items q (Effect.Return o) = next_told (waiter q.parent) o
 next_by items q e = next_of (answer_by items q e)
 
 -- a step has this number, where its effect is answered

@@ -2,5 +2,5 @@ pub mod Answers
 pub mod ByTable
 pub mod Codes
 pub mod Executor
-pub mod Inside
+pub mod TransactionInPlace
 pub mod Undo

@@ -2,7 +2,7 @@
 ghost use Rattle.std.specs.Prelude.{◌≡◌, ◌∷◌, ◌++◌, [], IfOk, OnOk, OnErr, length, ◌≤◌};
 ghost use Rattle.std.specs.FinMap as map;
 ghost use Rattle.beldi_lang.specs.Machine.{resumed};
-ghost use Rattle.beldi_executor.specs.Inside.{all_gone, Popped};
+ghost use Rattle.beldi_executor.specs.TransactionInPlace.{all_gone, Popped};
 
 use crate::instance::Instance;
 use crate::instances::Instances;

@@ -8,7 +8,7 @@ ghost use Rattle.beldi_value.specs.declared.value.Value.TheVariants as value;
 ghost use Rattle.beldi_executor.specs.Executor.{StandsFor, StandsAfter, Acted, waiter, cut_to};
 ghost use Rattle.beldi_plain.specs.Operation.{set_item};
 ghost use Rattle.beldi_plain.specs.Plain.{answered, ended, new_instance};
-ghost use Rattle.beldi_plain.specs.Piece.{new_member};
+ghost use Rattle.beldi_plain.specs.Transaction.{new_member};
 
 use crate::items::Items;
 use beldi_lang::{Answer, Deployment, Effect, Machine};
@@ -21,8 +21,8 @@ use std::marker::Model;
 pub struct Instance {
     func: u16,
     args: Value,
-    from: Option<Caller>,
-    within: Option<TxId>,
+    parent: Option<Caller>,
+    enclosing: Option<TxId>,
     answers: Vec<Answer>,
     outcome: Option<Outcome>,
 }
@@ -35,33 +35,39 @@ impl Model for Instance {
 
     ghost coded = { coded_instance };
 
-    ghost view = { λ a. record { func = a.func; args = a.args; from = a.from; within = a.within; answers = a.answers.items; outcome = a.outcome } };
+    ghost view = { λ a. record { func = a.func; args = a.args; parent = a.parent; enclosing = a.enclosing; answers = a.answers.items; outcome = a.outcome } };
 }
 
 impl Instance {
     /// An instance that has made no step.
-    pub fn new(alloc: Global, func: u16, args: Value, from: Option<Caller>) -> Instance
-        ensures { result ≡ new_instance func args from }
+    pub fn new(alloc: Global, func: u16, args: Value, parent: Option<Caller>) -> Instance
+        ensures { result ≡ new_instance func args parent }
     {
         Instance {
             func,
             args,
-            from,
-            within: None,
+            parent,
+            enclosing: None,
             answers: Vec::new(alloc),
             outcome: None,
         }
     }
 
-    /// One that is called within a transaction.
-    pub fn member(alloc: Global, func: u16, args: Value, from: Caller, within: TxId) -> Instance
-        ensures { result ≡ new_member within func args from }
+    /// One that is called inside a transaction.
+    pub fn member(
+        alloc: Global,
+        func: u16,
+        args: Value,
+        parent: Caller,
+        enclosing: TxId,
+    ) -> Instance
+        ensures { result ≡ new_member enclosing func args parent }
     {
         Instance {
             func,
             args,
-            from: Some(from),
-            within: Some(within),
+            parent: Some(parent),
+            enclosing: Some(enclosing),
             answers: Vec::new(alloc),
             outcome: None,
         }
@@ -84,9 +90,9 @@ impl Instance {
 
     /// The id of who waits for it.
     pub fn waiter(&self, alloc: Global) -> Result<Option<IntentId>, AllocError>
-        ensures { IfOk result (λ o. o ≡ waiter self.now.from) }
+        ensures { IfOk result (λ o. o ≡ waiter self.now.parent) }
     {
-        match &self.from {
+        match &self.parent {
             Some(caller) if caller.waits => Ok(Some(caller.place.intent.copy(alloc)?)),
             _ => Ok(None),
         }
@@ -124,7 +130,7 @@ impl Instance {
             code,
             self.func,
             &self.args,
-            self.within.is_some(),
+            self.enclosing.is_some(),
             self.answers.as_slice(),
         )
     }

@@ -1,12 +1,12 @@
 // The executor of the plain machine.
 ghost use Rattle.std.specs.Prelude.{◌≡◌, ◌++◌, Some, OnOk, OnErr, IfSome, option_copied};
 ghost use Rattle.std.specs.FinMap as map;
-ghost use Rattle.beldi_book.specs.declared.entry.Entry.TheVariants.{Start, Tx, Try};
-ghost use Rattle.beldi_book.specs.Order.{linear};
+ghost use Rattle.beldi_book.specs.declared.entry.Entry.TheVariants.{Start, CommittedTx, AbortedTx};
+ghost use Rattle.beldi_book.specs.LinearOrder.{linear};
 ghost use Rattle.beldi_plain.specs.Plain.{Instance, nothing, value_at, reply_of, step_by};
 ghost use Rattle.beldi_executor.specs.Answers.{Did, DidStep, Entered, Ran, IsReady, Makes, StandsAt, StandsFree};
 ghost use Rattle.beldi_executor.specs.declared.plain.PlainErr.TheVariants.{OutOfMemory};
-ghost use Rattle.beldi_executor.specs.Inside.{StandsAtBegin};
+ghost use Rattle.beldi_executor.specs.TransactionInPlace.{StandsAtBegin};
 ghost use Rattle.beldi_plain.specs.Listing.{listing_of};
 
 use crate::instance::Instance;
@@ -16,7 +16,7 @@ use crate::state::State;
 use beldi_book::{Book, Entry};
 use beldi_check::Checked;
 use beldi_lang::{Effect, Machine};
-use beldi_value::{Apart, IntentId, Outcome, Place, Str, Value, or_drop};
+use beldi_value::{Boxed, IntentId, Outcome, Place, Str, Value, or_drop};
 use std::alloc::{AllocError, Global};
 use std::marker::Model;
 use thiserror::Error;
@@ -253,39 +253,15 @@ impl<'a> Plain<'a> {
             }
             Entry::Read { id, .. } => self.enter(id, true),
             Entry::Step { id } => self.enter(id, false),
-            Entry::Tx { id } => self.piece(id),
-            Entry::Try { id, place, holder } => self.try_piece(id, place.get(), lent(holder)),
+            Entry::CommittedTx { id } => self.commit_tx(id),
+            Entry::AbortedTx { id, place, holder } => self.abort_tx(id, place.get(), lent(holder)),
         }
     }
 
     /// Carries out the transaction of an instance that stands at its begin, as one step up to its end with commit.
-    pub fn piece(&mut self, id: &IntentId) -> Result<(), PlainErr>
+    pub fn commit_tx(&mut self, id: &IntentId) -> Result<(), PlainErr>
         ensures code { self.new.code ≡ self.old.code }
-        ensures did { Did self.old.code (Tx id.now) self.old.state self.new.state result }
-    {
-        let id = id.copy(self.alloc)?;
-        let machine = match self.begin(&id) {
-            Ok(machine) => machine,
-            Err(why) => {
-                drop(id);
-                return Err(why);
-            }
-        };
-        let owner = self.state.piece(self.alloc, self.code.code(), id, machine)?;
-        self.machines.keep(owner.id, owner.machine);
-        Ok(())
-    }
-
-    /// Carries out the transaction of an instance that stands at its begin, as one step up to this place, where it aborts: by itself
-    /// or by a fault, or as this holder has the lock. Nothing that it wrote is left.
-    pub fn try_piece(
-        &mut self,
-        id: &IntentId,
-        place: &Place,
-        holder: Option<&IntentId>,
-    ) -> Result<(), PlainErr>
-        ensures code { self.new.code ≡ self.old.code }
-        ensures did { Did self.old.code (Try id.now place.now (option_copied holder.entry)) self.old.state self.new.state result }
+        ensures did { Did self.old.code (CommittedTx id.now) self.old.state self.new.state result }
     {
         let id = id.copy(self.alloc)?;
         let machine = match self.begin(&id) {
@@ -297,7 +273,33 @@ impl<'a> Plain<'a> {
         };
         let owner = self
             .state
-            .try_piece(self.alloc, self.code.code(), id, machine, place, holder)?;
+            .commit_tx(self.alloc, self.code.code(), id, machine)?;
+        self.machines.keep(owner.id, owner.machine);
+        Ok(())
+    }
+
+    /// Carries out the transaction of an instance that stands at its begin, as one step up to this place, where it aborts: by itself
+    /// or by a fault, or as this holder has the lock. Nothing that it wrote is left.
+    pub fn abort_tx(
+        &mut self,
+        id: &IntentId,
+        place: &Place,
+        holder: Option<&IntentId>,
+    ) -> Result<(), PlainErr>
+        ensures code { self.new.code ≡ self.old.code }
+        ensures did { Did self.old.code (AbortedTx id.now place.now (option_copied holder.entry)) self.old.state self.new.state result }
+    {
+        let id = id.copy(self.alloc)?;
+        let machine = match self.begin(&id) {
+            Ok(machine) => machine,
+            Err(why) => {
+                drop(id);
+                return Err(why);
+            }
+        };
+        let owner = self
+            .state
+            .abort_tx(self.alloc, self.code.code(), id, machine, place, holder)?;
         self.machines.keep(owner.id, owner.machine);
         Ok(())
     }
@@ -370,7 +372,7 @@ impl<'a> Plain<'a> {
     }
 }
 
-fn lent(holder: &Option<Apart<IntentId>>) -> Option<&IntentId>
+fn lent(holder: &Option<Boxed<IntentId>>) -> Option<&IntentId>
     ensures { option_copied result ≡ holder.now }
 {
     match holder {

@@ -3,7 +3,7 @@ use Rattle.std.proofs.Common.{Bool, List, None, Option, Some, [], ap, ap₂, ari
 use Rattle.std.{proofs.lemmas.Bool.Decides.nat_tests, proofs.lemmas.Bool.and_parts, proofs.lemmas.Option.same_Some, specs.List.list_all, specs.Str.is_utf8}
 use Rattle.matchit.proofs.OnLiterals.{matchit_on_literals}
 use Rattle.matchit.specs.{Rows.RowsOf, Rows.param_token, Router.RouteOf, Seek.first, Seek.has_slash, Seek.seek, Seek.step}
-use Rattle.beldi_gateway.specs.{declared.route.Endpoint.Endpoint, declared.route.Endpoint.TheVariants.Tickets, declared.route.Endpoint.TheVariants.Call, declared.route.Endpoint.TheVariants.Reply, Laws.AreBytes, Laws.HasForm, Laws.IsJustForm, Laws.is_part, Route.endpoint_at, Route.routes}
+use Rattle.beldi_gateway.specs.{declared.route.Endpoint.Endpoint, declared.route.Endpoint.TheVariants.Tickets, declared.route.Endpoint.TheVariants.Call, declared.route.Endpoint.TheVariants.Reply, GatewayLaws.AreBytes, GatewayLaws.HasForm, GatewayLaws.IsJustForm, GatewayLaws.is_part, Route.endpoint_at, Route.routes}
 use Rattle.beldi_gateway.proofs.Seeks.{begins_so, behind_bytes, by_byte, first_part, last_part, no_slash, not_empty, not_one, nothing}
 
 -- a path without a slash, or one cut at its first slash

@@ -11,4 +11,4 @@ mod Replies
 mod Responses
 mod Scans
 mod Seeks
-mod Whole
+mod WholeResponse

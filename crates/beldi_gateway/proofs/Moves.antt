@@ -1,5 +1,5 @@
 -- What comes and goes on a connection, one thing after another.
-use Rattle.beldi_gateway.proofs.Names.{Connection, Connections, EndsAt, Err, Failed, Gathers, HasEnded, HeadGathers, LinkRead, LinkWrote, List, Lost, Moved, Moves, None, Ok, Option, ReadOpen, Scan, Some, Told, Went, WentOn, WriteOpen, [], ap, append-nil, append_assoc, arith, drop, failed_once, false, inr, length, length-append, refl, scan_on, start, subst, sym, take, take-append-drop, take_more, told_map, told_same, told_then, took, true, wrote, ℕ, ◌++◌, ◌+◌, ◌∙◌, ◌∷◌, ◌≡◌, ◌≤◌}
+use Rattle.beldi_gateway.proofs.Names.{Connection, Connections, EndsAt, Err, Failed, Gathers, HasEnded, HeadGathers, LinkRead, LinkWrote, List, Lost, Moved, Moves, None, Ok, Option, ReadOpen, Scan, Some, Observed, Went, WentOn, WriteOpen, [], ap, append-nil, append_assoc, arith, drop, failed_once, false, inr, length, length-append, refl, scan_on, start, subst, sym, take, take-append-drop, take_more, told_map, told_same, told_then, took, true, wrote, ℕ, ◌++◌, ◌+◌, ◌∙◌, ◌∷◌, ◌≡◌, ◌≤◌}
 
 nothing : (a b : List ℕ) → a ≡ [] → b ≡ [] → a ++ b ≡ []
 nothing a b p q = ap (λ x. x ++ b) p ∙ q
@@ -63,13 +63,13 @@ write_err : (bytes : List ℕ) (e : Failed) (a b : Option Connection) → WriteO
 write_err bytes e None b p = (p.1, refl, refl)
 write_err bytes e (Some c) b p = (failed_once c, p, stays c (failed_once c) refl refl refl)
 
-pub reads : (buf : List ℕ) (n : ℕ) (a b : Option Connections) → Told a b (LinkRead buf (Ok n)) → Moves (take n buf) [] a b
+pub reads : (buf : List ℕ) (n : ℕ) (a b : Option Connections) → Observed a b (LinkRead buf (Ok n)) → Moves (take n buf) [] a b
 reads buf n a b = told_map {P = LinkRead buf (Ok n)} {Q = Moved (take n buf) []} a b (λ s t p. (read_on buf n s.current t.current p.0, p.1))
 
-pub writes : (bytes : List ℕ) (n : ℕ) (a b : Option Connections) → Told a b (LinkWrote bytes (Ok n)) → Moves [] (take n bytes) a b
+pub writes : (bytes : List ℕ) (n : ℕ) (a b : Option Connections) → Observed a b (LinkWrote bytes (Ok n)) → Moves [] (take n bytes) a b
 writes bytes n a b = told_map {P = LinkWrote bytes (Ok n)} {Q = Moved [] (take n bytes)} a b (λ s t p. (write_on bytes n s.current t.current p.0, p.1))
 
-pub writes_none : (bytes : List ℕ) (e : Failed) (a b : Option Connections) → Told a b (LinkWrote bytes (Err e)) → Moves [] [] a b
+pub writes_none : (bytes : List ℕ) (e : Failed) (a b : Option Connections) → Observed a b (LinkWrote bytes (Err e)) → Moves [] [] a b
 writes_none bytes e a b = told_map {P = LinkWrote bytes (Err e)} {Q = Moved [] []} a b (λ s t p. (write_err bytes e s.current t.current p.0, p.1))
 
 same_option : (o : Option Connection) → WentOn [] [] o o
@@ -93,10 +93,10 @@ pub ends_then : (a b c : Option Connections) (y w : List ℕ) → Moves y w a b 
 ends_then a b c y w = told_then {P = Moved y w} {Q = λ s t. HasEnded t.current} {R = λ s t. HasEnded t.current} a b c (λ s t u p q. q)
 
 -- a write that took nothing, and one that took something
-pub wrote_nothing : (w p : List ℕ) (e : Failed) (a b c : Option Connections) → Moves [] w a b → Told b c (LinkWrote p (Err e)) → Moves [] w a c
+pub wrote_nothing : (w p : List ℕ) (e : Failed) (a b c : Option Connections) → Moves [] w a b → Observed b c (LinkWrote p (Err e)) → Moves [] w a c
 wrote_nothing w p e a b c m k = subst (λ x. Moves [] x a c) (append-nil w) (moves_then [] w [] [] a b c m (writes_none p e b c k))
 
-pub wrote_more : (at n : ℕ) (bytes : List ℕ) (a b c : Option Connections) → Moves [] (take at bytes) a b → Told b c (LinkWrote (drop at bytes) (Ok n)) → Moves [] (take (at + n) bytes) a c
+pub wrote_more : (at n : ℕ) (bytes : List ℕ) (a b c : Option Connections) → Moves [] (take at bytes) a b → Observed b c (LinkWrote (drop at bytes) (Ok n)) → Moves [] (take (at + n) bytes) a c
 wrote_more at n bytes a b c m k = subst (λ x. Moves [] x a c) (sym (take_more at n bytes)) (moves_then [] (take at bytes) [] (take n (drop at bytes)) a b c m (writes (drop at bytes) n b c k))
 
 -- what was gathered grows

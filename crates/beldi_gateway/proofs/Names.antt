@@ -6,9 +6,9 @@ pub use Rattle.std.proofs.Common.{All, Bool, Err, IfOk, IsUtf8, List, None, Ok, 
 pub use Rattle.std.proofs.lemmas.List.{append-nil, drop-append-le, length-append, length-drop, take-append-drop, take-append-le, take_all}
 pub use Rattle.beldi_value.specs.Datum.{Datum}
 pub use Rattle.beldi_outside.specs.Connection.{Connection, Connections, LinkRead, LinkWrote, ReadOpen, WriteOpen, failed_once, took, wrote}
-pub use Rattle.beldi_outside.{proofs.Taking.take_more, proofs.Told.told_map, proofs.Told.told_same, proofs.Told.told_then, specs.Outside.IsPrefixOf, specs.Outside.Told, specs.declared.traits.Failed.Failed}
+pub use Rattle.beldi_outside.{proofs.Taking.take_more, proofs.Observed.told_map, proofs.Observed.told_same, proofs.Observed.told_then, specs.Outside.IsPrefixOf, specs.Outside.Observed, specs.declared.traits.Failed.Failed}
 pub use Rattle.beldi_gateway.specs.Exchange.{Exchanges, FewLines, HeadComes, HeadEnds, PlanAt, PlanLines, PlanOver, PlansHead, Question, after_head, args_at, call_question, framing_in, question_of, reply_question, size_of, sized, ticket_at, want_found, with_body, with_size}
-pub use Rattle.beldi_gateway.specs.Response.{allow_text, body_of, length_text, phrase_of, response_bytes, status_of, status_text}
+pub use Rattle.beldi_gateway.specs.HttpResponse.{allow_text, body_of, length_text, phrase_of, response_bytes, status_of, status_text}
 pub use Rattle.beldi_gateway.specs.Route.{Routes, endpoint_at, found_in, function_part, method_of, path_of, ticket_part}
 pub use Rattle.beldi_gateway.specs.Serve.{Answered, AnswersTo, Broken, Decided, Filled, FillsPlan, Keeps, Replied, Whole}
 pub use Rattle.beldi_gateway.specs.Taking.{EndsAt, Gathers, HasEnded, HeadGathers, Lost, Moved, Moves, Went, WentOn}

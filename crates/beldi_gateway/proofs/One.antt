@@ -2,7 +2,7 @@
 use Rattle.std.proofs.Common.{Bool, Err, List, Ok, Option, Result, [], ap, drop, false, if◌then◌else◌, inl, inr, nat_le, subst, sym, take, true, ℕ, ◌∙◌, ◌≡◌}
 use Rattle.httparse.proofs.GrammarLemmas.{request_unique}
 use Rattle.httparse.specs.Grammar.{RequestHead}
-use Rattle.beldi_gateway.specs.{declared.response.Refusal.Refusal, declared.response.Response.Response, declared.scan.Scan.Scan, Exchange.Exchanges, Exchange.FewLines, Exchange.HeadComes, Exchange.HeadEnds, Exchange.IsHead, Exchange.Question, Exchange.after_head, Exchange.wanted_by, Laws.AnswersAlike, Laws.HasOneAnswer, Route.path_of, Scan.scan_on, Scan.start, Serve.Answered, Serve.Keeps}
+use Rattle.beldi_gateway.specs.{declared.response.Refusal.Refusal, declared.response.Response.Response, declared.scan.Scan.Scan, Exchange.Exchanges, Exchange.FewLines, Exchange.HeadComes, Exchange.HeadEnds, Exchange.IsHead, Exchange.Question, Exchange.after_head, Exchange.wanted_by, GatewayLaws.AnswersAlike, GatewayLaws.HasOneAnswer, Route.path_of, Scan.scan_on, Scan.start, Serve.Answered, Serve.Keeps}
 
 module _ (funcs : List ℕ → Option ℕ) where
   abbrev Comes : Type 0

@@ -2,8 +2,8 @@
 use Rattle.std.proofs.Common.{Bool, List, None, Ok, Option, Result, Some, [], ap, ap₂, arith, decimal, false, length, not, refl, subst, sym, true, ℕ, ◌&&◌, ◌++◌, ◌-◌, ◌<◌, ◌==◌, ◌^◌, ◌∙◌, ◌∷◌, ◌≡◌}
 use Rattle.std.{proofs.lemmas.Bool.Decides.nat_tests, proofs.lemmas.Bool.and_parts, proofs.lemmas.Fmt.decimal_nonempty, proofs.lemmas.Fmt.digits_decimal, specs.Char.is_ascii_digit, specs.List.list_all, specs.Str.all_ascii_digits, specs.Str.is_utf8}
 use Rattle.beldi_value.proofs.Ints.{numeral_back, numeral_of, numeral_within, own}
-use Rattle.beldi_value.specs.{Cut.after, Cut.before, Datum.Datum}
-use Rattle.beldi_gateway.specs.{declared.response.Refusal.Refusal, declared.route.Endpoint.Endpoint, declared.route.Endpoint.TheVariants.Tickets, declared.route.Endpoint.TheVariants.Call, declared.route.Endpoint.TheVariants.Reply, Exchange.Question, Exchange.args_at, Exchange.ask_call, Exchange.ask_reply, Exchange.ask_ticket, Exchange.call_question, Exchange.question_of, Exchange.reply_question, Exchange.ticket_at, Laws.AreBytes, Laws.Asks, Laws.HasForm, Laws.IsJustText, Laws.call_path, Laws.is_part, Laws.reply_path, Route.endpoint_at, Route.function_part, Route.rest_or_none, Route.ticket_part}
+use Rattle.beldi_value.specs.{ByteCut.after, ByteCut.before, Datum.Datum}
+use Rattle.beldi_gateway.specs.{declared.response.Refusal.Refusal, declared.route.Endpoint.Endpoint, declared.route.Endpoint.TheVariants.Tickets, declared.route.Endpoint.TheVariants.Call, declared.route.Endpoint.TheVariants.Reply, Exchange.Question, Exchange.args_at, Exchange.ask_call, Exchange.ask_reply, Exchange.ask_ticket, Exchange.call_question, Exchange.question_of, Exchange.reply_question, Exchange.ticket_at, GatewayLaws.AreBytes, GatewayLaws.Asks, GatewayLaws.HasForm, GatewayLaws.IsJustText, GatewayLaws.call_path, GatewayLaws.is_part, GatewayLaws.reply_path, Route.endpoint_at, Route.function_part, Route.rest_or_none, Route.ticket_part}
 use Rattle.beldi_gateway.proofs.Forms.{paths_have_forms}
 
 -- ---- the parts of a path

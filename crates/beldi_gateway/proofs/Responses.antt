@@ -1,5 +1,5 @@
 -- The bytes of a response, one part after another.
-use Rattle.beldi_gateway.specs.Response.{composed}
+use Rattle.beldi_gateway.specs.HttpResponse.{composed}
 use Rattle.beldi_gateway.proofs.Names.{IfOk, List, Result, ap, codes, length, length_text, phrase_of, status_text, subst, ℕ, ◌++◌, ◌∙◌, ◌≡◌}
 
 pub compose_parts : (n : ℕ) (allow body first phrase size a b c d e : List ℕ) → first ≡ status_text n → phrase ≡ phrase_of n → size ≡ length_text (length body)

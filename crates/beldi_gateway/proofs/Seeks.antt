@@ -3,7 +3,7 @@ use Rattle.std.proofs.Common.{Bool, List, None, Option, Some, [], ap, ap₂, ari
 use Rattle.std.{proofs.Math.Seq.drop-append_seam, proofs.lemmas.Bool.Decides.nat_tests, proofs.lemmas.List.drop_all, specs.List.ends_with, specs.List.list_all}
 use Rattle.matchit.specs.Rows.{RowsOf, catch_all_token, param_token}
 use Rattle.matchit.specs.Seek.{first, has_slash, longest_suffix, or_else, param_step, seek, segment, step, with_suffix}
-use Rattle.beldi_gateway.specs.Laws.{AreBytes, is_part}
+use Rattle.beldi_gateway.specs.GatewayLaws.{AreBytes, is_part}
 
 pub no_slash : (p : List ℕ) → list_all (λ c. not (c == 47)) p ≡ not (has_slash p)
 no_slash [] = refl

@@ -1,7 +1,7 @@
 -- What the bytes of a connection come to: a refusal, or a question for the desk.
 use Rattle.std.specs.Prelude.{◌≡◌, ℕ, ◌≤◌, ◌⊎◌, ◌^◌, ◌-◌, nat_le, Bool, true, false, List, [], ◌∷◌, length, take, drop, map, bytes_eq, Option, Some, None, Result, Ok, Err, if◌then◌else◌}
 use Rattle.httparse.specs.{Grammar.RequestHead, Grammar.ReadsRequest, Spans.IsWithin, Spans.span_bytes, Spans.name_and_value}
-use Rattle.beldi_value.specs.{Datum.Datum, Datum.null, Number.numeral_at, Reading.read_of, declared.read.ValueErr.ValueErr}
+use Rattle.beldi_value.specs.{Datum.Datum, Datum.null, Number.numeral_at, ValueReading.read_of, declared.read.ValueErr.ValueErr}
 use Rattle.beldi_gateway.specs.{declared.scan.Scan.Scan, declared.framing.Framing.Framing, declared.framing.Length.Length, declared.framing.Length.TheVariants.Absent, declared.framing.Length.TheVariants.Given, declared.framing.Length.TheVariants.Bad, declared.plan.Parts.Parts, declared.plan.Plan.Plan, declared.plan.Want.Want, declared.route.Endpoint.Endpoint, declared.route.Endpoint.TheVariants.Tickets, declared.route.Endpoint.TheVariants.Call, declared.route.Endpoint.TheVariants.Reply, declared.response.Refusal.Refusal, Framing.framed_by, Framing.plain, Route.endpoint_at, Route.path_of, Route.method_of, Route.function_part, Route.ticket_part, Scan.start, Scan.scan_on}
 
 -- what a desk is asked: for a ticket, to call a function with a ticket, for the reply to a ticket

@@ -1,7 +1,7 @@
 pub mod Exchange
 pub mod Framing
-pub mod Laws
-pub mod Response
+pub mod GatewayLaws
+pub mod HttpResponse
 pub mod Route
 pub mod Scan
 pub mod Serve

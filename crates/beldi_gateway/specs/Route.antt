@@ -2,7 +2,7 @@
 use Rattle.std.specs.Prelude.{ℕ, List, [], drop, codes, Option, None, Some, option_map, if◌then◌else◌, Result, Ok, Err}
 use Rattle.std.specs.Str.{is_utf8}
 use Rattle.matchit.specs.{Rows.RowsOf, Order.placed, Router.RouteOf, Router.route_from, Route.Scan, Route.parse_route, Seek.first, declared.error.InsertError.InsertError}
-use Rattle.beldi_value.specs.Cut.{before, after}
+use Rattle.beldi_value.specs.ByteCut.{before, after}
 use Rattle.beldi_gateway.specs.declared.route.Endpoint.{Endpoint, TheVariants.Tickets, TheVariants.Call, TheVariants.Reply}
 
 abbrev pub Routes : Type 0

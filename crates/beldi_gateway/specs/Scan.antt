@@ -1,19 +1,19 @@
 -- Where a head ends: with the first empty line that follows a line that is not empty. A line ends with a line feed, and a carriage return directly before it belongs to the end.
 use Rattle.std.specs.Prelude.{ℕ, ◌+◌, ◌==◌, nat_lt, false, if◌then◌else◌, List, [], ◌∷◌}
-use Rattle.beldi_gateway.specs.declared.scan.{Line.Line, Line.TheVariants.Blank, Line.TheVariants.Return, Line.TheVariants.Text, Scan.Scan}
+use Rattle.beldi_gateway.specs.declared.scan.{HeadLine.HeadLine, HeadLine.TheVariants.Blank, HeadLine.TheVariants.Return, HeadLine.TheVariants.Text, Scan.Scan}
 
 -- before any byte
 abbrev pub start : Scan
 start = record { size = 0; lines = 0; line = Blank; over = false }
 
 -- a line feed ends the line: one that is not empty is counted, and an empty one after such a one ends the head
-abbrev pub ended : Scan → Line → Scan
+abbrev pub ended : Scan → HeadLine → Scan
 ended s Text = record { size = s.size + 1; lines = s.lines + 1; line = Blank; over = false }
 ended s Blank = record { size = s.size + 1; lines = s.lines; line = Blank; over = nat_lt 0 s.lines }
 ended s Return = record { size = s.size + 1; lines = s.lines; line = Blank; over = nat_lt 0 s.lines }
 
 -- one carriage return alone may still be an empty line
-abbrev pub returned : Line → Line
+abbrev pub returned : HeadLine → HeadLine
 returned Blank = Return
 returned Return = Text
 returned Text = Text

@@ -1,7 +1,7 @@
 -- What one exchange takes, asks and writes.
 use Rattle.std.specs.Prelude.{◌≡◌, ℕ, ◌<◌, ◌≤◌, ◌⊎◌, false, List, [], ◌++◌, length, Option, Some, None, Result, Ok, Err}
 use Rattle.beldi_outside.specs.{Outside.IsPrefixOf, Connection.Connections}
-use Rattle.beldi_gateway.specs.{declared.response.Refusal.Refusal, declared.response.Response.Response, declared.response.Response.TheVariants.Refused, declared.serve.Served.Served, declared.serve.Served.TheVariants.Status, declared.serve.Served.TheVariants.Silent, declared.serve.Served.TheVariants.Fault, Exchange.Question, Exchange.Exchanges, Exchange.with_body, declared.plan.Want.Want, declared.scan.Scan.Scan, Response.response_bytes, Response.status_of, Taking.Moves, Taking.EndsAt, Taking.Gathers, Taking.Lost}
+use Rattle.beldi_gateway.specs.{declared.response.Refusal.Refusal, declared.response.Response.Response, declared.response.Response.TheVariants.Refused, declared.serve.Served.Served, declared.serve.Served.TheVariants.Status, declared.serve.Served.TheVariants.Silent, declared.serve.Served.TheVariants.Fault, Exchange.Question, Exchange.Exchanges, Exchange.with_body, declared.plan.Want.Want, declared.scan.Scan.Scan, HttpResponse.response_bytes, HttpResponse.status_of, Taking.Moves, Taking.EndsAt, Taking.Gathers, Taking.Lost}
 
 -- what a desk may say: the desk before, the question, what it says, and the desk after
 abbrev pub Keeps : Type 0 → Type 1
@@ -75,7 +75,7 @@ module _ {D : Type 0} (funcs : List ℕ → Option ℕ) (keeps : Keeps D) where
     pub moves : Moves took [] a b
 
   -- a front of a response was written, which may be empty
-  pub record Front (before after : D) (a b : Option Connections) : Type 0 where
+  pub record ResponsePrefix (before after : D) (a b : Option Connections) : Type 0 where
     pub took : List ℕ
     pub wrote : List ℕ
     pub response : Response
@@ -84,7 +84,7 @@ module _ {D : Type 0} (funcs : List ℕ → Option ℕ) (keeps : Keeps D) where
     pub moves : Moves took wrote a b
 
   abbrev pub Broken : D → D → Option Connections → Option Connections → Type 0
-  Broken before after a b = Untouched before after a b ⊎ Front before after a b
+  Broken before after a b = Untouched before after a b ⊎ ResponsePrefix before after a b
 
   -- a response was written, or the connection ended before any byte; else a front of one at most was written
   abbrev pub Exchanged : {E : Type 0} → D → D → Option Connections → Option Connections → Result (Option ℕ) E → Type 0

@@ -1,6 +1,6 @@
 -- What is taken from the open connection and written on it.
 use Rattle.std.specs.Prelude.{◌≡◌, ℕ, ◌+◌, ◌≤◌, ◌⊎◌, true, List, [], ◌++◌, length, Option, Some, None, Result, Ok, Err}
-use Rattle.beldi_outside.specs.{Outside.Told, Outside.IsPrefixOf, Connection.Connection, Connection.Connections}
+use Rattle.beldi_outside.specs.{Outside.Observed, Outside.IsPrefixOf, Connection.Connection, Connection.Connections}
 use Rattle.beldi_gateway.specs.{declared.gather.Stop.Stop, declared.scan.Scan.Scan, Scan.start, Scan.scan_on}
 
 -- these bytes more were taken from a connection, and these written on it
@@ -19,7 +19,7 @@ abbrev pub Moved : List ℕ → List ℕ → Connections → Connections → Typ
 Moved took wrote s t = WentOn took wrote s.current t.current × (t.past ≡ s.past)
 
 abbrev pub Moves : List ℕ → List ℕ → Option Connections → Option Connections → Type 0
-Moves took wrote a b = Told a b (Moved took wrote)
+Moves took wrote a b = Observed a b (Moved took wrote)
 
 -- the open connection has ended
 abbrev pub HasEnded : Option Connection → Type 0
@@ -27,7 +27,7 @@ HasEnded None = ⊥
 HasEnded (Some c) = c.left ≡ []
 
 abbrev pub EndsAt : Option Connections → Option Connections → Type 0
-EndsAt a b = Told a b (λ s t. HasEnded t.current)
+EndsAt a b = Observed a b (λ s t. HasEnded t.current)
 
 -- bytes were taken, and nothing else happened
 abbrev pub Lost : Option Connections → Option Connections → Type 0

@@ -9,7 +9,7 @@ use beldi_value::{Outcome, Value};
 
 /// What a desk says of a call, or of the reply to a ticket.
 #[derive(Drop)]
-pub enum CallSaid {
+pub enum CallReply {
     /// The function came to this.
     Reply(Outcome),
     /// It is not over yet.
@@ -32,7 +32,7 @@ pub enum CallSaid {
 
 /// What a desk says where it is asked for a ticket.
 #[derive(Clone, Copy, Debug, PartialEq, Eq)]
-pub enum TicketSaid {
+pub enum TicketReply {
     /// This one is new.
     Issued(u32),
     /// All were issued.
@@ -60,14 +60,14 @@ pub trait Desk {
         ensures { result ≡ funcs self.now name.now };
 
     /// A new ticket.
-    fn ticket(&mut self) -> TicketSaid
+    fn ticket(&mut self) -> TicketReply
         ensures { keeps self.old ask_ticket (Ticket result) self.new };
 
     /// Calls the function with the ticket, once for each ticket, and tells what came of it.
-    fn call(&mut self, ticket: u32, func: u16, args: Value) -> CallSaid
+    fn call(&mut self, ticket: u32, func: u16, args: Value) -> CallReply
         ensures { keeps self.old (ask_call ticket func (datum_of args)) (Call result) self.new };
 
     /// What came of the call with the ticket.
-    fn reply(&mut self, ticket: u32) -> CallSaid
+    fn reply(&mut self, ticket: u32) -> CallReply
         ensures { keeps self.old (ask_reply ticket) (Call result) self.new };
 }

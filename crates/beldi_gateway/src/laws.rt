@@ -1,5 +1,5 @@
 // Laws of an exchange.
-ghost use Rattle.beldi_gateway.specs.Laws.{BytesComeToOne, HasOneAnswer, PathsHaveForms, QuestionsAreWritten};
+ghost use Rattle.beldi_gateway.specs.GatewayLaws.{BytesComeToOne, HasOneAnswer, PathsHaveForms, QuestionsAreWritten};
 
 use crate::desk::Desk;
 

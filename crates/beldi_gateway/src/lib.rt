@@ -1,6 +1,6 @@
 //! One HTTP exchange over a link: a request is read, a desk is asked, its answer is written. It stands on `httparse` for
 //! heads, `matchit` for paths and `http` for methods and phrases. Its definitions: `specs/Scan` (where a head ends),
-//! `specs/Route` (which path is which route), `specs/Framing` (how long a body is), `specs/Response` (the bytes of a response),
+//! `specs/Route` (which path is which route), `specs/Framing` (how long a body is), `specs/HttpResponse` (the bytes of a response),
 //! `specs/Exchange` (what the bytes of a connection come to), `specs/Serve` (what is taken, asked and written).
 //!
 //! Proved:
@@ -17,10 +17,10 @@
 //! Files:
 //! - Code (`src/`): `desk` whom an exchange asks; `scan` where a head ends, `gather` taking bytes; `framing` fields, `route`
 //!   paths, `plan` what a head wants; `ask` the question; `response`, `send`; `serve` one exchange; `laws`.
-//! - Further definitions (`specs/`): `Taking` what is taken from the open connection and written on it; `Laws` the forms of paths
+//! - Further definitions (`specs/`): `Taking` what is taken from the open connection and written on it; `GatewayLaws` the forms of paths
 //!   and questions, and what it is to have one answer.
 //! - Lemmas (`proofs/`): `Scans` a head read in parts; `Moves` one thing after another on a connection; `Paths`; `Comes` a
-//!   body that came; `Answers` what was gathered, `Cuts` refusals where it ended, `Replies`, `Responses`, `Whole` one
+//!   body that came; `Answers` what was gathered, `Cuts` refusals where it ended, `Replies`, `Responses`, `WholeResponse` one
 //!   exchange; `Seeks`, `Forms` and `Questions` a path by the routes; `One` the same bytes once more.
 #![tactic(auto)]
 
@@ -36,7 +36,7 @@ mod scan;
 mod send;
 mod serve;
 
-pub use desk::{CallSaid, Desk, TicketSaid};
+pub use desk::{CallReply, Desk, TicketReply};
 pub use laws::{
     an_exchange_has_one_answer, bytes_come_to_one, paths_have_forms, questions_are_written,
 };

@@ -1,9 +1,9 @@
 // The responses, and their bytes.
 ghost use Rattle.std.specs.Prelude.{◌≡◌, IfOk, string_bytes};
-ghost use Rattle.beldi_gateway.specs.Response.{allow_text, body_of, call_says, composed, error_text, length_text, outcome_body, phrase_of, refusal_says, response_bytes, status_of, status_text, ticket_says};
+ghost use Rattle.beldi_gateway.specs.HttpResponse.{allow_text, body_of, rendered_call, composed, error_text, length_text, outcome_body, phrase_of, rendered_refusal, response_bytes, status_of, status_text, rendered_ticket};
 ghost use Rattle.http.specs.StatusCode.{IsStatusCode};
 
-use crate::desk::{CallSaid, TicketSaid};
+use crate::desk::{CallReply, TicketReply};
 use crate::route::Endpoint;
 use beldi_value::{OutOfMemory, Outcome, Str};
 use http::StatusCode;
@@ -40,13 +40,13 @@ pub enum Refusal {
 #[derive(Drop)]
 pub enum Response {
     Refused(Refusal),
-    Ticket(TicketSaid),
-    Call(CallSaid),
+    Ticket(TicketReply),
+    Call(CallReply),
 }
 
 impl Refusal {
     fn status(self) -> u16
-        ensures { result ≡ (refusal_says self).status }
+        ensures { result ≡ (rendered_refusal self).status }
     {
         match self {
             Refusal::HeadSize => 431,
@@ -58,7 +58,7 @@ impl Refusal {
     }
 
     fn name(self) -> &'static str
-        ensures { error_text result.now ≡ (refusal_says self).body }
+        ensures { error_text result.now ≡ (rendered_refusal self).body }
     {
         match self {
             Refusal::HeadSize => "head-size",
@@ -76,27 +76,27 @@ impl Refusal {
     }
 }
 
-impl TicketSaid {
+impl TicketReply {
     fn status(self) -> u16
-        ensures { result ≡ (ticket_says self).status }
+        ensures { result ≡ (rendered_ticket self).status }
     {
         match self {
-            TicketSaid::Issued(_) => 200,
-            TicketSaid::NoMemory => 500,
+            TicketReply::Issued(_) => 200,
+            TicketReply::NoMemory => 500,
             _ => 503,
         }
     }
 
     fn body(self, alloc: Global) -> Result<String, OutOfMemory>
-        ensures { IfOk result (λ s. string_bytes s ≡ (ticket_says self).body) }
+        ensures { IfOk result (λ s. string_bytes s ≡ (rendered_ticket self).body) }
     {
         match self {
-            TicketSaid::Issued(ticket) => format!(in alloc; "{{\"ticket\":{ticket}}}"),
-            TicketSaid::NoTicket => error_body(alloc, "tickets"),
-            TicketSaid::Full => error_body(alloc, "full"),
-            TicketSaid::Fault => error_body(alloc, "fault"),
-            TicketSaid::Spent => error_body(alloc, "spent"),
-            TicketSaid::NoMemory => error_body(alloc, "memory"),
+            TicketReply::Issued(ticket) => format!(in alloc; "{{\"ticket\":{ticket}}}"),
+            TicketReply::NoTicket => error_body(alloc, "tickets"),
+            TicketReply::Full => error_body(alloc, "full"),
+            TicketReply::Fault => error_body(alloc, "fault"),
+            TicketReply::Spent => error_body(alloc, "spent"),
+            TicketReply::NoMemory => error_body(alloc, "memory"),
         }
     }
 }
@@ -121,34 +121,34 @@ fn outcome_body(alloc: Global, outcome: &Outcome) -> Result<String, OutOfMemory>
     }
 }
 
-impl CallSaid {
+impl CallReply {
     fn status(&self) -> u16
-        ensures { result ≡ (call_says self.now).status }
+        ensures { result ≡ (rendered_call self.now).status }
     {
         match self {
-            CallSaid::Reply(_) => 200,
-            CallSaid::Running => 202,
-            CallSaid::Other => 409,
-            CallSaid::Gone => 410,
-            CallSaid::Unknown => 404,
-            CallSaid::NoMemory => 500,
-            CallSaid::Fault | CallSaid::Crowded | CallSaid::Spent => 503,
+            CallReply::Reply(_) => 200,
+            CallReply::Running => 202,
+            CallReply::Other => 409,
+            CallReply::Gone => 410,
+            CallReply::Unknown => 404,
+            CallReply::NoMemory => 500,
+            CallReply::Fault | CallReply::Crowded | CallReply::Spent => 503,
         }
     }
 
     fn body(&self, alloc: Global) -> Result<String, OutOfMemory>
-        ensures { IfOk result (λ s. string_bytes s ≡ (call_says self.now).body) }
+        ensures { IfOk result (λ s. string_bytes s ≡ (rendered_call self.now).body) }
     {
         match self {
-            CallSaid::Reply(outcome) => outcome_body(alloc, outcome),
-            CallSaid::Running => format!(in alloc; "{{\"running\":true}}"),
-            CallSaid::Other => error_body(alloc, "other"),
-            CallSaid::Gone => error_body(alloc, "gone"),
-            CallSaid::Unknown => error_body(alloc, "ticket"),
-            CallSaid::Fault => error_body(alloc, "fault"),
-            CallSaid::Crowded => error_body(alloc, "crowded"),
-            CallSaid::Spent => error_body(alloc, "spent"),
-            CallSaid::NoMemory => error_body(alloc, "memory"),
+            CallReply::Reply(outcome) => outcome_body(alloc, outcome),
+            CallReply::Running => format!(in alloc; "{{\"running\":true}}"),
+            CallReply::Other => error_body(alloc, "other"),
+            CallReply::Gone => error_body(alloc, "gone"),
+            CallReply::Unknown => error_body(alloc, "ticket"),
+            CallReply::Fault => error_body(alloc, "fault"),
+            CallReply::Crowded => error_body(alloc, "crowded"),
+            CallReply::Spent => error_body(alloc, "spent"),
+            CallReply::NoMemory => error_body(alloc, "memory"),
         }
     }
 }

@@ -4,7 +4,7 @@ ghost use Rattle.beldi_gateway.specs.Scan.{passed, scan_on, start};
 
 /// What came of the line that is being read.
 #[derive(Clone, Copy)]
-pub enum Line {
+pub enum HeadLine {
     /// Nothing.
     Blank,
     /// One carriage return.
@@ -20,7 +20,7 @@ pub struct Scan {
     pub size: u64,
     /// Lines that ended and are not empty.
     pub lines: u64,
-    pub line: Line,
+    pub line: HeadLine,
     /// Whether the end of the head came.
     pub over: bool,
 }
@@ -32,7 +32,7 @@ impl Scan {
         Scan {
             size: 0,
             lines: 0,
-            line: Line::Blank,
+            line: HeadLine::Blank,
             over: false,
         }
     }
@@ -45,28 +45,28 @@ impl Scan {
     {
         let size = self.size + 1;
         match (byte, self.line) {
-            (b'\n', Line::Text) => Scan {
+            (b'\n', HeadLine::Text) => Scan {
                 size,
                 lines: self.lines + 1,
-                line: Line::Blank,
+                line: HeadLine::Blank,
                 over: false,
             },
             (b'\n', _) => Scan {
                 size,
                 lines: self.lines,
-                line: Line::Blank,
+                line: HeadLine::Blank,
                 over: self.lines > 0,
             },
-            (b'\r', Line::Blank) => Scan {
+            (b'\r', HeadLine::Blank) => Scan {
                 size,
                 lines: self.lines,
-                line: Line::Return,
+                line: HeadLine::Return,
                 over: false,
             },
             _ => Scan {
                 size,
                 lines: self.lines,
-                line: Line::Text,
+                line: HeadLine::Text,
                 over: false,
             },
         }

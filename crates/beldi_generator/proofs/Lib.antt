@@ -1,2 +1,2 @@
 mod Requests
-pub mod Words
+pub mod WorkWords

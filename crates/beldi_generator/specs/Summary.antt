@@ -3,7 +3,7 @@ use Rattle.std.specs.Prelude.{ℕ, ◌+◌, ◌==◌, ℤ, pos, Bool, false, ◌
 use Rattle.std.specs.Int.{w64, int_wrapping_add}
 use Rattle.std.specs.{Bool.◌==◌, Fmt.decimal, Fmt.signed_decimal, List.starts_with, Str.bytes_eq}
 use Rattle.beldi_value.specs.Number.{int_at}
-use Rattle.beldi_script.specs.Cut.{lines_of}
+use Rattle.beldi_script.specs.LineCut.{lines_of}
 
 -- the lines after the first one that is this
 abbrev pub past : List ℕ → List (List ℕ) → List (List ℕ)

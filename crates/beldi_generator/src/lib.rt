@@ -8,7 +8,7 @@
 //!
 //! Files:
 //! - Code (`src/`): `generator` the source; `summary` what is told.
-//! - Lemmas (`proofs/`): `Requests` requests one after another; `Words` the last word of a line.
+//! - Lemmas (`proofs/`): `Requests` requests one after another; `WorkWords` the last word of a line.
 #![tactic(auto)]
 
 mod generator;

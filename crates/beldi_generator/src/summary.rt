@@ -1,6 +1,6 @@
 // What is told of a session of generated work.
 ghost use Rattle.std.specs.Prelude.{◌≡◌, ◌++◌, IfOk, OnOk, pos, string_bytes};
-ghost use Rattle.beldi_script.specs.Cut.{lines_of};
+ghost use Rattle.beldi_script.specs.LineCut.{lines_of};
 ghost use Rattle.beldi_generator.specs.Summary.{begins, counted, entries_text, is_unread, item_front, last_word, listed, numbered, past, settling_in, summary_text, summed, tells_settling, totals_text, value_in};
 
 use beldi_script::cut_line;

@@ -6,22 +6,22 @@ pub use Rattle.std.specs.FinMap as map
 pub use Rattle.std.proofs.Common.{Bool, Err, List, None, Ok, Option, Result, Some, [], ap, append-nil, append_assoc, arith, cond, false, if◌then◌else◌, inl, inr, is_some, refl, rules, subst, suc, sym, true, zero, ℕ, ◌&&◌, ◌++◌, ◌+◌, ◌-◌, ◌<◌, ◌==◌, ◌^◌, ◌||◌, ◌∙◌, ◌∷◌, ◌≡◌, ◌≤◌, ◌⊎◌}
 pub use Rattle.beldi_value.specs.{Id.root_of, declared.id.IntentId.IntentId, declared.outcome.Outcome.Outcome, declared.place.Owner.Owner, declared.value.Value.Value}
 pub use Rattle.beldi_tree.specs.declared.deployment.Deployment.{Deployment}
-pub use Rattle.beldi_book.specs.Order.{count_changes}
+pub use Rattle.beldi_book.specs.LinearOrder.{count_changes}
 pub use Rattle.beldi_plain.specs.{Legal.IsLegal, Legal.run_of, Listing.listing_of, Plain.PlainState, Plain.outcome_of, Plain.reply_of, Replies.HasNoReply}
 pub use Rattle.beldi_row.specs.Key.{RowKey, key_cmp, key_ticket, kind_cmp, least_key, rank_of, ticket_of}
 pub use Rattle.beldi_row.specs.Table.{Acted, ActedOn, IsNotFull, Rose, Rows, TableState, Tells, first_above, next_row}
-pub use Rattle.beldi_row.{proofs.Gets.key_same, proofs.Tells.tells_map, proofs.Unchanged.looked, specs.Act.act, specs.Act.tell_of, specs.KeyOrder.key_exact, specs.KeyOrder.key_total, specs.declared.act.Act.TheVariants.Look, specs.declared.act.Said.Said, specs.declared.key.Kind.Kind, specs.declared.key.Kind.TheVariants.Data, specs.declared.key.Kind.TheVariants.Intent, specs.declared.key.Kind.TheVariants.Invoke, specs.declared.key.Kind.TheVariants.Lockset, specs.declared.key.Kind.TheVariants.ReadLog, specs.declared.key.Kind.TheVariants.Shadow, specs.declared.row.Body.Body, specs.declared.row.Row.Row, specs.declared.row.Row.TheVariants.Cell, specs.declared.table.TableErr.TableErr}
-pub use Rattle.beldi_walk.{proofs.Queries.acted, proofs.Queries.same_rows, proofs.Queries.went, specs.Query.Told, specs.declared.query.Query.TheVariants.Act, specs.declared.query.Query.TheVariants.After}
+pub use Rattle.beldi_row.{proofs.Gets.key_same, proofs.Tells.tells_map, proofs.Unchanged.looked, specs.Act.act, specs.Act.act_reply_of, specs.KeyOrder.key_exact, specs.KeyOrder.key_total, specs.declared.act.Act.TheVariants.Look, specs.declared.act.ActReplyRef.ActReplyRef, specs.declared.key.Kind.Kind, specs.declared.key.Kind.TheVariants.Data, specs.declared.key.Kind.TheVariants.Intent, specs.declared.key.Kind.TheVariants.Invoke, specs.declared.key.Kind.TheVariants.Lockset, specs.declared.key.Kind.TheVariants.ReadLog, specs.declared.key.Kind.TheVariants.Shadow, specs.declared.row.Body.Body, specs.declared.row.Row.Row, specs.declared.row.Row.TheVariants.Cell, specs.declared.table.TableErr.TableErr}
+pub use Rattle.beldi_query.{proofs.Queries.acted, proofs.Queries.same_rows, proofs.Queries.went, specs.Query.QueryReply, specs.declared.query.Query.TheVariants.Act, specs.declared.query.Query.TheVariants.After}
 pub use Rattle.beldi_intent.specs.{Intent.bind_asks, Intent.binding_of, Intent.is_added, Intent.issue_asks, Intent.root_key, declared.intent.Binding.Binding}
-pub use Rattle.beldi_collect.specs.{Collect.collect_says, declared.cursor.Found.Found}
-pub use Rattle.beldi_step.specs.Host.{Core, EventOn, Followed, HaltCame, HaltOn, Plan, StepBy, Stepped, after_turn, asks, at_once, collect_next, counted, crash_plan, ended_run, first_core, halt_next, has_run, heard, in_time, is_crowded, is_halt, last_moment, may_start, most_events, new_run, newest_of, greatest, open_plan, plan, plan_of, reads_all, refused, request_next, run_next, run_plan, started, ticket_next, turned_core, unheard_next, with_run}
+pub use Rattle.beldi_collect.specs.{Collect.collect_output, declared.cursor.Found.Found}
+pub use Rattle.beldi_step.specs.HostStep.{Core, EventOn, Followed, HaltCame, HaltOn, Plan, StepBy, Stepped, after_turn, asks, immediate, collect_next, counted, crash_plan, ended_run, first_core, halt_next, has_run, on_reply, in_time, is_crowded, is_halt, last_moment, may_start, most_events, new_run, newest_of, greatest, open_plan, plan, plan_of, reads_all, refused, request_next, run_next, run_plan, started, ticket_next, turned_core, unheard_next, with_run}
 pub use Rattle.beldi_step.specs.Tables.{is_committed, line_at, owned_value, row_line, shown_under, tables_text, value_in, value_line}
 pub use Rattle.beldi_step.specs.declared.event.Event.TheVariants.{Crash, Halt, Ic, Lost, Request, Restart, Tick, Ticket, Turn}
-pub use Rattle.beldi_step.{proofs.Late.expires, proofs.Steps.over_rows, specs.Prunes.Prunes, specs.Prunes.PrunesOn, specs.declared.event.Pruned.Pruned, specs.Run.callee_of, specs.Run.run_asks, specs.Run.run_told, specs.Run.says_of, specs.declared.event.Event.Event, specs.declared.event.Seen.Seen, specs.declared.run.Run.Run, specs.declared.run.TurnSays.TurnSays, specs.declared.run.Wait.Wait}
-pub use Rattle.beldi_known.specs.{Matches.has_ended, Rows.BodyMatches, Rows.IntentMatches, Stands.Stands}
-pub use Rattle.beldi_laws.{proofs.Events.after_event, proofs.Moves.seen_by, proofs.Moves.with_runs, proofs.OneAnswer.answers_stay, proofs.OneAnswer.one_answer, proofs.Outside.outcome_known, proofs.Standing.right_stands, proofs.Standing.same_run, specs.Laws.is_gone, specs.OneAnswer.AnswersStay, specs.OneAnswer.OneAnswerPerStep, specs.Right.Right}
+pub use Rattle.beldi_step.{proofs.PastDeadline.expires, proofs.AnyStep.over_rows, specs.Prunes.Prunes, specs.Prunes.PrunesOn, specs.declared.event.Pruned.Pruned, specs.Run.callee_of, specs.Run.run_asks, specs.Run.run_told, specs.Run.output_of, specs.declared.event.Event.Event, specs.declared.event.EventReply.EventReply, specs.declared.run.Run.Run, specs.declared.run.TurnOutput.TurnOutput, specs.declared.run.Wait.Wait}
+pub use Rattle.beldi_histories.specs.{Matches.has_ended, RowMatching.BodyMatches, RowMatching.IntentMatches, Stands.Stands}
+pub use Rattle.beldi_invariant.{proofs.Events.after_event, proofs.Moves.seen_by, proofs.Moves.with_runs, proofs.OneAnswer.answers_stay, proofs.OneAnswer.one_answer, proofs.Outside.outcome_recorded, proofs.Standing.invariant_stands, proofs.Standing.same_run, specs.InvariantLaws.is_gone, specs.OneAnswer.AnswersStay, specs.OneAnswer.OneAnswerPerStep, specs.Invariant.Invariant}
 pub use Rattle.beldi_upkeep.{proofs.Together.begins_upkept, proofs.Together.keeps_upkeep, specs.Upkeep.Upkeep}
-pub use Rattle.beldi_kept.{proofs.Begins.begins_early, proofs.Begins.begins_kept, proofs.Collecting.prunings_keep_safe, proofs.Collecting.prunings_keep_whole, proofs.Collecting.safe_at_cursor, proofs.Collecting.safe_at_first, proofs.LeftRows.kept_answers, proofs.LeftRows.kept_listing, proofs.LeftRows.kept_stand, proofs.Telling.kept_are_legal, specs.Kept.HasKept, specs.Safe.EventsKeepSafe, specs.Safe.IsSafe, specs.Stands.OneAnswerLess, specs.Stands.StandsLess}
-pub use Rattle.beldi_core.{proofs.Plans.no_memory, proofs.Plans.query_asked, proofs.Plans.reads, proofs.Truths.first, proofs.Truths.less, proofs.Truths.second, proofs.Truths.test_true, specs.Parts.core_in}
-pub use Rattle.beldi_host.specs.Survey.{IsHighWater, IsNewest, NewestAt, Past, Reads, cell_seen, is_unknown, last_rank, latest, latest_of, line_after, next_mark_of, opened_core, rest, row_moment, next_line_of, next_seen_of, outcome_seen, reply_seen, row_seen, seen_at, seen_of, told_row}
-pub use Rattle.beldi_host.specs.{Host.core_of, Right.EndsLate, Right.HasNoRows, Right.RowsStandFor, Right.RowsStandLess, Said.SaidOf, declared.survey.OpenErr.OpenErr, declared.survey.OpenErr.TheVariants.Failed, declared.survey.OpenErr.TheVariants.OutOfMemory, declared.survey.Owned.Owned, declared.survey.ReplySeen.ReplySeen, declared.survey.ReplySeen.TheVariants.Gone, declared.survey.ReplySeen.TheVariants.Unknown}
+pub use Rattle.beldi_kept.{proofs.Begins.begins_early, proofs.Begins.begins_kept, proofs.Collecting.prunings_keep_safe, proofs.Collecting.prunings_keep_whole, proofs.Collecting.safe_at_cursor, proofs.Collecting.safe_at_first, proofs.LeftRows.kept_answers, proofs.LeftRows.kept_listing, proofs.LeftRows.kept_stand, proofs.Telling.kept_are_legal, specs.KeptRows.HasKept, specs.Safe.EventsKeepSafe, specs.Safe.IsSafe, specs.StandsLess.OneAnswerLess, specs.StandsLess.StandsLess}
+pub use Rattle.beldi_core.{proofs.Plans.no_memory, proofs.Plans.query_asked, proofs.Plans.reads, proofs.Truths.first, proofs.Truths.less, proofs.Truths.second, proofs.Truths.test_true, specs.PlannedEvent.core_in}
+pub use Rattle.beldi_host.specs.Survey.{IsHighWater, IsNewest, NewestAt, Past, Reads, cell_listed, is_unknown, last_rank, latest, latest_of, line_after, next_mark_of, opened_core, rest, row_moment, next_line_of, next_listed_of, outcome_status, reply_status, row_status, listed_at, listed_of, told_row}
+pub use Rattle.beldi_host.specs.{HostCore.core_of, HostInvariant.EndsLate, HostInvariant.HasNoRows, HostInvariant.RowsStandFor, HostInvariant.RowsStandLess, ReplyStatus.IsStatusSo, declared.survey.OpenErr.OpenErr, declared.survey.OpenErr.TheVariants.Failed, declared.survey.OpenErr.TheVariants.OutOfMemory, declared.survey.Owned.Owned, declared.survey.ReplyStatus.ReplyStatus, declared.survey.ReplyStatus.TheVariants.Gone, declared.survey.ReplyStatus.TheVariants.Unknown}

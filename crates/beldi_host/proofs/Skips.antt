@@ -1,6 +1,6 @@
 -- Rows that have no line are skipped.
 use Rattle.beldi_host.proofs.Names.{Bool, Data, Deployment, Equal, Greater, Intent, Invoke, Kind, Less, List, Lockset, Ordering, Past, ReadLog, Row, RowKey, Rows, Shadow, T, [], ap, arith, below_all, false, first, flat_map, ge_from_not_lt, if◌then◌else◌, is_le, is_lt, is_sorted, key_cmp, key_exact, key_total, kind_cmp, last_rank, le_from_is_le, less, line_at, nat_cmp, nat_cmp_total, ordering_reverse, ordering_then, rank_of, refl, rest, row_line, second, subst, sym, test_true, tied_itself, true, ℕ, ◌&&◌, ◌++◌, ◌∙◌, ◌∷◌, ◌≡◌, ◌≤◌}
-use Rattle.beldi_host.proofs.Steps.{Listed}
+use Rattle.beldi_host.proofs.HostSteps.{Listed}
 use Rattle.beldi_host.proofs.Names.map
 
 bare : (d : Deployment) (m : Rows) (home : ℕ) (kind : Kind) (r : Row) → (rank_of kind ≡ 3 → ⊥) → line_at d m home kind r ≡ []

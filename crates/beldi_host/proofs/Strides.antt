@@ -2,14 +2,14 @@
 use Rattle.std.proofs.Common.{lt-ltb}
 use Rattle.beldi_value.specs.declared.place.Place.{Place}
 use Rattle.beldi_row.specs.{Key.at_row, Key.row_of, Table.Along, Table.LeadsOn, Table.PassesOn, Table.PassesTold}
-use Rattle.beldi_walk.specs.Query.{told_by}
-use Rattle.beldi_core.specs.{Parts.IsWalk, Parts.WalkTold, Parts.strode, Runs.walked_in}
+use Rattle.beldi_query.specs.Query.{query_reply}
+use Rattle.beldi_core.specs.{PlannedEvent.IsWalk, PlannedEvent.WalkTold, PlannedEvent.strode, LiveRuns.walked_in}
 use Rattle.beldi_row.proofs.Keys.{key_here, key_twice}
-use Rattle.beldi_step.{proofs.Forward.run_twice, proofs.PutRun.put_self, proofs.PutRun.put_twice, proofs.Stride.walks_on, specs.Host.EventBy, specs.Host.put_run, specs.Host.turn_next}
-use Rattle.beldi_step.specs.Stride.{WalkedOn, walked, walking}
+use Rattle.beldi_step.{proofs.Forward.run_twice, proofs.PutRun.put_self, proofs.PutRun.put_twice, proofs.Stride.walks_on, specs.HostStep.EventBy, specs.HostStep.put_run, specs.HostStep.turn_next}
+use Rattle.beldi_step.specs.RunStride.{WalkedOn, walked, walking}
 use Rattle.beldi_step.specs.declared.run.{Walking.Walking}
-use Rattle.beldi_host.specs.Stride.{Passes, Strides, Strode, just_acted}
-use Rattle.beldi_host.proofs.Names.{Core, Deployment, EventOn, EventsKeepSafe, IsSafe, None, Ok, Option, Rows, Run, RowKey, Seen, Some, TableState, Turn, Upkeep, IfSome, ap, append-nil, arith, asks, at_once, count_changes, counted, ended_run, false, heard, if◌then◌else◌, is_halt, keeps_upkeep, most_events, nat_lt, not, open_plan, plan, plan_of, refl, run_asks, run_next, run_plan, subst, suc, sym, true, zero, ℕ, ◌&&◌, ◌+◌, ◌<◌, ◌∙◌, ◌≡◌, ◌≤◌}
+use Rattle.beldi_host.specs.HostStride.{Passes, Strides, Strode, just_acted}
+use Rattle.beldi_host.proofs.Names.{Core, Deployment, EventOn, EventsKeepSafe, IsSafe, None, Ok, Option, Rows, Run, RowKey, EventReply, Some, TableState, Turn, Upkeep, IfSome, ap, append-nil, arith, asks, immediate, count_changes, counted, ended_run, false, on_reply, if◌then◌else◌, is_halt, keeps_upkeep, most_events, nat_lt, not, open_plan, plan, plan_of, refl, run_asks, run_next, run_plan, subst, suc, sym, true, zero, ℕ, ◌&&◌, ◌+◌, ◌<◌, ◌∙◌, ◌≡◌, ◌≤◌}
 use Rattle.beldi_host.proofs.Names.map
 
 -- the core after so many turns, in which the run came to this row
@@ -23,18 +23,18 @@ module _ (d : Deployment) (room faults i : ℕ) (m : Rows) where
     on = walks_on d (count_changes c.book) r w next c.now m is leads
 
     planned : plan d (Turn i) c ≡ asks (run_asks r)
-    planned = ap (λ b. if b then open_plan d (Turn i) (counted c) else at_once c Seen.Spent) (lt-ltb c.taken most_events few)
-        ∙ ap (λ b. if b && not (is_halt (Turn i)) then at_once (counted c) Seen.Shut else plan_of d (Turn i) (counted c)) unshut ∙ ap (run_plan (counted c) i) live
-        ∙ ap (λ b. if b then at_once (ended_run (counted c) i) Seen.Expired else asks (run_asks r)) time
+    planned = ap (λ b. if b then open_plan d (Turn i) (counted c) else immediate c EventReply.Spent) (lt-ltb c.taken most_events few)
+        ∙ ap (λ b. if b && not (is_halt (Turn i)) then immediate (counted c) EventReply.Shut else plan_of d (Turn i) (counted c)) unshut ∙ ap (run_plan (counted c) i) live
+        ∙ ap (λ b. if b then immediate (ended_run (counted c) i) EventReply.Expired else asks (run_asks r)) time
 
-    followed : heard d (Turn i) (counted c) (told_by (run_asks r) c.now m) ≡ (on_to c i r 1 next, just_acted)
-    followed = ap (run_next d (counted c) i (told_by (run_asks r) c.now m)) live ∙ ap (turn_next (counted c) i r) on.told
+    followed : on_reply d (Turn i) (counted c) (query_reply (run_asks r) c.now m) ≡ (on_to c i r 1 next, just_acted)
+    followed = ap (run_next d (counted c) i (query_reply (run_asks r) c.now m)) live ∙ ap (turn_next (counted c) i r) on.told
         ∙ ap (λ book. (record (on_to c i r 1 next) { book = book }, just_acted)) (append-nil c.book)
 
     once : Strode d room faults i c (on_to c i r 1 next) m
     once = record {
       event = subst (λ p. EventBy d room faults faults (Turn i) (counted c) p m (on_to c i r 1 next) m (Ok just_acted)) (sym planned)
-          (Ok (told_by (run_asks r) c.now m), sym followed, (sym on.stands, refl, λ h. let clash : true ≡ false = sym h ∙ on.adds in cc), record { later = omega arith; failed = λ e. cc });
+          (Ok (query_reply (run_asks r) c.now m), sym followed, (sym on.stands, refl, λ h. let clash : true ≡ false = sym h ∙ on.adds in cc), record { later = omega arith; failed = λ e. cc });
       run = walked next r;
       runs = refl;
     }

@@ -1,7 +1,7 @@
-pub mod Host
+pub mod HostCore
+pub mod HostInvariant
+pub mod HostStride
 pub mod LastRow
 pub mod Opening
-pub mod Right
-pub mod Said
-pub mod Stride
+pub mod ReplyStatus
 pub mod Survey

@@ -5,13 +5,13 @@ use Rattle.std.specs.Ordering.{is_lt}
 use Rattle.std.specs.FinMap as map
 use Rattle.beldi_value.specs.declared.{outcome.Outcome.Outcome, place.Owner.Owner, place.Owner.TheVariants.Tx, value.Value.Value}
 use Rattle.beldi_tree.specs.declared.deployment.Deployment.{Deployment}
-use Rattle.beldi_row.specs.{Key.RowKey, Key.head_key, Key.key_cmp, Key.key_ticket, Key.least_key, Key.rank_of, declared.key.Kind.Kind, declared.key.Kind.TheVariants.Data, declared.key.Kind.TheVariants.Shadow, declared.key.Kind.TheVariants.Lockset, declared.row.Row.Row, declared.row.Row.TheVariants.Intent, declared.row.Row.TheVariants.Cell, Act.Tell, Act.here, Table.Rows, Table.TableState, Table.Tells, Table.Rose}
+use Rattle.beldi_row.specs.{Key.RowKey, Key.head_key, Key.key_cmp, Key.key_ticket, Key.least_key, Key.rank_of, declared.key.Kind.Kind, declared.key.Kind.TheVariants.Data, declared.key.Kind.TheVariants.Shadow, declared.key.Kind.TheVariants.Lockset, declared.row.Row.Row, declared.row.Row.TheVariants.Intent, declared.row.Row.TheVariants.Cell, Act.ActReply, Act.here, Table.Rows, Table.TableState, Table.Tells, Table.Rose}
 use Rattle.beldi_chain.specs.Chain.{above, chain, tail}
 use Rattle.beldi_daal.specs.Cell.{shadow_key}
 use Rattle.beldi_intent.specs.Intent.{root_key}
-use Rattle.beldi_step.specs.{Host.Core, Host.first_core, Host.last_moment, Host.newest_of, Next.PassesNoOpen, Tables.cell_line, Tables.row_line, Tables.value_line, Tables.decision_key, Tables.owned_value}
+use Rattle.beldi_step.specs.{HostStep.Core, HostStep.first_core, HostStep.last_moment, HostStep.newest_of, Next.PassesNoOpen, Tables.cell_line, Tables.row_line, Tables.value_line, Tables.decision_key, Tables.owned_value}
 use Rattle.beldi_host.specs.declared.high_water.HighWater.{HighWater}
-use Rattle.beldi_host.specs.declared.survey.{OpenErr.OpenErr, Owned.Owned, Wanted.Wanted, Wanted.TheVariants.LastRow, OpenErr.TheVariants.Failed, ReplySeen.ReplySeen, ReplySeen.TheVariants.Unknown, ReplySeen.TheVariants.Gone, ReplySeen.TheVariants.Waiting, ReplySeen.TheVariants.Reply}
+use Rattle.beldi_host.specs.declared.survey.{OpenErr.OpenErr, Owned.Owned, Wanted.Wanted, Wanted.TheVariants.LastRow, OpenErr.TheVariants.Failed, ReplyStatus.ReplyStatus, ReplyStatus.TheVariants.Unknown, ReplyStatus.TheVariants.Gone, ReplyStatus.TheVariants.Waiting, ReplyStatus.TheVariants.Reply}
 
 -- the rows are as before, and an answer is right of them
 pub record Reads {X : Type 0} (P : Rows → X → Type 0) (old new : TableState) (result : Result X OpenErr) : Type 0 where
@@ -64,29 +64,29 @@ next_mark_of (Some e) = Some (e.0, row_moment e.1)
 
 -- ---- the line of a row, in two steps: where no transaction owns its item, and where one does
 -- by the owner and the row's own value: the text with its line; of an item that a transaction owns, what its line wants instead
-abbrev pub cell_seen : Deployment → List ℕ → ℕ → ℕ → List ℕ → Option Owner → Value → Option Owned × List ℕ
-cell_seen d text f t k (Some (Tx x)) v = (Some (record { decision = decision_key x; shadow = shadow_key f x t k; value = v }), text)
-cell_seen d text f t k o v = (None, text ++ value_line d f t k v)
+abbrev pub cell_listed : Deployment → List ℕ → ℕ → ℕ → List ℕ → Option Owner → Value → Option Owned × List ℕ
+cell_listed d text f t k (Some (Tx x)) v = (Some (record { decision = decision_key x; shadow = shadow_key f x t k; value = v }), text)
+cell_listed d text f t k o v = (None, text ++ value_line d f t k v)
 
-abbrev pub held_seen : Deployment → List ℕ → ℕ → Kind → Option Owner → Value → Option Owned × List ℕ
-held_seen d text f (Data t k zero) o v = cell_seen d text f t k o v
-held_seen d text f k o v = (None, text)
+abbrev pub held_listed : Deployment → List ℕ → ℕ → Kind → Option Owner → Value → Option Owned × List ℕ
+held_listed d text f (Data t k zero) o v = cell_listed d text f t k o v
+held_listed d text f k o v = (None, text)
 
 -- .. or that its last row is wanted, where one follows the first
-abbrev pub head_seen : Option Owned × List ℕ → List ℕ → Option ℕ → Option Wanted × List ℕ
-head_seen z text None = (option_map Wanted.Owned z.0, z.1)
-head_seen z text (Some n) = (Some LastRow, text)
+abbrev pub head_listed : Option Owned × List ℕ → List ℕ → Option ℕ → Option Wanted × List ℕ
+head_listed z text None = (option_map Wanted.Owned z.0, z.1)
+head_listed z text (Some n) = (Some LastRow, text)
 
-abbrev pub seen_at : Deployment → List ℕ → ℕ → Kind → Row → Option Wanted × List ℕ
-seen_at d text f (Data t k zero) (Cell c) = head_seen (cell_seen d text f t k c.owner c.value) text (above 0 c.next)
-seen_at d text f k r = (None, text)
+abbrev pub listed_at : Deployment → List ℕ → ℕ → Kind → Row → Option Wanted × List ℕ
+listed_at d text f (Data t k zero) (Cell c) = head_listed (cell_listed d text f t k c.owner c.value) text (above 0 c.next)
+listed_at d text f k r = (None, text)
 
-abbrev pub seen_of : Deployment → List ℕ → RowKey × Row → Option Wanted × List ℕ
-seen_of d text e = seen_at d text e.0.home e.0.kind e.1
+abbrev pub listed_of : Deployment → List ℕ → RowKey × Row → Option Wanted × List ℕ
+listed_of d text e = listed_at d text e.0.home e.0.kind e.1
 
-abbrev pub next_seen_of : Deployment → List ℕ → Option (RowKey × Row) → Option (RowKey × Option Wanted) × List ℕ
-next_seen_of d text None = (None, text)
-next_seen_of d text (Some e) = (Some (e.0, (seen_of d text e).0), (seen_of d text e).1)
+abbrev pub next_listed_of : Deployment → List ℕ → Option (RowKey × Row) → Option (RowKey × Option Wanted) × List ℕ
+next_listed_of d text None = (None, text)
+next_listed_of d text (Some e) = (Some (e.0, (listed_of d text e).0), (listed_of d text e).1)
 
 -- the line of an item's first row, by the value that is shown
 abbrev pub key_line : Deployment → ℕ → Kind → Value → List ℕ
@@ -155,26 +155,26 @@ abbrev pub NewestAt : Option Rows → ℕ → Type 0
 NewestAt None t = Unit {0}
 NewestAt (Some m) t = IsNewest m t
 
-abbrev pub outcome_seen : Option Outcome → ReplySeen
-outcome_seen None = Waiting
-outcome_seen (Some o) = Reply o
+abbrev pub outcome_status : Option Outcome → ReplyStatus
+outcome_status None = Waiting
+outcome_status (Some o) = Reply o
 
 -- a row of another kind has no outcome
-abbrev pub row_seen : Option Row → ReplySeen
-row_seen None = Gone
-row_seen (Some (Intent i)) = outcome_seen i.outcome
-row_seen (Some r) = Waiting
+abbrev pub row_status : Option Row → ReplyStatus
+row_status None = Gone
+row_status (Some (Intent i)) = outcome_status i.outcome
+row_status (Some r) = Waiting
 
 -- the row that a look told
-abbrev pub told_row : Tell → Option Row
+abbrev pub told_row : ActReply → Option Row
 told_row (here r) = Some r
 told_row t = None
 
 abbrev pub is_unknown : ℕ → ℕ → Bool
 is_unknown newest t = (t == 0) || nat_lt newest t
 
-abbrev pub reply_seen : ℕ → ℕ → Rows → ReplySeen
-reply_seen newest t m = if is_unknown newest t then Unknown else row_seen (map.get m (root_key t))
+abbrev pub reply_status : ℕ → ℕ → Rows → ReplyStatus
+reply_status newest t m = if is_unknown newest t then Unknown else row_status (map.get m (root_key t))
 
 -- no row that is told is of an open intent and has a key past one of these, up to the other
 abbrev pub PassesToldOpen : Option Rows → RowKey → RowKey → Type 0

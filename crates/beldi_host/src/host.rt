@@ -2,16 +2,16 @@
 ghost use Rattle.std.specs.Prelude.{◌≡◌, ◌+◌, ◌++◌, ◌≤◌, ◌^◌, ◌↔◌, IsTrue, true, false, Ok, IfOk, IfErr, IfSome, OnOk, OnErr, length};
 ghost use Rattle.beldi_step.specs.Prunes.{pruned_by};
 
-use crate::survey::{OpenErr, ReplySeen, ahead, find_newest, list_tables, prepare, read_reply};
+use crate::survey::{OpenErr, ReplyStatus, ahead, find_newest, list_tables, prepare, read_reply};
 use beldi_book::Book;
 use beldi_check::Checked;
 use beldi_core::{HostCore, MOST_EVENTS, Pending, Planned, Runs};
 use beldi_kept::an_event_keeps_the_collectors_safe;
-use beldi_prune::{Collectors, GcSays};
+use beldi_prune::{Collectors, GcOutput};
+use beldi_query::{Query, QueryReplyRef};
 use beldi_row::{Act, RowKey, Table, TableErr};
-use beldi_step::{Event, Pruned, Seen, Walking};
+use beldi_step::{Event, EventReply, Pruned, Walking};
 use beldi_value::{Str, or_drop};
-use beldi_walk::{Heard, Query};
 use std::alloc::{AllocError, Global};
 use std::mem::replace;
 
@@ -27,21 +27,21 @@ pub struct Host<T: Table> {
 impl<T: Table> Host<T> {
     ghost use Rattle.beldi_row.specs.Table.{IsCount, AtMostOne};
     ghost use Rattle.beldi_check.specs.Keeps.{KeepsRules};
-    ghost use Rattle.beldi_step.specs.Host.{StepBy, Stepped, last_moment, most_events, reads_all};
+    ghost use Rattle.beldi_step.specs.HostStep.{StepBy, Stepped, last_moment, most_events, reads_all};
     ghost use Rattle.beldi_step.specs.declared.event.Event.TheVariants as events;
     ghost use Rattle.beldi_kept.specs.Safe.{changes};
     ghost use Rattle.beldi_step.specs.Prunes.{Prunes};
     ghost use Rattle.beldi_step.specs.Tables.{tables_text};
-    ghost use Rattle.beldi_host.specs.Survey.{Opened, PassesToldOpen, Refused, NewestAt, Reads, reply_seen, is_unknown};
-    ghost use Rattle.beldi_host.specs.declared.survey.ReplySeen.TheVariants.{Gone, Unknown};
-    ghost use Rattle.beldi_core.specs.Runs.{IsLeastPast};
-    ghost use Rattle.beldi_walk.specs.declared.query.Query.TheVariants as queries;
-    ghost use Rattle.beldi_host.specs.Host.{core_of};
-    ghost use Rattle.beldi_host.specs.Stride.{Passes, Strides};
+    ghost use Rattle.beldi_host.specs.Survey.{Opened, PassesToldOpen, Refused, NewestAt, Reads, reply_status, is_unknown};
+    ghost use Rattle.beldi_host.specs.declared.survey.ReplyStatus.TheVariants.{Gone, Unknown};
+    ghost use Rattle.beldi_core.specs.LiveRuns.{IsLeastPast};
+    ghost use Rattle.beldi_query.specs.declared.query.Query.TheVariants as queries;
+    ghost use Rattle.beldi_host.specs.HostCore.{core_of};
+    ghost use Rattle.beldi_host.specs.HostStride.{Passes, Strides};
     ghost use Rattle.beldi_step.specs.Next.{at_key, next_run, reset};
-    ghost use Rattle.beldi_core.specs.Parts.{core_in, Ready, Asked};
-    ghost use Rattle.beldi_laws.specs.Laws.{is_gone};
-    ghost use Rattle.beldi_host.specs.Right.{EndsLate, IsRight, IsWhole, StaysRight, HasLegalBook, AnswersAreKept, HasRows, ListsRun, TellsRun, HasNoRows, RowsStandFor, RowsStandLess};
+    ghost use Rattle.beldi_core.specs.PlannedEvent.{core_in, Ready, Asked};
+    ghost use Rattle.beldi_invariant.specs.InvariantLaws.{is_gone};
+    ghost use Rattle.beldi_host.specs.HostInvariant.{EndsLate, HasInvariant, IsWhole, KeepsInvariant, HasLegalBook, AnswersAreKept, HasRows, ListsRun, TellsRun, HasNoRows, RowsStandFor, RowsStandLess};
 
     /// Opens a host over a table whose rows it keeps: sets the table's room, and reads all rows to find the newest ticket and
     /// the greatest moment, so that it goes on where an earlier session ended. Its moment, in ticks, is that one, or `now` where
@@ -56,7 +56,7 @@ impl<T: Table> Host<T> {
         ensures ok { IfOk result (λ h. Opened code h.code now (T.state table) (T.state h.table) (core_of h)) }
         ensures err { IfErr result (λ e. Refused (T.state table) (T.state e.0) e.1) }
         ensures newest { IfOk result (λ h. NewestAt (T.state table).rows h.core.newest) }
-        ensures right { IfOk result (λ h. HasNoRows (T.state table).rows → IsRight h × IsWhole h) }
+        ensures right { IfOk result (λ h. HasNoRows (T.state table).rows → HasInvariant h × IsWhole h) }
     {
         match prepare(alloc, code.code().room, &mut table) {
             Ok(left) => Ok(Host {
@@ -82,7 +82,7 @@ impl<T: Table> Host<T> {
     pub fn close(self) -> T
         ensures table { result ≡ self.table }
         ensures stands { IsWhole self → RowsStandFor self.code (core_of self).book (T.state result).rows }
-        ensures stands_less { IsRight self → RowsStandLess self.code (core_of self).book (T.state result).rows }
+        ensures stands_less { HasInvariant self → RowsStandLess self.code (core_of self).book (T.state result).rows }
     {
         let Host { code, core, table } = self;
         drop(code);
@@ -107,10 +107,10 @@ impl<T: Table> Host<T> {
         self.core.collectors.are_eight();
     }
 
-    /// The book. A right host's is legal: each of its transactions is one entry, `Tx` whole, `Try` without a trace in the items.
+    /// The book. That of a host with the invariant is legal: each of its transactions is one entry, `CommittedTx` whole, `AbortedTx` without a trace in the items.
     pub fn book(&self) -> &Book
         ensures book { result.now ≡ self.entry.now.core.book }
-        ensures legal { IsRight self.entry.now → HasLegalBook self.entry.now }
+        ensures legal { HasInvariant self.entry.now → HasLegalBook self.entry.now }
     {
         &self.core.book
     }
@@ -142,7 +142,7 @@ impl<T: Table> Host<T> {
         ensures core { core_of self.new ≡ reset (core_of self.old) }
         ensures table { self.new.table ≡ self.old.table }
         ensures code { self.new.code ≡ self.old.code }
-        ensures right { StaysRight self.old self.new }
+        ensures right { KeepsInvariant self.old self.new }
     {
         let least = RowKey::least(self.core.alloc);
         drop(replace(&mut self.core.cursor, least));
@@ -154,7 +154,7 @@ impl<T: Table> Host<T> {
         ensures passes { PassesToldOpen (T.state self.old.table).rows (core_of self.old).cursor (core_of self.new).cursor }
         ensures table { self.new.table ≡ self.old.table }
         ensures code { self.new.code ≡ self.old.code }
-        ensures right { StaysRight self.old self.new }
+        ensures right { KeepsInvariant self.old self.new }
     {
         if let Some(key) = ahead(self.core.alloc, &self.table, &self.core.cursor) {
             drop(replace(&mut self.core.cursor, key));
@@ -167,8 +167,8 @@ impl<T: Table> Host<T> {
         ensures err { OnErr result (out.new ≡ out.old) }
         ensures core { core_of self.new ≡ core_of self.old }
         ensures code { self.new.code ≡ self.old.code }
-        ensures right { StaysRight self.old self.new }
-        ensures listing { IsRight self.old → OnOk result (ListsRun self.old out.old out.new) }
+        ensures right { KeepsInvariant self.old self.new }
+        ensures listing { HasInvariant self.old → OnOk result (ListsRun self.old out.old out.new) }
     {
         self.list(out)
     }
@@ -192,24 +192,24 @@ impl<T: Table> Host<T> {
 
     /// The reply of a ticket's root, as its row has it. A ticket that was not issued is unknown without a call of the table;
     /// for any other its row is looked at once.
-    pub fn reply(&mut self, ticket: u32) -> Result<ReplySeen, OpenErr>
-        ensures reads { Reads (λ m x. x ≡ reply_seen self.old.core.newest ticket m) (T.state self.old.table) (T.state self.new.table) result }
+    pub fn reply(&mut self, ticket: u32) -> Result<ReplyStatus, OpenErr>
+        ensures reads { Reads (λ m x. x ≡ reply_status self.old.core.newest ticket m) (T.state self.old.table) (T.state self.new.table) result }
         ensures unknown { IfOk result (λ x. (x ≡ Unknown) ↔ IsTrue (is_unknown self.old.core.newest ticket)) }
         ensures issued { IfErr result (λ e. is_unknown self.old.core.newest ticket ≡ false) }
         ensures calls { AtMostOne (T.state self.old.table).calls (T.state self.new.table).calls }
         ensures untouched { is_unknown self.old.core.newest ticket ≡ true → T.state self.new.table ≡ T.state self.old.table }
         ensures core { core_of self.new ≡ core_of self.old }
         ensures code { self.new.code ≡ self.old.code }
-        ensures right { StaysRight self.old self.new }
-        ensures plain { IsRight self.old → IfOk result (λ x. TellsRun self.old ticket x) }
+        ensures right { KeepsInvariant self.old self.new }
+        ensures plain { HasInvariant self.old → IfOk result (λ x. TellsRun self.old ticket x) }
         ensures there { HasRows self.old → IsWhole self.old → IfOk result (λ x. x ≡ Gone → ⊥) }
     {
         self.look(ticket)
     }
 
     // The reply, by its row alone.
-    fn look(&mut self, ticket: u32) -> Result<ReplySeen, OpenErr>
-        ensures reads { Reads (λ m x. x ≡ reply_seen self.old.core.newest ticket m) (T.state self.old.table) (T.state self.new.table) result }
+    fn look(&mut self, ticket: u32) -> Result<ReplyStatus, OpenErr>
+        ensures reads { Reads (λ m x. x ≡ reply_status self.old.core.newest ticket m) (T.state self.old.table) (T.state self.new.table) result }
         ensures unknown { IfOk result (λ x. (x ≡ Unknown) ↔ IsTrue (is_unknown self.old.core.newest ticket)) }
         ensures issued { IfErr result (λ e. is_unknown self.old.core.newest ticket ≡ false) }
         ensures calls { AtMostOne (T.state self.old.table).calls (T.state self.new.table).calls }
@@ -218,7 +218,7 @@ impl<T: Table> Host<T> {
         ensures code { self.new.code ≡ self.old.code }
     {
         if ticket == 0 || ticket > self.core.newest {
-            return Ok(ReplySeen::Unknown);
+            return Ok(ReplyStatus::Unknown);
         }
         read_reply(self.core.alloc, &mut self.table, ticket, self.core.now)
     }
@@ -233,7 +233,7 @@ impl<T: Table> Host<T> {
         ensures none { result ≡ 0 → self.new ≡ self.old }
         ensures table { self.new.table ≡ self.old.table }
         ensures code { self.new.code ≡ self.old.code }
-        ensures right { StaysRight self.old self.new }
+        ensures right { KeepsInvariant self.old self.new }
     {
         an_event_keeps_the_collectors_safe();
         let most = most.min(MOST_EVENTS - self.core.taken);
@@ -280,10 +280,10 @@ impl<T: Table> Host<T> {
     /// make no act only a restart may be out of it. A run that is past its deadline makes no act. The entry of a transaction comes with the
     /// act that keeps its decision; what is read and written inside makes none. Over rows that are told it is the relation that `a_step_over_rows` of `beldi_step`
     /// gives.
-    pub fn event(&mut self, event: Event) -> Result<Seen, AllocError>
+    pub fn event(&mut self, event: Event) -> Result<EventReply, AllocError>
         ensures step { Stepped self.old.code event (core_of self.old) (core_of self.new) (T.state self.old.table) (T.state self.new.table) result }
         ensures code { self.new.code ≡ self.old.code }
-        ensures right { StaysRight self.old self.new }
+        ensures right { KeepsInvariant self.old self.new }
         ensures answers_stay { AnswersAreKept self.old self.new }
         ensures has_rows { HasRows self.old → IsWhole self.old → IfOk result (λ x. is_gone x ≡ false) }
         ensures in_time { EndsLate event (core_of self.old) (core_of self.new) (T.state self.old.table) (T.state self.new.table) result }
@@ -297,7 +297,7 @@ impl<T: Table> Host<T> {
     pub fn prune(&mut self, number: u8) -> Result<Pruned, AllocError>
         ensures prunes { Prunes self.old.code number (core_of self.old) (core_of self.new) (T.state self.old.table) (T.state self.new.table) result }
         ensures code { self.new.code ≡ self.old.code }
-        ensures right { IsRight self.old → IsRight self.new }
+        ensures right { HasInvariant self.old → HasInvariant self.new }
         ensures whole { IsWhole self.old → IfOk result (λ y. changes y ≡ false) → IsWhole self.new }
     {
         self.collect(number)
@@ -325,12 +325,12 @@ impl<T: Table> Host<T> {
     }
 
     // One step of the definition.
-    fn step(&mut self, event: Event) -> Result<Seen, AllocError>
+    fn step(&mut self, event: Event) -> Result<EventReply, AllocError>
         ensures step { Stepped self.old.code event (core_of self.old) (core_of self.new) (T.state self.old.table) (T.state self.new.table) result }
         ensures code { self.new.code ≡ self.old.code }
     {
         match self.core.plan(self.code.code(), event) {
-            Ok(Planned::Now(answer)) => return Ok(answer.seen()),
+            Ok(Planned::Now(answer)) => return Ok(answer.into_reply()),
             Ok(Planned::Asks(query, pending)) => return self.ask(query.into_inner(), pending),
             Ok(Planned::ReadsAll) => return self.halt(),
             Err(why) => return Err(why),
@@ -338,7 +338,7 @@ impl<T: Table> Host<T> {
     }
 
     // A halt: the keys of all rows are read.
-    fn halt(&mut self) -> Result<Seen, AllocError>
+    fn halt(&mut self) -> Result<EventReply, AllocError>
         ensures step { StepBy self.old.code events.Halt (core_of self.old) reads_all (core_of self.new) (T.state self.old.table) (T.state self.new.table) result }
         ensures code { self.new.code ≡ self.old.code }
     {
@@ -347,7 +347,7 @@ impl<T: Table> Host<T> {
     }
 
     // The one query of an event, and what follows.
-    fn ask(&mut self, query: Query, pending: Pending) -> Result<Seen, AllocError>
+    fn ask(&mut self, query: Query, pending: Pending) -> Result<EventReply, AllocError>
         requires { Ready self.old.code pending (core_of self.old) self.old.core.book.spare }
         ensures asked { Asked self.old.code pending (core_of self.old) (core_of self.new) query (T.state self.old.table) (T.state self.new.table) result }
         ensures code { self.new.code ≡ self.old.code }
@@ -362,18 +362,20 @@ impl<T: Table> Host<T> {
         }
     }
 
-    fn act(&mut self, key: RowKey, act: Act, pending: Pending) -> Result<Seen, AllocError>
+    fn act(&mut self, key: RowKey, act: Act, pending: Pending) -> Result<EventReply, AllocError>
         requires { Ready self.old.code pending (core_of self.old) self.old.core.book.spare }
         ensures asked { Asked self.old.code pending (core_of self.old) (core_of self.new) (queries.Act key act) (T.state self.old.table) (T.state self.new.table) result }
         ensures code { self.new.code ≡ self.old.code }
     {
         match self.table.act(key, act, self.core.now) {
-            Ok(said) => return self.core.told(self.code.code(), pending, Heard::Said(said)),
+            Ok(said) => return self
+                .core
+                .resume(self.code.code(), pending, QueryReplyRef::Act(said)),
             Err(why) => return self.core.refused(pending, why),
         }
     }
 
-    fn look_after(&mut self, key: &RowKey, pending: Pending) -> Result<Seen, AllocError>
+    fn look_after(&mut self, key: &RowKey, pending: Pending) -> Result<EventReply, AllocError>
         requires { Ready self.old.code pending (core_of self.old) self.old.core.book.spare }
         ensures asked { Asked self.old.code pending (core_of self.old) (core_of self.new) (queries.After key.now) (T.state self.old.table) (T.state self.new.table) result }
         ensures code { self.new.code ≡ self.old.code }
@@ -381,23 +383,23 @@ impl<T: Table> Host<T> {
         match self.table.next(key) {
             Ok(found) => self
                 .core
-                .told(self.code.code(), pending, Heard::Found(found)),
+                .resume(self.code.code(), pending, QueryReplyRef::Found(found)),
             Err(why) => self.core.refused(pending, why),
         }
     }
 }
 
 // How a turn of a log collector is answered.
-fn pruned(said: Result<GcSays, TableErr>) -> Result<Pruned, AllocError>
+fn pruned(said: Result<GcOutput, TableErr>) -> Result<Pruned, AllocError>
     ensures { result ≡ pruned_by said }
 {
     match said {
-        Ok(GcSays::Going) => Ok(Pruned::Going),
-        Ok(GcSays::Marked) => Ok(Pruned::Marked),
-        Ok(GcSays::Skipped) => Ok(Pruned::Skipped),
-        Ok(GcSays::Dangled) => Ok(Pruned::Dangled),
-        Ok(GcSays::Removed) => Ok(Pruned::Removed),
-        Ok(GcSays::Round) => Ok(Pruned::Round),
+        Ok(GcOutput::Going) => Ok(Pruned::Going),
+        Ok(GcOutput::Marked) => Ok(Pruned::Marked),
+        Ok(GcOutput::Skipped) => Ok(Pruned::Skipped),
+        Ok(GcOutput::Dangled) => Ok(Pruned::Dangled),
+        Ok(GcOutput::Removed) => Ok(Pruned::Removed),
+        Ok(GcOutput::Round) => Ok(Pruned::Round),
         Err(TableErr::OutOfMemory) => Err(AllocError),
         Err(_) => Ok(Pruned::Dropped),
     }

@@ -1,14 +1,14 @@
 // The last row of a chain, by a look at each row on the way.
 ghost use Rattle.std.specs.Prelude.{◌≡◌, IfOk};
 ghost use Rattle.std.specs.FinMap as map;
-ghost use Rattle.beldi_row.specs.Act.{tell_of};
+ghost use Rattle.beldi_row.specs.Act.{act_reply_of};
 ghost use Rattle.beldi_row.specs.Key.{at_row as row_at};
 ghost use Rattle.beldi_chain.specs.Chain.{above, chain};
-ghost use Rattle.beldi_host.specs.LastRow.{IsLast, row_tells};
+ghost use Rattle.beldi_host.specs.LastRow.{IsLast, row_step};
 ghost use Rattle.beldi_host.specs.Survey.{Reads, told_row};
 
 use crate::survey::OpenErr;
-use beldi_row::{Act, Cell, Kind, Row, RowKey, Said, Table, copy_owner, copy_tx};
+use beldi_row::{Act, ActReplyRef, Cell, Kind, Row, RowKey, Table, copy_owner, copy_tx};
 use beldi_value::{Owner, Value, or_drop};
 use std::alloc::{AllocError, Global};
 
@@ -21,7 +21,7 @@ pub struct Held {
 
 // What a row on the way tells.
 #[derive(Drop)]
-enum Told {
+enum RowStep {
     // The number of the row after it.
     Next(u32),
     // None comes after it: what it holds, if it is a cell.
@@ -49,15 +49,15 @@ fn held_of(alloc: Global, cell: &Cell) -> Result<Held, AllocError>
     Ok(Held { owner, value })
 }
 
-fn says_row(alloc: Global, said: Said<'_>, row: u32) -> Result<Told, AllocError>
-    ensures { IfOk result (λ t. t ≡ row_tells row (told_row (tell_of said.entry))) }
+fn says_row(alloc: Global, said: ActReplyRef<'_>, row: u32) -> Result<RowStep, AllocError>
+    ensures { IfOk result (λ t. t ≡ row_step row (told_row (act_reply_of said.entry))) }
 {
     match said {
-        Said::Row(Row::Cell(cell)) => match row_after(row, cell.next) {
-            Some(next) => Ok(Told::Next(next)),
-            None => Ok(Told::Last(Some(held_of(alloc, cell)?))),
+        ActReplyRef::Row(Row::Cell(cell)) => match row_after(row, cell.next) {
+            Some(next) => Ok(RowStep::Next(next)),
+            None => Ok(RowStep::Last(Some(held_of(alloc, cell)?))),
         },
-        _ => Ok(Told::Last(None)),
+        _ => Ok(RowStep::Last(None)),
     }
 }
 
@@ -95,8 +95,8 @@ fn look<T: Table>(
     head: &RowKey,
     row: u32,
     now: u64,
-) -> Result<Told, OpenErr>
-    ensures { Reads (λ m t. t ≡ row_tells row (map.get m (row_at head.now row))) (T.state table.old) (T.state table.new) result }
+) -> Result<RowStep, OpenErr>
+    ensures { Reads (λ m t. t ≡ row_step row (map.get m (row_at head.now row))) (T.state table.old) (T.state table.new) result }
 {
     let key = at_row(alloc, head, row)?;
     let said = table.act(key, Act::Look, now)?;
@@ -119,8 +119,8 @@ pub fn last_row<T: Table>(
     let mut row = 0u32;
     for _ in 0..u64::MAX {
         match look(alloc, table, head, row, now) {
-            Ok(Told::Next(next)) => row = next,
-            Ok(Told::Last(held)) => return Ok(held),
+            Ok(RowStep::Next(next)) => row = next,
+            Ok(RowStep::Last(held)) => return Ok(held),
             Err(why) => return Err(why),
         }
     }

@@ -1,16 +1,16 @@
 // Calls that read the rows of a table and change none.
 ghost use Rattle.std.specs.Prelude.{◌≡◌, ◌≢◌, ◌≤◌, ◌^◌, ◌++◌, IfOk, IfSome, OnOk};
 ghost use Rattle.std.specs.FinMap as map;
-ghost use Rattle.beldi_row.specs.Act.{tell_of};
+ghost use Rattle.beldi_row.specs.Act.{act_reply_of};
 ghost use Rattle.beldi_row.specs.Key.{rank_of};
 ghost use Rattle.beldi_row.specs.Table.{next_row, AtMostOne};
 ghost use Rattle.beldi_intent.specs.Intent.{root_key as root_key_of};
 ghost use Rattle.beldi_chain.specs.Chain.{chain, tail};
 ghost use Rattle.beldi_daal.specs.Cell.{shadow_key as shadow_key_of};
-ghost use Rattle.beldi_step.specs.Host.{HaltCame};
+ghost use Rattle.beldi_step.specs.HostStep.{HaltCame};
 ghost use Rattle.beldi_step.specs.Tables.{tables_text, decision_key as decision_key_of, is_committed as is_commit, value_in, owned_value as shown_value};
-ghost use Rattle.beldi_host.specs.Survey.{PassesToldOpen, Reads, Prepared, IsHighWater, timely, timely_in, row_moment, next_mark_of, next_seen_of, next_line_of, held_seen, seen_of, key_line, last_line, line_after, owned_after, last_rank, Past, row_seen, told_row};
-ghost use Rattle.beldi_host.specs.declared.survey.ReplySeen.TheVariants.{Unknown};
+ghost use Rattle.beldi_host.specs.Survey.{PassesToldOpen, Reads, Prepared, IsHighWater, timely, timely_in, row_moment, next_mark_of, next_listed_of, next_line_of, held_listed, listed_of, key_line, last_line, line_after, owned_after, last_rank, Past, row_status, told_row};
+ghost use Rattle.beldi_host.specs.declared.survey.ReplyStatus.TheVariants.{Unknown};
 
 use crate::high_water::HighWater;
 use crate::last_row::{last_row, row_after};
@@ -20,7 +20,7 @@ use beldi_daal::shadow_key;
 use beldi_intent::root_key;
 use beldi_lang::Deployment;
 use beldi_readlog::log_key;
-use beldi_row::{Act, Kind, Opens, Row, RowKey, Said, Table, TableErr};
+use beldi_row::{Act, ActReplyRef, Kind, Opens, Row, RowKey, Table, TableErr};
 use beldi_value::{IntentId, Outcome, Owner, Place, Str, TxId, Value, or_drop};
 use std::alloc::{AllocError, Global};
 
@@ -34,7 +34,7 @@ pub enum OpenErr {
 
 /// What the row of a root says of its reply.
 #[derive(Drop)]
-pub enum ReplySeen {
+pub enum ReplyStatus {
     /// The ticket is 0 or above the newest.
     Unknown,
     /// The ticket was issued, and its row is absent.
@@ -270,7 +270,7 @@ fn write_held(
     value: &Value,
     text: &mut Str,
 ) -> Result<Option<Owned>, AllocError>
-    ensures { IfOk result (λ o. (o, text.new) ≡ held_seen code.now text.old key.now.home key.now.kind owner.now value.now) }
+    ensures { IfOk result (λ o. (o, text.new) ≡ held_listed code.now text.old key.now.home key.now.kind owner.now value.now) }
 {
     match key.kind() {
         Kind::Data {
@@ -297,7 +297,7 @@ fn write_row(
     row: &Row,
     text: &mut Str,
 ) -> Result<Option<Wanted>, AllocError>
-    ensures { IfOk result (λ o. (o, text.new) ≡ seen_of code.now text.old (key.now, row.now)) }
+    ensures { IfOk result (λ o. (o, text.new) ≡ listed_of code.now text.old (key.now, row.now)) }
 {
     let Row::Cell(cell) = row else {
         return Ok(None);
@@ -315,14 +315,14 @@ fn write_row(
 }
 
 // The key of the row after a key; its line is appended, or what it wants is given.
-fn next_seen<T: Table>(
+fn next_listed<T: Table>(
     alloc: Global,
     code: &Deployment,
     table: &mut T,
     after: &RowKey,
     text: &mut Str,
 ) -> Result<Option<(RowKey, Option<Wanted>)>, OpenErr>
-    ensures { Reads (λ m s. (s, text.new) ≡ next_seen_of code.now text.old (next_row m after.now)) (T.state table.old) (T.state table.new) result }
+    ensures { Reads (λ m s. (s, text.new) ≡ next_listed_of code.now text.old (next_row m after.now)) (T.state table.old) (T.state table.new) result }
 {
     match table.next(after)? {
         None => Ok(None),
@@ -334,11 +334,11 @@ fn next_seen<T: Table>(
     }
 }
 
-fn says_commit(said: Said<'_>) -> bool
-    ensures { result ≡ is_commit (told_row (tell_of said.entry)) }
+fn says_commit(said: ActReplyRef<'_>) -> bool
+    ensures { result ≡ is_commit (told_row (act_reply_of said.entry)) }
 {
     match said {
-        Said::Row(Row::ReadLog(Value::Bool(commit))) => *commit,
+        ActReplyRef::Row(Row::ReadLog(Value::Bool(commit))) => *commit,
         _ => false,
     }
 }
@@ -489,7 +489,7 @@ fn next_line<T: Table>(
 ) -> Result<Option<RowKey>, OpenErr>
     ensures { Reads (λ m k. (k, text.new) ≡ next_line_of code.now m text.old (next_row m after)) (T.state table.old) (T.state table.new) result }
 {
-    let seen = next_seen(alloc, code, table, &after, text);
+    let seen = next_listed(alloc, code, table, &after, text);
     drop(after);
     match seen {
         Ok(None) => Ok(None),
@@ -577,8 +577,8 @@ pub fn read_reply<T: Table>(
     table: &mut T,
     ticket: u32,
     now: u64,
-) -> Result<ReplySeen, OpenErr>
-    ensures reads { Reads (λ m x. x ≡ row_seen (map.get m (root_key_of ticket))) (T.state table.old) (T.state table.new) result }
+) -> Result<ReplyStatus, OpenErr>
+    ensures reads { Reads (λ m x. x ≡ row_status (map.get m (root_key_of ticket))) (T.state table.old) (T.state table.new) result }
     ensures known { IfOk result (λ x. x ≢ Unknown) }
     ensures calls { AtMostOne (T.state table.old).calls (T.state table.new).calls }
 {
@@ -589,16 +589,16 @@ pub fn read_reply<T: Table>(
     }
 }
 
-fn says_reply(alloc: Global, said: Said<'_>) -> Result<ReplySeen, AllocError>
-    ensures reply { IfOk result (λ x. x ≡ row_seen (told_row (tell_of said.entry))) }
+fn says_reply(alloc: Global, said: ActReplyRef<'_>) -> Result<ReplyStatus, AllocError>
+    ensures reply { IfOk result (λ x. x ≡ row_status (told_row (act_reply_of said.entry))) }
     ensures known { IfOk result (λ x. x ≢ Unknown) }
 {
     match said {
-        Said::Row(Row::Intent(intent)) => match &intent.outcome {
-            None => Ok(ReplySeen::Waiting),
-            Some(outcome) => Ok(ReplySeen::Reply(outcome.copy(alloc)?)),
+        ActReplyRef::Row(Row::Intent(intent)) => match &intent.outcome {
+            None => Ok(ReplyStatus::Waiting),
+            Some(outcome) => Ok(ReplyStatus::Reply(outcome.copy(alloc)?)),
         },
-        Said::Row(_) => Ok(ReplySeen::Waiting),
-        _ => Ok(ReplySeen::Gone),
+        ActReplyRef::Row(_) => Ok(ReplyStatus::Waiting),
+        _ => Ok(ReplyStatus::Gone),
     }
 }

@@ -1,10 +1,10 @@
 -- Intents are put once, and stay.
 use Rattle.beldi_row.specs.declared.act.Act.{Act}
-use Rattle.beldi_intent.proofs.Names.{Bind, BodiesAreSetOnce, Body, Bool, BoundBy, BoundOn, CalleesArePutOnce, DropIntent, DropRow, End, EndedBy, EndedOn, FinishesAreSetOnce, GoesOn, IntentGoesOn, IntentRow, IntentsAreTold, IntentsStay, Issue, IssuedOn, Look, None, Option, Outcome, OutcomesAreSetOnce, Register, RegisteredOn, RootsArePutOnce, Row, RowKey, Rows, Some, Stamp, StampedBy, StampedOn, Value, act, at_each, bind_asks, bind_to, binding_of, bound_before, bound_by, end_asks, end_with, false, finish_at, if◌then◌else◌, intent_in, intent_key, intent_of, is_added, issue_asks, look_asks, looked, option_map, other, outcome_tell, promised, put_of, read_as, refl, register_asks, root_key, said, same_value, set_row, stamp_asks, stamp_with, subst, sym, true, unchanged, ℕ, ◌&&◌, ◌==◌, ◌∙◌, ◌≡◌, prunes}
+use Rattle.beldi_intent.proofs.Names.{Bind, BodiesAreSetOnce, Body, Bool, BoundBy, BoundOn, CalleesArePutOnce, DropIntent, DropRow, End, EndedBy, EndedOn, FinishesAreSetOnce, GoesOn, IntentGoesOn, IntentRow, IntentsAreTold, IntentsStay, Issue, IssuedOn, Look, None, Option, Outcome, OutcomesAreSetOnce, Register, RegisteredOn, RootsArePutOnce, Row, RowKey, Rows, Some, Stamp, StampedBy, StampedOn, Value, act, at_each, bind_asks, bind_to, binding_of, bound_before, bound_by, end_asks, end_with, false, finish_at, if◌then◌else◌, intent_in, intent_key, intent_of, is_added, issue_asks, look_asks, looked, option_map, other, outcome_reply, promised, put_of, read_as, refl, register_asks, root_key, replied, same_value, set_row, stamp_asks, stamp_with, subst, sym, true, unchanged, ℕ, ◌&&◌, ◌==◌, ◌∙◌, ◌≡◌, prunes}
 use Rattle.beldi_intent.proofs.Names.map
 
 -- ---- an intent is told
-told_row : (now : ℕ) (o : Option Row) → intent_of (said (act Look now o).1) ≡ option_map (λ w. read_as (intent_in (Some w))) o
+told_row : (now : ℕ) (o : Option Row) → intent_of (replied (act Look now o).1) ≡ option_map (λ w. read_as (intent_in (Some w))) o
 told_row now None = refl
 told_row now (Some r) = refl
 
@@ -12,10 +12,10 @@ pub intents_told : IntentsAreTold
 intents_told id func now = promised (look_asks id func) now intent_of (λ m n r. (n ≡ m) × (r ≡ option_map (λ w. read_as (intent_in (Some w))) (map.get m (intent_key id func)))) (λ m. (looked now (intent_key id func) m, told_row now (map.get m (intent_key id func))))
 
 -- ---- a row of an intent is put, or what it lacks is set
-bound_so : (f : ℕ) (a : Value) (b : Body) (p : Option Outcome) → binding_of (said (if (b.func == f) && same_value b.args a then outcome_tell p else other b)) ≡ bound_before f a b p
+bound_so : (f : ℕ) (a : Value) (b : Body) (p : Option Outcome) → binding_of (replied (if (b.func == f) && same_value b.args a then outcome_reply p else other b)) ≡ bound_before f a b p
 bound_so f a b p = by_test ((b.func == f) && same_value b.args a) p
   where
-    by_test : (c : Bool) (p : Option Outcome) → binding_of (said (if c then outcome_tell p else other b)) ≡ bound_by c b p
+    by_test : (c : Bool) (p : Option Outcome) → binding_of (replied (if c then outcome_reply p else other b)) ≡ bound_by c b p
     by_test true None = refl
     by_test true (Some o) = refl
     by_test false None = refl
@@ -26,39 +26,39 @@ module _ (k : RowKey) (m : Rows) (now : ℕ) where
   same : (o : Option Row) → map.get m k ≡ o → set_row m k o ≡ m
   same o there = unchanged m k o (sym there)
 
-  issued : (o : Option Row) → map.get m k ≡ o → IssuedOn now k o m (set_row m k (act Issue now o).0) (is_added (said (act Issue now o).1))
+  issued : (o : Option Row) → map.get m k ≡ o → IssuedOn now k o m (set_row m k (act Issue now o).0) (is_added (replied (act Issue now o).1))
   issued None there = (refl, refl)
   issued (Some r) there = (same (Some r) there, refl)
 
-  registered : (b : Body) (o : Option Row) → map.get m k ≡ o → RegisteredOn now b k o m (set_row m k (act (Register b) now o).0) (intent_of (said (act (Register b) now o).1))
+  registered : (b : Body) (o : Option Row) → map.get m k ≡ o → RegisteredOn now b k o m (set_row m k (act (Register b) now o).0) (intent_of (replied (act (Register b) now o).1))
   registered b None there = (refl, refl)
   registered b (Some r) there = (same (Some r) there, refl)
 
   bound_row : (f : ℕ) (a : Value) (i : IntentRow) (b : Option Body) → map.get m k ≡ Some (Row.Intent i)
-      → BoundBy f a i b k m (set_row m k (Some (Row.Intent (bind_to f a i b).0))) (binding_of (said (bind_to f a i b).1))
+      → BoundBy f a i b k m (set_row m k (Some (Row.Intent (bind_to f a i b).0))) (binding_of (replied (bind_to f a i b).1))
   bound_row f a i None there = (refl, refl)
   bound_row f a i (Some b) there = (same (Some (Row.Intent i)) there, bound_so f a b i.outcome)
 
-  bound : (f : ℕ) (a : Value) (o : Option Row) → map.get m k ≡ o → BoundOn f a k (intent_in o) m (set_row m k (act (Bind f a) now o).0) (binding_of (said (act (Bind f a) now o).1))
+  bound : (f : ℕ) (a : Value) (o : Option Row) → map.get m k ≡ o → BoundOn f a k (intent_in o) m (set_row m k (act (Bind f a) now o).0) (binding_of (replied (act (Bind f a) now o).1))
   bound f a None there = (same None there, refl)
   bound f a (Some (Row.Intent i)) there = bound_row f a i i.body there
   bound f a (Some r) there = (same (Some r) there, refl)
 
   ended_row : (o : Outcome) (stamp : Bool) (i : IntentRow) (p : Option Outcome) → map.get m k ≡ Some (Row.Intent i)
-      → EndedBy o stamp now i p k m (set_row m k (Some (Row.Intent (end_with o stamp now i p).0))) (put_of (said (end_with o stamp now i p).1))
+      → EndedBy o stamp now i p k m (set_row m k (Some (Row.Intent (end_with o stamp now i p).0))) (put_of (replied (end_with o stamp now i p).1))
   ended_row o stamp i None there = (refl, refl)
   ended_row o stamp i (Some p) there = (same (Some (Row.Intent i)) there, refl)
 
-  ended : (o : Outcome) (stamp : Bool) (r : Option Row) → map.get m k ≡ r → EndedOn o stamp now k (intent_in r) m (set_row m k (act (End o stamp) now r).0) (put_of (said (act (End o stamp) now r).1))
+  ended : (o : Outcome) (stamp : Bool) (r : Option Row) → map.get m k ≡ r → EndedOn o stamp now k (intent_in r) m (set_row m k (act (End o stamp) now r).0) (put_of (replied (act (End o stamp) now r).1))
   ended o stamp None there = (same None there, refl)
   ended o stamp (Some (Row.Intent i)) there = ended_row o stamp i i.outcome there
   ended o stamp (Some r) there = (same (Some r) there, refl)
 
-  stamped_row : (i : IntentRow) (t : Option ℕ) → map.get m k ≡ Some (Row.Intent i) → StampedBy now i t k m (set_row m k (Some (Row.Intent (stamp_with now i t).0))) (put_of (said (stamp_with now i t).1))
+  stamped_row : (i : IntentRow) (t : Option ℕ) → map.get m k ≡ Some (Row.Intent i) → StampedBy now i t k m (set_row m k (Some (Row.Intent (stamp_with now i t).0))) (put_of (replied (stamp_with now i t).1))
   stamped_row i None there = (refl, refl)
   stamped_row i (Some t) there = (same (Some (Row.Intent i)) there, refl)
 
-  stamped : (r : Option Row) → map.get m k ≡ r → StampedOn now k (intent_in r) m (set_row m k (act Stamp now r).0) (put_of (said (act Stamp now r).1))
+  stamped : (r : Option Row) → map.get m k ≡ r → StampedOn now k (intent_in r) m (set_row m k (act Stamp now r).0) (put_of (replied (act Stamp now r).1))
   stamped None there = (same None there, refl)
   stamped (Some (Row.Intent i)) there = stamped_row i i.finish there
   stamped (Some r) there = (same (Some r) there, refl)

@@ -5,7 +5,7 @@ use Rattle.std.specs.FinMap as map
 use Rattle.beldi_value.specs.{Id.home_of, Id.root_of, Same.same_value, declared.id.IntentId.IntentId, declared.outcome.Outcome.Outcome, declared.value.Value.Value}
 use Rattle.beldi_row.specs.Act.{here, added, bound, running, other, ended, already, did, finish_at}
 use Rattle.beldi_row.specs.{Key.RowKey, declared.key.Kind.TheVariants.Intent, declared.row.Body.Body, declared.row.IntentRow.IntentRow, declared.row.Row.Row, declared.act.Act.TheVariants.Look, declared.act.Act.TheVariants.Issue, declared.act.Act.TheVariants.Bind, declared.act.Act.TheVariants.Register, declared.act.Act.TheVariants.End, declared.act.Act.TheVariants.Stamp, Table.Rows, Table.set_row}
-use Rattle.beldi_walk.specs.{declared.query.Query.Query, declared.query.Query.TheVariants.Act, Query.Told, Query.said, Query.may_remove, Query.rows_after, Walk.Promises}
+use Rattle.beldi_query.specs.{declared.query.Query.Query, declared.query.Query.TheVariants.Act, Query.QueryReply, Query.replied, Query.may_remove, Query.rows_after, Walk.Promises}
 use Rattle.beldi_intent.specs.declared.intent.{Binding.Binding, Put.Put}
 
 -- the row of an intent: a root's stands in the host's home, a callee's in its function's
@@ -36,24 +36,24 @@ abbrev pub bind_asks : ℕ → ℕ → Value → Query
 bind_asks t func args = Act (root_key t) (Bind func args)
 
 -- ---- what follows from what is told
-abbrev pub is_added : Told → Bool
-is_added (said added) = true
+abbrev pub is_added : QueryReply → Bool
+is_added (replied added) = true
 is_added t = false
 
-abbrev pub is_did : Told → Bool
-is_did (said did) = true
+abbrev pub is_did : QueryReply → Bool
+is_did (replied did) = true
 is_did t = false
 
-abbrev pub put_of : Told → Put
-put_of (said did) = Put.Did
-put_of (said already) = Put.Already
+abbrev pub put_of : QueryReply → Put
+put_of (replied did) = Put.Did
+put_of (replied already) = Put.Already
 put_of t = Put.Gone
 
-abbrev pub binding_of : Told → Binding
-binding_of (said bound) = Binding.Bound
-binding_of (said running) = Binding.Running
-binding_of (said (other b)) = Binding.Other b.func b.args
-binding_of (said (ended o)) = Binding.Ended o
+abbrev pub binding_of : QueryReply → Binding
+binding_of (replied bound) = Binding.Bound
+binding_of (replied running) = Binding.Running
+binding_of (replied (other b)) = Binding.Other b.func b.args
+binding_of (replied (ended o)) = Binding.Ended o
 binding_of t = Binding.Gone
 
 -- the intent that a row is, if it is one
@@ -70,8 +70,8 @@ abbrev pub read_as : Option IntentRow → IntentRow
 read_as None = issued_at 0 None
 read_as (Some i) = i
 
-abbrev pub intent_of : Told → Option IntentRow
-intent_of (said (here r)) = Some (read_as (intent_in (Some r)))
+abbrev pub intent_of : QueryReply → Option IntentRow
+intent_of (replied (here r)) = Some (read_as (intent_in (Some r)))
 intent_of t = None
 
 -- an intent that has ended
@@ -88,8 +88,8 @@ body_in func None = None
 body_in func (Some b) = if b.func == func then Some b else None
 
 -- that of an intent that has not ended
-abbrev pub body_told : ℕ → Told → Option Body
-body_told func (said (here (Row.Intent i))) = body_in func (open_body i)
+abbrev pub body_told : ℕ → QueryReply → Option Body
+body_told func (replied (here (Row.Intent i))) = body_in func (open_body i)
 body_told func t = None
 
 -- ---- what the calls promise
@@ -129,7 +129,7 @@ abbrev pub bound_before : ℕ → Value → Body → Option Outcome → Binding
 bound_before f a b o = bound_by ((b.func == f) && same_value b.args a) b o
 
 abbrev pub BoundBy : ℕ → Value → IntentRow → Option Body → RowKey → Rows → Rows → Binding → Type 0
-BoundBy f a i None k m n x = SetTo (record i { body = Some (record { func = f; args = a; tx = None; from = None }) }) k m n × (x ≡ Binding.Bound)
+BoundBy f a i None k m n x = SetTo (record i { body = Some (record { func = f; args = a; tx = None; parent = None }) }) k m n × (x ≡ Binding.Bound)
 BoundBy f a i (Some b) k m n x = (n ≡ m) × (x ≡ bound_before f a b i.outcome)
 
 -- `bind` sets the body of an intent that has none; where it has one, or there is no intent, all rows stay

@@ -1,12 +1,12 @@
 // The rows of intents: what is asked of one, and what follows from what is told.
 ghost use Rattle.std.specs.Prelude.{◌≡◌, true, Some, IfOk, OnErr, option_copied};
-ghost use Rattle.beldi_walk.specs.Query.{told_of, lends};
-ghost use Rattle.beldi_walk.specs.Walk.{Answered};
+ghost use Rattle.beldi_query.specs.Query.{query_reply_of, lends};
+ghost use Rattle.beldi_query.specs.Walk.{Answered};
 ghost use Rattle.beldi_intent.specs.Intent.{intent_key as key_of, root_key as root_key_of, issue_asks, bind_asks, register_asks, look_asks, end_asks, stamp_asks, is_added, is_did, put_of, binding_of, intent_of, intent_in, read_as, open_body as open_body_of};
 
-use beldi_row::{Act, Body, IntentRow, Kind, Row, RowKey, Said, Table, TableErr};
-use beldi_value::{Apart, IntentId, Outcome, Value};
-use beldi_walk::{Heard, Query};
+use beldi_query::{Query, QueryReplyRef};
+use beldi_row::{Act, ActReplyRef, Body, IntentRow, Kind, Row, RowKey, Table, TableErr};
+use beldi_value::{Boxed, IntentId, Outcome, Value};
 use std::alloc::{AllocError, Global};
 
 /// What binding a root to a function and arguments came to.
@@ -50,17 +50,17 @@ pub fn root_key(alloc: Global, ticket: u32) -> RowKey
 }
 
 /// Asks for the row of a ticket's root to be added.
-pub fn issue_query(alloc: Global, ticket: u32) -> Result<Apart<Query>, AllocError>
+pub fn issue_query(alloc: Global, ticket: u32) -> Result<Boxed<Query>, AllocError>
     ensures { IfOk result (λ q. q ≡ issue_asks ticket) }
 {
     Query::act(alloc, root_key(alloc, ticket), Act::Issue)
 }
 
 /// Whether it was added: a row that is there stays as it is.
-pub fn issue_told(heard: Heard<'_>) -> bool
-    ensures { result ≡ is_added (told_of heard.entry) }
+pub fn issue_told(heard: QueryReplyRef<'_>) -> bool
+    ensures { result ≡ is_added (query_reply_of heard.entry) }
 {
-    matches!(heard, Heard::Said(Said::Added))
+    matches!(heard, QueryReplyRef::Act(ActReplyRef::Added))
 }
 
 /// Asks for the root of a ticket to be bound to a function and arguments, once.
@@ -69,34 +69,34 @@ pub fn bind_query(
     ticket: u32,
     func: u16,
     args: Value,
-) -> Result<Apart<Query>, AllocError>
+) -> Result<Boxed<Query>, AllocError>
     ensures { IfOk result (λ q. q ≡ bind_asks ticket func args) }
 {
     Query::act(alloc, root_key(alloc, ticket), Act::Bind { func, args })
 }
 
 /// What the bind came to. Out of memory only for what was lent.
-pub fn bind_told(alloc: Global, heard: Heard<'_>) -> Result<Binding, AllocError>
-    ensures ok { IfOk result (λ b. b ≡ binding_of (told_of heard.entry)) }
-    ensures err { OnErr result (lends (told_of heard.entry) ≡ true) }
+pub fn bind_told(alloc: Global, heard: QueryReplyRef<'_>) -> Result<Binding, AllocError>
+    ensures ok { IfOk result (λ b. b ≡ binding_of (query_reply_of heard.entry)) }
+    ensures err { OnErr result (lends (query_reply_of heard.entry) ≡ true) }
 {
     match heard {
-        Heard::Said(Said::Bound) => Ok(Binding::Bound),
-        Heard::Said(Said::Running) => Ok(Binding::Running),
-        Heard::Said(Said::Other(body)) => Ok(Binding::Other {
+        QueryReplyRef::Act(ActReplyRef::Bound) => Ok(Binding::Bound),
+        QueryReplyRef::Act(ActReplyRef::Running) => Ok(Binding::Running),
+        QueryReplyRef::Act(ActReplyRef::Other(body)) => Ok(Binding::Other {
             func: body.func,
             args: body.args.copy(alloc)?,
         }),
-        Heard::Said(Said::Ended(outcome)) => Ok(Binding::Ended(outcome.copy(alloc)?)),
+        QueryReplyRef::Act(ActReplyRef::Ended(outcome)) => Ok(Binding::Ended(outcome.copy(alloc)?)),
         _ => Ok(Binding::Gone),
     }
 }
 
 /// Whether an end was made by this act.
-pub fn end_told(heard: &Heard<'_>) -> bool
-    ensures { result ≡ is_did (told_of heard.entry.now) }
+pub fn end_told(heard: &QueryReplyRef<'_>) -> bool
+    ensures { result ≡ is_did (query_reply_of heard.entry.now) }
 {
-    matches!(heard, Heard::Said(Said::Did))
+    matches!(heard, QueryReplyRef::Act(ActReplyRef::Did))
 }
 
 /// The body of an intent that has not ended.
@@ -110,25 +110,25 @@ pub fn open_body(intent: &IntentRow) -> Option<&Body>
 }
 
 // What came of an end.
-fn put_told(heard: Heard<'_>) -> Put
-    ensures { result ≡ put_of (told_of heard.entry) }
+fn put_told(heard: QueryReplyRef<'_>) -> Put
+    ensures { result ≡ put_of (query_reply_of heard.entry) }
 {
     match heard {
-        Heard::Said(Said::Did) => Put::Did,
-        Heard::Said(Said::Already) => Put::Already,
+        QueryReplyRef::Act(ActReplyRef::Did) => Put::Did,
+        QueryReplyRef::Act(ActReplyRef::Already) => Put::Already,
         _ => Put::Gone,
     }
 }
 
 /// Asks for the row of a callee to be added, with what it is to do. It stands in the home of its function.
-pub fn register_query(alloc: Global, id: IntentId, body: Body) -> Result<Apart<Query>, AllocError>
+pub fn register_query(alloc: Global, id: IntentId, body: Body) -> Result<Boxed<Query>, AllocError>
     ensures { IfOk result (λ q. q ≡ register_asks id body) }
 {
     Query::act(alloc, intent_key(id, body.func), Act::Register { body })
 }
 
 /// Asks for the finish of an intent to be set, once.
-pub fn stamp_query(alloc: Global, id: IntentId, func: u16) -> Result<Apart<Query>, AllocError>
+pub fn stamp_query(alloc: Global, id: IntentId, func: u16) -> Result<Boxed<Query>, AllocError>
     ensures { IfOk result (λ q. q ≡ stamp_asks id func) }
 {
     Query::act(alloc, intent_key(id, func), Act::Stamp)
@@ -149,12 +149,12 @@ fn read(alloc: Global, row: &Row) -> Result<IntentRow, AllocError>
 }
 
 // The intent that was told. Out of memory only for what was lent.
-fn intent_told(alloc: Global, heard: Heard<'_>) -> Result<Option<IntentRow>, AllocError>
-    ensures ok { IfOk result (λ i. i ≡ intent_of (told_of heard.entry)) }
-    ensures err { OnErr result (lends (told_of heard.entry) ≡ true) }
+fn intent_told(alloc: Global, heard: QueryReplyRef<'_>) -> Result<Option<IntentRow>, AllocError>
+    ensures ok { IfOk result (λ i. i ≡ intent_of (query_reply_of heard.entry)) }
+    ensures err { OnErr result (lends (query_reply_of heard.entry) ≡ true) }
 {
     match heard {
-        Heard::Said(Said::Row(row)) => Ok(Some(read(alloc, row)?)),
+        QueryReplyRef::Act(ActReplyRef::Row(row)) => Ok(Some(read(alloc, row)?)),
         _ => Ok(None),
     }
 }
@@ -169,7 +169,7 @@ pub fn issue<T: Table>(
     ensures { Answered (issue_asks ticket) now is_added (T.state table.old) (T.state table.new) result }
 {
     match table.act(root_key(alloc, ticket), Act::Issue, now) {
-        Ok(said) => Ok(issue_told(Heard::Said(said))),
+        Ok(said) => Ok(issue_told(QueryReplyRef::Act(said))),
         Err(why) => Err(why),
     }
 }
@@ -186,7 +186,7 @@ pub fn bind<T: Table>(
     ensures { Answered (bind_asks ticket func args) now binding_of (T.state table.old) (T.state table.new) result }
 {
     match table.act(root_key(alloc, ticket), Act::Bind { func, args }, now) {
-        Ok(said) => match bind_told(alloc, Heard::Said(said)) {
+        Ok(said) => match bind_told(alloc, QueryReplyRef::Act(said)) {
             Ok(binding) => Ok(binding),
             Err(_) => Err(TableErr::OutOfMemory),
         },
@@ -208,7 +208,7 @@ pub fn register<T: Table>(
     ensures { Answered (register_asks id body) now intent_of (T.state table.old) (T.state table.new) result }
 {
     match table.act(intent_key(id, body.func), Act::Register { body }, now) {
-        Ok(said) => match intent_told(alloc, Heard::Said(said)) {
+        Ok(said) => match intent_told(alloc, QueryReplyRef::Act(said)) {
             Ok(intent) => Ok(intent),
             Err(_) => Err(TableErr::OutOfMemory),
         },
@@ -228,7 +228,7 @@ pub fn look<T: Table>(
     ensures { Answered (look_asks id func) now intent_of (T.state table.old) (T.state table.new) result }
 {
     match table.act(intent_key(id, func), Act::Look, now) {
-        Ok(said) => match intent_told(alloc, Heard::Said(said)) {
+        Ok(said) => match intent_told(alloc, QueryReplyRef::Act(said)) {
             Ok(intent) => Ok(intent),
             Err(_) => Err(TableErr::OutOfMemory),
         },
@@ -250,7 +250,7 @@ pub fn end<T: Table>(
     ensures { Answered (end_asks id func outcome stamp) now put_of (T.state table.old) (T.state table.new) result }
 {
     match table.act(intent_key(id, func), Act::End { outcome, stamp }, now) {
-        Ok(said) => Ok(put_told(Heard::Said(said))),
+        Ok(said) => Ok(put_told(QueryReplyRef::Act(said))),
         Err(why) => Err(why),
     }
 }
@@ -261,7 +261,7 @@ pub fn stamp<T: Table>(table: &mut T, id: IntentId, func: u16, now: u64) -> Resu
     ensures { Answered (stamp_asks id func) now put_of (T.state table.old) (T.state table.new) result }
 {
     match table.act(intent_key(id, func), Act::Stamp, now) {
-        Ok(said) => Ok(put_told(Heard::Said(said))),
+        Ok(said) => Ok(put_told(QueryReplyRef::Act(said))),
         Err(why) => Err(why),
     }
 }

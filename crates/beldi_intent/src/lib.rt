@@ -1,5 +1,5 @@
 //! The rows of intents: the calls on them, and the parts that runs, walks and the host share. It stands on `beldi_row` and
-//! `beldi_walk`. Its definitions: `specs/Intent` (what is asked of the row of an intent, and what follows from what is told).
+//! `beldi_query`. Its definitions: `specs/Intent` (what is asked of the row of an intent, and what follows from what is told).
 //!
 //! Proved:
 //! - The parts ask what the definitions ask (`issue_asks`, `bind_asks`, `register_asks`), of the row of an intent in its home

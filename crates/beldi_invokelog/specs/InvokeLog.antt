@@ -3,7 +3,7 @@ use Rattle.std.specs.Prelude.{◌≡◌, ℕ, Bool, true, false, is_some, Option
 use Rattle.std.specs.FinMap as map
 use Rattle.beldi_value.specs.declared.{outcome.Outcome.Outcome, place.Place.Place}
 use Rattle.beldi_row.specs.{Key.RowKey, declared.key.Kind.TheVariants.Invoke, declared.row.InvokeRow.InvokeRow, declared.row.Row.Row, declared.act.Act.TheVariants.Look, declared.act.Act.TheVariants.OpenInvoke, declared.act.Act.TheVariants.CallBack, declared.act.Act.TheVariants.NoteRegistered, Act.here, Act.added, Act.already, Act.did, Table.Rows, Table.set_row}
-use Rattle.beldi_walk.specs.{declared.query.Query.Query, declared.query.Query.TheVariants.Act, Query.Told, Query.said, Query.may_remove, Query.rows_after, Walk.Promises}
+use Rattle.beldi_query.specs.{declared.query.Query.Query, declared.query.Query.TheVariants.Act, Query.QueryReply, Query.replied, Query.may_remove, Query.rows_after, Walk.Promises}
 use Rattle.beldi_invokelog.specs.declared.invoke_log.{Invoked.Invoked, Back.Back}
 
 -- the row of the call that a function makes at a place
@@ -51,18 +51,18 @@ abbrev pub invoked : Bool → Option InvokeRow → Invoked
 invoked b None = record { func = 0; result = None; registered = false; added = b }
 invoked b (Some i) = record { func = i.func; result = i.result; registered = i.registered; added = b }
 
-abbrev pub invoked_of : ℕ → Told → Invoked
-invoked_of func (said added) = invoked true (Some (opened func))
-invoked_of func (said (here r)) = invoked false (call_in (Some r))
+abbrev pub invoked_of : ℕ → QueryReply → Invoked
+invoked_of func (replied added) = invoked true (Some (opened func))
+invoked_of func (replied (here r)) = invoked false (call_in (Some r))
 invoked_of func t = invoked false None
 
-abbrev pub result_of : Told → Option Outcome
-result_of (said (here r)) = result_in (call_in (Some r))
+abbrev pub result_of : QueryReply → Option Outcome
+result_of (replied (here r)) = result_in (call_in (Some r))
 result_of t = None
 
-abbrev pub back_of : Told → Back
-back_of (said did) = Back.Set
-back_of (said already) = Back.AlreadySet
+abbrev pub back_of : QueryReply → Back
+back_of (replied did) = Back.Set
+back_of (replied already) = Back.AlreadySet
 back_of t = Back.Absent
 
 -- ---- what the calls promise

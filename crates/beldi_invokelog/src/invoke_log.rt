@@ -1,12 +1,12 @@
 // The calls that were made, by their places. Each call here makes one act.
 ghost use Rattle.std.specs.Prelude.{◌≡◌, true, false, IfOk, OnErr, Some, None};
-ghost use Rattle.beldi_walk.specs.Query.{told_of, lends};
-ghost use Rattle.beldi_walk.specs.Walk.{Answered};
+ghost use Rattle.beldi_query.specs.Query.{query_reply_of, lends};
+ghost use Rattle.beldi_query.specs.Walk.{Answered};
 ghost use Rattle.beldi_invokelog.specs.InvokeLog.{invoke_key as key_of, call_in, invoked as invoked_by, open_asks, result_asks, back_asks, registered_asks, invoked_of, result_of, back_of};
 
-use beldi_row::{Act, InvokeRow, Kind, Row, RowKey, Said, Table, TableErr};
-use beldi_value::{Apart, Outcome, Place};
-use beldi_walk::{Heard, Query};
+use beldi_query::{Query, QueryReplyRef};
+use beldi_row::{Act, ActReplyRef, InvokeRow, Kind, Row, RowKey, Table, TableErr};
+use beldi_value::{Boxed, Outcome, Place};
 use std::alloc::{AllocError, Global};
 
 /// The call of a place, as it is once it was opened.
@@ -46,21 +46,21 @@ pub fn open_query(
     home: u16,
     at: Place,
     func: u16,
-) -> Result<Apart<Query>, AllocError>
+) -> Result<Boxed<Query>, AllocError>
     ensures { IfOk result (λ q. q ≡ open_asks home at func) }
 {
     Query::act(alloc, invoke_key(home, at), Act::OpenInvoke { func })
 }
 
 /// Asks for the call of a place.
-pub fn result_query(alloc: Global, home: u16, at: Place) -> Result<Apart<Query>, AllocError>
+pub fn result_query(alloc: Global, home: u16, at: Place) -> Result<Boxed<Query>, AllocError>
     ensures { IfOk result (λ q. q ≡ result_asks home at) }
 {
     Query::look(alloc, invoke_key(home, at))
 }
 
 /// Asks for a call to be marked as registered, once.
-pub fn registered_query(alloc: Global, home: u16, at: Place) -> Result<Apart<Query>, AllocError>
+pub fn registered_query(alloc: Global, home: u16, at: Place) -> Result<Boxed<Query>, AllocError>
     ensures { IfOk result (λ q. q ≡ registered_asks home at) }
 {
     Query::act(alloc, invoke_key(home, at), Act::NoteRegistered)
@@ -104,40 +104,44 @@ fn unknown() -> Invoked
 
 /// The call of a place after it was opened. A row of another kind, which no session writes there, reads as a call of function
 /// 0, which is no function. Out of memory only for what was lent.
-pub fn invoked_told(alloc: Global, func: u16, heard: Heard<'_>) -> Result<Invoked, AllocError>
-    ensures ok { IfOk result (λ i. i ≡ invoked_of func (told_of heard.entry)) }
-    ensures err { OnErr result (lends (told_of heard.entry) ≡ true) }
+pub fn invoked_told(
+    alloc: Global,
+    func: u16,
+    heard: QueryReplyRef<'_>,
+) -> Result<Invoked, AllocError>
+    ensures ok { IfOk result (λ i. i ≡ invoked_of func (query_reply_of heard.entry)) }
+    ensures err { OnErr result (lends (query_reply_of heard.entry) ≡ true) }
 {
     match heard {
-        Heard::Said(Said::Added) => Ok(Invoked {
+        QueryReplyRef::Act(ActReplyRef::Added) => Ok(Invoked {
             func,
             result: None,
             registered: false,
             added: true,
         }),
-        Heard::Said(Said::Row(row)) => invoked_there(alloc, row),
+        QueryReplyRef::Act(ActReplyRef::Row(row)) => invoked_there(alloc, row),
         _ => Ok(unknown()),
     }
 }
 
 /// What the call of a place gave back, after a Look. Out of memory only for what was lent.
-pub fn result_told(alloc: Global, heard: Heard<'_>) -> Result<Option<Outcome>, AllocError>
-    ensures ok { IfOk result (λ o. o ≡ result_of (told_of heard.entry)) }
-    ensures err { OnErr result (lends (told_of heard.entry) ≡ true) }
+pub fn result_told(alloc: Global, heard: QueryReplyRef<'_>) -> Result<Option<Outcome>, AllocError>
+    ensures ok { IfOk result (λ o. o ≡ result_of (query_reply_of heard.entry)) }
+    ensures err { OnErr result (lends (query_reply_of heard.entry) ≡ true) }
 {
     match heard {
-        Heard::Said(Said::Row(Row::Invoke(call))) => copy_result(alloc, call),
+        QueryReplyRef::Act(ActReplyRef::Row(Row::Invoke(call))) => copy_result(alloc, call),
         _ => Ok(None),
     }
 }
 
 /// What came of setting something of a call.
-pub fn back_told(heard: Heard<'_>) -> Back
-    ensures { result ≡ back_of (told_of heard.entry) }
+pub fn back_told(heard: QueryReplyRef<'_>) -> Back
+    ensures { result ≡ back_of (query_reply_of heard.entry) }
 {
     match heard {
-        Heard::Said(Said::Did) => Back::Set,
-        Heard::Said(Said::Already) => Back::AlreadySet,
+        QueryReplyRef::Act(ActReplyRef::Did) => Back::Set,
+        QueryReplyRef::Act(ActReplyRef::Already) => Back::AlreadySet,
         _ => Back::Absent,
     }
 }
@@ -165,7 +169,7 @@ pub fn open_once<T: Table>(
         return Err(TableErr::OutOfMemory);
     };
     match table.act(key, Act::OpenInvoke { func }, now) {
-        Ok(said) => match invoked_told(alloc, func, Heard::Said(said)) {
+        Ok(said) => match invoked_told(alloc, func, QueryReplyRef::Act(said)) {
             Ok(invoked) => Ok(invoked),
             Err(_) => Err(TableErr::OutOfMemory),
         },
@@ -188,7 +192,7 @@ pub fn result<T: Table>(
         return Err(TableErr::OutOfMemory);
     };
     match table.act(key, Act::Look, now) {
-        Ok(said) => match result_told(alloc, Heard::Said(said)) {
+        Ok(said) => match result_told(alloc, QueryReplyRef::Act(said)) {
             Ok(outcome) => Ok(outcome),
             Err(_) => Err(TableErr::OutOfMemory),
         },
@@ -213,7 +217,7 @@ pub fn call_back<T: Table>(
         return Err(TableErr::OutOfMemory);
     };
     match table.act(key, Act::CallBack { outcome }, now) {
-        Ok(said) => Ok(back_told(Heard::Said(said))),
+        Ok(said) => Ok(back_told(QueryReplyRef::Act(said))),
         Err(why) => Err(why),
     }
 }
@@ -232,7 +236,7 @@ pub fn registered<T: Table>(
         return Err(TableErr::OutOfMemory);
     };
     match table.act(key, Act::NoteRegistered, now) {
-        Ok(said) => Ok(back_told(Heard::Said(said))),
+        Ok(said) => Ok(back_told(QueryReplyRef::Act(said))),
         Err(why) => Err(why),
     }
 }

@@ -1,4 +1,4 @@
-//! The calls that were made, kept once a place, and the parts of it that walks share. It stands on `beldi_row` and `beldi_walk`.
+//! The calls that were made, kept once a place, and the parts of it that walks share. It stands on `beldi_row` and `beldi_query`.
 //! Its definitions: `specs/InvokeLog` (the call of a place, by its row; what is asked, and what is answered by what was told).
 //!
 //! Proved:
@@ -15,7 +15,7 @@
 //!
 //! Files:
 //! - Code (`src/`): `invoke_log` the calls that were made, for calls and walks; `laws`.
-//! - Lemmas (`proofs/`): `Calls`.
+//! - Lemmas (`proofs/`): `InvokedCalls`.
 #![tactic(auto)]
 
 mod invoke_log;

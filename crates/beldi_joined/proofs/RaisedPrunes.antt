@@ -5,8 +5,8 @@ use Rattle.std.proofs.Common.{ap, subst, sym}
 use Rattle.beldi_tree.specs.declared.deployment.Deployment.{Deployment}
 use Rattle.beldi_book.specs.declared.entry.Entry.{Entry}
 use Rattle.beldi_row.specs.Table.{Rows}
-use Rattle.beldi_step.specs.{Host.Core, Host.counted, Host.most_events, Prunes.PrunesOnBy, Prunes.bar_of, Prunes.taken, declared.event.Pruned.Pruned}
-use Rattle.beldi_joined.specs.{Joined.behind, Laws.PrunesOverLongerBook}
+use Rattle.beldi_step.specs.{HostStep.Core, HostStep.counted, HostStep.most_events, Prunes.PrunesOnBy, Prunes.bar_of, Prunes.taken, declared.event.Pruned.Pruned}
+use Rattle.beldi_joined.specs.{Joined.behind, JoinedLaws.PrunesOverLongerBook}
 use Rattle.beldi_joined.proofs.RaisedTurns.{if_pushed}
 
 taken_behind : (base : List Entry) (c : Core) → taken (behind base c) ≡ behind base (taken c)

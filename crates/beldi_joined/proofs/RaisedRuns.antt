@@ -8,7 +8,7 @@ use Rattle.std.proofs.Common.{T, ap, sym, subst, zero-add, ◌∙◌}
 use Rattle.std.proofs.lemmas.List.{length-map}
 use Rattle.beldi_value.specs.{Id.id_cmp, declared.id.IntentId.IntentId}
 use Rattle.beldi_step.specs.declared.run.{Mark.Mark, Run.Run, RunAt.RunAt, RunAt.TheVariants.Looks, RunAt.TheVariants.Registers, RunAt.TheVariants.Begins, Stage.Stage, Stage.TheVariants.Keep, Stage.TheVariants.Decide}
-use Rattle.beldi_step.specs.Host.{has_run, put_run}
+use Rattle.beldi_step.specs.HostStep.{has_run, put_run}
 use Rattle.beldi_joined.specs.Joined.{raised_at, raised_mark, raised_run, raised_runs, raised_stage}
 
 if_mapped : {A B : Type 0} (f : A → B) (b : Bool) (x y : Option A) → option_map f (cond b x y) ≡ cond b (option_map f x) (option_map f y)
@@ -66,11 +66,11 @@ module _ (n : ℕ) where
 
 -- ---- behind no change a run is as it was
 mark_none : (m : Mark) → raised_mark 0 m ≡ m
-mark_none (Mark.Read seen) = ap Mark.Read (zero-add seen)
+mark_none (Mark.Read version) = ap Mark.Read (zero-add version)
 mark_none m = refl
 
 stage_none : (s : Stage) → raised_stage 0 s ≡ s
-stage_none (Keep v seen) = ap (Keep v) (zero-add seen)
+stage_none (Keep v version) = ap (Keep v) (zero-add version)
 stage_none (Decide m) = ap Decide (mark_none m)
 stage_none s = refl
 

@@ -5,14 +5,14 @@ use Rattle.std.specs.FinMap as finite
 use Rattle.std.proofs.Common.{ap, subst, sym, ◌∙◌}
 use Rattle.std.proofs.lemmas.Option.{same_Some}
 use Rattle.beldi_tree.specs.declared.deployment.Deployment.{Deployment}
-use Rattle.beldi_book.specs.{declared.entry.Entry.Entry, Order.count_changes}
+use Rattle.beldi_book.specs.{declared.entry.Entry.Entry, LinearOrder.count_changes}
 use Rattle.beldi_row.specs.{Key.RowKey, Table.Rows}
 use Rattle.beldi_readlog.specs.ReadLog.{log_key}
-use Rattle.beldi_step.specs.{Host.Core, Host.EventOn, Host.most_runs, Next.first_past, Next.next_run, Run.place_of, declared.event.Seen.Seen, declared.run.Begun.Begun, declared.run.Run.Run, declared.run.RunAt.RunAt, declared.run.RunAt.TheVariants.Begins, declared.run.RunAt.TheVariants.Looks, declared.run.RunAt.TheVariants.Registers, declared.run.Stage.Stage, declared.run.Stage.TheVariants.Decide, declared.run.Stage.TheVariants.Keep}
-use Rattle.beldi_schedule.specs.{Settle.by_round, Settle.core_for, Settle.event_of, Settle.heard_of, Settle.ic_heard, Settle.begun, Settle.is_empty, Settle.next_of, Settle.restless, Settle.turn_heard, Settle.turn_or, Settle.turns_of, Settle.unparked, Settles.Advances, Settles.MaySkip, Settles.Settles, Settles.State, Settles.goes, Settles.skips, Settles.stands}
+use Rattle.beldi_step.specs.{HostStep.Core, HostStep.EventOn, HostStep.most_runs, Next.first_past, Next.next_run, Run.place_of, declared.event.EventReply.EventReply, declared.run.Begun.Begun, declared.run.Run.Run, declared.run.RunAt.RunAt, declared.run.RunAt.TheVariants.Begins, declared.run.RunAt.TheVariants.Looks, declared.run.RunAt.TheVariants.Registers, declared.run.Stage.Stage, declared.run.Stage.TheVariants.Decide, declared.run.Stage.TheVariants.Keep}
+use Rattle.beldi_schedule.specs.{Settle.by_round, Settle.core_for, Settle.event_of, Settle.on_reply_of, Settle.on_ic_reply, Settle.begun, Settle.is_empty, Settle.next_of, Settle.restless, Settle.on_turn_reply, Settle.turn_or, Settle.turns_of, Settle.unparked, Settles.Advances, Settles.MaySkip, Settles.Settles, Settles.State, Settles.goes, Settles.skips, Settles.stands}
 use Rattle.beldi_schedule.specs.declared.machine.{At.At, Next.Next, Next.TheVariants.Collect, Next.TheVariants.Reset, Next.TheVariants.Turn, Settled.Settled, Settled.TheVariants.All, Settled.TheVariants.Spent, Settled.TheVariants.Shut, Settled.TheVariants.Stuck, Settled.TheVariants.Unsettled, Standing.Standing}
-use Rattle.beldi_bound.specs.{Cost.cost_at, Ends.HasCause, Ends.IsLate, Ends.IsLeft, Ends.IsUnhindered, Ends.NoneIsLate, Ends.Promises, Ends.SettlesAsPromised, Ends.crowded, Ends.hindered, Ends.is_walk, Ends.left, Work.has_ended, Work.most_of, Work.one_more, Work.open_keys, Work.seat, Work.sum_of, Work.work_by}
-use Rattle.beldi_joined.specs.{Joined.behind, Joined.joined, Joined.raised_at, Joined.raised_run, Joined.raised_runs, Joined.raised_seen, Joined.raised_stage, Joined.with_joined, Laws.SettlesAsPromisedAfter}
+use Rattle.beldi_bound.specs.{Cost.cost_at, Ends.HasCause, Ends.IsLate, Ends.IsLeft, Ends.IsUnhindered, Ends.NoneIsLate, Ends.Promises, Ends.SettlesAsPromised, Ends.crowded, Ends.hindered, Ends.is_walk, Ends.left, SettleWork.has_ended, SettleWork.most_of, SettleWork.one_more, SettleWork.open_keys, SettleWork.seat, SettleWork.sum_of, SettleWork.work_by}
+use Rattle.beldi_joined.specs.{Joined.behind, Joined.joined, Joined.raised_at, Joined.raised_run, Joined.raised_runs, Joined.raised_reply, Joined.raised_stage, Joined.with_joined, JoinedLaws.SettlesAsPromisedAfter}
 use Rattle.beldi_joined.proofs.{RaisedEvents.step_behind, RaisedRuns.entries_raised, RaisedRuns.get_raised, RaisedRuns.len_raised, RaisedRuns.lifted}
 
 -- ---- runs
@@ -39,7 +39,7 @@ module _ (n : ℕ) where
   had_begun (Begins b) g h = (b, refl, sym (same_begun (record b { stage = raised_stage n b.stage }) g h))
 
   walks_on : (s : Stage) → is_walk (raised_stage n s) ≡ true → is_walk s ≡ true
-  walks_on (Keep v seen) h = cc
+  walks_on (Keep v version) h = cc
   walks_on (Decide m) h = cc
   walks_on s h = h
 
@@ -94,18 +94,18 @@ module _ (base : List Entry) where
     skip_same m (Reset a) b q h = h
 
   -- ---- what follows of an answer
-  turn_same : (budget : ℕ) (a : At) (i : ℕ) (x : Seen) → turn_heard budget a i (raised_seen more x) ≡ turn_heard budget a i x
-  turn_same budget a i (Seen.Acted e s o r) = refl
+  turn_same : (budget : ℕ) (a : At) (i : ℕ) (x : EventReply) → on_turn_reply budget a i (raised_reply more x) ≡ on_turn_reply budget a i x
+  turn_same budget a i (EventReply.Acted e s o r) = refl
   turn_same budget a i x = refl
 
-  ic_same : (budget : ℕ) (live : Option ℕ) (a : At) (x : Seen) → ic_heard budget live a (raised_seen more x) ≡ ic_heard budget live a x
-  ic_same budget live a (Seen.Acted e s o r) = refl
+  ic_same : (budget : ℕ) (live : Option ℕ) (a : At) (x : EventReply) → on_ic_reply budget live a (raised_reply more x) ≡ on_ic_reply budget live a x
+  ic_same budget live a (EventReply.Acted e s o r) = refl
   ic_same budget live a x = refl
 
-  heard_same : (budget : ℕ) (c : Core) (w : Next) (x : Seen) → heard_of budget (behind base c) w (raised_seen more x) ≡ heard_of budget c w x
-  heard_same budget c (Turn a i) x = turn_same budget a i x
-  heard_same budget c (Collect a) x = ap (λ o. ic_heard budget o a (raised_seen more x)) (next_same c 0) ∙ ic_same budget (next_run c 0) a x
-  heard_same budget c (Reset a) x = ap (λ o. ic_heard budget o (begun a) (raised_seen more x)) (next_same c 0) ∙ ic_same budget (next_run c 0) (begun a) x
+  on_reply_same : (budget : ℕ) (c : Core) (w : Next) (x : EventReply) → on_reply_of budget (behind base c) w (raised_reply more x) ≡ on_reply_of budget c w x
+  on_reply_same budget c (Turn a i) x = turn_same budget a i x
+  on_reply_same budget c (Collect a) x = ap (λ o. on_ic_reply budget o a (raised_reply more x)) (next_same c 0) ∙ ic_same budget (next_run c 0) a x
+  on_reply_same budget c (Reset a) x = ap (λ o. on_ic_reply budget o (begun a) (raised_reply more x)) (next_same c 0) ∙ ic_same budget (next_run c 0) (begun a) x
 
   -- ---- the same settling
   module _ (d : Deployment) (room budget : ℕ) where
@@ -115,11 +115,11 @@ module _ (base : List Entry) where
         let same = sym (goes_same s.core a) in
         let on = step_behind base d room s.faults t.faults (event_of w) (core_for w s.core) t.core s.rows t.rows (Ok h.answer) h.event in
         record {
-          answer = raised_seen more h.answer;
-          event = subst (λ v. EventOn d room s.faults t.faults (event_of v) (core_for v (behind base s.core)) s.rows (behind base t.core) t.rows (Ok (raised_seen more h.answer))) same
-              (subst (λ (k : Core). EventOn d room s.faults t.faults (event_of w) k s.rows (behind base t.core) t.rows (Ok (raised_seen more h.answer))) (sym (core_same s.core w)) on);
+          answer = raised_reply more h.answer;
+          event = subst (λ v. EventOn d room s.faults t.faults (event_of v) (core_for v (behind base s.core)) s.rows (behind base t.core) t.rows (Ok (raised_reply more h.answer))) same
+              (subst (λ (k : Core). EventOn d room s.faults t.faults (event_of w) k s.rows (behind base t.core) t.rows (Ok (raised_reply more h.answer))) (sym (core_same s.core w)) on);
           later = h.later;
-          next = h.next ∙ sym (heard_same budget t.core w h.answer) ∙ ap (λ v. heard_of budget (behind base t.core) v (raised_seen more h.answer)) same;
+          next = h.next ∙ sym (on_reply_same budget t.core w h.answer) ∙ ap (λ v. on_reply_of budget (behind base t.core) v (raised_reply more h.answer)) same;
         }
 
     settles_behind : {y z : Standing} {s t : State} → Settles d room budget y s z t → Settles d room budget y (after s) z (after t)
@@ -149,7 +149,7 @@ module _ (base : List Entry) where
     abbrev here : Core
     here = record c { book = joined base c.book }
 
-    module _ (m : Rows) (waiting : List (ℕ × Seen)) where
+    module _ (m : Rows) (waiting : List (ℕ × EventReply)) where
       left_so : IsLeft (behind base c) m waiting → IsLeft here m waiting
       left_so l =
           let q = live_so l.number l.run l.live in

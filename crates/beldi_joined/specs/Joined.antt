@@ -2,22 +2,22 @@
 use Rattle.std.specs.Prelude.{ℕ, ◌+◌, List, ◌++◌, map, IfSome, Result, Ok, Err}
 use Rattle.std.specs.{FinMap.FinMap, Option.option_map, Ordering.nat_cmp, declared.alloc.AllocError.AllocError}
 use Rattle.std.specs.FinMap as finite
-use Rattle.beldi_book.specs.{declared.entry.Entry.Entry, declared.entry.Entry.TheVariants.Start, declared.entry.Entry.TheVariants.Read, declared.entry.Entry.TheVariants.Step, declared.entry.Entry.TheVariants.Tx, declared.entry.Entry.TheVariants.Try, Order.count_changes}
-use Rattle.beldi_step.specs.declared.{event.Seen.Seen, event.Seen.TheVariants.Acted, run.Mark.Mark, run.Run.Run, run.RunAt.RunAt, run.RunAt.TheVariants.Looks, run.RunAt.TheVariants.Registers, run.RunAt.TheVariants.Begins, run.Stage.Stage, run.Stage.TheVariants.Keep, run.Stage.TheVariants.Decide}
-use Rattle.beldi_step.specs.Host.{Core, first_core}
+use Rattle.beldi_book.specs.{declared.entry.Entry.Entry, declared.entry.Entry.TheVariants.Start, declared.entry.Entry.TheVariants.Read, declared.entry.Entry.TheVariants.Step, declared.entry.Entry.TheVariants.CommittedTx, declared.entry.Entry.TheVariants.AbortedTx, LinearOrder.count_changes}
+use Rattle.beldi_step.specs.declared.{event.EventReply.EventReply, event.EventReply.TheVariants.Acted, run.Mark.Mark, run.Run.Run, run.RunAt.RunAt, run.RunAt.TheVariants.Looks, run.RunAt.TheVariants.Registers, run.RunAt.TheVariants.Begins, run.Stage.Stage, run.Stage.TheVariants.Keep, run.Stage.TheVariants.Decide}
+use Rattle.beldi_step.specs.HostStep.{Core, first_core}
 use Rattle.beldi_row.specs.declared.table.Table.{Ghosts}
 use Rattle.beldi_schedule.specs.Settles.{State}
 use Rattle.beldi_upkeep.specs.Upkeep.{Upkeep}
-use Rattle.beldi_host.specs.{declared.host.Host.Host, Host.core_of, Right.rows_of}
+use Rattle.beldi_host.specs.{declared.host.Host.Host, HostCore.core_of, HostInvariant.rows_of}
 
 -- ---- books
 -- an entry behind so many changes: a read had seen these as well
 abbrev pub raised_entry : ℕ → Entry → Entry
 raised_entry n (Start t f a) = Start t f a
-raised_entry n (Read id seen) = Read id (n + seen)
+raised_entry n (Read id version) = Read id (n + version)
 raised_entry n (Step id) = Step id
-raised_entry n (Tx id) = Tx id
-raised_entry n (Try id p holder) = Try id p holder
+raised_entry n (CommittedTx id) = CommittedTx id
+raised_entry n (AbortedTx id p holder) = AbortedTx id p holder
 
 abbrev pub raised : ℕ → List Entry → List Entry
 raised n book = map (raised_entry n) book
@@ -29,12 +29,12 @@ joined base book = base ++ raised (count_changes base) book
 -- ---- runs: what a run has of how many changes had been made
 -- the mark of a read that is kept
 abbrev pub raised_mark : ℕ → Mark → Mark
-raised_mark n (Mark.Read seen) = Mark.Read (n + seen)
+raised_mark n (Mark.Read version) = Mark.Read (n + version)
 raised_mark n m = m
 
 -- a value that is to be kept, and a mark that is to be left
 abbrev pub raised_stage : ℕ → Stage → Stage
-raised_stage n (Keep v seen) = Keep v (n + seen)
+raised_stage n (Keep v version) = Keep v (n + version)
 raised_stage n (Decide m) = Decide (raised_mark n m)
 raised_stage n s = s
 
@@ -62,16 +62,16 @@ reopened newest book now = record (first_core newest now) { book = book }
 abbrev pub with_joined : List Entry → State → State
 with_joined base s = record s { core = record s.core { book = joined base s.core.book } }
 
--- the host and its rows are right behind the book of the sessions before it, where no log collector changed a row, and keep what is kept
--- beside
+-- the invariant holds of the host and its rows behind the book of the sessions before it, with what is kept beside it, and no log collector
+-- changed a row
 abbrev pub IsWholeAfter : {T : Type 0} {G : Ghosts T} → List Entry → Host T G → Type 0
 IsWholeAfter base h = IfSome (rows_of h) (Upkeep h.code (behind base (core_of h)))
 
 -- ---- answers: of how many changes had been made, an answer tells what the entry of a read has
-abbrev pub raised_seen : ℕ → Seen → Seen
-raised_seen n (Acted entry started over reply) = Acted (option_map (raised_entry n) entry) started over reply
-raised_seen n x = x
+abbrev pub raised_reply : ℕ → EventReply → EventReply
+raised_reply n (Acted entry started over reply) = Acted (option_map (raised_entry n) entry) started over reply
+raised_reply n x = x
 
-abbrev pub raised_answer : ℕ → Result Seen AllocError → Result Seen AllocError
-raised_answer n (Ok x) = Ok (raised_seen n x)
+abbrev pub raised_answer : ℕ → Result EventReply AllocError → Result EventReply AllocError
+raised_answer n (Ok x) = Ok (raised_reply n x)
 raised_answer n (Err w) = Err w

@@ -1,11 +1,11 @@
 // The laws of sessions one after another.
-ghost use Rattle.beldi_joined.specs.Laws.{NewestIsInTheRows, OpenedIsSafe, OpenedIsUpkept, PrunesOverLongerBook, ReopenedIsRight, ReopenedIsUpkept, SettlesAsPromisedAfter, StaysUpkeptBehind, StepsOverLongerBook};
+ghost use Rattle.beldi_joined.specs.JoinedLaws.{NewestIsInTheRows, OpenedIsSafe, OpenedIsUpkept, PrunesOverLongerBook, ReopenedHasInvariant, ReopenedIsUpkept, SettlesAsPromisedAfter, StaysUpkeptBehind, StepsOverLongerBook};
 
 use beldi_bound::settlings_are_as_promised;
 
-/// Where a host and its rows are right, so is a host of the same book that is opened over them, at any moment.
-pub fn a_reopened_host_is_right()
-    ensures { ReopenedIsRight }
+/// Where the invariant holds of a host and its rows, so it does of a host of the same book that is opened over them, at any moment.
+pub fn a_reopened_host_has_the_invariant()
+    ensures { ReopenedHasInvariant }
 {}
 
 /// It also has what every event keeps beside.
@@ -29,7 +29,7 @@ pub fn a_host_stays_upkept_behind()
     ensures { StaysUpkeptBehind }
 {}
 
-/// Where a host and its rows are right, its newest ticket is the greatest that a key of a row names, 0 where none names one.
+/// Where the invariant holds of a host and its rows, its newest ticket is the greatest that a key of a row names, 0 where none names one.
 pub fn the_newest_ticket_is_in_the_rows()
     ensures { NewestIsInTheRows }
 {}
@@ -44,7 +44,7 @@ pub fn a_pruning_over_a_longer_book()
     ensures { PrunesOverLongerBook }
 {}
 
-/// A settling of a host that is right behind the book of earlier sessions keeps its promises, by their book and its own.
+/// A settling of a host that has the invariant behind the book of earlier sessions keeps its promises, by their book and its own.
 pub fn settlings_after_sessions_are_as_promised()
     ensures { SettlesAsPromisedAfter }
 {

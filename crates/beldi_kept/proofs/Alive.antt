@@ -8,24 +8,24 @@ use Rattle.beldi_value.specs.{Id.has_no_hops, declared.id.IntentId.IntentId, dec
 use Rattle.beldi_tree.specs.declared.deployment.Deployment.{Deployment}
 use Rattle.beldi_lang.specs.{Callee.answer_of, declared.effect.Answer.Answer, declared.effect.Effect.Effect}
 use Rattle.beldi_plain.specs.{Holds.holds, Item.Item, Operation.OnItem, Operation.item_in, Operation.op_of, Plain.Instance}
-use Rattle.beldi_order.specs.Txs.{effect_after, or_own, tx_by, tx_now, txs_after}
+use Rattle.beldi_plain_laws.specs.Txs.{effect_after, or_own, tx_by, tx_now, txs_after}
 use Rattle.beldi_row.specs.{Key.RowKey, Key.at_row, Log.note_at, Table.Rows, declared.row.IntentRow.IntentRow, declared.row.Row.Row}
 use Rattle.beldi_chain.specs.Chain.{chain, content, tail}
-use Rattle.beldi_splice.specs.Laws.{IsAlike}
+use Rattle.beldi_splice.specs.SpliceLaws.{IsAlike}
 use Rattle.beldi_splice.proofs.Alike.{contents_are_alike}
 use Rattle.beldi_readlog.specs.ReadLog.{given_in, log_key}
 use Rattle.beldi_intent.specs.Intent.{intent_key}
 use Rattle.beldi_invokelog.specs.InvokeLog.{call_in, invoke_key, result_in}
-use Rattle.beldi_step.specs.{Host.Core, Noted.noted_answer, Tables.decision_key, Tables.is_committed, Tables.value_in}
+use Rattle.beldi_step.specs.{HostStep.Core, Noted.noted_answer, Tables.decision_key, Tables.is_committed, Tables.value_in}
 use Rattle.beldi_row.proofs.Logs.{id_self}
-use Rattle.beldi_known.proofs.{Cases.by_option, Phases.inside_holds_none}
-use Rattle.beldi_known.specs.{Contents.content_of, Contents.head_key, Contents.is_owner, Contents.shadow_chain, Contents.shadow_key, Listed.listed, Listed.listed_under, Matches.has_ended, Rows.BodyMatches, Rows.IntentMatches, Rows.RootMatches, Stands.answer_aside, Stands.decides, Stands.held_answer, Stands.held_inside, Stands.held_note, Stands.held_outside, Stands.key_in, Stands.note_of_lock, Stands.told_by}
-use Rattle.beldi_laws.specs.Inside.{has_finish}
-use Rattle.beldi_laws.proofs.Cases.{false_by}
-use Rattle.beldi_upkeep.specs.{Callees.belongs_to, Callees.owner_key, Work.finish_in}
-use Rattle.beldi_upkeep.proofs.{Frees.returns_hold_none, FromRight.finished_over, PastOwn.WasOwner, PastOwn.got_owner}
-use Rattle.beldi_kept.specs.{Kept.HasKept, Kept.IsOld, Kept.IsUnbound, Less.IsGone, Less.is_item}
-use Rattle.beldi_kept.proofs.{Gone.done_there, Gone.known_home, Gone.old_finished, Gone.one_row, Gone.unbound_bare, Gone.unbound_none, Gone.unbound_root, Less.IsBare, Less.there_kept}
+use Rattle.beldi_histories.proofs.{Cases.by_option, Phases.inside_holds_none}
+use Rattle.beldi_histories.specs.{Contents.content_of, Contents.head_key, Contents.is_owner, Contents.shadow_chain, Contents.shadow_key, Listed.listed, Listed.listed_under, Matches.has_ended, RowMatching.BodyMatches, RowMatching.IntentMatches, RowMatching.RootMatches, Stands.answer_aside, Stands.decides, Stands.held_answer, Stands.held_inside, Stands.held_note, Stands.held_outside, Stands.key_in, Stands.note_of_lock, Stands.answer_by_note}
+use Rattle.beldi_invariant.specs.FoundInside.{has_finish}
+use Rattle.beldi_invariant.proofs.Cases.{false_by}
+use Rattle.beldi_upkeep.specs.{Callees.belongs_to, Callees.owner_key, WorksFor.finish_in}
+use Rattle.beldi_upkeep.proofs.{Frees.returns_hold_none, FromInvariant.finished_over, PastOwn.WasOwner, PastOwn.got_owner}
+use Rattle.beldi_kept.specs.{KeptRows.HasKept, KeptRows.IsOld, KeptRows.IsUnbound, Less.IsGone, Less.is_item}
+use Rattle.beldi_kept.proofs.{Gone.done_there, Gone.recorded_home, Gone.old_finished, Gone.one_row, Gone.unbound_bare, Gone.unbound_none, Gone.unbound_root, Less.IsBare, Less.there_kept}
 
 -- a root that is known has a body
 bound_root : (b : Bool) (r : Option Row) (q : Instance) → RootMatches b r (Some q) → IsBare r → ⊥
@@ -51,65 +51,65 @@ module _ (d : Deployment) (c : Core) (m : Rows) (h : HasKept d c m) where
 
       not_over : h.gone i ≡ true → (room : ℕ) → IsOld d.life h.latest (finish_in (map.get h.kept (key_in room i))) ⊎ IsUnbound c.newest i (map.get m (key_in room i)) (map.get h.kept (key_in room i)) → ⊥
       not_over off room (inl old) =
-          let same = one_row d c h.kept h.upkeep.right i room home (done_there (map.get h.kept (key_in room i)) (inl (old_finished d.life h.latest (map.get h.kept (key_in room i)) old))) (ap is_some row) in
+          let same = one_row d c h.kept h.upkeep.invariant i room home (done_there (map.get h.kept (key_in room i)) (inl (old_finished d.life h.latest (map.get h.kept (key_in room i)) old))) (ap is_some row) in
           fresh (subst (λ o. IsOld d.life h.latest (finish_in o)) (ap (map.get h.kept) same ∙ row) old)
       not_over off room (inr u) =
           let x = map.get m (key_in room i) in
           let y = map.get h.kept (key_in room i) in
-          let same = one_row d c h.kept h.upkeep.right i room home (done_there y (inr (unbound_bare c.newest i x y u))) (ap is_some row) in
+          let same = one_row d c h.kept h.upkeep.invariant i room home (done_there y (inr (unbound_bare c.newest i x y u))) (ap is_some row) in
           let clash = sym (unbound_none c.newest i x y u) ∙ ap (map.get m) same ∙ there in cc
 
   -- one that is known, and whose kept row has no finish
-  pub known_alive : (i : IntentId) (q : Instance) → map.get h.upkeep.right.known i ≡ Some q → (has_finish (map.get h.kept (intent_key i q.func)) ≡ true → ⊥) → h.gone i ≡ false
-  known_alive i q made open_still = false_by (h.gone i) (λ off. not_over (h.over i off).home (h.over i off).over)
+  pub recorded_alive : (i : IntentId) (q : Instance) → map.get h.upkeep.invariant.histories i ≡ Some q → (has_finish (map.get h.kept (intent_key i q.func)) ≡ true → ⊥) → h.gone i ≡ false
+  recorded_alive i q made open_still = false_by (h.gone i) (λ off. not_over (h.over i off).home (h.over i off).over)
     where
-      fits : (room : ℕ) → IntentMatches (has_ended d h.upkeep.right.known) (has_no_hops i.hops) room (map.get h.kept (key_in room i)) (Some q)
-      fits room = subst (IntentMatches (has_ended d h.upkeep.right.known) (has_no_hops i.hops) room (map.get h.kept (key_in room i))) made (h.upkeep.right.rows.keys (key_in room i))
+      fits : (room : ℕ) → IntentMatches (has_ended d h.upkeep.invariant.histories) (has_no_hops i.hops) room (map.get h.kept (key_in room i)) (Some q)
+      fits room = subst (IntentMatches (has_ended d h.upkeep.invariant.histories) (has_no_hops i.hops) room (map.get h.kept (key_in room i))) made (h.upkeep.invariant.rows.keys (key_in room i))
 
       not_over : (room : ℕ) → IsOld d.life h.latest (finish_in (map.get h.kept (key_in room i))) ⊎ IsUnbound c.newest i (map.get m (key_in room i)) (map.get h.kept (key_in room i)) → ⊥
       not_over room (inl old) =
           let fin = old_finished d.life h.latest (map.get h.kept (key_in room i)) old in
-          open_still (subst (λ k. has_finish (map.get h.kept k) ≡ true) (known_home d c h.kept h.upkeep.right i q room made (done_there (map.get h.kept (key_in room i)) (inl fin))) fin)
+          open_still (subst (λ k. has_finish (map.get h.kept k) ≡ true) (recorded_home d c h.kept h.upkeep.invariant i q room made (done_there (map.get h.kept (key_in room i)) (inl fin))) fin)
       not_over room (inr u) =
           let x = map.get m (key_in room i) in
           let y = map.get h.kept (key_in room i) in
-          bound_root (room == 0) y q (subst (λ z. IntentMatches (has_ended d h.upkeep.right.known) z room y (Some q)) (unbound_root c.newest i x y u) (fits room)) (unbound_bare c.newest i x y u)
+          bound_root (room == 0) y q (subst (λ z. IntentMatches (has_ended d h.upkeep.invariant.histories) z room y (Some q)) (unbound_root c.newest i x y u) (fits room)) (unbound_bare c.newest i x y u)
 
   -- so the owner of a transaction
-  pub owner_alive : (t : TxId) → WasOwner d h.upkeep.right.known t → (has_finish (map.get h.kept (owner_key t)) ≡ true → ⊥) → h.gone t.intent ≡ false
-  owner_alive t w open_still = known_alive t.intent w.owner w.made (λ fin. open_still (subst (λ f. has_finish (map.get h.kept (intent_key t.intent f)) ≡ true) (sym w.func_is) fin))
+  pub owner_alive : (t : TxId) → WasOwner d h.upkeep.invariant.histories t → (has_finish (map.get h.kept (owner_key t)) ≡ true → ⊥) → h.gone t.intent ≡ false
+  owner_alive t w open_still = recorded_alive t.intent w.owner w.made (λ fin. open_still (subst (λ f. has_finish (map.get h.kept (intent_key t.intent f)) ≡ true) (sym w.func_is) fin))
 
   -- .. and so the owner of an item
   pub holder_alive : (t : TxId) (x : Item) → (content_of h.kept x).owner ≡ Some (Tx t) → h.gone t.intent ≡ false
-  holder_alive t x owned = owner_alive t (got_owner d h.upkeep.right.known h.upkeep.right.sane t h.upkeep.right.locked x ((h.upkeep.right.rows.txs x).owned_is_got t owned)) (λ fin. h.upkeep.seats.owns_none t x fin owned)
+  holder_alive t x owned = owner_alive t (got_owner d h.upkeep.invariant.histories h.upkeep.invariant.well_formed t h.upkeep.invariant.lock_ahead x ((h.upkeep.invariant.rows.txs x).owned_is_got t owned)) (λ fin. h.upkeep.seats.owns_none t x fin owned)
 
   -- .. and so who holds a lock: it has not ended
-  holds_open : (j : IntentId) (q : Instance) (x : Item) → map.get h.upkeep.right.known j ≡ Some q → holds d x (Some q) ≡ true → has_finish (map.get h.kept (intent_key j q.func)) ≡ true → ⊥
+  holds_open : (j : IntentId) (q : Instance) (x : Item) → map.get h.upkeep.invariant.histories j ≡ Some q → holds d x (Some q) ≡ true → has_finish (map.get h.kept (intent_key j q.func)) ≡ true → ⊥
   holds_open j q x made held fin =
-      let its = h.upkeep.right.sane.each j q made in
-      by_option q.within
+      let its = h.upkeep.invariant.well_formed.each j q made in
+      by_option q.enclosing
       (λ out. by_option q.outcome
-      (λ none. let clash = sym (ap is_some none) ∙ finished_over d c h.kept h.upkeep.right (intent_key j q.func).home j q made out fin in cc)
+      (λ none. let clash = sym (ap is_some none) ∙ finished_over d c h.kept h.upkeep.invariant (intent_key j q.func).home j q made out fin in cc)
       (λ o over. let clash = sym held ∙ returns_hold_none d q o (its.over o over) x in cc))
       (λ t inner. let clash = sym held ∙ inside_holds_none d j q its (within t inner) x in cc)
     where
-      within : (t : TxId) → q.within ≡ Some t → is_some (tx_now d j q) ≡ true
+      within : (t : TxId) → q.enclosing ≡ Some t → is_some (tx_now d j q) ≡ true
       within t inner = ap (λ w. is_some (or_own w (tx_by j q.func (length q.answers) (effect_after d q q.answers) (txs_after d q q.answers).begun))) inner
 
   pub lock_alive : (j : IntentId) (x : Item) → (content_of h.kept x).owner ≡ Some (Intent j) → h.gone j ≡ false
-  lock_alive j x owned = by_option (map.get h.upkeep.right.known j)
+  lock_alive j x owned = by_option (map.get h.upkeep.invariant.histories j)
       (λ none. let clash = sym held ∙ ap (holds d x) none in cc)
-      (λ q made. known_alive j q made (holds_open j q x made (sym (ap (holds d x) made) ∙ held)))
+      (λ q made. recorded_alive j q made (holds_open j q x made (sym (ap (holds d x) made) ∙ held)))
     where
-      held : holds d x (map.get h.upkeep.right.known j) ≡ true
-      held = sym ((h.upkeep.right.rows.items x).owner j) ∙ ap (λ o. is_owner o (Intent j)) owned ∙ id_self j
+      held : holds d x (map.get h.upkeep.invariant.histories j) ≡ true
+      held = sym ((h.upkeep.invariant.rows.items x).owner j) ∙ ap (λ o. is_owner o (Intent j)) owned ∙ id_self j
 
   -- ---- the rows of items, and those of a transaction and of an intent that are not gone
   pub alive_key : (i : IntentId) → h.gone i ≡ false → h.gone i ≡ true → ⊥
   alive_key i alive off = let clash = sym off ∙ alive in cc
 
   pub alike_item : (x : Item) → IsAlike h.gone (chain m (head_key x)) (chain h.kept (head_key x))
-  alike_item x = contents_are_alike h.gone (chain m (head_key x)) (chain h.kept (head_key x)) (h.upkeep.right.rows.chains x) (h.less.cells x) (h.less.threads x)
+  alike_item x = contents_are_alike h.gone (chain m (head_key x)) (chain h.kept (head_key x)) (h.upkeep.invariant.rows.chains x) (h.less.cells x) (h.less.threads x)
 
   pub same_owner : (x : Item) → (content_of m x).owner ≡ (content_of h.kept x).owner
   same_owner x = (alike_item x).owner
@@ -154,14 +154,14 @@ module _ (d : Deployment) (c : Core) (m : Rows) (h : HasKept d c m) where
       aside_alike : (x : Item) → answer_aside m t p x ≡ answer_aside h.kept t p x
       aside_alike x = ap (λ z. option_and_then noted_answer (note_at (content z).notes p)) (same_shadow t x live)
 
-      told_alike : (x : Item) → told_by p (note_of_lock m p x) (answer_aside m t p x) ≡ told_by p (note_of_lock h.kept p x) (answer_aside h.kept t p x)
-      told_alike x = λ j. told_by p (lock_alike x j) (aside_alike x j)
+      told_alike : (x : Item) → answer_by_note p (note_of_lock m p x) (answer_aside m t p x) ≡ answer_by_note p (note_of_lock h.kept p x) (answer_aside h.kept t p x)
+      told_alike x = λ j. answer_by_note p (lock_alike x j) (aside_alike x j)
 
       inside_alike : (e : Effect) → held_inside m t p func e ≡ held_inside h.kept t p func e
       inside_alike Effect.Begin = refl
       inside_alike Effect.Abort = refl
       inside_alike (Effect.End y) = ap (λ r. option_and_then (decides y) (option_map given_in r)) (same_decision t live)
-      inside_alike (Effect.Read u k) = λ j. told_by p (lock_alike (record { func = func; table = u; key = k }) j) (option_map Answer.Value (option_map given_in (log_alike j)))
+      inside_alike (Effect.Read u k) = λ j. answer_by_note p (lock_alike (record { func = func; table = u; key = k }) j) (option_map Answer.Value (option_map given_in (log_alike j)))
       inside_alike (Effect.Write u k v) = told_alike (record { func = func; table = u; key = k })
       inside_alike (Effect.CondWrite u k r o v) = told_alike (record { func = func; table = u; key = k })
       inside_alike e = outside_alike e

@@ -10,20 +10,20 @@ use Rattle.beldi_row.specs.KeyOrder.{key_exact, key_total}
 use Rattle.beldi_intent.specs.Intent.{root_key}
 use Rattle.beldi_upkeep.specs.Upkeep.{Upkeep}
 use Rattle.std.proofs.Common.{◌≡◌, ◌⊎◌, inl, inr, ℕ, zero, suc, Bool, true, false, Option, Some, None, is_some, refl, ap, sym, ◌∙◌, subst, arith}
-use Rattle.beldi_upkeep.specs.{Callees.belongs_to, Callees.seat_of, Work.finish_in}
+use Rattle.beldi_upkeep.specs.{Callees.belongs_to, Callees.seat_of, WorksFor.finish_in}
 use Rattle.beldi_upkeep.proofs.Together.{begins_upkept}
 use Rattle.beldi_row.specs.Table.{Rows}
 use Rattle.beldi_chain.specs.Chain.{chain}
 use Rattle.beldi_splice.proofs.Alike.{linked_are_so, nobody_gone_none_less}
-use Rattle.beldi_step.specs.Host.{Core, first_core}
-use Rattle.beldi_known.specs.Contents.{head_key}
-use Rattle.beldi_wanted.proofs.Kept.{begins_wanted}
-use Rattle.beldi_kept.proofs.{Gone.old_still, Less.by_kind, Whole.whole_ahead}
-use Rattle.beldi_kept.specs.{Less.IsGone, Less.Less, Kept.IsOld, Laws.AllAreKept, Laws.BeginsKept, Laws.LooksFindOld, Laws.NobodyGone, Laws.OldStays}
+use Rattle.beldi_step.specs.HostStep.{Core, first_core}
+use Rattle.beldi_histories.specs.Contents.{head_key}
+use Rattle.beldi_wanted.proofs.WantedKept.{begins_wanted}
+use Rattle.beldi_kept.proofs.{Gone.old_still, Less.by_kind, KeptWhole.whole_ahead}
+use Rattle.beldi_kept.specs.{Less.IsGone, Less.Less, KeptRows.IsOld, KeptLaws.AllAreKept, KeptLaws.BeginsKept, KeptLaws.LooksFindOld, KeptLaws.NobodyGone, KeptLaws.OldStays}
 
 -- rows that are all there
 whole : (d : Deployment) (c : Core) (m : Rows) (gone : IntentId → Bool) → Upkeep d c m → Less gone m m
-whole d c m gone u = record { rows = λ k other. inl refl; cells = λ x. (linked_are_so gone (chain m (head_key x)) (u.right.rows.chains x)).0; threads = λ x. (linked_are_so gone (chain m (head_key x)) (u.right.rows.chains x)).1 }
+whole d c m gone u = record { rows = λ k other. inl refl; cells = λ x. (linked_are_so gone (chain m (head_key x)) (u.invariant.rows.chains x)).0; threads = λ x. (linked_are_so gone (chain m (head_key x)) (u.invariant.rows.chains x)).1 }
 
 pub begins_kept : BeginsKept
 begins_kept d now = record { kept = map.empty; upkeep = begins_upkept d now; wanted = begins_wanted d now; gone = λ i. false; latest = 0; less = whole d (first_core 0 now) map.empty (λ i. false) (begins_upkept d now); over = λ i off. cc; spared = λ n r i live in_time works. refl; ahead = λ n r live in_time. whole_ahead d (first_core 0 now) map.empty (begins_upkept d now) n r live; newest = inl refl }
@@ -40,7 +40,7 @@ issued_newest (suc n) o is = inr (is ∙ ap (λ b. b && nat_le (suc n) (suc n)) 
 
 pub all_are_kept : AllAreKept
 all_are_kept d c m u w = (
-  record { kept = m; upkeep = u; wanted = w; gone = λ i. false; latest = 0; less = whole d c m (λ i. false) u; over = λ i off. cc; spared = λ n r i live in_time works. refl; ahead = λ n r live in_time. whole_ahead d c m u n r live; newest = issued_newest c.newest (is_some (map.get m (root_key c.newest))) (u.right.tickets c.newest) },
+  record { kept = m; upkeep = u; wanted = w; gone = λ i. false; latest = 0; less = whole d c m (λ i. false) u; over = λ i off. cc; spared = λ n r i live in_time works. refl; ahead = λ n r live in_time. whole_ahead d c m u n r live; newest = issued_newest c.newest (is_some (map.get m (root_key c.newest))) (u.invariant.tickets c.newest) },
   refl,
   λ i. refl,
 )
@@ -55,7 +55,7 @@ nobody_gone d c m h none = subst (Upkeep d c) (same_map key_total key_exact h.ke
       | inl same ↦ sym same
       | inr off ↦ absurd (nobody h.gone none (belongs_to k.kind) off.1)
     ])
-    (λ x n at. subst (λ z. map.get h.kept z ≡ map.get m z) at (sym (nobody_gone_none_less h.gone (chain m (head_key x)) (chain h.kept (head_key x)) (h.upkeep.right.rows.chains x) none (h.less.cells x) n))))) h.upkeep
+    (λ x n at. subst (λ z. map.get h.kept z ≡ map.get m z) at (sym (nobody_gone_none_less h.gone (chain m (head_key x)) (chain h.kept (head_key x)) (h.upkeep.invariant.rows.chains x) none (h.less.cells x) n))))) h.upkeep
 
 pub looks_find_old : LooksFindOld
 looks_find_old d c m h k i there of told = record { intent = i; belongs = of; old = by_less (h.less.rows (seat_of k i) refl) told }

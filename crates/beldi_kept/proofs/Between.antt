@@ -5,11 +5,11 @@ use Rattle.std.proofs.Common.{◌≡◌, ℕ, ◌==◌, ◌&&◌, Bool, true, fa
 use Rattle.beldi_value.specs.{Id.id_cmp, Id.id_exact, declared.id.IntentId.IntentId}
 use Rattle.beldi_row.specs.{Key.RowKey, Key.key_cmp, KeyOrder.key_total, Log.id_eq, Table.IsNext, Table.Rows, declared.key.Kind.Kind, declared.row.Row.Row}
 use Rattle.beldi_row.proofs.Logs.{id_self}
-use Rattle.beldi_walk.specs.Query.{told_by}
+use Rattle.beldi_query.specs.Query.{query_reply}
 use Rattle.beldi_lock.specs.{Lock.lockset_key, Lockset.IsFirstFrom, Lockset.item_after, Lockset.item_of, Lockset.lockset_after, Lockset.lockset_asks, Lockset.lockset_found}
 use Rattle.beldi_lock.proofs.Firsts.{by_parts, items, level, parts, rest}
-use Rattle.beldi_txn.specs.{declared.way.Called.Called, Invokes.call_after, Invokes.call_key, Invokes.call_of, Invokes.func_called, Invokes.invokes_after, Invokes.invokes_asks, Invokes.invokes_found}
-use Rattle.beldi_txn.proofs.{Calls.by_steps, Calls.is_call, Calls.steps, Locks.is_item}
+use Rattle.beldi_txn.specs.{declared.call_path.Called.Called, Invokes.call_after, Invokes.call_key, Invokes.call_of, Invokes.func_called, Invokes.invokes_after, Invokes.invokes_asks, Invokes.invokes_found}
+use Rattle.beldi_txn.proofs.{InvokedInside.by_steps, InvokedInside.is_call, InvokedInside.steps, LocksetRows.is_item}
 use Rattle.beldi_upkeep.specs.Callees.{belongs_to}
 use Rattle.beldi_kept.specs.Less.{IsGone, Less, is_item as of_item}
 use Rattle.beldi_kept.proofs.NextAlike.{next_alike}
@@ -60,7 +60,7 @@ module _ (home : ℕ) (id : IntentId) (begin : ℕ) where
         at_kind (Kind.Data v n r) e item = refl
         at_kind kind e item = cc
 
-    pub same_lock : (after : Option (ℕ × List ℕ)) → lockset_found home id begin (told_by (lockset_asks home id begin after) 0 m) ≡ lockset_found home id begin (told_by (lockset_asks home id begin after) 0 kept)
+    pub same_lock : (after : Option (ℕ × List ℕ)) → lockset_found home id begin (query_reply (lockset_asks home id begin after) 0 m) ≡ lockset_found home id begin (query_reply (lockset_asks home id begin after) 0 kept)
     same_lock (Some at) = next_alike gone m kept less (lk at.0 at.1) (item_after home id begin) refl lock_alive lock_items
         (λ e x is q s next up off. locks_between at.0 x.0 at.1 x.1 q (not_below (lk at.0 at.1) q next.0) (ap (key_cmp q) (sym (is_item home id begin e.0.home e.0.kind x is)) ∙ up) off)
     same_lock None = next_alike gone m kept less (lockset_after home id begin None) (item_after home id begin) refl lock_alive lock_items
@@ -101,7 +101,7 @@ module _ (home : ℕ) (id : IntentId) where
         at_kind (Kind.Data v n r) e item = refl
         at_kind kind e item = cc
 
-    pub same_call : (after : Option ℕ) → invokes_found home id (told_by (invokes_asks home id after) 0 m) ≡ invokes_found home id (told_by (invokes_asks home id after) 0 kept)
+    pub same_call : (after : Option ℕ) → invokes_found home id (query_reply (invokes_asks home id after) 0 m) ≡ invokes_found home id (query_reply (invokes_asks home id after) 0 kept)
     same_call (Some a) = next_alike gone m kept less (ck a) (call_after home id) refl call_alive call_items
         (λ e x is q s next up off. calls_between a x.step q s (not_below (ck a) q next.0) (ap (key_cmp q) (sym (is_call home id e.0.home e.0.kind e.1 x is).0) ∙ up) off)
     same_call None = next_alike gone m kept less (invokes_after home id None) (call_after home id) refl call_alive call_items

@@ -10,15 +10,15 @@ use Rattle.beldi_row.proofs.{Gets.got, Gets.key_same, Logs.place_same}
 use Rattle.beldi_intent.specs.Intent.{root_key}
 use Rattle.beldi_chain.specs.Chain.{Chain, chain}
 use Rattle.beldi_links.specs.Links.{LeadsTo, SetTo}
-use Rattle.beldi_links.proofs.{Keeps.row_set, Meets.rows_below, Ways.one_step, Ways.then_way}
-use Rattle.beldi_splice.specs.{Laws.LeadsOver, Onward.HasFollower, Onward.Onward, Splice.IsMoored, Splice.IsPassable, Splice.IsSafeFrom, Splice.IsThreaded, Splice.LeadsPast, Splice.LessChain, Splice.MayFollow}
+use Rattle.beldi_links.proofs.{LinkKeeps.row_set, Meets.rows_below, Ways.one_step, Ways.then_way}
+use Rattle.beldi_splice.specs.{SpliceLaws.LeadsOver, Onward.HasFollower, Onward.Onward, Splice.IsMoored, Splice.IsPassable, Splice.IsSafeFrom, Splice.IsThreaded, Splice.LeadsPast, Splice.LessChain, Splice.MayFollow}
 use Rattle.beldi_splice.proofs.{Alike.first_there, Both.there_linked, Onward.drops_lead_on, Onward.marks_lead_on, Onward.same_leads_on, Onward.skips_lead_on, Pruned.dangles_keep, Pruned.drops_keep, Pruned.is_of, Pruned.marks_keep, Pruned.skipped_are_unled, Pruned.skips_keep}
-use Rattle.beldi_prune.specs.Entries.{HasEntryOf}
-use Rattle.beldi_step.specs.{Host.Core, declared.run.Run.Run}
-use Rattle.beldi_known.specs.{Contents.head_key, Stands.key_in}
-use Rattle.beldi_known.proofs.Acts.{by_item, item_head, other_item}
-use Rattle.beldi_upkeep.specs.{Callees.belongs_to, Work.finish_in}
-use Rattle.beldi_kept.specs.{Kept.HasKept, Kept.IsLater, Kept.IsOld, Kept.IsOver, Kept.IsUnbound, Less.IsGone, Less.Less, Less.is_item, Safe.IsMarkedTo}
+use Rattle.beldi_prune.specs.CellEntries.{HasEntryOf}
+use Rattle.beldi_step.specs.{HostStep.Core, declared.run.Run.Run}
+use Rattle.beldi_histories.specs.{Contents.head_key, Stands.key_in}
+use Rattle.beldi_histories.proofs.Acts.{by_item, item_head, other_item}
+use Rattle.beldi_upkeep.specs.{Callees.belongs_to, WorksFor.finish_in}
+use Rattle.beldi_kept.specs.{KeptRows.HasKept, KeptRows.IsLater, KeptRows.IsOld, KeptRows.IsOver, KeptRows.IsUnbound, Less.IsGone, Less.Less, Less.is_item, Safe.IsMarkedTo}
 use Rattle.beldi_kept.proofs.{Items.alone, Less.was_there, Passing.LeadOn, Staying.StaysOn, Staying.for_run}
 
 -- ---- what a turn of a collector leaves: the rows that others found go on, and nobody more is gone
@@ -155,7 +155,7 @@ module _ (d : Deployment) (c : Core) (m : Rows) (h : HasKept d c m) (y : Item) (
 
   -- ---- rows of an item are threaded where one is there
   kept_first : (r : ℕ) → (o : Option Row) → f r ≡ o → is_some o ≡ true → is_some (f 0) ≡ true
-  kept_first r (Some z) at some = rows_below f (there_linked f (h.upkeep.right.rows.chains y) r z at) r 0 z at (omega arith)
+  kept_first r (Some z) at some = rows_below f (there_linked f (h.upkeep.invariant.rows.chains y) r z at) r 0 z at (omega arith)
   kept_first r None at some = cc
 
   threaded : (r : ℕ) (s : Row) → g r ≡ Some s → IsThreaded g

@@ -7,14 +7,14 @@ use Rattle.beldi_value.specs.{Id.id_cmp, declared.id.IntentId.IntentId, declared
 use Rattle.beldi_tree.specs.declared.deployment.Deployment.{Deployment}
 use Rattle.beldi_row.specs.{Key.RowKey, Table.Rows, declared.notes.Note.Note}
 use Rattle.beldi_chain.specs.Chain.{chain}
-use Rattle.beldi_order.proofs.Operations.{id_same}
+use Rattle.beldi_plain_laws.proofs.PlainOperations.{id_same}
 use Rattle.beldi_intent.specs.Intent.{intent_key}
 use Rattle.beldi_splice.proofs.Alike.{more_are_gone}
-use Rattle.beldi_prune.specs.Entries.{HasEntryOf}
-use Rattle.beldi_step.specs.{Host.Core, declared.run.Run.Run}
-use Rattle.beldi_known.specs.{Contents.head_key, Stands.key_in}
-use Rattle.beldi_upkeep.specs.{Callees.belongs_to, Work.WorksFor, Work.finish_in}
-use Rattle.beldi_kept.specs.{Kept.HasKept, Kept.IsLater, Kept.IsOld, Kept.IsOver, Kept.IsUnbound, Less.IsGone, Less.Less, Less.and_gone, Safe.IsGoneOrOld}
+use Rattle.beldi_prune.specs.CellEntries.{HasEntryOf}
+use Rattle.beldi_step.specs.{HostStep.Core, declared.run.Run.Run}
+use Rattle.beldi_histories.specs.{Contents.head_key, Stands.key_in}
+use Rattle.beldi_upkeep.specs.{Callees.belongs_to, WorksFor.WorksFor, WorksFor.finish_in}
+use Rattle.beldi_kept.specs.{KeptRows.HasKept, KeptRows.IsLater, KeptRows.IsOld, KeptRows.IsOver, KeptRows.IsUnbound, Less.IsGone, Less.Less, Less.and_gone, Safe.IsGoneOrOld}
 use Rattle.beldi_kept.proofs.{Gone.old_still, Less.gone_itself, Less.gone_more, Passing.gone_or_old_later, Removals.too_late}
 
 -- ---- states one after another

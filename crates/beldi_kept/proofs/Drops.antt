@@ -5,15 +5,15 @@ use Rattle.std.specs.Prelude.{not, ◌||◌, ◌&&◌}
 use Rattle.std.proofs.Common.{◌≡◌, inr, ℕ, ◌<◌, Bool, true, false, Option, Some, None, is_some, if◌then◌else◌, refl, ap, sym, ◌∙◌, subst, arith}
 use Rattle.beldi_value.specs.{Id.has_no_hops, Id.home_of, Id.root_of, declared.id.IntentId.IntentId, declared.place.TxId.TxId}
 use Rattle.beldi_tree.specs.declared.deployment.Deployment.{Deployment}
-use Rattle.beldi_row.specs.{Act.act, Act.drops, Act.is_left_row, Act.is_old_row, Act.is_past, Act.removed_tell, Act.removes, Act.stays_unless, Key.RowKey, Key.key_cmp, Key.key_ticket, Table.Rows, Table.after_act, Table.set_row, declared.act.Act.Act, declared.key.Kind.Kind, declared.row.Body.Body, declared.row.IntentRow.IntentRow, declared.row.Row.Row}
+use Rattle.beldi_row.specs.{Act.act, Act.drops, Act.is_left_row, Act.is_old_row, Act.is_past, Act.removed_reply, Act.removes, Act.stays_unless, Key.RowKey, Key.key_cmp, Key.key_ticket, Table.Rows, Table.after_act, Table.set_row, declared.act.Act.Act, declared.key.Kind.Kind, declared.row.Body.Body, declared.row.IntentRow.IntentRow, declared.row.Row.Row}
 use Rattle.beldi_row.proofs.{Gets.key_same, Removed.act_drops, Removed.drops_none, Unchanged.unchanged}
 use Rattle.beldi_plain.specs.Plain.{Instance}
 use Rattle.beldi_intent.specs.Intent.{root_key}
-use Rattle.beldi_step.specs.Host.{Core}
-use Rattle.beldi_known.specs.{Matches.has_ended, Rows.CalleeBodyMatches, Rows.IntentMatches, Rows.RootMatches, Stands.key_in}
-use Rattle.beldi_laws.proofs.{Cases.false_by, Returns.root_is}
-use Rattle.beldi_upkeep.specs.{Callees.seat_of, Work.finish_in}
-use Rattle.beldi_kept.specs.{Kept.HasKept, Kept.IsLater, Kept.IsOld, Kept.IsRowOfOld, Laws.IntentDropsKeep, Laws.RowDropsKeep}
+use Rattle.beldi_step.specs.HostStep.{Core}
+use Rattle.beldi_histories.specs.{Matches.has_ended, RowMatching.CalleeBodyMatches, RowMatching.IntentMatches, RowMatching.RootMatches, Stands.key_in}
+use Rattle.beldi_invariant.proofs.{Cases.false_by, Returns.root_is}
+use Rattle.beldi_upkeep.specs.{Callees.seat_of, WorksFor.finish_in}
+use Rattle.beldi_kept.specs.{KeptRows.HasKept, KeptRows.IsLater, KeptRows.IsOld, KeptRows.IsRowOfOld, KeptLaws.IntentDropsKeep, KeptLaws.RowDropsKeep}
 use Rattle.beldi_kept.proofs.{Gone.root_home, Less.not_item, Less.there_kept, Removals.removals_keep, Removals.unbound_may_go}
 
 -- what has a body, and no finish that is old, is not old
@@ -52,7 +52,7 @@ module _ (d : Deployment) (c : Core) (m : Rows) (h : HasKept d c m) where
     by_row None none = unless_changed (ap (λ o. (act a c.now o).0) none ∙ drops_none a c.now may ∙ sym none)
     by_row (Some r) there = by_test (removes a c.now r) refl (ap (λ o. (act a c.now o).0) there ∙ ap (λ z. z.0) (act_drops a c.now r may))
       where
-        by_test : (b : Bool) → removes a c.now r ≡ b → (act a c.now (map.get m k)).0 ≡ (stays_unless b (r, removed_tell b)).0 → Keeps (after_act a c.now k m)
+        by_test : (b : Bool) → removes a c.now r ≡ b → (act a c.now (map.get m k)).0 ≡ (stays_unless b (r, removed_reply b)).0 → Keeps (after_act a c.now k m)
         by_test true is left = subst (λ o. Keeps (set_row m k o)) (sym left) (goes r there is)
         by_test false is left = unless_changed (left ∙ sym there)
 
@@ -83,7 +83,7 @@ module _ (d : Deployment) (c : Core) (m : Rows) (h : HasKept d c m) where
       kept = there_kept h.gone m h.kept h.less k (Row.Intent w) refl there
 
       at_home : has_no_hops i.hops ≡ true → home ≡ 0
-      at_home root = root_home d c h.kept h.upkeep.right i home root (ap is_some kept)
+      at_home root = root_home d c h.kept h.upkeep.invariant i home root (ap is_some kept)
 
       -- its finish is old
       seated : (b : Bool) → has_no_hops i.hops ≡ b → home_of i home ≡ home
@@ -98,8 +98,8 @@ module _ (d : Deployment) (c : Core) (m : Rows) (h : HasKept d c m) where
       -- it was given nothing to do
       bare_goes : w.body ≡ None → Keeps (set_row m k None)
       bare_goes bare =
-          let fits = subst (λ r. IntentMatches (has_ended d h.upkeep.right.known) (has_no_hops i.hops) home r (map.get h.upkeep.right.known i)) kept (h.upkeep.right.rows.keys k) in
-          let root = bare_root (has_ended d h.upkeep.right.known) (has_no_hops i.hops) home w (map.get h.upkeep.right.known i) fits bare in
+          let fits = subst (λ r. IntentMatches (has_ended d h.upkeep.invariant.histories) (has_no_hops i.hops) home r (map.get h.upkeep.invariant.histories i)) kept (h.upkeep.invariant.rows.keys k) in
+          let root = bare_root (has_ended d h.upkeep.invariant.histories) (has_no_hops i.hops) home w (map.get h.upkeep.invariant.histories i) fits bare in
           let at : root_key i.ticket ≡ k = λ j. record { home = sym (at_home root) j; kind = Kind.Intent (sym (root_is i root) j) } in
           subst (λ q. Keeps (set_row m q None)) at (unbound_may_go d c m h i.ticket w (ap (map.get m) at ∙ there) bare (older root))
 
@@ -117,7 +117,7 @@ module _ (d : Deployment) (c : Core) (m : Rows) (h : HasKept d c m) where
   pub left_goes : (k : RowKey) → IsRowOfOld d.life c.now h.gone h.kept k → (r : Row) → map.get m k ≡ Some r → is_left_row r ≡ true → Keeps (set_row m k None)
   left_goes k w r there left = removals_keep d c m h k w (false_by (is_eq (key_cmp (root_key c.newest) k)) (λ e.
       let kept : map.get h.kept (root_key c.newest) ≡ Some r = ap (map.get h.kept) (key_same (root_key c.newest) k e) ∙ there_kept h.gone m h.kept h.less k r (not_item k.kind (Some w.intent) w.belongs refl) there in
-      no_left r (map.get h.upkeep.right.known (root_of c.newest)) (subst (λ o. RootMatches true o (map.get h.upkeep.right.known (root_of c.newest))) kept (h.upkeep.right.rows.keys (root_key c.newest))) left))
+      no_left r (map.get h.upkeep.invariant.histories (root_of c.newest)) (subst (λ o. RootMatches true o (map.get h.upkeep.invariant.histories (root_of c.newest))) kept (h.upkeep.invariant.rows.keys (root_key c.newest))) left))
 
 pub intent_drops_keep : IntentDropsKeep
 intent_drops_keep d c m h home i older = after_drop d c m h (key_in home i) (Act.DropIntent d.life) refl (intent_goes d c m h home i older)

@@ -1,13 +1,13 @@
 -- A run may stand at another stage of its effect, where what has to be so there is.
 use Rattle.std.specs.Ordering.{is_eq, nat_cmp}
 use Rattle.std.proofs.Common.{cond}
-use Rattle.beldi_laws.proofs.Names.{AtStage, Begins, Begun, Bool, Core, Deployment, IntentId, Knows, KnowsAt, Rows, Run, RunAt, Some, Stage, ap, at_stage, false, inl, inr, is_some, key_in, put_got, put_run, refl, same_some, subst, sym, true, ℕ, ◌<◌, ◌∙◌, ◌≡◌, ◌≤◌}
-use Rattle.beldi_laws.proofs.Names.map
-use Rattle.beldi_laws.proofs.{Lives.runs_put, Moves.with_runs}
+use Rattle.beldi_invariant.proofs.Names.{AtStage, Begins, Begun, Bool, Core, Deployment, IntentId, Knows, KnowsAt, Rows, Run, RunAt, Some, Stage, ap, at_stage, false, inl, inr, is_some, key_in, put_got, put_run, refl, same_some, subst, sym, true, ℕ, ◌<◌, ◌∙◌, ◌≡◌, ◌≤◌}
+use Rattle.beldi_invariant.proofs.Names.map
+use Rattle.beldi_invariant.proofs.{Lives.runs_put, Moves.with_runs}
 use Rattle.beldi_value.specs.Id.{child_of}
-use Rattle.beldi_upkeep.specs.{Callees.HasPut, Callees.HasTold, Callees.RunOwes, Passed.MayPass, Deadlines.IsNear, Upkeep.Upkeep, Work.IsWorkedFor, Work.WorksFor, Work.finish_in}
+use Rattle.beldi_upkeep.specs.{Callees.HasPut, Callees.HasTold, Callees.RunOwes, Passed.MayPass, Deadlines.IsNear, Upkeep.Upkeep, WorksFor.IsWorkedFor, WorksFor.WorksFor, WorksFor.finish_in}
 use Rattle.beldi_upkeep.proofs.Quiet.{is_async, not_async}
-use Rattle.beldi_step.specs.{Host.last_of, Run.own_tx, declared.run.RunTx.RunTx}
+use Rattle.beldi_step.specs.{HostStep.last_of, Run.own_tx, declared.run.RunTx.RunTx}
 use Rattle.beldi_value.specs.declared.place.TxId.{TxId}
 use Rattle.beldi_daal.specs.declared.cell.WriteAt.{WriteAt}
 use Rattle.beldi_txn.specs.declared.end.EndAt.{EndAt}
@@ -56,21 +56,21 @@ owns_none id func (Stage.Decide m) o quiet = tt
 owns_none id func (Stage.Call at) o quiet = tt
 owns_none id func (Stage.Async at) o quiet = cc
 owns_none id func Stage.Back o quiet = tt
-owns_none id func Stage.Tell o quiet = tt
+owns_none id func Stage.Notify o quiet = tt
 owns_none id func Stage.Close o quiet = tt
 
 module _ (d : Deployment) (c : Core) (m : Rows) (u : Upkeep d c m) (i : ℕ) (r : Run) (g : Begun) (w : Stage) (live : map.get c.runs i ≡ Some r) (at : r.at ≡ Begins g) (quiet : is_owing w ≡ false) (told : HasTold w g.caller m) (put : HasPut w g.machine.effect (child_of r.id g.machine.steps) m)
-    (here : (k : Knows d u.right.known r g) → AtStage m u.right.plain c.book k w g.machine.effect g.tx) where
+    (here : (k : Knows d u.invariant.histories r g) → AtStage m u.invariant.plain c.book k w g.machine.effect g.tx) where
   abbrev next : Run
   next = record r { at = Begins (at_stage g w) }
 
   abbrev core : Core
   core = record c { runs = put_run c.runs i (Some next) }
 
-  before : KnowsAt d m u.right.plain c.book u.right.known r (Begins g)
-  before = subst (KnowsAt d m u.right.plain c.book u.right.known r) at (subst (RunAt d m u.right.plain c.book u.right.known) live (u.right.runs.runs i))
+  before : KnowsAt d m u.invariant.plain c.book u.invariant.histories r (Begins g)
+  before = subst (KnowsAt d m u.invariant.plain c.book u.invariant.histories r) at (subst (RunAt d m u.invariant.plain c.book u.invariant.histories) live (u.invariant.runs.runs i))
 
-  knows : KnowsAt d m u.right.plain c.book u.right.known next next.at
+  knows : KnowsAt d m u.invariant.plain c.book u.invariant.histories next next.at
   knows = (before.0, record { here = here before.0; released = before.1.released; row = before.1.row })
 
   -- what is so of each run and of this one
@@ -97,7 +97,7 @@ module _ (d : Deployment) (c : Core) (m : Rows) (u : Upkeep d c m) (i : ℕ) (r 
 
   pub stands_elsewhere : Upkeep d core m
   stands_elsewhere = record {
-    right = with_runs u.right core refl refl (runs_put d m u.right.plain c.book u.right.known c.runs c.last_run i (Some next) (ap is_some live) knows u.right.runs);
+    invariant = with_runs u.invariant core refl refl (runs_put d m u.invariant.plain c.book u.invariant.histories c.runs c.last_run i (Some next) (ap is_some live) knows u.invariant.runs);
     seats = u.seats;
     owe = record { each = λ n s b is begun. each (λ n s. (b : Begun) → s.at ≡ Begins b → RunOwes m s.id b) (λ n s is b. u.owe.each n s b is) (λ n b begun. subst (RunOwes m r.id) (same_begun (at_stage g w) b begun) (let o = u.owe.each i r g live at in record { told = told; put = put; closed = o.closed })) n s is b begun };
     past = u.past;

@@ -9,17 +9,17 @@ use Rattle.beldi_intent.specs.Intent.{intent_key}
 use Rattle.beldi_chain.specs.Chain.{chain}
 use Rattle.beldi_splice.specs.Onward.{IsOnWay}
 use Rattle.beldi_splice.proofs.{Onward.ways_begin, Onward.ways_end, Onward.ways_go_on, Pruned.is_of}
-use Rattle.beldi_prune.specs.{Entries.HasEntryOf, Entries.IsOf, Seat.seat_of}
-use Rattle.beldi_prune.specs.Laws.{IsBegun, IsOldAt, is_behind, rows_turned, turned}
+use Rattle.beldi_prune.specs.{CellEntries.HasEntryOf, CellEntries.IsOf, Seat.seat_of}
+use Rattle.beldi_prune.specs.PruneLaws.{IsBegun, IsOldAt, is_behind, rows_turned, turned}
 use Rattle.beldi_prune.specs.Marks.{FindsMarked, IsPastRow, LeadsOn, Marks, SeesPast, Skips, left_to_prove}
 use Rattle.beldi_prune.specs.declared.collector.LogCollector.{LogCollector}
 use Rattle.beldi_prune.specs.declared.collector.CollectorAt.{CollectorAt, TheVariants.Before, TheVariants.ToDropIntent, TheVariants.ToLook, TheVariants.ToDrop, TheVariants.ToProve, TheVariants.ToMark, TheVariants.ToLead, TheVariants.ToSkip, TheVariants.ToDangle, TheVariants.ToDropCell}
-use Rattle.beldi_prune.proofs.{Adrift.only_passed, Gone.only_recyclable, Passed.only_marked, Proved.only_proved, Right.stay_right}
-use Rattle.beldi_step.specs.Host.{Core}
-use Rattle.beldi_known.specs.Contents.{head_key}
-use Rattle.beldi_upkeep.specs.Work.{finish_in}
-use Rattle.beldi_kept.specs.{Kept.HasKept, Kept.IsLater, Kept.IsOld, Kept.IsRowOfOld, Less.IsGone, Safe.Collects, Safe.Found, Safe.IsGoneOrOld, Safe.IsMarkedTo, Safe.IsProved, Safe.WasKept, Safe.chain_of}
-use Rattle.beldi_kept.proofs.{Begins.looks_find_old, Looks.looks_there, Passing.LeadOn, Passing.behind_item, Passing.found_at, Passing.follower_stays, Passing.lead_on_at, Passing.marked_follower, Seated.entries_have_rows, Step.was_kept, Turns.skipped}
+use Rattle.beldi_prune.proofs.{Adrift.only_passed, Gone.only_recyclable, Passed.only_marked, Proved.only_proved, CollectorInvariant.stay_invariant}
+use Rattle.beldi_step.specs.HostStep.{Core}
+use Rattle.beldi_histories.specs.Contents.{head_key}
+use Rattle.beldi_upkeep.specs.WorksFor.{finish_in}
+use Rattle.beldi_kept.specs.{KeptRows.HasKept, KeptRows.IsLater, KeptRows.IsOld, KeptRows.IsRowOfOld, Less.IsGone, Safe.Collects, Safe.Found, Safe.IsGoneOrOld, Safe.IsMarkedTo, Safe.IsProved, Safe.WasKept, Safe.chain_of}
+use Rattle.beldi_kept.proofs.{Begins.looks_find_old, Looks.looks_there, Passing.LeadOn, Passing.behind_item, Passing.found_at, Passing.follower_stays, Passing.lead_on_at, Passing.marked_follower, Seated.entries_have_rows, Step.was_kept, KeptTurns.skipped}
 
 -- ---- a look at an intent's row
 module _ (d : Deployment) (c : Core) (m : Rows) (h : HasKept d c m) where
@@ -70,7 +70,7 @@ module _ (d : Deployment) (c : Core) (m : Rows) (h : HasKept d c m) (w : LogColl
   at_found a is = subst (Found d c m h) is has.found
 
   at_right : (a : CollectorAt) → w.at ≡ a → IsBegun c.newest w.cursor a
-  at_right a is = subst (IsBegun c.newest w.cursor) is has.right
+  at_right a is = subst (IsBegun c.newest w.cursor) is has.invariant
 
   found_row : (k : RowKey) (r : Row) → next_row m w.cursor ≡ Some (k, r) → map.get m k ≡ Some r
   found_row k r is = (subst (IsNext m w.cursor) is (next_row_least m w.cursor)).1
@@ -100,17 +100,17 @@ module _ (d : Deployment) (c : Core) (m : Rows) (h : HasKept d c m) (w : LogColl
   proved_then k is e = elim (only_proved.0 c.newest d.life c.now w m k is e) [
     | inl u ↦ let there = found_row k (Row.Cell u.cell) u.found in
         (there_kept k (Row.Cell u.cell) there, subst (IsProved d.life c.now h.gone h.kept k.home is) (sym there) (u.next, λ i of. inr (subst (λ z. IsOf z i) u.intents (only_proved.1 u.cell.log i of))))
-    | inr u ↦ let was = was_proved w.at (k, u.intent ∷ is) u.left has.right has.found in
+    | inr u ↦ let was = was_proved w.at (k, u.intent ∷ is) u.left has.invariant has.found in
         (was.0.0, left_out d c m h k was.1 u.intent is u.old (map.get m k) refl was.0.1)
   ]
 
   -- ---- as rows are after the turn
   module _ (g : HasKept d c n) (later : IsLater h g) (on : LeadOn h.kept m n) where
     still : (a : CollectorAt) → then_at ≡ a → Found d c m h a → Found d c n g a
-    still a is = found_at d c c m n h g later on (turned c.newest d.life c.now w m).cursor c.newest a (subst (IsBegun c.newest (turned c.newest d.life c.now w m).cursor) is (stay_right.2 c.newest d.life c.now w m has.right))
+    still a is = found_at d c c m n h g later on (turned c.newest d.life c.now w m).cursor c.newest a (subst (IsBegun c.newest (turned c.newest d.life c.now w m).cursor) is (stay_invariant.2 c.newest d.life c.now w m has.invariant))
 
     to_drop : (k : RowKey) → then_at ≡ ToDrop k → IsRowOfOld d.life c.now h.gone h.kept k
-    to_drop k is = let r = only_recyclable c.newest d.life c.now w m k has.right is in
+    to_drop k is = let r = only_recyclable c.newest d.life c.now w m k has.invariant is in
         looks_find_old d c m h k r.1.intent (at_found (ToLook k) r.0) r.1.belongs (is_old d c m h (map.get m (seat_of k r.1.intent)) r.1.old)
 
     now_there : (k : RowKey) (v : Option Row) → n ≡ set_row m k v → map.get n k ≡ v
@@ -174,7 +174,7 @@ module _ (d : Deployment) (c : Core) (m : Rows) (h : HasKept d c m) (w : LogColl
         let z : Found d c n g (ToDangle r.key) = (
           later.rows r.key f.0,
           follower_stays (map.get m r.key) (map.get n r.key) (marked_follower r.to (map.get m r.key) f.1) so.1,
-          (skipped d c m h w.cursor w.at n has.right has.found r).1,
+          (skipped d c m h w.cursor w.at n has.invariant has.found r).1,
         ) in
         subst (λ z. Found d c n g (ToDangle z)) u.key z
 

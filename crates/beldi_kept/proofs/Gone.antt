@@ -7,19 +7,19 @@ use Rattle.beldi_tree.specs.declared.deployment.Deployment.{Deployment}
 use Rattle.beldi_plain.specs.Plain.{Instance}
 use Rattle.beldi_row.specs.{Table.Rows, declared.key.Kind.Kind, declared.row.Body.Body, declared.row.Row.Row}
 use Rattle.beldi_intent.specs.Intent.{intent_key}
-use Rattle.beldi_step.specs.Host.{Core}
-use Rattle.beldi_known.specs.{Matches.has_ended, Rows.CalleeBodyMatches, Rows.IntentMatches, Rows.RootMatches, Stands.key_in}
-use Rattle.beldi_laws.specs.{Inside.has_finish, Right.Right}
-use Rattle.beldi_upkeep.specs.Work.{IsUnfinished, finish_in}
-use Rattle.beldi_kept.specs.Kept.{IsOld, IsOver, IsUnbound}
+use Rattle.beldi_step.specs.HostStep.{Core}
+use Rattle.beldi_histories.specs.{Matches.has_ended, RowMatching.CalleeBodyMatches, RowMatching.IntentMatches, RowMatching.RootMatches, Stands.key_in}
+use Rattle.beldi_invariant.specs.{FoundInside.has_finish, Invariant.Invariant}
+use Rattle.beldi_upkeep.specs.WorksFor.{IsUnfinished, finish_in}
+use Rattle.beldi_kept.specs.KeptRows.{IsOld, IsOver, IsUnbound}
 use Rattle.beldi_kept.proofs.Less.{IsBare}
 
-module _ (d : Deployment) (c : Core) (m : Rows) (h : Right d c m) where
+module _ (d : Deployment) (c : Core) (m : Rows) (h : Invariant d c m) where
   abbrev func_in : Option Instance → ℕ
   func_in None = 0
   func_in (Some q) = q.func
 
-  its_home : (b : Bool) (home : ℕ) (r : Option Row) (o : Option Instance) → IntentMatches (has_ended d h.known) b home r o → is_some r ≡ true → home ≡ (if b then 0 else func_in o)
+  its_home : (b : Bool) (home : ℕ) (r : Option Row) (o : Option Instance) → IntentMatches (has_ended d h.histories) b home r o → is_some r ≡ true → home ≡ (if b then 0 else func_in o)
   its_home true home r o fits there = by_test (home == 0) refl fits
     where
       by_test : (b : Bool) → (home == 0) ≡ b → RootMatches b r o → home ≡ 0
@@ -33,19 +33,19 @@ module _ (d : Deployment) (c : Core) (m : Rows) (h : Right d c m) where
       by_body (Some b) fits = sym fits.1 ∙ ap (λ (z : Body). z.func) fits.0.body ∙ sym (ap func_in fits.0.made)
   its_home false home (Some r) o fits there = absurd fits
 
-  home_of_rows : (i : IntentId) (home : ℕ) → is_some (map.get m (key_in home i)) ≡ true → home ≡ (if has_no_hops i.hops then 0 else func_in (map.get h.known i))
-  home_of_rows i home there = its_home (has_no_hops i.hops) home (map.get m (key_in home i)) (map.get h.known i) (h.rows.keys (key_in home i)) there
+  home_of_rows : (i : IntentId) (home : ℕ) → is_some (map.get m (key_in home i)) ≡ true → home ≡ (if has_no_hops i.hops then 0 else func_in (map.get h.histories i))
+  home_of_rows i home there = its_home (has_no_hops i.hops) home (map.get m (key_in home i)) (map.get h.histories i) (h.rows.keys (key_in home i)) there
 
   -- all rows of an intent are one
   pub one_row : (i : IntentId) (home room : ℕ) → is_some (map.get m (key_in home i)) ≡ true → is_some (map.get m (key_in room i)) ≡ true → key_in home i ≡ key_in room i
   one_row i home room here there = let e : home ≡ room = home_of_rows i home here ∙ sym (home_of_rows i room there) in λ k. record { home = e k; kind = Kind.Intent i }
 
   -- .. and of one that is known they stand at its function
-  pub known_home : (i : IntentId) (q : Instance) (home : ℕ) → map.get h.known i ≡ Some q → is_some (map.get m (key_in home i)) ≡ true → key_in home i ≡ intent_key i q.func
-  known_home i q home made there = let e = home_of_rows i home there ∙ ap (λ o. if has_no_hops i.hops then 0 else func_in o) made in λ k. record { home = e k; kind = Kind.Intent i }
+  pub recorded_home : (i : IntentId) (q : Instance) (home : ℕ) → map.get h.histories i ≡ Some q → is_some (map.get m (key_in home i)) ≡ true → key_in home i ≡ intent_key i q.func
+  recorded_home i q home made there = let e = home_of_rows i home there ∙ ap (λ o. if has_no_hops i.hops then 0 else func_in o) made in λ k. record { home = e k; kind = Kind.Intent i }
 
   pub root_home : (i : IntentId) (home : ℕ) → has_no_hops i.hops ≡ true → is_some (map.get m (key_in home i)) ≡ true → home ≡ 0
-  root_home i home root there = home_of_rows i home there ∙ ap (λ b. if b then 0 else func_in (map.get h.known i)) root
+  root_home i home root there = home_of_rows i home there ∙ ap (λ b. if b then 0 else func_in (map.get h.histories i)) root
 
 -- ---- who is gone
 pub record IsDone (kept : Rows) (i : IntentId) : Type 0 where

@@ -7,30 +7,30 @@ use Rattle.std.proofs.lemmas.List.{append-nil}
 use Rattle.std.proofs.Common.{◌≡◌, inl, inr, ◌==◌, ℕ, zero, suc, ◌+◌, ◌≤◌, ◌<◌, Bool, true, false, [], Option, Some, None, is_some, if◌then◌else◌, ltb-true, refl, ap, sym, ◌∙◌, subst, arith}
 use Rattle.beldi_value.specs.{Id.child_of, declared.place.Owner.Owner, declared.place.Place.Place}
 use Rattle.beldi_tree.specs.declared.deployment.Deployment.{Deployment}
-use Rattle.beldi_book.specs.Order.{count_changes}
+use Rattle.beldi_book.specs.LinearOrder.{count_changes}
 use Rattle.beldi_plain.specs.Item.{Item}
-use Rattle.beldi_row.specs.{Act.act, Act.at_tail, Act.prunes, Act.next_or, Act.noted, Act.noted_or, Act.Tell, Key.RowKey, Key.at_row, Log.note_at, Table.LeadsOn, Table.Rows, declared.act.Act.Act, declared.notes.Note.Note, declared.row.Cell.Cell, declared.row.Row.Row}
+use Rattle.beldi_row.specs.{Act.act, Act.at_tail, Act.prunes, Act.next_or, Act.noted, Act.noted_or, Act.ActReply, Key.RowKey, Key.at_row, Log.note_at, Table.LeadsOn, Table.Rows, declared.act.Act.Act, declared.notes.Note.Note, declared.row.Cell.Cell, declared.row.Row.Row}
 use Rattle.beldi_row.proofs.Unchanged.{unchanged}
-use Rattle.beldi_walk.specs.{declared.query.Query.Query, Query.Told, Query.said, Query.told_by, Query.rows_after}
+use Rattle.beldi_query.specs.{declared.query.Query.Query, Query.QueryReply, Query.replied, Query.query_reply, Query.rows_after}
 use Rattle.beldi_chain.specs.Chain.{Chain, chain, next_of}
 use Rattle.beldi_links.proofs.{Meets.rows_below, Ways.same_or}
 use Rattle.beldi_links.specs.Links.{Linked, LinkedFrom}
 use Rattle.beldi_splice.specs.Splice.{IsCellOf, IsSafeFrom, IsSafeTo, LeadsPast, LessRow}
 use Rattle.beldi_splice.proofs.{Alike.first_there, Alike.unfollowed_alike, Both.follows_last, Both.there_linked}
 use Rattle.beldi_daal.specs.{Cell.op_act, declared.cell.CellOp.CellOp}
-use Rattle.beldi_step.specs.Host.{Core, EventBy, EventOn, asks, at_once, counted, ended_run, heard, plan, put_run, run_plan, turn_next, turned_core}
-use Rattle.beldi_step.specs.Told.{entries_told, told_outcome}
+use Rattle.beldi_step.specs.HostStep.{Core, EventBy, EventOn, asks, immediate, counted, ended_run, on_reply, plan, put_run, run_plan, turn_next, turned_core}
+use Rattle.beldi_step.specs.EventContent.{reply_entries, reply_outcome}
 use Rattle.beldi_step.specs.Run.{Turned, run_asks, run_told, turned_by}
-use Rattle.beldi_step.specs.Stride.{WalkedOn, run_to, stage_to, walked, walking}
-use Rattle.beldi_step.specs.declared.{event.Event.Event, event.Seen.Seen, run.Begun.Begun, run.Run.Run, run.RunAt.TheVariants.Begins, run.Says.Says, run.Stage.Stage, run.Walking.Walking}
+use Rattle.beldi_step.specs.RunStride.{WalkedOn, run_to, stage_to, walked, walking}
+use Rattle.beldi_step.specs.declared.{event.Event.Event, event.EventReply.EventReply, run.Begun.Begun, run.Run.Run, run.RunAt.TheVariants.Begins, run.StageOutput.StageOutput, run.Stage.Stage, run.Walking.Walking}
 use Rattle.beldi_step.specs.declared.run.RunAt as standing
 use Rattle.beldi_step.proofs.Stride.{walks_on}
-use Rattle.beldi_known.specs.Contents.{IsLinkedItem, head_key}
-use Rattle.beldi_laws.specs.Right.{AtStage, Knows}
+use Rattle.beldi_histories.specs.Contents.{IsLinkedItem, head_key}
+use Rattle.beldi_invariant.specs.Invariant.{AtStage, Knows}
 use Rattle.beldi_upkeep.specs.{Callees.HasPut, Callees.HasTold, Upkeep.Upkeep}
 use Rattle.beldi_upkeep.proofs.Together.{keeps_upkeep}
 use Rattle.beldi_kept.proofs.Elsewhere.{is_owing, wanted_then}
-use Rattle.beldi_kept.specs.{Ahead.IsFollowed, Kept.HasKept}
+use Rattle.beldi_kept.specs.{KeptAhead.IsFollowed, KeptRows.HasKept}
 use Rattle.beldi_kept.proofs.{Elsewhere.stands_elsewhere, Elsewhere.works_still, Events.Goal, Events.as_were, Events.core_of, Events.few, Events.turns_alike, Events.turns_by, Items.act_alike, Less.GoesOn, Less.stays_on, Step.Step, Step.elsewhere, Step.upkeep_elsewhere, Step.wanted_elsewhere}
 
 -- ---- after that turn over the kept rows these are linked
@@ -45,34 +45,34 @@ module _ (d : Deployment) (c : Core) (kept : Rows) (u : Upkeep d c kept) (i : �
   abbrev at_rest : Core
   at_rest = elsewhere c c.cursor 0 false
 
-  told : Told
-  told = told_by (run_asks r) c.now kept
+  told : QueryReply
+  told = query_reply (run_asks r) c.now kept
 
-  abbrev then : Core × Seen
-  then = heard d (Event.Turn i) (counted at_rest) (told_by (run_asks r) c.now kept)
+  abbrev then : Core × EventReply
+  then = on_reply d (Event.Turn i) (counted at_rest) (query_reply (run_asks r) c.now kept)
 
   planned : plan d (Event.Turn i) at_rest ≡ asks (run_asks r)
-  planned = ap (λ t. if t then run_plan (counted at_rest) i (map.get c.runs i) else at_once at_rest Seen.Spent) few
+  planned = ap (λ t. if t then run_plan (counted at_rest) i (map.get c.runs i) else immediate at_rest EventReply.Spent) few
       ∙ ap (run_plan (counted at_rest) i) live
-      ∙ ap (λ t. if t then at_once (ended_run (counted at_rest) i) Seen.Expired else asks (run_asks r)) (not_below r.deadline c.now in_time)
+      ∙ ap (λ t. if t then immediate (ended_run (counted at_rest) i) EventReply.Expired else asks (run_asks r)) (not_below r.deadline c.now in_time)
 
   on : EventOn d (suc (map.len kept)) 0 0 (Event.Turn i) at_rest kept then.0 (rows_after (run_asks r) c.now kept) (Ok then.1)
   on = subst (λ p. EventBy d (suc (map.len kept)) 0 0 (Event.Turn i) (counted at_rest) p kept then.0 (rows_after (run_asks r) c.now kept) (Ok then.1)) (sym planned)
-      (Ok (told_by (run_asks r) c.now kept), refl, (refl, refl, λ adds. omega arith), record { later = omega arith; failed = λ e. let clash = e in cc })
+      (Ok (query_reply (run_asks r) c.now kept), refl, (refl, refl, λ adds. omega arith), record { later = omega arith; failed = λ e. let clash = e in cc })
 
   pub then_linked : (y : Item) → IsLinkedItem (rows_after (run_asks r) c.now kept) y
-  then_linked y = (keeps_upkeep d (suc (map.len kept)) 0 0 (Event.Turn i) at_rest then.0 kept (rows_after (run_asks r) c.now kept) (Ok then.1) (upkeep_elsewhere d c c.cursor 0 false kept u) on).right.rows.chains y
+  then_linked y = (keeps_upkeep d (suc (map.len kept)) 0 0 (Event.Turn i) at_rest then.0 kept (rows_after (run_asks r) c.now kept) (Ok then.1) (upkeep_elsewhere d c c.cursor 0 false kept u) on).invariant.rows.chains y
 
 -- ---- acts on a cell that others follow
 -- its place has a note: that is told
-noted_tail : (p : Place) (c : Cell) (w : Note) (z : Cell × Tell) → note_at c.log p ≡ Some w → at_tail p c z ≡ (c, noted w)
+noted_tail : (p : Place) (c : Cell) (w : Note) (z : Cell × ActReply) → note_at c.log p ≡ Some w → at_tail p c z ≡ (c, noted w)
 noted_tail p c w z is = ap (λ o. noted_or c o (next_or c c.next z)) is
 
 pub noted_act : (p : Place) (who : Owner) (op : CellOp) (now : ℕ) (c : Cell) (w : Note) → note_at c.log p ≡ Some w → act (op_act p who op) now (Some (Row.Cell c)) ≡ (Some (Row.Cell c), noted w)
-noted_act p who (CellOp.Write v) now c w is = ap (λ (z : Cell × Tell). (Some (Row.Cell z.0), z.1)) (noted_tail p c w _ is)
-noted_act p who (CellOp.Cond r o v) now c w is = ap (λ (z : Cell × Tell). (Some (Row.Cell z.0), z.1)) (noted_tail p c w _ is)
-noted_act p who CellOp.Lock now c w is = ap (λ (z : Cell × Tell). (Some (Row.Cell z.0), z.1)) (noted_tail p c w _ is)
-noted_act p who (CellOp.Free v) now c w is = ap (λ (z : Cell × Tell). (Some (Row.Cell z.0), z.1)) (noted_tail p c w _ is)
+noted_act p who (CellOp.Write v) now c w is = ap (λ (z : Cell × ActReply). (Some (Row.Cell z.0), z.1)) (noted_tail p c w _ is)
+noted_act p who (CellOp.Cond r o v) now c w is = ap (λ (z : Cell × ActReply). (Some (Row.Cell z.0), z.1)) (noted_tail p c w _ is)
+noted_act p who CellOp.Lock now c w is = ap (λ (z : Cell × ActReply). (Some (Row.Cell z.0), z.1)) (noted_tail p c w _ is)
+noted_act p who (CellOp.Free v) now c w is = ap (λ (z : Cell × ActReply). (Some (Row.Cell z.0), z.1)) (noted_tail p c w _ is)
 
 pub op_stays : (p : Place) (who : Owner) (op : CellOp) → prunes (op_act p who op) ≡ false
 op_stays p who (CellOp.Write v) = refl
@@ -84,25 +84,25 @@ op_stays p who (CellOp.Free v) = refl
 abbrev pub IsNext : Cell → ℕ → Type 0
 IsNext c z = c.next ≡ Some z
 
-module _ (d : Deployment) (c : Core) (m : Rows) (h : HasKept d c m) (room old new : ℕ) (b : Core) (n : Rows) (x : Result Seen AllocError) (i : ℕ) (r : Run) (live : map.get c.runs i ≡ Some r) (in_time : c.now ≤ r.deadline) (g : Begun) (at : r.at ≡ Begins g) where
+module _ (d : Deployment) (c : Core) (m : Rows) (h : HasKept d c m) (room old new : ℕ) (b : Core) (n : Rows) (x : Result EventReply AllocError) (i : ℕ) (r : Run) (live : map.get c.runs i ≡ Some r) (in_time : c.now ≤ r.deadline) (g : Begun) (at : r.at ≡ Begins g) where
   abbrev pub Turns : Type 0
   Turns = Goal d c m h room old new b n x (Event.Turn i) (asks (run_asks r)) × Goal d c m h room old new b n x (Event.Lost i) (asks (run_asks r))
 
   abbrev pub turned : Rows → Turned
-  turned l = run_told d (count_changes c.book) r (told_by (run_asks r) c.now l)
+  turned l = run_told d (count_changes c.book) r (query_reply (run_asks r) c.now l)
 
   -- ---- both rows stay, and the same is told
   module _ (there : rows_after (run_asks r) c.now m ≡ m) (kept : rows_after (run_asks r) c.now h.kept ≡ h.kept) where
     still : GoesOn h.gone m h.kept (rows_after (run_asks r) c.now m) (rows_after (run_asks r) c.now h.kept)
     still = subst (λ z. GoesOn h.gone m h.kept z (rows_after (run_asks r) c.now h.kept)) (sym there) (subst (GoesOn h.gone m h.kept m) (sym kept) (stays_on h.gone m h.kept h.less))
 
-    pub told_alike : told_by (run_asks r) c.now m ≡ told_by (run_asks r) c.now h.kept → Turns
+    pub told_alike : query_reply (run_asks r) c.now m ≡ query_reply (run_asks r) c.now h.kept → Turns
     told_alike same = turns_alike d c m h room old new b n x i r live (record { turned = ap (run_told d (count_changes c.book) r) same; rows = still })
 
     -- .. or it stands at another stage then
-    module _ (w : Stage) (quiet : is_owing w ≡ false) (told : HasTold w g.caller h.kept) (put : HasPut w g.machine.effect (child_of r.id g.machine.steps) h.kept) (here : (k : Knows d h.upkeep.right.known r g) → AtStage h.kept h.upkeep.right.plain c.book k w g.machine.effect g.tx) where
+    module _ (w : Stage) (quiet : is_owing w ≡ false) (told : HasTold w g.caller h.kept) (put : HasPut w g.machine.effect (child_of r.id g.machine.steps) h.kept) (here : (k : Knows d h.upkeep.invariant.histories r g) → AtStage h.kept h.upkeep.invariant.plain c.book k w g.machine.effect g.tx) where
       abbrev left : Turned
-      left = turned_by d r g (Says.On w None)
+      left = turned_by d r g (StageOutput.On w None)
 
       leaves : b ≡ turned_core (counted c) i r.id left → n ≡ m → Step d c b h.gone m h.kept n
       leaves is same = subst (λ z. Step d c z h.gone m h.kept n) (sym (is ∙ ap (λ z. record (counted c) { runs = put_run c.runs i left.next; book = z }) (append-nil c.book))) (record {
@@ -121,7 +121,7 @@ module _ (d : Deployment) (c : Core) (m : Rows) (h : HasKept d c m) (room old ne
           let made : (b, y) ≡ turn_next (counted c) i r left = f ∙ ap (turn_next (counted c) i r) goes in
           inr (
             leaves (core_of made) (rows ∙ there),
-            record { book = ap (λ (z : Core). z.book) (core_of made) ∙ append-nil c.book; tells = subst (λ u. IfOk u (λ y. (told_outcome y ≡ None) × (entries_told (Event.Turn i) y ≡ []))) (sym (is ∙ ap (λ z. Ok z.1) made)) (refl, refl) },
+            record { book = ap (λ (z : Core). z.book) (core_of made) ∙ append-nil c.book; tells = subst (λ u. IfOk u (λ y. (reply_outcome y ≡ None) × (reply_entries (Event.Turn i) y ≡ []))) (sym (is ∙ ap (λ z. Ok z.1) made)) (refl, refl) },
           ))
 
   -- ---- a row of an item
@@ -132,19 +132,19 @@ module _ (d : Deployment) (c : Core) (m : Rows) (h : HasKept d c m) (room old ne
     -- both have it alike, and none follows it
     agrees : map.get m key ≡ map.get h.kept key → ((k : Cell) → map.get h.kept key ≡ Some (Row.Cell k) → k.next ≡ None) → Turns
     agrees same free = turns_alike d c m h room old new b n x i r live (record {
-      turned = ap (λ q. run_told d (count_changes c.book) r (told_by q c.now m)) asked ∙ ap (λ o. run_told d (count_changes c.book) r (said (act a c.now o).1)) same ∙ sym (ap (λ q. run_told d (count_changes c.book) r (told_by q c.now h.kept)) asked);
+      turned = ap (λ q. run_told d (count_changes c.book) r (query_reply q c.now m)) asked ∙ ap (λ o. run_told d (count_changes c.book) r (replied (act a c.now o).1)) same ∙ sym (ap (λ q. run_told d (count_changes c.book) r (query_reply q c.now h.kept)) asked);
       rows = subst (λ q. GoesOn h.gone m h.kept (rows_after q c.now m) (rows_after q c.now h.kept)) (sym asked)
-          (act_alike h.gone m h.kept h.less h.upkeep.right.rows.chains y row a stays c.now same (subst (λ q. IsLinkedItem (rows_after q c.now h.kept) y) asked (then_linked d c h.kept h.upkeep i r live in_time y)) free);
+          (act_alike h.gone m h.kept h.less h.upkeep.invariant.rows.chains y row a stays c.now same (subst (λ q. IsLinkedItem (rows_after q c.now h.kept) y) asked (then_linked d c h.kept h.upkeep i r live in_time y)) free);
     })
 
-    pub left_so : (l : Rows) (o : Option Row) (t : Tell) → map.get l key ≡ o → act a c.now o ≡ (o, t) → rows_after (run_asks r) c.now l ≡ l
+    pub left_so : (l : Rows) (o : Option Row) (t : ActReply) → map.get l key ≡ o → act a c.now o ≡ (o, t) → rows_after (run_asks r) c.now l ≡ l
     left_so l o t is acts = ap (λ q. rows_after q c.now l) asked ∙ unchanged l key (act a c.now (map.get l key)).0 (ap (λ z. (act a c.now z).0) is ∙ ap (λ z. z.0) acts ∙ sym is)
 
-    pub told_so : (l : Rows) (o : Option Row) (t : Tell) → map.get l key ≡ o → act a c.now o ≡ (o, t) → told_by (run_asks r) c.now l ≡ said t
-    told_so l o t is acts = ap (λ q. told_by q c.now l) asked ∙ ap (λ z. said (act a c.now z).1) is ∙ ap (λ z. said z.1) acts
+    pub told_so : (l : Rows) (o : Option Row) (t : ActReply) → map.get l key ≡ o → act a c.now o ≡ (o, t) → query_reply (run_asks r) c.now l ≡ replied t
+    told_so l o t is acts = ap (λ q. query_reply q c.now l) asked ∙ ap (λ z. replied (act a c.now z).1) is ∙ ap (λ z. replied z.1) acts
 
     kept_links : (k : Cell) → map.get h.kept key ≡ Some (Row.Cell k) → Linked (chain h.kept (head_key y))
-    kept_links k is = by_first (map.get h.kept (head_key y)) (h.upkeep.right.rows.chains y)
+    kept_links k is = by_first (map.get h.kept (head_key y)) (h.upkeep.invariant.rows.chains y)
       where
         by_first : (o : Option Row) → LinkedFrom o (chain h.kept (head_key y)) → Linked (chain h.kept (head_key y))
         by_first (Some o) l = l
@@ -175,9 +175,9 @@ module _ (d : Deployment) (c : Core) (m : Rows) (h : HasKept d c m) (room old ne
     pub quiet : is_owing (stage_to z g.stage) ≡ false
     pub told : HasTold (stage_to z g.stage) g.caller h.kept
     pub put : HasPut (stage_to z g.stage) g.machine.effect (child_of r.id g.machine.steps) h.kept
-    pub here : (k : Knows d h.upkeep.right.known r g) → AtStage h.kept h.upkeep.right.plain c.book k (stage_to z g.stage) g.machine.effect g.tx
+    pub here : (k : Knows d h.upkeep.invariant.histories r g) → AtStage h.kept h.upkeep.invariant.plain c.book k (stage_to z g.stage) g.machine.effect g.tx
 
-  walked_left : (z : ℕ) → turned_by d r g (Says.On (stage_to z g.stage) None) ≡ record { next = Some (walked z r); mark = None; starts = false; wait = None; reply = None }
+  walked_left : (z : ℕ) → turned_by d r g (StageOutput.On (stage_to z g.stage) None) ≡ record { next = Some (walked z r); mark = None; starts = false; wait = None; reply = None }
   walked_left z = ap (λ (y : standing.RunAt). record { next = Some (record r { at = y }); mark = None; starts = false; wait = None; reply = None }) (sym (ap (run_to z) at))
 
   module _ (y : Item) (row : ℕ) (place : Option Place) (walks : walking r ≡ Some (record { key = at_row (head_key y) row; place = place })) where
@@ -189,7 +189,7 @@ module _ (d : Deployment) (c : Core) (m : Rows) (h : HasKept d c m) (room old ne
 
     -- it is led on in both
     pub led_on : (z e : ℕ) → LeadsOn m (at_row (head_key y) row) place z → LeadsOn h.kept (at_row (head_key y) row) place e → is_owing (stage_to z g.stage) ≡ false → HasTold (stage_to z g.stage) g.caller h.kept → HasPut (stage_to z g.stage) g.machine.effect (child_of r.id g.machine.steps) h.kept
-        → ((k : Knows d h.upkeep.right.known r g) → AtStage h.kept h.upkeep.right.plain c.book k (stage_to z g.stage) g.machine.effect g.tx) → Turns
+        → ((k : Knows d h.upkeep.invariant.histories r g) → AtStage h.kept h.upkeep.invariant.plain c.book k (stage_to z g.stage) g.machine.effect g.tx) → Turns
     led_on z e leads kept quiet told put here =
         let there = walked_on m z leads in
         let other = walked_on h.kept e kept in
@@ -243,5 +243,5 @@ module _ (d : Deployment) (c : Core) (m : Rows) (h : HasKept d c m) (room old ne
         by_kept : (o : Option Row) → f (row + 1) ≡ o → is_some o ≡ true → is_some (map.get m (at_row (head_key y) (row + 1))) ≡ true
         by_kept None after some = cc
         by_kept (Some s) after some =
-            let l = there_linked f (h.upkeep.right.rows.chains y) (row + 1) s after in
+            let l = there_linked f (h.upkeep.invariant.rows.chains y) (row + 1) s after in
             by_less l s after (map.get m (at_row (head_key y) row)) (f row) refl refl (h.less.cells y row) (safe_there row safe (rows_below f l (row + 1) row s after (omega arith)))

@@ -6,14 +6,14 @@ use Rattle.beldi_value.specs.declared.id.IntentId.{IntentId}
 use Rattle.beldi_plain.specs.Item.{Item, item_cmp}
 use Rattle.beldi_row.specs.{Act.act, Act.prunes, Key.RowKey, Key.at_row, Key.key_cmp, Table.Rows, Table.after_act, Table.set_row, declared.act.Act.Act, declared.row.Cell.Cell, declared.row.Row.Row}
 use Rattle.beldi_row.proofs.Gets.{got, key_same, key_self}
-use Rattle.beldi_walk.proofs.Promises.{row_there}
+use Rattle.beldi_query.proofs.Promises.{row_there}
 use Rattle.beldi_chain.specs.Chain.{Chain, ChangedAlone, chain, is_row_of}
 use Rattle.beldi_links.specs.Links.{Frozen, SetTo}
-use Rattle.beldi_links.proofs.{Keeps.row_set, Ways.same_or}
-use Rattle.beldi_splice.specs.{Laws.Keeps, Splice.IsThreaded, Splice.LessChain}
+use Rattle.beldi_links.proofs.{LinkKeeps.row_set, Ways.same_or}
+use Rattle.beldi_splice.specs.{SpliceLaws.Keeps, Splice.IsThreaded, Splice.LessChain}
 use Rattle.beldi_splice.proofs.Both.{acts_keep_rows_so}
-use Rattle.beldi_known.specs.Contents.{IsLinkedItem, head_key}
-use Rattle.beldi_known.proofs.Acts.{by_item, item_head, other_item}
+use Rattle.beldi_histories.specs.Contents.{IsLinkedItem, head_key}
+use Rattle.beldi_histories.proofs.Acts.{by_item, item_head, other_item}
 use Rattle.beldi_upkeep.specs.Callees.{belongs_to}
 use Rattle.beldi_kept.specs.Less.{IsGone, Less, is_item}
 use Rattle.beldi_kept.proofs.Less.{GoesOn, IsBare, set_two}

@@ -6,20 +6,20 @@ use Rattle.beldi_value.specs.{Id.root_of, declared.id.IntentId.IntentId, declare
 use Rattle.beldi_tree.specs.declared.deployment.Deployment.{Deployment}
 use Rattle.beldi_lang.specs.{declared.effect.Answer.Answer, declared.effect.Effect.Effect, Wants.wants}
 use Rattle.beldi_plain.specs.{Item.Item, Plain.Instance, Plain.PlainState, Plain.effect_before}
-use Rattle.beldi_order.specs.Txs.{or_own, tx_at, tx_by}
+use Rattle.beldi_plain_laws.specs.Txs.{or_own, tx_at, tx_by}
 use Rattle.beldi_row.specs.{Key.RowKey, Table.Rows, declared.row.Body.Body, declared.row.IntentRow.IntentRow, declared.row.Row.Row}
 use Rattle.beldi_links.specs.Links.{IsLinked}
 use Rattle.beldi_intent.specs.Intent.{intent_key, is_ended, root_key}
-use Rattle.beldi_step.specs.{Host.Core, Tables.decision_key, Tables.is_committed}
-use Rattle.beldi_step.proofs.Runs.{same_some}
-use Rattle.beldi_known.specs.{Known.Known, Contents.content_of, Contents.is_owner, Stands.HasNotEnded, Stands.IsGivingBack, Stands.IsUndecided, Stands.Stands, Stands.body_of, Stands.has_place, Stands.held_answer, Stands.key_in}
-use Rattle.beldi_laws.specs.{Inside.has_finish, OneAnswer.AnswersOf, OneAnswer.HasAnswers}
-use Rattle.beldi_laws.proofs.{Listing.listing_by, Outside.known_of, OneAnswer.answers_of, Standing.right_stands, Standing.same_run}
+use Rattle.beldi_step.specs.{HostStep.Core, Tables.decision_key, Tables.is_committed}
+use Rattle.beldi_step.proofs.StepRuns.{same_some}
+use Rattle.beldi_histories.specs.{Histories.Histories, Contents.content_of, Contents.is_owner, Stands.HasNotEnded, Stands.IsGivingBack, Stands.IsUndecided, Stands.Stands, Stands.body_of, Stands.has_place, Stands.held_answer, Stands.key_in}
+use Rattle.beldi_invariant.specs.{FoundInside.has_finish, OneAnswer.AnswersOf, OneAnswer.HasAnswers}
+use Rattle.beldi_invariant.proofs.{Listing.listing_by, Outside.recorded_of, OneAnswer.answers_of, Standing.invariant_stands, Standing.same_run}
 use Rattle.beldi_upkeep.specs.Callees.{HasBody}
-use Rattle.beldi_upkeep.proofs.{FromRight.body_known, PastOwn.called_owner}
-use Rattle.beldi_kept.specs.{Kept.HasKept, Kept.IsOld, Stands.AnswersLess, Stands.IsFresh, Stands.KeptAnswers, Stands.KeptListing, Stands.KeptStand, Stands.OneAnswerLess, Stands.StandsLater, Stands.StandsLess, Stands.TellsDecision}
+use Rattle.beldi_upkeep.proofs.{FromInvariant.body_recorded, PastOwn.called_owner}
+use Rattle.beldi_kept.specs.{KeptRows.HasKept, KeptRows.IsOld, StandsLess.AnswersLess, StandsLess.IsFresh, StandsLess.KeptAnswers, StandsLess.KeptListing, StandsLess.KeptStand, StandsLess.OneAnswerLess, StandsLess.StandsLater, StandsLess.StandsLess, StandsLess.TellsDecision}
 use Rattle.beldi_kept.proofs.{Gone.old_still, Less.there_kept}
-use Rattle.beldi_kept.proofs.Alive.{alive_there, holder_alive, known_alive, owner_alive, same_decision, same_held, same_listed, same_owner, same_row, same_shadow}
+use Rattle.beldi_kept.proofs.Alive.{alive_there, holder_alive, recorded_alive, owner_alive, same_decision, same_held, same_listed, same_owner, same_row, same_shadow}
 
 -- who has not ended has no finish
 no_finish : (i : IntentRow) → is_ended i ≡ false → i.finish ≡ None
@@ -40,10 +40,10 @@ either_own id (Some t) own u mine is = inr is
 
 module _ (d : Deployment) (c : Core) (m : Rows) (h : HasKept d c m) where
   abbrev p : PlainState
-  p = h.upkeep.right.plain
+  p = h.upkeep.invariant.plain
 
   stood : Stands d h.kept p
-  stood = right_stands d c h.kept p h.upkeep.right h.upkeep.right.legal
+  stood = invariant_stands d c h.kept p h.upkeep.invariant h.upkeep.invariant.legal
 
   -- ---- the decision of a transaction
   place_kept : (o : Option TxId) → has_place m o ≡ true → has_place h.kept o ≡ true
@@ -71,8 +71,8 @@ module _ (d : Deployment) (c : Core) (m : Rows) (h : HasKept d c m) where
     -- the transaction that it was called in has not ended
     caller_alive : (u : TxId) → b.tx ≡ Some u → h.gone u.intent ≡ false
     caller_alive u inner =
-        let k = body_known d c h.kept h.upkeep.right home id i b has in
-        owner_alive d c m h u (called_owner d h.upkeep.right.known h.upkeep.right.sane u id k.instance k.made (ap (λ (z : Body). z.tx) (sym k.body) ∙ inner))
+        let k = body_recorded d c h.kept h.upkeep.invariant home id i b has in
+        owner_alive d c m h u (called_owner d h.upkeep.invariant.histories h.upkeep.invariant.well_formed u id k.instance k.made (ap (λ (z : Body). z.tx) (sym k.body) ∙ inner))
         (λ fin. let clash = sym (ap is_some (no_finish i open_still)) ∙ h.upkeep.seats.ends_last u home id i b fin has inner in cc)
 
     alive_id : h.gone id ≡ false
@@ -81,11 +81,11 @@ module _ (d : Deployment) (c : Core) (m : Rows) (h : HasKept d c m) where
     held_there : (q : Instance) → map.get p.made id ≡ Some q → (n : ℕ) (a : Answer) → slice_get q.answers n ≡ Some a → held_answer m id q.func n (tx_at d id q n) (effect_before d q n) ≡ Some a
     held_there q made n a at = same_held d c m h id q.func n (tx_at d id q n) (effect_before d q n) alive_id in_tx ∙ stood.held home id i b own body (place_kept b.tx place) open_still q made n a at
       where
-        was : b.tx ≡ q.within
+        was : b.tx ≡ q.enclosing
         was = let w = stood.made home id i b own body (place_kept b.tx place) in ap (λ (z : Body). z.tx) (w.body ∙ ap body_of (same_some (sym w.made ∙ made)))
 
         in_tx : (u : TxId) → tx_at d id q n ≡ Some u → h.gone u.intent ≡ false
-        in_tx u is = elim (either_own id q.within _ u (λ v e. tx_own id q.func _ _ _ v e) is) [
+        in_tx u is = elim (either_own id q.enclosing _ u (λ v e. tx_own id q.func _ _ _ v e) is) [
           | inl mine ↦ ap h.gone mine ∙ alive_id
           | inr inner ↦ caller_alive u (was ∙ inner)
         ]
@@ -94,8 +94,8 @@ module _ (d : Deployment) (c : Core) (m : Rows) (h : HasKept d c m) where
   open_root : (t : ℕ) (q : Instance) → map.get p.made (root_of t) ≡ Some q → q.outcome ≡ None → HasNotEnded m (root_key t)
   open_root t q made open_still =
       let w = stood.open_roots t q made open_still in
-      let k = known_of d p h.upkeep.right.known h.upkeep.right.beside (root_of t) q made in
-      let alive = known_alive d c m h (root_of t) k.instance k.is (λ fin. let clash = sym (ap is_some (no_finish w.row w.not_ended)) ∙ sym (ap has_finish w.there) ∙ fin in cc) in
+      let k = recorded_of d p h.upkeep.invariant.histories h.upkeep.invariant.extends (root_of t) q made in
+      let alive = recorded_alive d c m h (root_of t) k.instance k.is (λ fin. let clash = sym (ap is_some (no_finish w.row w.not_ended)) ∙ sym (ap has_finish w.there) ∙ fin in cc) in
       record { row = w.row; there = same_row d c m h (root_key t) refl (λ off. let clash = sym off ∙ alive in cc) ∙ w.there; not_ended = w.not_ended }
 
   -- ---- items that a transaction owns
@@ -126,35 +126,35 @@ module _ (d : Deployment) (c : Core) (m : Rows) (h : HasKept d c m) where
 
 -- ---- one answer per step
 module _ (d : Deployment) (c : Core) (m : Rows) (h : HasKept d c m) where
-  abbrev known : Known
-  known = h.upkeep.right.known
+  abbrev recorded : Histories
+  recorded = h.upkeep.invariant.histories
 
-  module _ (id : IntentId) (q : Instance) (made : map.get known id ≡ Some q) (home : ℕ) (w : IsFresh d.life h.latest m (key_in home id)) (owner : (u : TxId) → q.within ≡ Some u → IsFresh d.life h.latest m (intent_key u.intent u.func)) where
+  module _ (id : IntentId) (q : Instance) (made : map.get recorded id ≡ Some q) (home : ℕ) (w : IsFresh d.life h.latest m (key_in home id)) (owner : (u : TxId) → q.enclosing ≡ Some u → IsFresh d.life h.latest m (intent_key u.intent u.func)) where
     own_there : h.gone id ≡ false
     own_there = alive_there d c m h home id w.row w.there w.fresh
 
-    owner_open : (u : TxId) → q.within ≡ Some u → h.gone u.intent ≡ false
+    owner_open : (u : TxId) → q.enclosing ≡ Some u → h.gone u.intent ≡ false
     owner_open u inner = let v = owner u inner in alive_there d c m h (intent_key u.intent u.func).home u.intent v.row v.there v.fresh
 
     in_open : (n : ℕ) (u : TxId) → tx_at d id q n ≡ Some u → h.gone u.intent ≡ false
-    in_open n u is = elim (either_own id q.within _ u (λ v e. tx_own id q.func _ _ _ v e) is) [
+    in_open n u is = elim (either_own id q.enclosing _ u (λ v e. tx_own id q.func _ _ _ v e) is) [
       | inl mine ↦ ap h.gone mine ∙ own_there
       | inr inner ↦ owner_open u inner
     ]
 
     answers_there : HasAnswers d c h.kept id q → HasAnswers d c m id q
-    answers_there a = record { held = λ n x at. same_held d c m h id q.func n (tx_at d id q n) (wants d q.func q.args (is_some q.within) (take n q.answers)) own_there (in_open n) ∙ a.held n x at; runs = a.runs }
+    answers_there a = record { held = λ n x at. same_held d c m h id q.func n (tx_at d id q n) (wants d q.func q.args (is_some q.enclosing) (take n q.answers)) own_there (in_open n) ∙ a.held n x at; runs = a.runs }
 
-  answers_less : (id : IntentId) (o : Option Instance) → map.get known id ≡ o → AnswersOf d c h.kept id o → AnswersLess d c h.latest m id o
+  answers_less : (id : IntentId) (o : Option Instance) → map.get recorded id ≡ o → AnswersOf d c h.kept id o → AnswersLess d c h.latest m id o
   answers_less id None is a = a
   answers_less id (Some q) is a = (λ home w owner. answers_there id q is home w owner a, a.runs)
 
 pub kept_answers : KeptAnswers
-kept_answers d c m p h is = subst (OneAnswerLess d c h.latest m) (same_run d c h.kept p h.upkeep.right is)
-    (record { known = h.upkeep.right.known; beside = h.upkeep.right.beside; each = λ id. answers_less d c m h id (map.get h.upkeep.right.known id) refl (answers_of d c h.kept h.upkeep.right id (map.get h.upkeep.right.known id) refl) })
+kept_answers d c m p h is = subst (OneAnswerLess d c h.latest m) (same_run d c h.kept p h.upkeep.invariant is)
+    (record { histories = h.upkeep.invariant.histories; extends = h.upkeep.invariant.extends; each = λ id. answers_less d c m h id (map.get h.upkeep.invariant.histories id) refl (answers_of d c h.kept h.upkeep.invariant id (map.get h.upkeep.invariant.histories id) refl) })
 
 pub kept_stand : KeptStand
-kept_stand d c m p h is = subst (StandsLess d h.latest m) (same_run d c h.kept p h.upkeep.right is) (stands_less d c m h)
+kept_stand d c m p h is = subst (StandsLess d h.latest m) (same_run d c h.kept p h.upkeep.invariant is) (stands_less d c m h)
 
 pub kept_listing : KeptListing
 kept_listing d c m p h is = listing_by d c.book m p is (kept_stand d c m p h is).items

@@ -10,11 +10,11 @@ use Rattle.beldi_row.proofs.Gets.{got, key_same}
 use Rattle.beldi_chain.specs.Chain.{Chain, chain, is_row_of}
 use Rattle.beldi_splice.specs.Splice.{IsThreaded, LessChain, LessRow}
 use Rattle.beldi_splice.proofs.Alike.{more_are_gone}
-use Rattle.beldi_known.specs.Contents.{head_key}
-use Rattle.beldi_known.proofs.Acts.{item_apart, kind_off}
-use Rattle.beldi_walk.specs.{declared.query.Query.Query, Query.said, Query.told_by, Query.rows_after}
-use Rattle.beldi_laws.proofs.Names.{tied_itself, id_total}
-use Rattle.beldi_upkeep.specs.{Callees.belongs_to, Work.finish_in}
+use Rattle.beldi_histories.specs.Contents.{head_key}
+use Rattle.beldi_histories.proofs.Acts.{item_apart, kind_off}
+use Rattle.beldi_query.specs.{declared.query.Query.Query, Query.replied, Query.query_reply, Query.rows_after}
+use Rattle.beldi_invariant.proofs.Names.{tied_itself, id_total}
+use Rattle.beldi_upkeep.specs.{Callees.belongs_to, WorksFor.finish_in}
 use Rattle.beldi_kept.specs.Less.{IsGone, Less, and_gone, is_item}
 
 -- ---- keys of items, and all others
@@ -183,8 +183,8 @@ module _ (gone : IntentId → Bool) (m kept : Rows) (less : Less gone m kept) wh
   pub act_both : (k : RowKey) → is_item k.kind ≡ false → (a : Act) (now : ℕ) → map.get m k ≡ map.get kept k → GoesOn gone m kept (rows_after (Query.Act k a) now m) (rows_after (Query.Act k a) now kept)
   act_both k other a now same = set_both k other (act a now (map.get m k)).0 (act a now (map.get kept k)).0 (inl (ap (λ r. (act a now r).0) same)) (λ none there. let clash = sym (ap is_some (sym same ∙ none)) ∙ there in cc) (λ none bare. absurd (subst IsBare (sym same ∙ none) bare))
 
-  pub told_both : (k : RowKey) (a : Act) (now : ℕ) → map.get m k ≡ map.get kept k → told_by (Query.Act k a) now m ≡ told_by (Query.Act k a) now kept
-  told_both k a now same = ap (λ r. said (act a now r).1) same
+  pub told_both : (k : RowKey) (a : Act) (now : ℕ) → map.get m k ≡ map.get kept k → query_reply (Query.Act k a) now m ≡ query_reply (Query.Act k a) now kept
+  told_both k a now same = ap (λ r. replied (act a now r).1) same
 
   -- an act that adds and removes nothing, and binds nobody, at a key of who is gone
   pub act_gone : (k : RowKey) (a : Act) (now : ℕ) → map.get m k ≡ None → IsGone gone (belongs_to k.kind) → (act a now None).0 ≡ None → prunes a ≡ false → binds a ≡ false → GoesOn gone m kept (rows_after (Query.Act k a) now m) (rows_after (Query.Act k a) now kept)

@@ -1,4 +1,4 @@
-mod Ahead
+mod KeptAhead
 mod Alive
 pub mod Begins
 mod Between
@@ -15,11 +15,11 @@ mod Items
 mod ItemStages
 mod ItemTurns
 mod ItemWrites
-mod Keeps
+mod KeptKeeps
 pub mod LeftRows
 pub mod Less
 mod Looks
-pub mod Newest
+pub mod KeptNewest
 mod NextAlike
 mod Onward
 mod Owned
@@ -30,8 +30,8 @@ mod Staying
 mod Step
 pub mod Telling
 mod Turn
-mod Turns
+mod KeptTurns
 mod VisitAlike
 mod Visits
-mod Whole
+mod KeptWhole
 pub mod WholeTurns

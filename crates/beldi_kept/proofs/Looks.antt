@@ -6,9 +6,9 @@ use Rattle.beldi_value.specs.declared.id.IntentId.{IntentId}
 use Rattle.beldi_row.specs.declared.act.Act.TheVariants.{Look, MarkCell, SkipCell}
 use Rattle.beldi_row.specs.{Key.RowKey, Key.at_row, Key.row_of, Act.act, Table.IsNext, Table.Rows, Table.next_row, declared.row.Row.Row}
 use Rattle.beldi_row.proofs.Least.{next_row_least}
-use Rattle.beldi_walk.specs.Query.{said}
+use Rattle.beldi_query.specs.Query.{replied}
 use Rattle.beldi_intent.specs.Intent.{intent_key}
-use Rattle.beldi_prune.specs.{Laws.turned, Seat.seat}
+use Rattle.beldi_prune.specs.{PruneLaws.turned, Seat.seat}
 use Rattle.beldi_prune.specs.Prune.{begins, is_recyclable, led_next, marked_next, row_next, stand_if, to_prove, todo_of}
 use Rattle.beldi_prune.specs.Unlink.{is_did, step_to, told_marked, told_next}
 use Rattle.beldi_prune.specs.declared.found.Todo.{Todo, TheVariants.Pass, TheVariants.DropIt, TheVariants.LookAt, TheVariants.DropAdrift, TheVariants.LeadPast, TheVariants.Prove}
@@ -72,12 +72,12 @@ module _ (newest life now : ℕ) (m : Rows) (k : RowKey) where
   looked : (c : RowKey) (a : CollectorAt) → looked_at (turned newest life now (record { cursor = c; at = a }) m).at ≡ Some k → is_some (map.get m k) ≡ true
   looked c Before h = next_there c (next_row m c) (next_row_least m c) h
   looked c (ToDropIntent q) h = cc
-  looked c (ToLook q) h = let b = is_recyclable life now (said (act Look now (map.get m (seat q))).1) in none_is k (looked_at (stand_if c q (ToDrop q) b).at) (if_not c q (ToDrop q) refl b) h
+  looked c (ToLook q) h = let b = is_recyclable life now (replied (act Look now (map.get m (seat q))).1) in none_is k (looked_at (stand_if c q (ToDrop q) b).at) (if_not c q (ToDrop q) refl b) h
   looked c (ToDrop q) h = cc
-  looked c (ToProve q i is) h = let b = is_recyclable life now (said (act Look now (map.get m (intent_key i q.home))).1) in none_is k (looked_at (stand_if c q (to_prove q is) b).at) (if_not c q (to_prove q is) (proved_not q is) b) h
-  looked c (ToMark q) h = let o = told_marked (said (act MarkCell now (map.get m q)).1) in none_is k (looked_at (marked_next c q o).at) (marked_not c q o) h
-  looked c (ToLead q to at) h = let o = told_next (said (act Look now (map.get m (at_row q at))).1) in none_is k (looked_at (led_next c q to at o).at) (led_not c q to at o) h
-  looked c (ToSkip q to at) h = let b = is_did (said (act (SkipCell (row_of q.kind) to) now (map.get m (at_row q at))).1) in none_is k (looked_at (stand_if c q (ToDangle q) b).at) (if_not c q (ToDangle q) refl b) h
+  looked c (ToProve q i is) h = let b = is_recyclable life now (replied (act Look now (map.get m (intent_key i q.home))).1) in none_is k (looked_at (stand_if c q (to_prove q is) b).at) (if_not c q (to_prove q is) (proved_not q is) b) h
+  looked c (ToMark q) h = let o = told_marked (replied (act MarkCell now (map.get m q)).1) in none_is k (looked_at (marked_next c q o).at) (marked_not c q o) h
+  looked c (ToLead q to at) h = let o = told_next (replied (act Look now (map.get m (at_row q at))).1) in none_is k (looked_at (led_next c q to at o).at) (led_not c q to at o) h
+  looked c (ToSkip q to at) h = let b = is_did (replied (act (SkipCell (row_of q.kind) to) now (map.get m (at_row q at))).1) in none_is k (looked_at (stand_if c q (ToDangle q) b).at) (if_not c q (ToDangle q) refl b) h
   looked c (ToDangle q) h = cc
   looked c (ToDropCell q) h = cc
 

@@ -6,9 +6,9 @@ use Rattle.std.proofs.Common.{◌≡◌, inl, inr, Bool, true, Option, Some, Non
 use Rattle.beldi_value.specs.declared.id.IntentId.{IntentId}
 use Rattle.beldi_row.specs.{Key.RowKey, Key.key_cmp, KeyOrder.key_exact, KeyOrder.key_total, Table.IsNext, Table.Rows, Table.next_row, declared.row.Row.Row}
 use Rattle.beldi_row.proofs.Least.{next_row_least}
-use Rattle.beldi_known.proofs.Cases.{by_option}
-use Rattle.beldi_step.proofs.Runs.{same_some}
-use Rattle.beldi_txn.proofs.Calls.{by_order}
+use Rattle.beldi_histories.proofs.Cases.{by_option}
+use Rattle.beldi_step.proofs.StepRuns.{same_some}
+use Rattle.beldi_txn.proofs.InvokedInside.{by_order}
 use Rattle.beldi_upkeep.specs.Callees.{belongs_to}
 use Rattle.beldi_kept.specs.Less.{IsGone, Less, is_item}
 use Rattle.beldi_kept.proofs.Less.{by_kind, none_there}

@@ -5,31 +5,31 @@ use Rattle.std.specs.declared.alloc.AllocError.{AllocError}
 use Rattle.std.proofs.Common.{◌≡◌, inl, inr, ℕ, ◌<◌, ◌≤◌, Bool, true, false, Option, Some, None, is_some, refl, ap, sym, ◌∙◌, subst, arith}
 use Rattle.beldi_value.specs.declared.{id.IntentId.IntentId}
 use Rattle.beldi_tree.specs.declared.deployment.Deployment.{Deployment}
-use Rattle.beldi_book.specs.Order.{count_changes}
+use Rattle.beldi_book.specs.LinearOrder.{count_changes}
 use Rattle.beldi_plain.specs.Item.{Item}
 use Rattle.beldi_row.specs.{Act.act, Table.Rows, declared.act.Act.Act, declared.row.Cell.Cell, declared.row.Row.Row}
-use Rattle.beldi_walk.specs.{declared.query.Query.Query, Query.rows_after, Query.told_by}
+use Rattle.beldi_query.specs.{declared.query.Query.Query, Query.rows_after, Query.query_reply}
 use Rattle.beldi_chain.specs.Chain.{Chain, chain}
 use Rattle.beldi_links.specs.Links.{IsLinked}
 use Rattle.beldi_links.proofs.Meets.{rows_below}
 use Rattle.beldi_splice.specs.Splice.{IsSafeFrom, IsThreaded, LessChain}
-use Rattle.beldi_splice.proofs.{Alike.first_there, Alike.goes, Both.there_linked, Leading.next_is_safe}
+use Rattle.beldi_splice.proofs.{Alike.first_there, Alike.leads_on_kept, Both.there_linked, Leading.next_is_safe}
 use Rattle.beldi_intent.specs.Intent.{root_key}
-use Rattle.beldi_step.specs.Host.{Core, EventOn}
+use Rattle.beldi_step.specs.HostStep.{Core, EventOn}
 use Rattle.beldi_step.specs.Run.{run_asks, run_told}
-use Rattle.beldi_step.specs.declared.{event.Event.Event, event.Seen.Seen, run.Run.Run, run.RunAt.TheVariants.Begins, run.RunAt.TheVariants.Looks, run.RunAt.TheVariants.Registers}
+use Rattle.beldi_step.specs.declared.{event.Event.Event, event.EventReply.EventReply, run.Run.Run, run.RunAt.TheVariants.Begins, run.RunAt.TheVariants.Looks, run.RunAt.TheVariants.Registers}
 use Rattle.beldi_step.specs.declared.run.RunAt as standing
-use Rattle.beldi_known.specs.Contents.{head_key}
-use Rattle.beldi_known.proofs.Acts.{item_apart}
+use Rattle.beldi_histories.specs.Contents.{head_key}
+use Rattle.beldi_histories.proofs.Acts.{item_apart}
 use Rattle.beldi_upkeep.proofs.Shapes.{RunFrom, Rooted, Still, TurnOf, has_begun, shape}
-use Rattle.beldi_kept.specs.{Ahead.StaysAhead, Kept.HasKept}
-use Rattle.beldi_kept.proofs.{Ahead.turned_stays, Coming.IsSafeFurther, Coming.LeadsOnTo, Less.GoesOn, Less.off_item, Staying.StaysOn, Staying.for_run, Staying.same_chains, Staying.turn_stays, Step.Step}
+use Rattle.beldi_kept.specs.{KeptAhead.StaysAhead, KeptRows.HasKept}
+use Rattle.beldi_kept.proofs.{KeptAhead.turned_stays, Coming.IsSafeFurther, Coming.LeadsOnTo, Less.GoesOn, Less.off_item, Staying.StaysOn, Staying.for_run, Staying.same_chains, Staying.turn_stays, Step.Step}
 
 -- ---- a row that one leads to is safe as this is
 module _ (gone : IntentId → Bool) (g f : Chain) (linked : IsLinked f) (less : LessChain gone g f) (threads : is_some (g 0) ≡ true → IsThreaded g) (life deadline : ℕ) where
   cell_leads : (r z : ℕ) (c : Cell) → g r ≡ Some (Row.Cell c) → c.next ≡ Some z → IsSafeFrom life deadline g r → IsSafeFrom life deadline g z
   cell_leads r z c is to =
-      let q = goes gone g f less r z c is to in
+      let q = leads_on_kept gone g f less r z c is to in
       let l = there_linked f linked r (Row.Cell q.kept) q.there in
       let rises : r < z = (let one = l.numbers r q.kept q.after q.there q.next in let most = q.most in omega (arith, one, most)) in
       next_is_safe g life deadline r z c (threads (first_there gone f (g 0) (f 0) (less 0) (rows_below f l r 0 (Row.Cell q.kept) q.there (omega arith)))) is to rises
@@ -84,7 +84,7 @@ module _ (d : Deployment) (c b : Core) (m n : Rows) (h : HasKept d c m) (s : Ste
       ]
 
   turned : TurnOf d c.runs c.now (count_changes c.book) b.runs m n → (k : ℕ) (r : Run) → Stays k r
-  turned w k r live in_time = from_before (run_told d (count_changes c.book) w.run (told_by (run_asks w.run) c.now m)).next (lived_on on) next k r in_time (w.runs k r live)
+  turned w k r live in_time = from_before (run_told d (count_changes c.book) w.run (query_reply (run_asks w.run) c.now m)).next (lived_on on) next k r in_time (w.runs k r live)
     where
       after : GoesOn h.gone m h.kept (rows_after (run_asks w.run) c.now m) s.after
       after = subst (λ z. GoesOn h.gone m h.kept z s.after) w.rows s.goes
@@ -93,12 +93,12 @@ module _ (d : Deployment) (c b : Core) (m n : Rows) (h : HasKept d c m) (s : Ste
       on deadline = subst (StaysOn d.life deadline m) (sym w.rows) (turn_stays d c m h w.number w.run w.live_there w.in_time s.after after deadline)
 
       further : (x : Item) → IsSafeFurther d.life w.run.deadline (chain n (head_key x))
-      further x = leads_safe h.gone (chain n (head_key x)) (chain s.after (head_key x)) (s.upkeep.right.rows.chains x) (s.goes.less.cells x) (s.goes.less.threads x) d.life w.run.deadline
+      further x = leads_safe h.gone (chain n (head_key x)) (chain s.after (head_key x)) (s.upkeep.invariant.rows.chains x) (s.goes.less.cells x) (s.goes.less.threads x) d.life w.run.deadline
 
-      next : (q : Run) → (run_told d (count_changes c.book) w.run (told_by (run_asks w.run) c.now m)).next ≡ Some q → b.now ≤ q.deadline → StaysAhead d.life n q q.at
+      next : (q : Run) → (run_told d (count_changes c.book) w.run (query_reply (run_asks w.run) c.now m)).next ≡ Some q → b.now ≤ q.deadline → StaysAhead d.life n q q.at
       next q is in_time = turned_stays d.life c.now (count_changes c.book) m n d w.run (on w.run.deadline) further w.rows (h.ahead w.number w.run w.live_there w.in_time) q is
 
-  pub ahead_after : (room old new : ℕ) (e : Event) (x : Result Seen AllocError) → EventOn d room old new e c m b n x → (k : ℕ) (r : Run) → Stays k r
+  pub ahead_after : (room old new : ℕ) (e : Event) (x : Result EventReply AllocError) → EventOn d room old new e c m b n x → (k : ℕ) (r : Run) → Stays k r
   ahead_after room old new e x on = elim (shape d room old new e c b m n x on) [
     | inl w ↦ still w
     | inr (inl w) ↦ rooted w

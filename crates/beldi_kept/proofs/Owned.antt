@@ -7,20 +7,20 @@ use Rattle.std.proofs.Common.{◌≡◌, ◌⊎◌, inl, inr, ℕ, Bool, true, f
 use Rattle.beldi_value.specs.{declared.place.Owner.Owner, declared.place.Owner.TheVariants.Intent, declared.place.Owner.TheVariants.Tx, declared.place.Place.Place}
 use Rattle.beldi_tree.specs.declared.deployment.Deployment.{Deployment}
 use Rattle.beldi_plain.specs.Item.{Item}
-use Rattle.beldi_row.specs.{Act.Tell, Act.act, Act.at_tail, Act.held_or, Act.is_full, Act.next as says_next, Act.next_or, Act.not_full, Act.not_owner, Act.noted_or, Act.off, Act.on, Act.other_owner, Act.owned_or, Act.owns, Act.removes, Act.stays_unless, Act.waits_for, Key.RowKey, Key.at_row, Key.key_cmp, Log.note_at, Table.Rows, declared.act.Act.Act, declared.notes.Note.Note, declared.row.Cell.Cell, declared.row.Row.Row}
+use Rattle.beldi_row.specs.{Act.ActReply, Act.act, Act.at_tail, Act.held_or, Act.is_full, Act.next as reply_next, Act.next_or, Act.not_full, Act.not_owner, Act.noted_or, Act.off, Act.on, Act.other_owner, Act.owned_or, Act.owns, Act.removes, Act.stays_unless, Act.waits_for, Key.RowKey, Key.at_row, Key.key_cmp, Log.note_at, Table.Rows, declared.act.Act.Act, declared.notes.Note.Note, declared.row.Cell.Cell, declared.row.Row.Row}
 use Rattle.beldi_row.proofs.{Gets.got, Gets.key_same}
 use Rattle.beldi_chain.specs.{Chain.Chain, Chain.chain, Chain.content, Chain.next_of, Content.Content, Content.content_in}
 use Rattle.beldi_links.specs.Links.{IsLinked, LeadsTo, Linked, LinkedFrom}
 use Rattle.beldi_links.proofs.Ways.{content_is, none_next, one_cell}
 use Rattle.beldi_splice.specs.Splice.{LeadsPast}
 use Rattle.beldi_splice.proofs.Pruned.{is_of}
-use Rattle.beldi_walk.specs.{declared.query.Query.Query, Query.rows_after}
+use Rattle.beldi_query.specs.{declared.query.Query.Query, Query.rows_after}
 use Rattle.beldi_txn.specs.Closed.{ClosedArePassed}
-use Rattle.beldi_step.specs.{Host.Core, Host.EventOn, Run.run_asks, declared.event.Event.Event, declared.event.Seen.Seen}
-use Rattle.beldi_known.specs.{Contents.content_of, Contents.head_key, Stands.key_in}
+use Rattle.beldi_step.specs.{HostStep.Core, HostStep.EventOn, Run.run_asks, declared.event.Event.Event, declared.event.EventReply.EventReply}
+use Rattle.beldi_histories.specs.{Contents.content_of, Contents.head_key, Stands.key_in}
 use Rattle.beldi_upkeep.specs.Callees.{HasIntentRow, owner_key}
 use Rattle.beldi_upkeep.proofs.Shapes.{shape}
-use Rattle.beldi_kept.specs.{Kept.HasKept, Safe.OwnersComeWithRows, Safe.OwnersHaveTheirRows, Safe.owner_at}
+use Rattle.beldi_kept.specs.{KeptRows.HasKept, Safe.OwnersComeWithRows, Safe.OwnersHaveTheirRows, Safe.owner_at}
 use Rattle.beldi_kept.proofs.Alive.{alive_key, holder_alive, lock_alive, same_owner, same_row}
 use Rattle.beldi_kept.proofs.Collecting.{events_keep_safe}
 
@@ -41,11 +41,11 @@ owners_have_rows d c m h = item_owner d c m h.has
 -- ---- rows without a next: the last one, and one that is to follow it, have the owner of the item
 module _ (f : Chain) (l : Linked f) (n : ℕ) (w : Cell) (at : f n ≡ Some (Row.Cell w)) (ends : w.next ≡ None) where
   as_last : w.owner ≡ l.tail.owner → w.owner ≡ (content f).owner
-  as_last same = same ∙ sym (ap (λ (z : Content). z.owner) (content_is f l.way.0 l.last l.tail l.way.1 l.there l.ends l.few))
+  as_last same = same ∙ sym (ap (λ (z : Content). z.owner) (content_is f l.path.0 l.last l.tail l.path.1 l.there l.ends l.few))
 
   by_way : LeadsTo f n l.last → w.owner ≡ l.tail.owner
-  by_way ([], way) = ap (λ (z : Cell). z.owner) (one_cell w l.tail (sym at ∙ ap f way ∙ l.there))
-  by_way (k ∷ ks, (v, is, next, less, way)) = absurd (none_next v k (ap (λ (z : Cell). z.next) (one_cell v w (sym is ∙ at)) ∙ ends) next)
+  by_way ([], path) = ap (λ (z : Cell). z.owner) (one_cell w l.tail (sym at ∙ ap f path ∙ l.there))
+  by_way (k ∷ ks, (v, is, next, less, path)) = absurd (none_next v k (ap (λ (z : Cell). z.next) (one_cell v w (sym is ∙ at)) ∙ ends) next)
 
   last_owner : w.owner ≡ (content f).owner
   last_owner = as_last (elim (l.rest n w at) [
@@ -68,7 +68,7 @@ abbrev Leaves : Option Row → Option Row → Type 0
 Leaves r s = (j : ℕ) → next_of s ≡ Some j → owner_in s ≡ owner_in r
 
 -- what is done at a last row does not give it a next
-tail_leaves : (p : Place) (c : Cell) (r : Cell × Tell) → r.0.next ≡ c.next → (j : ℕ) → (at_tail p c r).0.next ≡ Some j → (at_tail p c r).0.owner ≡ c.owner
+tail_leaves : (p : Place) (c : Cell) (r : Cell × ActReply) → r.0.next ≡ c.next → (j : ℕ) → (at_tail p c r).0.next ≡ Some j → (at_tail p c r).0.owner ≡ c.owner
 tail_leaves p c r same = by_note (note_at c.log p) c.next same
   where
     by_note : (o : Option Note) (k : Option ℕ) → r.0.next ≡ k → (j : ℕ) → (noted_or c o (next_or c k r)).0.next ≡ Some j → (noted_or c o (next_or c k r)).0.owner ≡ c.owner
@@ -77,24 +77,24 @@ tail_leaves p c r same = by_note (note_at c.log p) c.next same
     by_note None None none j next = let clash = sym none ∙ next in cc
 
 -- .. nor does what bars it
-if_next : (c : Cell) (b : Bool) (t : Tell) (r : Cell × Tell) → r.0.next ≡ c.next → (if b then (c, t) else r).0.next ≡ c.next
+if_next : (c : Cell) (b : Bool) (t : ActReply) (r : Cell × ActReply) → r.0.next ≡ c.next → (if b then (c, t) else r).0.next ≡ c.next
 if_next c true t r same = refl
 if_next c false t r same = same
 
-held_next : (c : Cell) (o : Option Owner) (r : Cell × Tell) → r.0.next ≡ c.next → (held_or c o r).0.next ≡ c.next
+held_next : (c : Cell) (o : Option Owner) (r : Cell × ActReply) → r.0.next ≡ c.next → (held_or c o r).0.next ≡ c.next
 held_next c None r same = same
 held_next c (Some o) r same = refl
 
-owned_next : (p : Place) (w : Owner) (c : Cell) (o : Option Owner) (r : Cell × Tell) → r.0.next ≡ c.next → (owned_or p w c o r).0.next ≡ c.next
+owned_next : (p : Place) (w : Owner) (c : Cell) (o : Option Owner) (r : Cell × ActReply) → r.0.next ≡ c.next → (owned_or p w c o r).0.next ≡ c.next
 owned_next p w c None r same = same
 owned_next p w c (Some o) r same = if_next c (waits_for w o) _ _ (if_next c (is_full c) _ _ refl)
 
-freed_next : (c : Cell) (b : Bool) (r : Cell × Tell) → r.0.next ≡ c.next → (if b then r else (c, not_owner)).0.next ≡ c.next
+freed_next : (c : Cell) (b : Bool) (r : Cell × ActReply) → r.0.next ≡ c.next → (if b then r else (c, not_owner)).0.next ≡ c.next
 freed_next c true r same = same
 freed_next c false r same = refl
 
 -- .. and a link leaves the owner
-link_owner : (n : ℕ) (c : Cell) (k : Option ℕ) (b : Bool) → (next_or c k (if b then (record c { next = Some n }, says_next n) else (c, not_full))).0.owner ≡ c.owner
+link_owner : (n : ℕ) (c : Cell) (k : Option ℕ) (b : Bool) → (next_or c k (if b then (record c { next = Some n }, reply_next n) else (c, not_full))).0.owner ≡ c.owner
 link_owner n c k b = grind arith
 
 on_leaves : (a : Act) (now : ℕ) (r : Row) → Leaves (Some r) (Some (on a now r).0)
@@ -129,7 +129,7 @@ module _ (m : Rows) (k : RowKey) where
       by_test true e = subst (λ z. Leaves (map.get m z) (act a now (map.get m l)).0) (sym (key_same k l e)) (act_leaves a now (map.get m l))
       by_test false e = λ j next. refl
 
-event_leaves : (d : Deployment) (room old new : ℕ) (e : Event) (c b : Core) (m n : Rows) (x : Result Seen AllocError) → EventOn d room old new e c m b n x → (k : RowKey) → LeavesAt m k n
+event_leaves : (d : Deployment) (room old new : ℕ) (e : Event) (c b : Core) (m n : Rows) (x : Result EventReply AllocError) → EventOn d room old new e c m b n x → (k : RowKey) → LeavesAt m k n
 event_leaves d room old new e c b m n x s k = elim (shape d room old new e c b m n x s) [
   | inl still ↦ subst (LeavesAt m k) (sym still.rows) (λ j next. refl)
   | inr (inl root) ↦ subst (LeavesAt m k) (sym root.rows) (by_query m k root.query c.now)
@@ -154,7 +154,7 @@ owners_come may_pass d room old new e c b m n x h s o y i owned = by_row (map.ge
     kept_owner : (w : Cell) → map.get n (at_row (head_key y) i) ≡ Some (Row.Cell w) → w.next ≡ None → w.owner ≡ (content_of g.kept y).owner
     kept_owner w at ends =
         let was = is_of g.gone (chain n (head_key y)) (chain g.kept (head_key y)) (g.less.cells y) i w at in
-        was.less.owner ∙ open_owner (chain g.kept (head_key y)) (g.upkeep.right.rows.chains y) i was.kept was.there (none_follows i w.next was.kept.next was.less.next ends)
+        was.less.owner ∙ open_owner (chain g.kept (head_key y)) (g.upkeep.invariant.rows.chains y) i was.kept was.there (none_follows i w.next was.kept.next was.less.next ends)
 
     by_cell : (w : Cell) → map.get n (at_row (head_key y) i) ≡ Some (Row.Cell w) → w.owner ≡ Some o → (next : Option ℕ) → w.next ≡ next → (owner_at m y i ≡ Some o) ⊎ HasIntentRow n o
     by_cell w at is None ends = inr (owner_there d b n g o y (sym (kept_owner w at ends) ∙ is))

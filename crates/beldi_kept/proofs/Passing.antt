@@ -7,21 +7,21 @@ use Rattle.beldi_value.specs.declared.id.IntentId.{IntentId}
 use Rattle.beldi_tree.specs.declared.deployment.Deployment.{Deployment}
 use Rattle.beldi_plain.specs.Item.{Item}
 use Rattle.beldi_row.specs.{Act.act, Key.RowKey, Key.at_row, Key.row_of, Table.Rows, declared.key.Kind.Kind, declared.row.Cell.Cell, declared.row.Row.Row}
-use Rattle.beldi_walk.specs.declared.query.Query.{Query}
+use Rattle.beldi_query.specs.declared.query.Query.{Query}
 use Rattle.beldi_intent.specs.Intent.{intent_key}
 use Rattle.beldi_chain.specs.Chain.{chain}
 use Rattle.beldi_splice.specs.Onward.{HasFollower, Onward, RowStays}
 use Rattle.beldi_splice.proofs.Onward.{acts_lead_on, same_leads_on}
-use Rattle.beldi_prune.specs.{Entries.HasEntryOf, Laws.IsRight, Laws.is_behind}
+use Rattle.beldi_prune.specs.{CellEntries.HasEntryOf, PruneLaws.HasCollectorInvariant, PruneLaws.is_behind}
 use Rattle.beldi_prune.specs.declared.collector.LogCollector.{LogCollector}
 use Rattle.beldi_prune.specs.declared.collector.CollectorAt.{CollectorAt, TheVariants.Before, TheVariants.ToDropIntent, TheVariants.ToLook, TheVariants.ToDrop, TheVariants.ToProve, TheVariants.ToMark, TheVariants.ToLead, TheVariants.ToSkip, TheVariants.ToDangle, TheVariants.ToDropCell}
-use Rattle.beldi_step.specs.Host.{Core, EventOn, Plan, asks, at_once, counted, plan, reads_all}
-use Rattle.beldi_step.specs.declared.{event.Event.Event, event.Seen.Seen}
+use Rattle.beldi_step.specs.HostStep.{Core, EventOn, Plan, asks, immediate, counted, plan, reads_all}
+use Rattle.beldi_step.specs.declared.{event.Event.Event, event.EventReply.EventReply}
 use Rattle.beldi_step.proofs.Spares.{plan_removes, plan_spares}
-use Rattle.beldi_known.specs.Contents.{head_key}
-use Rattle.beldi_upkeep.specs.Work.{finish_in}
-use Rattle.beldi_upkeep.proofs.Kept.{PlanKeeps, event_keeps}
-use Rattle.beldi_kept.specs.{Kept.HasKept, Kept.IsLater, Safe.Found, Safe.IsGoneOrOld, Safe.IsMarkedTo, Safe.IsProved, Safe.WasKept, Safe.chain_of}
+use Rattle.beldi_histories.specs.Contents.{head_key}
+use Rattle.beldi_upkeep.specs.WorksFor.{finish_in}
+use Rattle.beldi_upkeep.proofs.UpkeepKept.{PlanKeeps, event_keeps}
+use Rattle.beldi_kept.specs.{KeptRows.HasKept, KeptRows.IsLater, Safe.Found, Safe.IsGoneOrOld, Safe.IsMarkedTo, Safe.IsProved, Safe.WasKept, Safe.chain_of}
 use Rattle.beldi_kept.proofs.{Begins.old_stays, Gone.old_still, Staying.frozen_act}
 
 -- ---- rows of items whose rows were kept, and that have a next or went: what is on the way to them is so still
@@ -54,15 +54,15 @@ abbrev StaysFrozen : Rows → RowKey → Option Row → Type 0
 StaysFrozen m k r = (c : Cell) (z : ℕ) → map.get m k ≡ Some (Row.Cell c) → c.next ≡ Some z → r ≡ Some (Row.Cell c)
 
 frozen_plan : (m : Rows) (z : Core) (p : Plan) → plan_removes p ≡ false → PlanKeeps (StaysFrozen m) z p
-frozen_plan m z (at_once y w) keeps = tt
+frozen_plan m z (immediate y w) keeps = tt
 frozen_plan m z (asks (Query.Act k a)) keeps = λ r h c y is next. ap (λ o. (act a z.now o).0) (h c y is next) ∙ frozen_act a z.now c y keeps next
 frozen_plan m z (asks (Query.After k)) keeps = tt
 frozen_plan m z reads_all keeps = tt
 
-pub event_leads_on : (d : Deployment) (room old new : ℕ) (e : Event) (c b : Core) (m n : Rows) (x : Result Seen AllocError) (h : HasKept d c m) → EventOn d room old new e c m b n x
+pub event_leads_on : (d : Deployment) (room old new : ℕ) (e : Event) (c b : Core) (m n : Rows) (x : Result EventReply AllocError) (h : HasKept d c m) → EventOn d room old new e c m b n x
     → ((k : RowKey) → map.get m k ≡ None → is_some (map.get h.kept k) ≡ true → map.get n k ≡ None) → LeadOn h.kept m n
 event_leads_on d room old new e c b m n x h s away = record {
-  each = λ y r there follows. acts_lead_on h.gone (chain m (head_key y)) (chain h.kept (head_key y)) (chain n (head_key y)) (h.upkeep.right.rows.chains y) (h.less.cells y) (λ q u z is next. frozen (at_row (head_key y) q) u z is next)
+  each = λ y r there follows. acts_lead_on h.gone (chain m (head_key y)) (chain h.kept (head_key y)) (chain n (head_key y)) (h.upkeep.invariant.rows.chains y) (h.less.cells y) (λ q u z is next. frozen (at_row (head_key y) q) u z is next)
       (λ q none kept. away (at_row (head_key y) q) none kept) r there follows;
 }
   where
@@ -120,7 +120,7 @@ module _ (d : Deployment) (c b : Core) (m n : Rows) (h : HasKept d c m) (g : Has
       let so = lead_on_at h.kept m n on k behind f.0 (proved_follower d.life c.now h.gone h.kept k.home is (map.get m k) f.1) in
       (later.rows k f.0, proved_stays h g later k.home is (map.get m k) (map.get n k) f.1 so.1)
 
-  pub found_at : (cursor : RowKey) (newest : ℕ) (a : CollectorAt) → IsRight newest (record { cursor = cursor; at = a }) → Found d c m h a → Found d b n g a
+  pub found_at : (cursor : RowKey) (newest : ℕ) (a : CollectorAt) → HasCollectorInvariant newest (record { cursor = cursor; at = a }) → Found d c m h a → Found d b n g a
   found_at cursor newest Before right f = tt
   found_at cursor newest (ToDropIntent k) right f = tt
   found_at cursor newest (ToLook k) right f = later.rows k f
@@ -138,5 +138,5 @@ module _ (d : Deployment) (c b : Core) (m n : Rows) (h : HasKept d c m) (g : Has
       (later.rows k f.0, follower_stays (map.get m k) (map.get n k) f.1 so.1, λ led. f.2 (so.0.back led))
   found_at cursor newest (ToDropCell k) right f = tt
 
-  pub found_later : (newest : ℕ) (w : LogCollector) → IsRight newest w → Found d c m h w.at → Found d b n g w.at
+  pub found_later : (newest : ℕ) (w : LogCollector) → HasCollectorInvariant newest w → Found d c m h w.at → Found d b n g w.at
   found_later newest w right f = found_at w.cursor newest w.at right f

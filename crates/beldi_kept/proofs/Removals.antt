@@ -7,14 +7,14 @@ use Rattle.beldi_value.specs.{Id.id_cmp, Id.root_of, declared.id.IntentId.Intent
 use Rattle.beldi_tree.specs.declared.deployment.Deployment.{Deployment}
 use Rattle.beldi_row.specs.{Key.RowKey, Key.key_cmp, Key.key_ticket, Table.Rows, Table.set_row, declared.row.IntentRow.IntentRow, declared.row.Row.Row}
 use Rattle.beldi_row.proofs.Gets.{got, key_same, key_self}
-use Rattle.beldi_order.proofs.Operations.{id_same}
+use Rattle.beldi_plain_laws.proofs.PlainOperations.{id_same}
 use Rattle.beldi_intent.specs.Intent.{root_key}
-use Rattle.beldi_step.specs.{Host.Core, declared.run.Run.Run}
-use Rattle.beldi_known.specs.Stands.{key_in}
-use Rattle.beldi_known.proofs.Acts.{item_apart}
-use Rattle.beldi_upkeep.specs.{Callees.belongs_to, Callees.seat_of, Deadlines.IsNear, Work.WorksFor, Work.finish_in}
+use Rattle.beldi_step.specs.{HostStep.Core, declared.run.Run.Run}
+use Rattle.beldi_histories.specs.Stands.{key_in}
+use Rattle.beldi_histories.proofs.Acts.{item_apart}
+use Rattle.beldi_upkeep.specs.{Callees.belongs_to, Callees.seat_of, Deadlines.IsNear, WorksFor.WorksFor, WorksFor.finish_in}
 use Rattle.beldi_upkeep.proofs.NewWork.{work_bound}
-use Rattle.beldi_kept.specs.{Less.and_gone, Kept.HasKept, Kept.IsLater, Kept.IsOld, Kept.IsOver, Kept.IsUnbound, Laws.RemovalsKeep, Laws.UnboundMayGo}
+use Rattle.beldi_kept.specs.{Less.and_gone, KeptRows.HasKept, KeptRows.IsLater, KeptRows.IsOld, KeptRows.IsOver, KeptRows.IsUnbound, KeptLaws.RemovalsKeep, KeptLaws.UnboundMayGo}
 use Rattle.beldi_kept.proofs.{Gone.old_still, Gone.unbound_none, Less.goes, Less.gone_more, Less.not_item, Less.off_item, Staying.for_run, Staying.same_chains}
 
 -- no deadline that is near a finish is in time once that is old
@@ -118,7 +118,7 @@ module _ (d : Deployment) (c : Core) (m : Rows) (h : HasKept d c m) (t : ℕ) (w
   over_root = record { home = 0; over = inr (unbound c.newest t w (map.get (set_row m (root_key t) None) (root_key t)) (map.get h.kept (root_key t)) (now_none m (root_key t)) kept bare below) }
 
   nobody : (s : ℕ) (r : Run) → map.get c.runs s ≡ Some r → c.now ≤ r.deadline → WorksFor r r.at (root_of t) → ⊥
-  nobody s r live in_time works = let clash = sym (ap is_some bare) ∙ work_bound d c h.kept h.upkeep.right s r (root_of t) live (inl works) 0 w kept in cc
+  nobody s r live in_time works = let clash = sym (ap is_some bare) ∙ work_bound d c h.kept h.upkeep.invariant s r (root_of t) live (inl works) 0 w kept in cc
 
   root_goes : (g : HasKept d c (set_row m (root_key t) None)) × IsLater h g
   root_goes =

@@ -8,9 +8,9 @@ use Rattle.beldi_row.specs.{Key.at_row, Log.note_at, Log.place_eq, Table.Rows, d
 use Rattle.beldi_row.proofs.Logs.{place_self}
 use Rattle.beldi_chain.specs.Chain.{chain}
 use Rattle.beldi_intent.specs.Intent.{intent_key}
-use Rattle.beldi_prune.specs.Entries.{HasEntryOf}
-use Rattle.beldi_step.specs.Host.{Core}
-use Rattle.beldi_known.specs.Contents.{head_key}
+use Rattle.beldi_prune.specs.CellEntries.{HasEntryOf}
+use Rattle.beldi_step.specs.HostStep.{Core}
+use Rattle.beldi_histories.specs.Contents.{head_key}
 use Rattle.beldi_upkeep.specs.{Passed.has_note, Upkeep.Upkeep}
 use Rattle.beldi_upkeep.proofs.RowNotes.{row_noted}
 
@@ -32,5 +32,5 @@ noted_place (e ∷ es) i (inr of) = let z = noted_place es i of in record { plac
 pub entries_have_rows : (d : Deployment) (c : Core) (kept : Rows) → Upkeep d c kept → (x : Item) (r : ℕ) (k : Cell) → map.get kept (at_row (head_key x) r) ≡ Some (Row.Cell k) → (i : IntentId) → HasEntryOf k.log i → is_some (map.get kept (intent_key i x.func)) ≡ true
 entries_have_rows d c kept u x r k is i of =
     let z = noted_place k.log i of in
-    let noted = row_noted (chain kept (head_key x)) z.place (u.right.rows.chains x) r (ap (has_note z.place) is ∙ z.noted) in
+    let noted = row_noted (chain kept (head_key x)) z.place (u.invariant.rows.chains x) r (ap (has_note z.place) is ∙ z.noted) in
     ap (λ j. is_some (map.get kept (intent_key j x.func))) (sym z.intent) ∙ u.seats.noted_has_row x z.place noted

@@ -5,9 +5,9 @@ use Rattle.beldi_value.specs.declared.{id.IntentId.IntentId, place.Place.Place, 
 use Rattle.beldi_tree.specs.declared.deployment.Deployment.{Deployment}
 use Rattle.beldi_lang.specs.declared.effect.Effect.{Effect}
 use Rattle.beldi_plain.specs.Item.{Item}
-use Rattle.beldi_row.specs.{Act.act, Act.at_tail, Act.prunes, Act.is_full, Act.next, Act.next_or, Act.not_full, Act.noted_or, Act.Tell, Key.RowKey, Key.at_row, Log.note_at, Table.Rows, Table.set_row, declared.act.Act.Act, declared.notes.Note.Note, declared.row.Cell.Cell, declared.row.Row.Row}
+use Rattle.beldi_row.specs.{Act.act, Act.at_tail, Act.prunes, Act.is_full, Act.next, Act.next_or, Act.not_full, Act.noted_or, Act.ActReply, Key.RowKey, Key.at_row, Log.note_at, Table.Rows, Table.set_row, declared.act.Act.Act, declared.notes.Note.Note, declared.row.Cell.Cell, declared.row.Row.Row}
 use Rattle.beldi_row.proofs.{Gets.got, Gets.key_self, Unchanged.unchanged}
-use Rattle.beldi_walk.specs.{declared.query.Query.Query, Query.may_remove, Query.rows_after}
+use Rattle.beldi_query.specs.{declared.query.Query.Query, Query.may_remove, Query.rows_after}
 use Rattle.beldi_step.proofs.Spares.{run_spares}
 use Rattle.beldi_chain.specs.Chain.{chain}
 use Rattle.beldi_links.specs.Links.{At, Linked}
@@ -15,14 +15,14 @@ use Rattle.beldi_splice.specs.{Splice.IsSafeFrom, Splice.LeadsPast, Splice.LessR
 use Rattle.beldi_splice.proofs.{Alike.unfollowed_alike, Both.there_linked}
 use Rattle.beldi_daal.specs.{Logged.at_of, declared.cell.WriteAt.WriteAt}
 use Rattle.beldi_lock.specs.declared.lock.LockAt.{LockAt}
-use Rattle.beldi_txn.specs.{declared.tx.TxAt.TxAt, declared.end.EndAt.EndAt, declared.end.Visit.Visit, declared.way.Called.Called, End.visited_by, Tx.item_of}
-use Rattle.beldi_step.specs.Host.{Core}
+use Rattle.beldi_txn.specs.{declared.tx.TxAt.TxAt, declared.end.EndAt.EndAt, declared.end.EndState.EndState, declared.call_path.Called.Called, End.visited_by, Tx.item_of}
+use Rattle.beldi_step.specs.HostStep.{Core}
 use Rattle.beldi_step.specs.Run.{OnCell, cell_op, own_tx, run_asks}
 use Rattle.beldi_step.specs.declared.run.{Run.Run, RunAt.TheVariants.Begins, RunAt.TheVariants.Looks, RunAt.TheVariants.Registers, RunTx.RunTx, RunTx.TheVariants.Own, RunTx.TheVariants.Inherited, Stage.Stage}
 use Rattle.beldi_step.specs.declared.run.RunAt as standing
-use Rattle.beldi_known.specs.Contents.{IsLinkedItem, head_key}
-use Rattle.beldi_known.proofs.Acts.{by_item, item_apart}
-use Rattle.beldi_kept.specs.{Ahead.StaysAhead, Ahead.StaysAtStage, Ahead.StaysFor, Ahead.StaysForEnd, Ahead.StaysForPut, Ahead.StaysForRead, Ahead.StaysForTx, Ahead.StaysForVisit, Kept.HasKept}
+use Rattle.beldi_histories.specs.Contents.{IsLinkedItem, head_key}
+use Rattle.beldi_histories.proofs.Acts.{by_item, item_apart}
+use Rattle.beldi_kept.specs.{KeptAhead.StaysAhead, KeptAhead.StaysAtStage, KeptAhead.StaysFor, KeptAhead.StaysForEnd, KeptAhead.StaysForPut, KeptAhead.StaysForRead, KeptAhead.StaysForTx, KeptAhead.StaysForVisit, KeptRows.HasKept}
 use Rattle.beldi_kept.proofs.{ItemTurns.then_linked, Items.keeps_item, Items.other_there, Less.GoesOn, Less.by_kind, Less.off_item}
 
 -- ---- what stays of all items
@@ -61,13 +61,13 @@ module _ (life deadline : ℕ) (m n : Rows) where
     for_tx func (TxAt.Item r) None h = tt
     for_tx func a q h = tt
 
-    pub for_visit : (x : TxId) (way : List Called) (a : EndAt) (q : Option (ℕ × List ℕ)) → StaysForVisit life deadline m x way a q → StaysForVisit life deadline n x way a q
-    for_visit x way (EndAt.Free w) (Some q) h = for_walk (record { func = (visited_by x way).1; table = q.0; key = q.1 }) (at_of w) h
-    for_visit x way (EndAt.Free w) None h = tt
-    for_visit x way a q h = tt
+    pub for_visit : (x : TxId) (path : List Called) (a : EndAt) (q : Option (ℕ × List ℕ)) → StaysForVisit life deadline m x path a q → StaysForVisit life deadline n x path a q
+    for_visit x path (EndAt.Free w) (Some q) h = for_walk (record { func = (visited_by x path).1; table = q.0; key = q.1 }) (at_of w) h
+    for_visit x path (EndAt.Free w) None h = tt
+    for_visit x path a q h = tt
 
-    for_end : (id : IntentId) (func : ℕ) (v : Visit) (o : Option RunTx) → StaysForEnd life deadline m id func v o → StaysForEnd life deadline n id func v o
-    for_end id func v (Some (Own o)) h = for_visit (own_tx id func o) v.way v.at v.item h
+    for_end : (id : IntentId) (func : ℕ) (v : EndState) (o : Option RunTx) → StaysForEnd life deadline m id func v o → StaysForEnd life deadline n id func v o
+    for_end id func v (Some (Own o)) h = for_visit (own_tx id func o) v.path v.at v.item h
     for_end id func v (Some (Inherited x)) h = tt
     for_end id func v None h = tt
 
@@ -84,7 +84,7 @@ for_run life m n r on Looks h = tt
 for_run life m n r on (Registers b) h = tt
 
 -- ---- an act on a cell that others follow leaves it
-frozen_tail : (p : Place) (c : Cell) (n : ℕ) (z : Cell × Tell) → c.next ≡ Some n → (at_tail p c z).0 ≡ c
+frozen_tail : (p : Place) (c : Cell) (n : ℕ) (z : Cell × ActReply) → c.next ≡ Some n → (at_tail p c z).0 ≡ c
 frozen_tail p c n z is = by_note (note_at c.log p)
   where
     by_note : (o : Option Note) → (noted_or c o (next_or c c.next z)).0 ≡ c
@@ -121,17 +121,17 @@ module _ (d : Deployment) (c : Core) (m : Rows) (h : HasKept d c m) (i : ℕ) (r
     left is = same_rows d.life deadline m n (unchanged m key (act a c.now (map.get m key)).0 is)
 
     free_links : (k : Cell) → map.get h.kept key ≡ Some (Row.Cell k) → Linked (chain h.kept (head_key y))
-    free_links k is = there_linked (chain h.kept (head_key y)) (h.upkeep.right.rows.chains y) row (Row.Cell k) is
+    free_links k is = there_linked (chain h.kept (head_key y)) (h.upkeep.invariant.rows.chains y) row (Row.Cell k) is
 
     agrees : map.get m key ≡ map.get h.kept key → ((k : Cell) → map.get h.kept key ≡ Some (Row.Cell k) → k.next ≡ None) → On
     agrees same free =
         let linked = subst (λ q. IsLinkedItem (rows_after q c.now h.kept) y) asked (then_linked d c h.kept h.upkeep i r live in_time y) in
-        let k = keeps_item h.gone m h.kept h.less h.upkeep.right.rows.chains y row a keeps c.now same linked free in
+        let k = keeps_item h.gone m h.kept h.less h.upkeep.invariant.rows.chains y row a keeps c.now same linked free in
         record {
           safe = λ x q. by_item y x (λ z. IsSafeFrom d.life deadline (chain m (head_key z)) q → IsSafeFrom d.life deadline (chain n (head_key z)) q) (k.safe d.life deadline q)
-              (λ apart. subst (λ z. IsSafeFrom d.life deadline z q) (sym (other_there h.gone m h.kept h.less h.upkeep.right.rows.chains y row a keeps c.now same linked free x apart)));
+              (λ apart. subst (λ z. IsSafeFrom d.life deadline z q) (sym (other_there h.gone m h.kept h.less h.upkeep.invariant.rows.chains y row a keeps c.now same linked free x apart)));
           follows = λ x q. by_item y x (λ z. MayFollow d.life deadline (chain m (head_key z)) q → MayFollow d.life deadline (chain n (head_key z)) q) (k.follows d.life deadline q)
-              (λ apart. subst (λ z. MayFollow d.life deadline z q) (sym (other_there h.gone m h.kept h.less h.upkeep.right.rows.chains y row a keeps c.now same linked free x apart)));
+              (λ apart. subst (λ z. MayFollow d.life deadline z q) (sym (other_there h.gone m h.kept h.less h.upkeep.invariant.rows.chains y row a keeps c.now same linked free x apart)));
         }
 
     by_next : (u k : Cell) → map.get m key ≡ Some (Row.Cell u) → map.get h.kept key ≡ Some (Row.Cell k) → (p q : Option ℕ) → u.next ≡ p → k.next ≡ q → LeadsPast h.gone (chain h.kept (head_key y)) row p q → On

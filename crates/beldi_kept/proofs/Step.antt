@@ -8,17 +8,17 @@ use borrow.Author.Tests.{le-leb, leb-true}
 use Rattle.beldi_value.specs.{Id.has_no_hops, Id.root_of, declared.id.IntentId.IntentId}
 use Rattle.beldi_tree.specs.declared.deployment.Deployment.{Deployment}
 use Rattle.beldi_row.specs.{Act.act, Act.prunes, Key.RowKey, Table.Rows, declared.act.Act.Act, declared.row.Row.Row}
-use Rattle.beldi_walk.{proofs.Promises.row_there, specs.declared.query.Query.Query}
+use Rattle.beldi_query.{proofs.Promises.row_there, specs.declared.query.Query.Query}
 use Rattle.beldi_intent.specs.Intent.{root_key}
-use Rattle.beldi_step.specs.Host.{Core, EventOn, Plan, asks, at_once, counted, plan, reads_all}
-use Rattle.beldi_step.specs.declared.{event.Event.Event, event.Seen.Seen, run.Run.Run}
-use Rattle.beldi_step.proofs.{Runs.adds_by, Runs.after_event, Spares.plan_removes, Spares.plan_spares}
-use Rattle.beldi_known.specs.Stands.{key_in}
-use Rattle.beldi_laws.proofs.Moves.{with_runs}
-use Rattle.beldi_upkeep.specs.{Upkeep.Upkeep, Work.IsUnfinished, Work.IsWorkedFor, Work.WorksFor, Work.finish_in}
-use Rattle.beldi_upkeep.proofs.{Kept.PlanKeeps, Kept.event_keeps, NewWork.new_work, NewWork.work_bound, Together.keeps_upkeep}
-use Rattle.beldi_wanted.{specs.Wanted.Wanted, proofs.Kept.keeps_wanted}
-use Rattle.beldi_kept.specs.{Ahead.StaysAhead, Kept.HasKept, Kept.IsLater, Kept.IsOld, Kept.IsOver, Kept.IsUnbound}
+use Rattle.beldi_step.specs.HostStep.{Core, EventOn, Plan, asks, immediate, counted, plan, reads_all}
+use Rattle.beldi_step.specs.declared.{event.Event.Event, event.EventReply.EventReply, run.Run.Run}
+use Rattle.beldi_step.proofs.{StepRuns.adds_by, StepRuns.after_event, Spares.plan_removes, Spares.plan_spares}
+use Rattle.beldi_histories.specs.Stands.{key_in}
+use Rattle.beldi_invariant.proofs.Moves.{with_runs}
+use Rattle.beldi_upkeep.specs.{Upkeep.Upkeep, WorksFor.IsUnfinished, WorksFor.IsWorkedFor, WorksFor.WorksFor, WorksFor.finish_in}
+use Rattle.beldi_upkeep.proofs.{UpkeepKept.PlanKeeps, UpkeepKept.event_keeps, NewWork.new_work, NewWork.work_bound, Together.keeps_upkeep}
+use Rattle.beldi_wanted.{specs.Wanted.Wanted, proofs.WantedKept.keeps_wanted}
+use Rattle.beldi_kept.specs.{KeptAhead.StaysAhead, KeptRows.HasKept, KeptRows.IsLater, KeptRows.IsOld, KeptRows.IsOver, KeptRows.IsUnbound}
 use Rattle.beldi_kept.proofs.{Gone.done_there, Gone.finished, Gone.old_finished, Gone.old_still, Gone.root_home, Gone.unbound_bare, Gone.unbound_none, Gone.unbound_root, Less.GoesOn, Less.IsBare, Less.bare_there, Less.dates_stay, Less.was_there}
 
 -- the host, but for where the intent collector stands, the events that were taken, and whether it is shut
@@ -26,7 +26,7 @@ abbrev pub elsewhere : Core → RowKey → ℕ → Bool → Core
 elsewhere c k t s = record c { cursor = k; taken = t; shut = s }
 
 pub upkeep_elsewhere : (d : Deployment) (c : Core) (k : RowKey) (t : ℕ) (s : Bool) (m : Rows) → Upkeep d c m → Upkeep d (elsewhere c k t s) m
-upkeep_elsewhere d c k t s m u = record { right = with_runs u.right (elsewhere c k t s) refl refl u.right.runs; seats = u.seats; owe = record { each = u.owe.each }; past = u.past; passes = record { each = u.passes.each }; near = record { soon = u.near.soon; near = u.near.near }; started = u.started }
+upkeep_elsewhere d c k t s m u = record { invariant = with_runs u.invariant (elsewhere c k t s) refl refl u.invariant.runs; seats = u.seats; owe = record { each = u.owe.each }; past = u.past; passes = record { each = u.passes.each }; near = record { soon = u.near.soon; near = u.near.near }; started = u.started }
 
 pub wanted_elsewhere : (d : Deployment) (c : Core) (k : RowKey) (t : ℕ) (s : Bool) (m : Rows) → Wanted d c m → Wanted d (elsewhere c k t s) m
 wanted_elsewhere d c k t s m h = record { spares = h.spares; frees = h.frees }
@@ -44,7 +44,7 @@ pub record Step (d : Deployment) (c b : Core) (gone : IntentId → Bool) (m kept
 -- ---- what every event keeps
 -- what is so of a row stays so, where no act removes it
 keeps_plan : (P : RowKey → Option Row → Type 0) → ((a : Act) → prunes a ≡ false → (now : ℕ) (k : RowKey) (r : Option Row) → P k r → P k (act a now r).0) → (z : Core) (p : Plan) → plan_removes p ≡ false → PlanKeeps P z p
-keeps_plan P acts z (at_once y w) keeps = tt
+keeps_plan P acts z (immediate y w) keeps = tt
 keeps_plan P acts z (asks (Query.Act k a)) keeps = λ r h. acts a keeps z.now k r h
 keeps_plan P acts z (asks (Query.After k)) keeps = tt
 keeps_plan P acts z reads_all keeps = tt
@@ -55,7 +55,7 @@ Stays m k r = is_some (map.get m k) ≡ true → is_some r ≡ true
 abbrev StaysDated : Rows → RowKey → Option Row → Type 0
 StaysDated m k r = (f : ℕ) → finish_in (map.get m k) ≡ Some f → finish_in r ≡ Some f
 
-module _ (d : Deployment) (room old new : ℕ) (e : Event) (c b : Core) (m n : Rows) (x : Result Seen AllocError) (s : EventOn d room old new e c m b n x) where
+module _ (d : Deployment) (room old new : ℕ) (e : Event) (c b : Core) (m n : Rows) (x : Result EventReply AllocError) (s : EventOn d room old new e c m b n x) where
   pub rows_stay : (k : RowKey) → is_some (map.get m k) ≡ true → is_some (map.get n k) ≡ true
   rows_stay = event_keeps (Stays m) d room old new e c b m n x (keeps_plan (Stays m) (λ a keeps now k r h there. row_there a now r keeps (h there)) (counted c) (plan d e c) (plan_spares d e c)) (λ k there. there) s
 
@@ -66,16 +66,16 @@ module _ (d : Deployment) (room old new : ℕ) (e : Event) (c b : Core) (m n : R
   moment_rises = (after_event (λ k r. Unit {0}) (λ q t. Unit {0}) d e c b (λ k r is. tt) (adds_by (λ k r. Unit {0}) (λ q t. Unit {0}) d e (counted c) (λ id f. tt) (λ i r live t told. record { goes = λ r is. tt; calls = λ starts r is. tt })) x room old new m n (λ q. tt) s).later
 
 -- an event over the kept rows, where the host stood elsewhere before and stands elsewhere after
-pub by_event : (d : Deployment) (room old new : ℕ) (e : Event) (c b : Core) (gone : IntentId → Bool) (m kept n after : Rows) (x : Result Seen AllocError) (k l : RowKey) (t u : ℕ) (s v : Bool)
+pub by_event : (d : Deployment) (room old new : ℕ) (e : Event) (c b : Core) (gone : IntentId → Bool) (m kept n after : Rows) (x : Result EventReply AllocError) (k l : RowKey) (t u : ℕ) (s v : Bool)
     → Upkeep d c kept → Wanted d c kept → EventOn d room old new e (elsewhere c k t s) kept b after x → GoesOn gone m kept n after → Step d c (elsewhere b l u v) gone m kept n
 by_event d room old new e c b gone m kept n after x k l t u s v h wanted on goes =
     let before : Upkeep d (elsewhere c k t s) kept = upkeep_elsewhere d c k t s kept h in
     record {
       after = after;
       upkeep = upkeep_elsewhere d b l u v after (keeps_upkeep d room old new e (elsewhere c k t s) b kept after x before on);
-      wanted = wanted_elsewhere d b l u v after (keeps_wanted d room old new e (elsewhere c k t s) b kept after x before.right (wanted_elsewhere d c k t s kept wanted) on);
+      wanted = wanted_elsewhere d b l u v after (keeps_wanted d room old new e (elsewhere c k t s) b kept after x before.invariant (wanted_elsewhere d c k t s kept wanted) on);
       goes = goes;
-      works = λ j r i live works. by_work r i (new_work d room old new e (elsewhere c k t s) b kept after x before.right before.seats on j r i live works);
+      works = λ j r i live works. by_work r i (new_work d room old new e (elsewhere c k t s) b kept after x before.invariant before.seats on j r i live works);
       stay = rows_stay d room old new e (elsewhere c k t s) b kept after x on;
       dates = dates_on d room old new e (elsewhere c k t s) b kept after x on;
     }
@@ -117,10 +117,10 @@ module _ (d : Deployment) (c : Core) (m : Rows) (h : HasKept d c m) where
 
   -- a root that has its kept row was issued
   pub issued : (t : ℕ) → is_some (map.get h.kept (root_key t)) ≡ true → t ≤ c.newest
-  issued t there = leb-true t c.newest (and_parts (nat_lt 0 t) (nat_le t c.newest) (sym (h.upkeep.right.tickets t) ∙ there)).1
+  issued t there = leb-true t c.newest (and_parts (nat_lt 0 t) (nat_le t c.newest) (sym (h.upkeep.invariant.tickets t) ∙ there)).1
 
   by_home : (home : ℕ) (t : ℕ) → is_some (map.get h.kept (key_in home (root_of t))) ≡ true → is_some (map.get h.kept (root_key t)) ≡ true
-  by_home home t there = subst (λ g. is_some (map.get h.kept (key_in g (root_of t))) ≡ true) (root_home d c h.kept h.upkeep.right (root_of t) home refl there) there
+  by_home home t there = subst (λ g. is_some (map.get h.kept (key_in g (root_of t))) ≡ true) (root_home d c h.kept h.upkeep.invariant (root_of t) home refl there) there
 
   -- a root that is gone has one
   pub gone_issued : (t : ℕ) → h.gone (root_of t) ≡ true → is_some (map.get h.kept (root_key t)) ≡ true
@@ -134,7 +134,7 @@ module _ (d : Deployment) (c b : Core) (m n : Rows) (h : HasKept d c m) (s : Ste
   newest_rises : c.newest ≤ b.newest
   newest_rises = elim h.newest [
     | inl e ↦ omega (arith, e)
-    | inr there ↦ leb-true c.newest b.newest (and_parts (nat_lt 0 c.newest) (nat_le c.newest b.newest) (sym (s.upkeep.right.tickets c.newest) ∙ s.stay (root_key c.newest) (was_kept d c m h (root_key c.newest) there))).1
+    | inr there ↦ leb-true c.newest b.newest (and_parts (nat_lt 0 c.newest) (nat_le c.newest b.newest) (sym (s.upkeep.invariant.tickets c.newest) ∙ s.stay (root_key c.newest) (was_kept d c m h (root_key c.newest) there))).1
   ]
 
   -- ---- who is gone
@@ -156,7 +156,7 @@ module _ (d : Deployment) (c b : Core) (m n : Rows) (h : HasKept d c m) (s : Ste
 
   -- nobody begins to work for who is gone
   bound_there : (k : ℕ) (r : Run) (i : IntentId) → map.get b.runs k ≡ Some r → WorksFor r r.at i → (home : ℕ) (w : Option Row) → map.get s.after (key_in home i) ≡ w → IsBare w → ⊥
-  bound_there k r i live works home (Some (Row.Intent w)) is bare = let clash = sym (ap is_some bare) ∙ work_bound d b s.after s.upkeep.right k r i live (inl works) home w is in cc
+  bound_there k r i live works home (Some (Row.Intent w)) is bare = let clash = sym (ap is_some bare) ∙ work_bound d b s.after s.upkeep.invariant k r i live (inl works) home w is in cc
   bound_there k r i live works home None is bare = absurd bare
   bound_there k r i live works home (Some w) is bare = absurd bare
 
@@ -189,7 +189,7 @@ module _ (d : Deployment) (c b : Core) (m n : Rows) (h : HasKept d c m) (s : Ste
 
   newest_there : (c.newest ≡ 0) ⊎ (is_some (map.get m (root_key c.newest)) ≡ true) → (t : ℕ) → b.newest ≡ t → (g : Bool) → is_some (map.get h.kept (root_key t)) ≡ g → (t ≡ 0) ⊎ (is_some (map.get n (root_key t)) ≡ true)
   newest_there was zero is g here = inl refl
-  newest_there was (suc t) is false here = inr (newer (suc t) (s.upkeep.right.tickets (suc t) ∙ within) here)
+  newest_there was (suc t) is false here = inr (newer (suc t) (s.upkeep.invariant.tickets (suc t) ∙ within) here)
     where
       within : (nat_lt 0 (suc t) && nat_le (suc t) b.newest) ≡ true
       within = ap (λ z. nat_lt 0 (suc t) && nat_le (suc t) z) is ∙ ap (λ z. z && nat_le (suc t) (suc t)) (lt-ltb 0 (suc t) (omega arith)) ∙ le-leb (suc t) (suc t) (omega arith)

@@ -8,7 +8,7 @@ use Rattle.beldi_plain.specs.Item.{Item}
 use Rattle.beldi_row.specs.{Key.RowKey, Table.Rows, declared.key.Kind.Kind}
 use Rattle.beldi_chain.specs.Chain.{chain}
 use Rattle.beldi_splice.specs.Splice.{IsThreaded, LessChain}
-use Rattle.beldi_known.specs.Contents.{head_key}
+use Rattle.beldi_histories.specs.Contents.{head_key}
 use Rattle.beldi_upkeep.specs.Callees.{belongs_to}
 
 -- a row of an item is nobody's, and so of nobody who is gone

@@ -1,7 +1,7 @@
-pub mod Ahead
-pub mod Kept
-pub mod Laws
+pub mod KeptAhead
+pub mod KeptLaws
+pub mod KeptReplies
+pub mod KeptRows
 pub mod Less
 pub mod Safe
-pub mod Stands
-pub mod Told
+pub mod StandsLess

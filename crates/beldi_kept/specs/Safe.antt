@@ -11,13 +11,13 @@ use Rattle.beldi_intent.specs.Intent.{intent_key}
 use Rattle.beldi_links.specs.Links.{LeadsTo}
 use Rattle.beldi_splice.specs.Onward.{HasFollower, IsOnWay}
 use Rattle.beldi_row.specs.{Act.is_adrift, Act.is_old_row, Key.RowKey, Key.at_row, Key.row_of, Table.Rows, Table.set_row, declared.row.Row.Row}
-use Rattle.beldi_prune.specs.{Collectors.collector_at, Collectors.first_collectors, Entries.HasEntryOf, Entries.IsOf, Laws.IsRight, Laws.MayGo, Laws.is_behind}
+use Rattle.beldi_prune.specs.{Collectors.collector_at, Collectors.first_collectors, CellEntries.HasEntryOf, CellEntries.IsOf, PruneLaws.HasCollectorInvariant, PruneLaws.MayGo, PruneLaws.is_behind}
 use Rattle.beldi_prune.specs.declared.collector.LogCollector.{LogCollector}
 use Rattle.beldi_prune.specs.declared.collector.CollectorAt.{CollectorAt, TheVariants.Before, TheVariants.ToDropIntent, TheVariants.ToLook, TheVariants.ToDrop, TheVariants.ToProve, TheVariants.ToMark, TheVariants.ToLead, TheVariants.ToSkip, TheVariants.ToDangle, TheVariants.ToDropCell}
-use Rattle.beldi_step.specs.{Host.Core, Host.EventOn, Prunes.PrunesOn, declared.event.Event.Event, declared.event.Pruned.Pruned, declared.event.Pruned.TheVariants.Marked, declared.event.Pruned.TheVariants.Skipped, declared.event.Pruned.TheVariants.Dangled, declared.event.Pruned.TheVariants.Removed, declared.event.Seen.Seen}
-use Rattle.beldi_known.specs.Contents.{content_of, head_key}
-use Rattle.beldi_upkeep.specs.{Callees.HasIntentRow, Upkeep.Upkeep, Work.finish_in}
-use Rattle.beldi_kept.specs.Kept.{HasKept, IsLater, IsOld, IsRowOfOld}
+use Rattle.beldi_step.specs.{HostStep.Core, HostStep.EventOn, Prunes.PrunesOn, declared.event.Event.Event, declared.event.Pruned.Pruned, declared.event.Pruned.TheVariants.Marked, declared.event.Pruned.TheVariants.Skipped, declared.event.Pruned.TheVariants.Dangled, declared.event.Pruned.TheVariants.Removed, declared.event.EventReply.EventReply}
+use Rattle.beldi_histories.specs.Contents.{content_of, head_key}
+use Rattle.beldi_upkeep.specs.{Callees.HasIntentRow, Upkeep.Upkeep, WorksFor.finish_in}
+use Rattle.beldi_kept.specs.KeptRows.{HasKept, IsLater, IsOld, IsRowOfOld}
 
 -- ---- what a collector found of a row of an item, which may be gone by now
 -- an intent is gone, or its finish, by the kept row in this home, is old
@@ -62,7 +62,7 @@ Found d c m h (ToDangle k) = WasKept h.kept k × HasFollower (map.get m k) × Is
 Found d c m h (ToDropCell k) = Unit {0}
 
 pub record Collects (d : Deployment) (c : Core) (m : Rows) (h : HasKept d c m) (w : LogCollector) : Type 0 where
-  pub right : IsRight c.newest w
+  pub invariant : HasCollectorInvariant c.newest w
   pub found : Found d c m h w.at
 
 -- ---- the invariant, of the host with its collectors and the table's rows
@@ -76,7 +76,7 @@ SafeAtFirst = (d : Deployment) (c : Core) (m : Rows) (h : HasKept d c m) → c.c
 
 -- every event keeps it, whatever it came to, and no row goes
 abbrev pub EventsKeepSafe : Type 0
-EventsKeepSafe = (d : Deployment) (room old new : ℕ) (e : Event) (c b : Core) (m n : Rows) (x : Result Seen AllocError) (h : IsSafe d c m) → EventOn d room old new e c m b n x
+EventsKeepSafe = (d : Deployment) (room old new : ℕ) (e : Event) (c b : Core) (m n : Rows) (x : Result EventReply AllocError) (h : IsSafe d c m) → EventOn d room old new e c m b n x
     → (g : IsSafe d b n) × IsLater h.has g.has × (g.has.latest ≡ h.has.latest)
 
 -- ---- .. and so does every turn of a log collector
@@ -145,5 +145,5 @@ abbrev pub owner_at : Rows → Item → ℕ → Option Owner
 owner_at m x i = (content_in (map.get m (at_row (head_key x) i))).owner
 
 abbrev pub OwnersComeWithRows : Type 0
-OwnersComeWithRows = (d : Deployment) (room old new : ℕ) (e : Event) (c b : Core) (m n : Rows) (x : Result Seen AllocError) → IsSafe d c m → EventOn d room old new e c m b n x
+OwnersComeWithRows = (d : Deployment) (room old new : ℕ) (e : Event) (c b : Core) (m n : Rows) (x : Result EventReply AllocError) → IsSafe d c m → EventOn d room old new e c m b n x
     → (o : Owner) (y : Item) (i : ℕ) → owner_at n y i ≡ Some o → (owner_at m y i ≡ Some o) ⊎ HasIntentRow n o

@@ -1,5 +1,5 @@
 // The laws of rows that were kept.
-ghost use Rattle.beldi_kept.specs.Laws.{AllAreKept, AnswersAreOfKept, BeginsKept, CursorIsFree, EventsKeep, IntentDropsKeep, LooksFindOld, NewestIsRead, NobodyGone, NoRowComesBack, OldStays, RemovalsKeep, RowDropsKeep, UnboundMayGo};
+ghost use Rattle.beldi_kept.specs.KeptLaws.{AllAreKept, AnswersAreOfKept, BeginsKept, CursorIsFree, EventsKeep, IntentDropsKeep, LooksFindOld, NewestIsRead, NobodyGone, NoRowComesBack, OldStays, RemovalsKeep, RowDropsKeep, UnboundMayGo};
 
 use beldi_txn::the_closed_are_passed;
 

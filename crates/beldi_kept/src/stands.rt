@@ -1,5 +1,5 @@
 // What the table's rows tell of the run of the book.
-ghost use Rattle.beldi_kept.specs.Stands.{KeptAnswers, KeptListing, KeptStand, StandsLater};
+ghost use Rattle.beldi_kept.specs.StandsLess.{KeptAnswers, KeptListing, KeptStand, StandsLater};
 
 /// The table's rows stand for the run of the book; but of a transaction whose decision is absent, and of its shadows, they tell only where its
 /// owner's row is there, and its finish was not old when somebody went last.

@@ -1,8 +1,8 @@
 pub mod Blocks
 pub mod Bounds
-pub mod Goes
 mod Names
 pub mod Occurs
+pub mod OneByOne
 pub mod Resumes
 pub mod SameWants
 pub mod Spends

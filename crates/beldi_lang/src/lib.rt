@@ -1,7 +1,7 @@
 //! Bodies: what a body wants, and the machine that runs one.
 //! It stands on `beldi_tree`, whose deployments it takes and passes on. Its definitions: `specs/Wants` (what a body wants
-//! after these answers, by recursion on its statements), `specs/Runs` (how the machine runs a body, and goes on from a place),
-//! `specs/Machine` (the machine after these answers, and one answer further) and `specs/Locks`.
+//! after these answers, by recursion on its statements), `specs/BodyRuns` (how the machine runs a body, and goes on from a place),
+//! `specs/Machine` (the machine after these answers, and one answer further) and `specs/HeldLocks`.
 //!
 //! Proved:
 //! - What a body wants after these answers is a definition by recursion on its statements alone, from the first one each
@@ -18,10 +18,10 @@
 //!   `request` what a statement without blocks does first, and after its answer; `run` statements up to the next effect, from
 //!   their start, `resume` from where an answer was waited for; `machine` runs a body.
 //! - Further definitions (`specs/`): `Bounds` a body that was called in a transaction wants neither a begin nor an end of
-//!   one; `Callee` how a callee ended, as the answer to its call; `Told` what the code tells of a statement: it has one
+//!   one; `Callee` how a callee ended, as the answer to its call; `AnswersLeft` what the code tells of a statement: it has one
 //!   answer at most, so none remains where it leaves.
 //! - Lemmas (`proofs/`): `SameWants` the machine wants what the body wants; `Blocks` a block from one of its statements on;
-//!   `Goes`, `Resumes` one answer more; `Spends` how many answers a body takes; `Occurs` which effects a body may want;
+//!   `OneByOne`, `Resumes` one answer more; `Spends` how many answers a body takes; `Occurs` which effects a body may want;
 //!   `Bounds`.
 #![tactic(auto)]
 

@@ -1,10 +1,10 @@
 // The statements of a body, from the place where it waited for an answer, up to the next effect.
 ghost use Rattle.std.specs.Prelude.{◌≡◌, [], IfOk};
 ghost use Rattle.beldi_tree.specs.Names.{func_at};
-ghost use Rattle.beldi_lang.specs.Runs.{From, run_body as run_body_of, within, head, inner, choice, loop as loop_of, transact as transact_of, run as run_of};
+ghost use Rattle.beldi_lang.specs.BodyRuns.{From, run_body as run_body_of, inside_part, head, inner, choice, loop as loop_of, transact as transact_of, run as run_of};
 ghost use Rattle.beldi_tree.specs.Expr.{term_of};
 ghost use Rattle.beldi_tree.specs.Statement.{command_of};
-ghost use Rattle.beldi_lang.specs.Told.{told, block_in};
+ghost use Rattle.beldi_lang.specs.AnswersLeft.{told, block_in};
 
 use crate::effect::Answer;
 use crate::request::answered;
@@ -53,7 +53,7 @@ impl Scope<'_> {
         answer: Answer,
         state: &mut State,
     ) -> Result<Went, AllocError>
-        ensures { IfOk result (λ w. told w state.new ≡ within part (block_in self.entry block.now index (From place answer) state.old [])) }
+        ensures { IfOk result (λ w. told w state.new ≡ inside_part part (block_in self.entry block.now index (From place answer) state.old [])) }
     {
         let stmts = block.as_slice();
         if index < stmts.len() {
@@ -65,7 +65,7 @@ impl Scope<'_> {
         }
         drop(place);
         drop(answer);
-        Ok(Went::Leaves(Exit::Goes))
+        Ok(Went::Leaves(Exit::Completes))
     }
 
     #[cycle(resume)]
@@ -224,7 +224,7 @@ pub(crate) fn resume_body(
         None => {
             drop(place);
             drop(answer);
-            Ok(Went::Leaves(Exit::Goes))
+            Ok(Went::Leaves(Exit::Completes))
         }
     }
 }

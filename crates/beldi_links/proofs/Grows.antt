@@ -6,7 +6,7 @@ use Rattle.std.proofs.Common.{◌≡◌, ◌⊎◌, inl, inr, ℕ, ◌+◌, ◌<
 use Rattle.beldi_value.specs.declared.{place.Owner.Owner, place.Place.Place, value.Value.Value}
 use Rattle.beldi_row.{specs.declared.row.Cell.Cell, specs.declared.row.Row.Row, specs.Key.RowKey, specs.Key.at_row, specs.Key.key_cmp, specs.Key.kind_at, specs.Key.row_of, specs.Log.most_entries, specs.Log.note_at, specs.Table.Rows, proofs.Gets.key_same, proofs.Keys.key_twice}
 use Rattle.beldi_chain.{specs.Chain.Chain, specs.Chain.IsHead, specs.Chain.chain, specs.Chain.is_row_of, proofs.Heads.chain_off, proofs.Heads.chain_other}
-use Rattle.beldi_links.specs.{Laws.GrownAreFrozen, Laws.MakingGrows, Laws.OneItemGrows, Laws.OneRowGrows, Laws.OthersGrow, Laws.OthersKeep, Laws.ReadersKeep, Links.AllGrow, Links.At, Links.FitsAt, Links.LeadsTo, Links.Meets, Links.SetTo, Links.GrowsBy, Links.IsPassed, Links.Linkable, Links.Passed, Links.RowGrows, Links.RowsGrow, Links.StandsAt, Links.Told, Links.ToldBy}
+use Rattle.beldi_links.specs.{LinkLaws.GrownAreFrozen, LinkLaws.MakingGrows, LinkLaws.OneItemGrows, LinkLaws.OneRowGrows, LinkLaws.OthersGrow, LinkLaws.OthersKeep, LinkLaws.ReadersKeep, Links.AllGrow, Links.At, Links.FitsAt, Links.LeadsTo, Links.Meets, Links.SetTo, Links.GrowsBy, Links.IsPassed, Links.Linkable, Links.Passed, Links.RowGrows, Links.RowsGrow, Links.StandsAt, Links.IsFullRow, Links.StillHolds}
 use Rattle.beldi_links.proofs.Ways.{few, meetings_stay, none_next, same_or}
 
 -- ---- a cell that is there
@@ -58,12 +58,12 @@ stands f g grow r h = by_row (f r) (g r) (grow.rows r) h
     by_row (Some (Row.Cell c)) None grows h = absurd grows
     by_row (Some y) None grows h = absurd grows
 
-told_still : (z y : Option ℕ) (c d : Cell) (v : Value) (o : Option Owner) → GrowsBy z c d → length c.log ≡ most_entries → d.next ≡ y → c.next ≡ z → ToldBy z c v o → ToldBy y d v o
+told_still : (z y : Option ℕ) (c d : Cell) (v : Value) (o : Option Owner) → GrowsBy z c d → length c.log ≡ most_entries → d.next ≡ y → c.next ≡ z → StillHolds z c v o → StillHolds y d v o
 told_still z (Some j) c d v o grows full is was h = tt
 told_still None None c d v o grows full is was h = let w = grows full in (w.0 ∙ h.0, w.1 ∙ h.1)
 told_still (Some k) None c d v o same full is was h = absurd (none_next c k (subst (λ (z : Cell). z.next ≡ None) same is) was)
 
-told : (f g : Chain) (p : Place) → RowsGrow f g → (r : ℕ) (v : Value) (o : Option Owner) → Told f p r v o → Told g p r v o
+told : (f g : Chain) (p : Place) → RowsGrow f g → (r : ℕ) (v : Value) (o : Option Owner) → IsFullRow f p r v o → IsFullRow g p r v o
 told f g p grow r v o h =
     let w = grown f g grow r h.cell h.there in
     let log = full_log h.cell.next h.cell w.cell w.grows h.full in

@@ -1,5 +1,5 @@
 pub mod Grows
-pub mod Keeps
 pub mod Last
+pub mod LinkKeeps
 pub mod Meets
 pub mod Ways

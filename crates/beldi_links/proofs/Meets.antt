@@ -4,22 +4,22 @@ use Rattle.std.proofs.Common.{◌≡◌, ◌⊎◌, inl, inr, ℕ, ◌+◌, ◌<
 use Rattle.beldi_value.specs.declared.place.Place.{Place}
 use Rattle.beldi_row.specs.{declared.notes.Note.Note, declared.row.Cell.Cell, declared.row.Row.Row, Log.note_at, Log.place_eq}
 use Rattle.beldi_chain.specs.{Chain.Chain, Content.Content, Content.log_of}
-use Rattle.beldi_links.specs.{Laws.FullIsSeen, Laws.LastIsLast, Laws.LinkedIsSeen, Laws.MeetingsGoOn, Laws.NextIsRead, Laws.NextIsSeen, Laws.NoneIsNoted, Laws.NotedIsNoted, Laws.PassedGoesOn, Laws.ReadsBegin, Laws.SpareIsMade, Laws.SpareIsSeen, Laws.WalksBegin, Laws.WalksEnd, Links.FitsAt, Links.IsPassed, Links.IsSpare, Links.LeadsTo, Links.Linked, Links.Meets, Links.Passed, Links.StandsAt, Links.Steps, Links.ToldBy, Links.before}
+use Rattle.beldi_links.specs.{LinkLaws.FullIsSeen, LinkLaws.LastIsLast, LinkLaws.LinkedIsSeen, LinkLaws.MeetingsGoOn, LinkLaws.NextIsRead, LinkLaws.NextIsSeen, LinkLaws.NoneIsNoted, LinkLaws.NotedIsNoted, LinkLaws.PassedGoesOn, LinkLaws.ReadsBegin, LinkLaws.SpareIsMade, LinkLaws.SpareIsSeen, LinkLaws.WalksBegin, LinkLaws.WalksEnd, Links.FitsAt, Links.IsPassed, Links.IsSpare, Links.LeadsTo, Links.Linked, Links.Meets, Links.Passed, Links.StandsAt, Links.Steps, Links.StillHolds, Links.before}
 use Rattle.beldi_links.proofs.Ways.{before_join, content_is, few, join, none_next, one_cell, same_or, then_way}
 
 -- ---- ways from one row
 -- from one on a way to a later one
 pub between : (f : Chain) (a : ℕ) (ks : List ℕ) (r : ℕ) (js : List ℕ) (n : ℕ) → Steps f a ks r → Steps f a js n → r < n → LeadsTo f r n
-between f a [] r js n way more less = (js, subst (λ z. Steps f z js n) way more)
-between f a (k ∷ ks) r [] n (c, is, next, rise, way) more less = let w : a ≡ n = more in let m = few f k ks r way in absurd (omega (arith, w, m, rise, less))
-between f a (k ∷ ks) r (j ∷ js) n (c, is, next, rise, way) (d, at, to, more, all) less =
+between f a [] r js n path more less = (js, subst (λ z. Steps f z js n) path more)
+between f a (k ∷ ks) r [] n (c, is, next, rise, path) more less = let w : a ≡ n = more in let m = few f k ks r path in absurd (omega (arith, w, m, rise, less))
+between f a (k ∷ ks) r (j ∷ js) n (c, is, next, rise, path) (d, at, to, more, all) less =
     let cell : c ≡ d = cc in
     let one : k ≡ j = cc in
-    between f k ks r js n way (subst (λ z. Steps f z js n) (sym one) all) less
+    between f k ks r js n path (subst (λ z. Steps f z js n) (sym one) all) less
 
 -- and none below the next one is on it
 no_less : (f : Chain) (r : ℕ) (js : List ℕ) (n : ℕ) (c : Cell) (k : ℕ) → Steps f r js n → f r ≡ Some (Row.Cell c) → c.next ≡ Some k → r < n → k ≤ n
-no_less f r [] n c k way is next less = let w : r ≡ n = way in absurd (omega (arith, w, less))
+no_less f r [] n c k path is next less = let w : r ≡ n = path in absurd (omega (arith, w, less))
 no_less f r (j ∷ js) n c k (d, at, to, more, all) is next less =
     let cell : c ≡ d = cc in
     let one : j ≡ k = cc in
@@ -32,25 +32,25 @@ module _ (f : Chain) (last : ℕ) (t : Cell) (there : f last ≡ Some (Row.Cell 
   no_more c k is next = none_next c k (subst (λ (z : Cell). z.next ≡ None) (one_cell t c (sym there ∙ is)) ends) next
 
   rest : (r : ℕ) (ks : List ℕ) (js : List ℕ) (n : ℕ) → Steps f r ks n → Steps f r js last → LeadsTo f n last
-  rest r [] js n way all = (js, subst (λ z. Steps f z js last) way all)
-  rest r (k ∷ ks) [] n (c, is, next, less, way) all = absurd (no_more c k (ap f (sym all) ∙ is) next)
-  rest r (k ∷ ks) (j ∷ js) n (c, is, next, less, way) (d, at, to, more, all) =
+  rest r [] js n path all = (js, subst (λ z. Steps f z js last) path all)
+  rest r (k ∷ ks) [] n (c, is, next, less, path) all = absurd (no_more c k (ap f (sym all) ∙ is) next)
+  rest r (k ∷ ks) (j ∷ js) n (c, is, next, less, path) (d, at, to, more, all) =
       let cell : c ≡ d = cc in
       let one : k ≡ j = cc in
-      rest k ks js n way (subst (λ z. Steps f z js last) (sym one) all)
+      rest k ks js n path (subst (λ z. Steps f z js last) (sym one) all)
 
   ends_at : LeadsTo f 0 last → (r : ℕ) → Meets f r → LeadsTo f r last
   ends_at head r m = then_way f r m.at last m.here (rest 0 m.head.0 head.0 m.at m.head.1 head.1)
 
   after : (r : ℕ) (js : List ℕ) (c : Cell) (k : ℕ) → Steps f r js last → f r ≡ Some (Row.Cell c) → c.next ≡ Some k → LeadsTo f k last
-  after r [] c k way is next = absurd (no_more c k (ap f (sym way) ∙ is) next)
+  after r [] c k path is next = absurd (no_more c k (ap f (sym path) ∙ is) next)
   after r (j ∷ js) c k (d, at, to, more, all) is next =
       let cell : c ≡ d = cc in
       let one : j ≡ k = cc in
       (js, subst (λ z. Steps f z js last) one all)
 
   last_at : (r : ℕ) (js : List ℕ) (c : Cell) → Steps f r js last → f r ≡ Some (Row.Cell c) → c.next ≡ None → r ≡ last
-  last_at r [] c way is none = way
+  last_at r [] c path is none = path
   last_at r (j ∷ js) c (d, at, to, more, all) is none = absurd (none_next c j none (subst (λ (z : Cell). z.next ≡ Some j) (one_cell d c (sym at ∙ is)) to))
 
 pub walks_end : WalksEnd
@@ -58,11 +58,11 @@ walks_end f last t head there ends r m = ends_at f last t there ends head r m
 
 pub meetings_go_on : MeetingsGoOn
 meetings_go_on f last t head there ends r c k m is next =
-    let way = ends_at f last t there ends head r m in
-    record { at = last; head = head; here = after f last t there ends r way.0 c k way.1 is next }
+    let path = ends_at f last t there ends head r m in
+    record { at = last; head = head; here = after f last t there ends r path.0 c k path.1 is next }
 
 pub last_is_last : LastIsLast
-last_is_last f last t head there ends r c m is none = let way = ends_at f last t there ends head r m in last_at f last t there ends r way.0 c way.1 is none
+last_is_last f last t head there ends r c m is none = let path = ends_at f last t there ends head r m in last_at f last t there ends r path.0 c path.1 is none
 
 -- ---- what is passed
 -- no row that is there stands between one and its next
@@ -84,12 +84,12 @@ module _ (f : Chain) (l : Linked f) (r : ℕ) (c : Cell) (k : ℕ) (is : f r ≡
       by_rest : (r ≡ l.last + 1) ⊎ (LeadsTo f 0 r × LeadsTo f r l.last) → (n ≡ l.last + 1) ⊎ (LeadsTo f 0 n × LeadsTo f n l.last) → ⊥
       by_rest (inl e) y = not_spare e
       by_rest (inr x) (inl e) =
-          let way = goes_on in
-          let m = few f k way.0 l.last way.1 in
+          let path = goes_on in
+          let m = few f k path.0 l.last path.1 in
           omega (arith, m, e, below)
       by_rest (inr x) (inr y) =
-          let way = between f 0 x.0.0 r y.0.0 n x.0.1 y.0.1 above in
-          let m = no_less f r way.0 n c k way.1 is next above in
+          let path = between f 0 x.0.0 r y.0.0 n x.0.1 y.0.1 above in
+          let m = no_less f r path.0 n c k path.1 is next above in
           omega (arith, m, below)
 
 pub passed_goes_on : PassedGoesOn
@@ -106,14 +106,14 @@ passed_goes_on f l p r c k passed is next none n d less at = by_order (nat_lt n 
 
 -- a row that leads to one that is there is there
 row_there : (f : Chain) (k : ℕ) (js : List ℕ) (last : ℕ) (t : Cell) → f last ≡ Some (Row.Cell t) → Steps f k js last → (c : Cell) × (f k ≡ Some (Row.Cell c))
-row_there f k [] last t there way = (t, ap f way ∙ there)
-row_there f k (j ∷ js) last t there (c, is, next, less, way) = (c, is)
+row_there f k [] last t there path = (t, ap f path ∙ there)
+row_there f k (j ∷ js) last t there (c, is, next, less, path) = (c, is)
 
 pub next_is_seen : NextIsSeen
 next_is_seen f l p r c k passed is next none =
-    let way = goes_on f l r c k is next in
-    let here = row_there f k way.0 l.last l.tail l.there way.1 in
-    (record { at = l.last; head = l.way; here = way }, passed_goes_on f l p r c k passed is next none, subst (λ z. StandsAt z k) (sym here.1) tt)
+    let path = goes_on f l r c k is next in
+    let here = row_there f k path.0 l.last l.tail l.there path.1 in
+    (record { at = l.last; head = l.path; here = path }, passed_goes_on f l p r c k passed is next none, subst (λ z. StandsAt z k) (sym here.1) tt)
 
 pub walks_begin : WalksBegin
 walks_begin f p = (record { at = 0; head = ([], refl); here = ([], refl) }, (λ n c less is. absurd (omega (arith, less))), stands (f 0))
@@ -125,9 +125,9 @@ walks_begin f p = (record { at = 0; head = ([], refl); here = ([], refl) }, (λ 
 -- one that only reads stands at a row that leads to the last
 next_stands : (f : Chain) (l : Linked f) (r : ℕ) (c : Cell) (k : ℕ) → f r ≡ Some (Row.Cell c) → c.next ≡ Some k → Meets f k × StandsAt (f k) k
 next_stands f l r c k is next =
-    let way = goes_on f l r c k is next in
-    let here = row_there f k way.0 l.last l.tail l.there way.1 in
-    (record { at = l.last; head = l.way; here = way }, subst (λ z. StandsAt z k) (sym here.1) tt)
+    let path = goes_on f l r c k is next in
+    let here = row_there f k path.0 l.last l.tail l.there path.1 in
+    (record { at = l.last; head = l.path; here = path }, subst (λ z. StandsAt z k) (sym here.1) tt)
 
 pub next_is_read : NextIsRead
 next_is_read f l r c k is next = next_stands f l r c k is next
@@ -142,7 +142,7 @@ reads_begin f = (record { at = 0; head = ([], refl); here = ([], refl) }, stands
 pub full_is_seen : FullIsSeen
 full_is_seen f p r c h is full none less = (r, record { next = refl; few = less }, h.0, h.1, record { cell = c; there = is; full = full; none = none; told = by_next c.next })
   where
-    by_next : (z : Option ℕ) → ToldBy z c c.value c.owner
+    by_next : (z : Option ℕ) → StillHolds z c c.value c.owner
     by_next None = (refl, refl)
     by_next (Some k) = tt
 
@@ -154,9 +154,9 @@ spare_is_seen f p n v o s (r, after, meets, passed, told) is =
 pub spare_is_made : SpareIsMade
 spare_is_made f l p n v o s (r, next_one, meets, passed, told) none value owner log next = by_next told.cell.next refl told.told
   where
-    by_next : (z : Option ℕ) → told.cell.next ≡ z → ToldBy z told.cell v o → (n ≡ l.last + 1) × IsSpare l.tail s
+    by_next : (z : Option ℕ) → told.cell.next ≡ z → StillHolds z told.cell v o → (n ≡ l.last + 1) × IsSpare l.tail s
     by_next None ends was =
-        let at : r ≡ l.last = last_is_last f l.last l.tail l.way l.there l.ends r told.cell meets told.there ends in
+        let at : r ≡ l.last = last_is_last f l.last l.tail l.path l.there l.ends r told.cell meets told.there ends in
         let cell : told.cell ≡ l.tail = one_cell told.cell l.tail (sym told.there ∙ ap f at ∙ l.there) in (
           next_one.next ∙ ap (λ z. z + 1) at,
           record {
@@ -168,8 +168,8 @@ spare_is_made f l p n v o s (r, next_one, meets, passed, told) none value owner 
           },
         )
     by_next (Some k) after was =
-        let way = goes_on f l r told.cell k told.there after in
-        let here = row_there f k way.0 l.last l.tail l.there way.1 in
+        let path = goes_on f l r told.cell k told.there after in
+        let here = row_there f k path.0 l.last l.tail l.there path.1 in
         absurd (none-some (Row.Cell here.0) (sym none ∙ ap f (next_one.next ∙ sym (l.numbers r told.cell k told.there after)) ∙ here.1))
 
 -- the row before the one that is to be linked has a next: the walk passed it
@@ -182,8 +182,8 @@ linked_is_seen f l p n r c k (q, after, meets, passed, link) one is next =
 -- ---- the rows below one that is there are there
 -- of those on a way, whose numbers go up by one
 on_way : (f : Chain) → ((n : ℕ) (c : Cell) (k : ℕ) → f n ≡ Some (Row.Cell c) → c.next ≡ Some k → k ≡ n + 1) → (r : ℕ) (ks : List ℕ) (n : ℕ) → Steps f r ks n → (i : ℕ) → r ≤ i → i < n → is_some (f i) ≡ true
-on_way f numbers r [] n way i low high = let w : r ≡ n = way in absurd (omega (arith, w, low, high))
-on_way f numbers r (k ∷ ks) n (c, is, next, less, way) i low high = by_order (nat_lt r i) refl (λ more. on_way f numbers k ks n way i more high)
+on_way f numbers r [] n path i low high = let w : r ≡ n = path in absurd (omega (arith, w, low, high))
+on_way f numbers r (k ∷ ks) n (c, is, next, less, path) i low high = by_order (nat_lt r i) refl (λ more. on_way f numbers k ks n path i more high)
   where
     by_order : (b : Bool) → nat_lt r i ≡ b → (k ≤ i → is_some (f i) ≡ true) → is_some (f i) ≡ true
     by_order true e further =
@@ -201,7 +201,7 @@ rows_below f l k i r is most = by_kind r is (subst FitsAt is (l.fits k))
     to_last : i ≤ l.last → is_some (f i) ≡ true
     to_last most = same_or i l.last
         (λ at. ap is_some (ap f at ∙ l.there))
-        (λ off. on_way f l.numbers 0 l.way.0 l.last l.way.1 i (omega arith) (let ne = eqb-false i l.last off in below ne most))
+        (λ off. on_way f l.numbers 0 l.path.0 l.last l.path.1 i (omega arith) (let ne = eqb-false i l.last off in below ne most))
       where
         below : (i ≡ l.last → ⊥) → i ≤ l.last → i < l.last
         below ne most = by_order (nat_lt i l.last) refl
@@ -245,21 +245,21 @@ found_first (e ∷ es) fs p w h = by_test (place_eq e.0 p) h (found_first es fs 
     by_test false h more = more h
 
 pub none_before : (f : Chain) (p : Place) (r : ℕ) (ks : List ℕ) (n : ℕ) → Steps f r ks n → Passed f p n → note_at (before f r ks) p ≡ None
-none_before f p r [] n way passed = refl
-none_before f p r (k ∷ ks) n (c, is, next, less, way) passed =
-    let far = few f k ks n way in
-    passed_by (log_of (f r)) (before f k ks) p (ap (λ z. note_at (log_of z) p) is ∙ (passed r c (omega (arith, less, far)) is).none) ∙ none_before f p k ks n way passed
+none_before f p r [] n path passed = refl
+none_before f p r (k ∷ ks) n (c, is, next, less, path) passed =
+    let far = few f k ks n path in
+    passed_by (log_of (f r)) (before f k ks) p (ap (λ z. note_at (log_of z) p) is ∙ (passed r c (omega (arith, less, far)) is).none) ∙ none_before f p k ks n path passed
 
 pub none_noted : NoneIsNoted
 none_noted f l p passed none =
-    ap (λ (z : Content). note_at z.notes p) (content_is f l.way.0 l.last l.tail l.way.1 l.there l.ends l.few)
-    ∙ passed_by (before f 0 l.way.0) l.tail.log p (none_before f p 0 l.way.0 l.last l.way.1 passed)
+    ap (λ (z : Content). note_at z.notes p) (content_is f l.path.0 l.last l.tail l.path.1 l.there l.ends l.few)
+    ∙ passed_by (before f 0 l.path.0) l.tail.log p (none_before f p 0 l.path.0 l.last l.path.1 passed)
     ∙ none
 
 -- from the row on
 found_here : (f : Chain) (r : ℕ) (ks : List ℕ) (last : ℕ) (t c : Cell) (p : Place) (w : Note) → Steps f r ks last → f last ≡ Some (Row.Cell t) → f r ≡ Some (Row.Cell c) → note_at c.log p ≡ Some w → note_at (before f r ks ++ t.log) p ≡ Some w
-found_here f r [] last t c p w way there is note = ap (λ (z : Cell). note_at z.log p) (one_cell t c (sym there ∙ ap f (sym way) ∙ is)) ∙ note
-found_here f r (k ∷ ks) last t c p w (d, at, next, less, way) there is note =
+found_here f r [] last t c p w path there is note = ap (λ (z : Cell). note_at z.log p) (one_cell t c (sym there ∙ ap f (sym path) ∙ is)) ∙ note
+found_here f r (k ∷ ks) last t c p w (d, at, next, less, path) there is note =
     ap (λ z. note_at z p) (append_assoc (log_of (f r)) (before f k ks) t.log) ∙ found_first (log_of (f r)) (before f k ks ++ t.log) p w (ap (λ z. note_at (log_of z) p) is ∙ note)
 
 pub noted_is_noted : NotedIsNoted

@@ -1,2 +1,2 @@
-pub mod Laws
+pub mod LinkLaws
 pub mod Links

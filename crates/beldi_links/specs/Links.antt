@@ -56,7 +56,7 @@ pub record IsSpare (t s : Cell) : Type 0 where
 pub record Linked (f : Chain) : Type 0 where
   pub last : ℕ
   pub tail : Cell
-  pub way : LeadsTo f 0 last
+  pub path : LeadsTo f 0 last
   pub there : f last ≡ Some (Row.Cell tail)
   pub ends : tail.next ≡ None
   pub few : last < most_rows
@@ -137,16 +137,16 @@ StandsAt None r = r ≡ 0
 StandsAt (Some r) n = Unit {0}
 
 -- a full row that told its value and its owner: it has them still, or has a next
-abbrev pub ToldBy : Option ℕ → Cell → Value → Option Owner → Type 0
-ToldBy None c v o = (c.value ≡ v) × (c.owner ≡ o)
-ToldBy (Some k) c v o = Unit {0}
+abbrev pub StillHolds : Option ℕ → Cell → Value → Option Owner → Type 0
+StillHolds None c v o = (c.value ≡ v) × (c.owner ≡ o)
+StillHolds (Some k) c v o = Unit {0}
 
-pub record Told (f : Chain) (p : Place) (r : ℕ) (v : Value) (o : Option Owner) : Type 0 where
+pub record IsFullRow (f : Chain) (p : Place) (r : ℕ) (v : Value) (o : Option Owner) : Type 0 where
   pub cell : Cell
   pub there : f r ≡ Some (Row.Cell cell)
   pub full : length cell.log ≡ most_entries
   pub none : note_at cell.log p ≡ None
-  pub told : ToldBy cell.next cell v o
+  pub told : StillHolds cell.next cell v o
 
 -- a full row, with one that is to follow it
 pub record Linkable (f : Chain) (p : Place) (r : ℕ) : Type 0 where
@@ -166,7 +166,7 @@ pub record IsAfter (r n : ℕ) : Type 0 where
 abbrev pub SeesAt : Chain → Place → At → Type 0
 SeesAt f p (Try r) = Meets f r × Passed f p r × StandsAt (f r) r
 SeesAt f p Make = Unit {0}
-SeesAt f p (Append n v o) = (r : ℕ) × IsAfter r n × Meets f r × Passed f p r × Told f p r v o
+SeesAt f p (Append n v o) = (r : ℕ) × IsAfter r n × Meets f r × Passed f p r × IsFullRow f p r v o
 SeesAt f p (Link n) = (r : ℕ) × IsAfter r n × Meets f r × Passed f p r × Linkable f p r
 
 -- what a walk that only reads sees at a row

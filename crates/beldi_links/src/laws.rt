@@ -1,9 +1,9 @@
 // The laws of linked rows.
-ghost use Rattle.beldi_links.specs.Laws.{ContentIs, TailIs, NotedIsNoted, NoneIsNoted, RowIsSet, LastRowIsSet};
-ghost use Rattle.beldi_links.specs.Laws.{EntriesKeepLinks, MakingChangesNothing, MakingKeepsLinks, LinkingChangesNothing, LinkingKeepsLinks, FirstRowIsLinked};
-ghost use Rattle.beldi_links.specs.Laws.{LinkedIsSeen, NextIsRead, ReadsBegin, ReadersKeep, OneItemGrows, OthersGrow};
-ghost use Rattle.beldi_links.specs.Laws.{KeepsSteps, WalksEnd, MeetingsGoOn, LastIsLast, PassedGoesOn, WalksBegin, NextIsSeen, FullIsSeen, SpareIsMade, SpareIsSeen};
-ghost use Rattle.beldi_links.specs.Laws.{MeetingsStay, GrownAreFrozen, OthersKeep, OneRowGrows, MakingGrows};
+ghost use Rattle.beldi_links.specs.LinkLaws.{ContentIs, TailIs, NotedIsNoted, NoneIsNoted, RowIsSet, LastRowIsSet};
+ghost use Rattle.beldi_links.specs.LinkLaws.{EntriesKeepLinks, MakingChangesNothing, MakingKeepsLinks, LinkingChangesNothing, LinkingKeepsLinks, FirstRowIsLinked};
+ghost use Rattle.beldi_links.specs.LinkLaws.{LinkedIsSeen, NextIsRead, ReadsBegin, ReadersKeep, OneItemGrows, OthersGrow};
+ghost use Rattle.beldi_links.specs.LinkLaws.{KeepsSteps, WalksEnd, MeetingsGoOn, LastIsLast, PassedGoesOn, WalksBegin, NextIsSeen, FullIsSeen, SpareIsMade, SpareIsSeen};
+ghost use Rattle.beldi_links.specs.LinkLaws.{MeetingsStay, GrownAreFrozen, OthersKeep, OneRowGrows, MakingGrows};
 
 /// What a chain holds is what its last row does, behind the notes of the rows before it.
 pub fn content_is_by_its_last_row()

@@ -1,7 +1,7 @@
 //! Rows of an item that are linked, of which each has eight entries at most. It has no code, and no act is in it: it says what
 //! chains of any number of rows are, and what they keep whatever is done to their rows. It stands on the chains of `beldi_chain`.
 //! Its definitions: `specs/Links` (ways from row to row; `IsLinked`, when the rows of an item are sound; `RowsGrow`, what acts leave
-//! of them; `SeesAt` and `ReadsAt`, what a walk for a place, and one that only reads, know of them where they stand), `specs/Laws`.
+//! of them; `SeesAt` and `ReadsAt`, what a walk for a place, and one that only reads, know of them where they stand), `specs/LinkLaws`.
 //!
 //! Proved:
 //! - A chain holds what its last row does, behind the notes of the rows before it (`content_is_by_its_last_row`,
@@ -20,7 +20,7 @@
 //!   `items_grow_beside_other_rows`).
 //!
 //! Files: `src/laws` one function a law, with no body; lemmas (`proofs/`), which the crates above cite too: `Ways` ways, and what
-//! a chain holds by them; `Meets` where a walk stands and what it passed; `Keeps` a row that is set, made or linked; `Last` the
+//! a chain holds by them; `Meets` where a walk stands and what it passed; `LinkKeeps` a row that is set, made or linked; `Last` the
 //! last row; `Grows` what is seen after the acts of others.
 #![tactic(auto)]
 

@@ -1,5 +1,5 @@
 -- What a walk says of a lock is what a logged cell says of it.
-use Rattle.beldi_lock.proofs.Names.{At, CameOn, Cell, Chain, Content, DidAs, Dies, Err, FitsAt, Going, HasNote, IntentId, IsLinked, Item, LeavesAt, Linked, Lock, LockAt, LockCell, LockSays, LockTurn, LockWalk, Locks, LocksAreByTheRow, LocksStand, Lockset, LoggedTurn, Logs, None, Note, Ok, Option, Owner, Place, Plain, PutLockset, PutTurn, Row, RowKey, Rows, SeesAt, SeesItem, Some, StandsAt, Tell, Told, Try, TxId, WriteAt, WriteGoes, WriteWalk, act, after_act, age_of, ap, asks_at, at_of, barred, by_op, chain, cond, content, did, died_at, died_of, dies, entered, false, free, got, if_room, if◌then◌else◌, inl, inr, is_older, item_goes, key_self, linked_by, lock_asks, lock_at, lock_goes, lock_key, lock_next, lock_says, lock_so, lockset_key, next_or, no_content, none-some, none_at_all, note_at, note_goes, note_here, note_of_chain, noted_or, other_owner, owned_or, put_goes, put_row, refl, rows_after, said, spare, subst, sym, taken, tells_map, told_by, true, waited, walk_at, walk_so, write_goes, ℕ, ◌∙◌, ◌≡◌, ◌⊎◌}
+use Rattle.beldi_lock.proofs.Names.{At, CameOn, Cell, Chain, Content, DidAs, Dies, Err, FitsAt, Going, HasNote, IntentId, IsLinked, Item, LeavesAt, Linked, Lock, LockAt, LockCell, LockOutput, LockTurn, LockWalk, Locks, LocksAreByTheRow, LocksStand, Lockset, LoggedTurn, Logs, None, Note, Ok, Option, Owner, Place, Plain, PutLockset, PutTurn, Row, RowKey, Rows, SeesAt, SeesItem, Some, StandsAt, ActReply, QueryReply, Try, TxId, WriteAt, WriteGoes, WriteWalk, act, after_act, age_of, ap, asks_at, at_of, barred, by_op, chain, cond, content, did, died_at, died_of, dies, entered, false, free, got, if_room, if◌then◌else◌, inl, inr, is_older, item_goes, key_self, linked_by, lock_asks, lock_at, lock_goes, lock_key, lock_next, lock_output, lock_so, lockset_key, next_or, no_content, none-some, none_at_all, note_at, note_goes, note_here, note_of_chain, noted_or, other_owner, owned_or, put_goes, put_row, refl, rows_after, replied, spare, subst, sym, taken, tells_map, query_reply, true, waited, walk_at, walk_so, write_goes, ℕ, ◌∙◌, ◌≡◌, ◌⊎◌}
 use Rattle.beldi_lock.proofs.Names.map
 
 -- who neither waits nor dies meets no other owner
@@ -25,31 +25,31 @@ left_by p c (Some (Note.Died a)) = died_at p a c
 left_by p c o = c
 
 module _ (p : Place) (who : Owner) (c d : Content) where
-  abbrev Says : WriteGoes → Type 0
-  Says g = Locks p who (lock_so (item_goes g)) c d × HasNote p (lock_so (item_goes g)) d
+  abbrev Promised : WriteGoes → Type 0
+  Promised g = Locks p who (lock_so (item_goes g)) c d × HasNote p (lock_so (item_goes g)) d
 
   -- what was noted now, by whether who asked died
-  done_as : (a : Option IntentId) (n : Note) → dies who Lock c.owner ≡ a → note_at d.notes p ≡ Some n → note_at c.notes p ≡ None → DidAs p who Lock a c d → Says (WriteGoes.Done n true)
+  done_as : (a : Option IntentId) (n : Note) → dies who Lock c.owner ≡ a → note_at d.notes p ≡ Some n → note_at c.notes p ≡ None → DidAs p who Lock a c d → Promised (WriteGoes.Done n true)
   done_as None n lives is none made = by_note n (sym is ∙ ap (λ x. note_at x.notes p) made.1 ∙ note_here c.notes p Note.Got none) is
     where
-      by_note : (n : Note) → Some n ≡ Some Note.Got → note_at d.notes p ≡ Some n → Says (WriteGoes.Done n true)
+      by_note : (n : Note) → Some n ≡ Some Note.Got → note_at d.notes p ≡ Some n → Promised (WriteGoes.Done n true)
       by_note Note.Got same is = ((none, unheld who c.owner made.0 lives, made.1), is)
       by_note n same is = cc
   done_as (Some a) n dead is none made = by_note n (sym is ∙ ap (λ x. note_at x.notes p) made ∙ note_here c.notes p (Note.Died a) none) is
     where
-      by_note : (n : Note) → Some n ≡ Some (Note.Died a) → note_at d.notes p ≡ Some n → Says (WriteGoes.Done n true)
+      by_note : (n : Note) → Some n ≡ Some (Note.Died a) → note_at d.notes p ≡ Some n → Promised (WriteGoes.Done n true)
       by_note (Note.Died b) same is =
           (subst (λ o. Dies p who b o c d) (sym none) (dead ∙ ap age_in (sym same), made ∙ ap (left_by p c) (sym same)), is)
       by_note n same is = cc
 
-  stood : (n : Note) → note_at c.notes p ≡ Some n → note_at d.notes p ≡ Some n → d ≡ c → Says (WriteGoes.Done n false)
+  stood : (n : Note) → note_at c.notes p ≡ Some n → note_at d.notes p ≡ Some n → d ≡ c → Promised (WriteGoes.Done n false)
   stood Note.Wrote was is same = (same, tt)
   stood (Note.Cond b) was is same = (same, tt)
   stood Note.Got was is same = ((was, same), is)
   stood (Note.Died a) was is same = (subst (λ o. Dies p who a o c d) (sym was) (refl, same), is)
   stood Note.Freed was is same = (same, tt)
 
-  locked : (g : WriteGoes) → Logs p who Lock (walk_so g) c d → Says g
+  locked : (g : WriteGoes) → Logs p who Lock (walk_so g) c d → Promised g
   locked (WriteGoes.On next) l = (l, tt)
   locked WriteGoes.Stays l = (l, tt)
   locked (WriteGoes.Done n true) l = done_as (dies who Lock c.owner) n refl l.0 l.1.0 l.1.1
@@ -85,7 +85,7 @@ module _ (w : LockWalk) (m n : Rows) where
       record { others = h.others; linked = h.linked; grows = h.grows; locks = l.0; noted = l.1; sees = seen w at (chain n (lock_key w)) g h.sees }
 
   -- the row of a lockset is put
-  put_goes_on : (now : ℕ) (o : Option Row) → lock_so (put_goes (said (act PutLockset now o).1)) ≡ Going
+  put_goes_on : (now : ℕ) (o : Option Row) → lock_so (put_goes (replied (act PutLockset now o).1)) ≡ Going
   put_goes_on now None = refl
   put_goes_on now (Some r) = refl
 
@@ -93,24 +93,24 @@ module _ (w : LockWalk) (m n : Rows) where
   put_is now None = refl
   put_is now (Some r) = refl
 
-  by_put : (k : RowKey) (now : ℕ) → n ≡ after_act PutLockset now k m → PutTurn k m n (lock_so (put_goes (said (act PutLockset now (map.get m k)).1)))
+  by_put : (k : RowKey) (now : ℕ) → n ≡ after_act PutLockset now k m → PutTurn k m n (lock_so (put_goes (replied (act PutLockset now (map.get m k)).1)))
   by_put k now is =
       let z = (act PutLockset now (map.get m k)).0 in
       record {
-        says = put_goes_on now (map.get m k);
+        output = put_goes_on now (map.get m k);
         others = λ q apart. ap (λ l. map.get l q) is ∙ got m k q z ∙ ap (λ b. cond b z (map.get m q)) apart;
         put = ap (λ l. map.get l k) is ∙ got m k k z ∙ ap (λ b. cond b z (map.get m k)) (key_self k) ∙ put_is now (map.get m k);
       }
 
-  by_at : (at : LockAt) (now : ℕ) → let y = record w { at = at } in n ≡ rows_after (lock_asks y) now m → let t = told_by (lock_asks y) now m in LeavesAt at y (lock_next y t) m n (lock_says y t)
+  by_at : (at : LockAt) (now : ℕ) → let y = record w { at = at } in n ≡ rows_after (lock_asks y) now m → let t = query_reply (lock_asks y) now m in LeavesAt at y (lock_next y t) m n (lock_output y t)
   by_at (Lockset begin) now is = by_put (lockset_key w.home w.place.intent begin w.table w.key) now is
-  by_at (Item at) now is = λ linked sees. by_turn at (write_goes Note.Got at (told_by (lock_asks (at_item w at)) now m)) (by_op (as_write w at) m n now linked sees is)
+  by_at (Item at) now is = λ linked sees. by_turn at (write_goes Note.Got at (query_reply (lock_asks (at_item w at)) now m)) (by_op (as_write w at) m n now linked sees is)
 
 -- an answer, and where the walk is then, are by what it was told
-after_told : (w x : LockWalk) (now : ℕ) (m n : Rows) (t : Told) (s : LockSays) → x ≡ lock_next w t → s ≡ lock_says w t → n ≡ rows_after (lock_asks w) now m → t ≡ told_by (lock_asks w) now m → LeavesAt w.at w x m n s
-after_told w x now m n t s on says after told =
-    let z = told_by (lock_asks w) now m in
-    subst (λ y. LeavesAt w.at w y m n s) (sym (on ∙ ap (lock_next w) told)) (subst (LeavesAt w.at w (lock_next w z) m n) (sym (says ∙ ap (lock_says w) told)) (by_at w m n w.at now after))
+after_told : (w x : LockWalk) (now : ℕ) (m n : Rows) (t : QueryReply) (s : LockOutput) → x ≡ lock_next w t → s ≡ lock_output w t → n ≡ rows_after (lock_asks w) now m → t ≡ query_reply (lock_asks w) now m → LeavesAt w.at w x m n s
+after_told w x now m n t s on output after told =
+    let z = query_reply (lock_asks w) now m in
+    subst (λ y. LeavesAt w.at w y m n s) (sym (on ∙ ap (lock_next w) told)) (subst (LeavesAt w.at w (lock_next w z) m n) (sym (output ∙ ap (lock_output w) told)) (by_at w m n w.at now after))
 
 pub locks_are_by_the_row : LocksAreByTheRow
 locks_are_by_the_row w x now old new s (Ok t, h, c) = tells_map {P = λ m n. CameOn (lock_asks w) now old.room (Ok t) m n} {Q = λ m n. LeavesAt w.at w x m n s} old.rows new.rows
@@ -144,24 +144,24 @@ noted_row f p n r linked sees is = by_row (f r) refl
 
 module _ (p : Place) (who : Owner) (now : ℕ) (n : Note) where
   -- it is told, or the next row is
-  abbrev Stands : LockSays → Type 0
+  abbrev Stands : LockOutput → Type 0
   Stands s = (s ≡ lock_so (note_goes n false)) ⊎ (s ≡ Going)
 
-  abbrev says_by : ℕ → Tell → LockSays
-  says_by r t = lock_so (item_goes (write_goes Note.Got (Try r) (said t)))
+  abbrev output_by : ℕ → ActReply → LockOutput
+  output_by r t = lock_so (item_goes (write_goes Note.Got (Try r) (replied t)))
 
-  abbrev lock_or : Cell → Cell × Tell
+  abbrev lock_or : Cell → Cell × ActReply
   lock_or c = owned_or p who c (other_owner who c.owner) (if_room c (entered p Note.Got c.value (Some who) c, did))
 
-  told_so : (r : ℕ) (c : Cell) → HasOrNext c p n → Stands (says_by r (act (LockCell p who spare) now (Some (Row.Cell c))).1)
-  told_so r c (inl is) = inl (ap (λ o. says_by r (noted_or c o (next_or c c.next (lock_or c))).1) is)
-  told_so r c (inr h) = inr (ap (λ o. says_by r (noted_or c o (next_or c c.next (lock_or c))).1) h.0 ∙ ap (λ o. says_by r (next_or c o (lock_or c)).1) h.2)
+  told_so : (r : ℕ) (c : Cell) → HasOrNext c p n → Stands (output_by r (act (LockCell p who spare) now (Some (Row.Cell c))).1)
+  told_so r c (inl is) = inl (ap (λ o. output_by r (noted_or c o (next_or c c.next (lock_or c))).1) is)
+  told_so r c (inr h) = inr (ap (λ o. output_by r (noted_or c o (next_or c c.next (lock_or c))).1) h.0 ∙ ap (λ o. output_by r (next_or c o (lock_or c)).1) h.2)
 
 pub locks_stand : LocksStand
 locks_stand w now m r n here linked sees is =
     let f = chain m (lock_key w) in
     let c = noted_row f w.place n r linked sees is in
-    subst (Stands w.place w.who now n) (sym (says ∙ ap (λ o. says_by w.place w.who now n r (act (LockCell w.place w.who spare) now o).1) c.there)) (told_so w.place w.who now n r c.cell c.shows)
+    subst (Stands w.place w.who now n) (sym (output ∙ ap (λ o. output_by w.place w.who now n r (act (LockCell w.place w.who spare) now o).1) c.there)) (told_so w.place w.who now n r c.cell c.shows)
   where
-    says : lock_says w (told_by (lock_asks w) now m) ≡ says_by w.place w.who now n r (act (LockCell w.place w.who spare) now (chain m (lock_key w) r)).1
-    says = ap (λ at. lock_so (lock_goes at (told_by (asks_at w.home w.table w.key w.place w.who at) now m))) here
+    output : lock_output w (query_reply (lock_asks w) now m) ≡ output_by w.place w.who now n r (act (LockCell w.place w.who spare) now (chain m (lock_key w) r)).1
+    output = ap (λ at. lock_so (lock_goes at (query_reply (asks_at w.home w.table w.key w.place w.who at) now m))) here

@@ -3,9 +3,9 @@
 use Rattle.std.specs.Prelude.{ℕ, Bool, List}
 use Rattle.beldi_value.specs.declared.{id.IntentId.IntentId, place.Owner.Owner, place.Owner.TheVariants.Intent, place.Owner.TheVariants.Tx, place.Place.Place}
 use Rattle.beldi_row.specs.{declared.act.Act.TheVariants.PutLockset, Key.RowKey, declared.notes.Note.Note, Act.added, Act.present, declared.key.Kind.Kind}
-use Rattle.beldi_walk.specs.{declared.query.Query.Query, Query.Told, Query.said}
+use Rattle.beldi_query.specs.{declared.query.Query.Query, Query.QueryReply, Query.replied}
 use Rattle.beldi_daal.specs.{declared.cell.WriteAt.WriteAt, declared.cell.WriteAt.TheVariants.Try, declared.cell.WriteGoes.WriteGoes, Cell.cell_key, Cell.write_asks, Cell.write_goes, declared.cell.CellOp.CellOp}
-use Rattle.beldi_lock.specs.declared.{lock.LockAt.LockAt, lock.LockAt.TheVariants.Lockset, lock.LockAt.TheVariants.Item, lock.LockGoes.LockGoes, lock_walk.LockSays.LockSays, lock_walk.LockSays.TheVariants.Going, lock_walk.LockSays.TheVariants.Got, lock_walk.LockSays.TheVariants.Died, lock_walk.LockSays.TheVariants.Held, lock_walk.LockSays.TheVariants.Worn, lock_walk.LockWalk.LockWalk}
+use Rattle.beldi_lock.specs.declared.{lock.LockAt.LockAt, lock.LockAt.TheVariants.Lockset, lock.LockAt.TheVariants.Item, lock.LockGoes.LockGoes, lock_walk.LockOutput.LockOutput, lock_walk.LockOutput.TheVariants.Going, lock_walk.LockOutput.TheVariants.Got, lock_walk.LockOutput.TheVariants.Died, lock_walk.LockOutput.TheVariants.Held, lock_walk.LockOutput.TheVariants.Worn, lock_walk.LockWalk.LockWalk}
 
 -- where a lock begins
 abbrev pub lock_first : Owner → LockAt
@@ -21,9 +21,9 @@ asks_at home t k p who (Lockset begin) = Query.Act (lockset_key home p.intent be
 asks_at home t k p who (Item at) = write_asks (cell_key home t k) p who CellOp.Lock at
 
 -- once the row is there, the item comes next
-abbrev pub put_goes : Told → LockGoes
-put_goes (said added) = LockGoes.On (Item (Try 0))
-put_goes (said present) = LockGoes.On (Item (Try 0))
+abbrev pub put_goes : QueryReply → LockGoes
+put_goes (replied added) = LockGoes.On (Item (Try 0))
+put_goes (replied present) = LockGoes.On (Item (Try 0))
 put_goes t = LockGoes.Stays
 
 -- what the note of the place says; the lock stays at a note of another kind
@@ -43,7 +43,7 @@ item_goes (WriteGoes.Held o) = LockGoes.Held o
 item_goes WriteGoes.Worn = LockGoes.Worn
 
 -- where a lock goes after it was told
-abbrev pub lock_goes : LockAt → Told → LockGoes
+abbrev pub lock_goes : LockAt → QueryReply → LockGoes
 lock_goes (Lockset begin) t = put_goes t
 lock_goes (Item at) t = item_goes (write_goes Note.Got at t)
 
@@ -63,7 +63,7 @@ lock_at w (LockGoes.Died a) = w
 lock_at w (LockGoes.Held o) = w
 lock_at w LockGoes.Worn = w
 
-abbrev pub lock_so : LockGoes → LockSays
+abbrev pub lock_so : LockGoes → LockOutput
 lock_so (LockGoes.On at) = Going
 lock_so LockGoes.Stays = Going
 lock_so (LockGoes.Got first) = Got first
@@ -72,8 +72,8 @@ lock_so (LockGoes.Held o) = Held o
 lock_so LockGoes.Worn = Worn
 
 -- the walk after it was told, and its answer
-abbrev pub lock_next : LockWalk → Told → LockWalk
+abbrev pub lock_next : LockWalk → QueryReply → LockWalk
 lock_next w t = lock_at w (lock_goes w.at t)
 
-abbrev pub lock_says : LockWalk → Told → LockSays
-lock_says w t = lock_so (lock_goes w.at t)
+abbrev pub lock_output : LockWalk → QueryReply → LockOutput
+lock_output w t = lock_so (lock_goes w.at t)

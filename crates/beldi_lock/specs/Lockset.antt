@@ -5,7 +5,7 @@ use denote.Bor.{Bor}
 use Rattle.std.specs.FinMap as map
 use Rattle.beldi_value.specs.declared.id.IntentId.{IntentId}
 use Rattle.beldi_row.specs.{declared.key.Kind.Kind, declared.row.Row.Row, Key.RowKey, Key.key_cmp, Log.id_eq, Table.Rows, Table.IsNext}
-use Rattle.beldi_walk.specs.{declared.query.Query.Query, declared.query.Query.TheVariants.After, Query.Told, Query.found, Walk.Promises}
+use Rattle.beldi_query.specs.{declared.query.Query.Query, declared.query.Query.TheVariants.After, Query.QueryReply, Query.found, Walk.Promises}
 use Rattle.beldi_lock.specs.{Last.split_last, Lock.lockset_key}
 
 -- ---- the id directly before one
@@ -52,7 +52,7 @@ abbrev pub item_after : ℕ → IntentId → ℕ → Option (RowKey × Row) → 
 item_after home id begin None = None
 item_after home id begin (Some e) = item_of home id begin e.0 e.0.kind
 
-abbrev pub lockset_found : ℕ → IntentId → ℕ → Told → Option (ℕ × List ℕ)
+abbrev pub lockset_found : ℕ → IntentId → ℕ → QueryReply → Option (ℕ × List ℕ)
 lockset_found home id begin (found e) = item_after home id begin e
 lockset_found home id begin t = None
 

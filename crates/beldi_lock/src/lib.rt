@@ -8,7 +8,7 @@
 //!   a call it is out of memory only where what lies in a row was lent.
 //! - `LockWalk::turn` asks what the definition asks, in at most one call of the table, and goes and says by what was told,
 //!   whatever the table tells; unless it goes on, it stands where it stood, and so it does at an error (`Turned`), which
-//!   leaves the rows as before, but for a death that it was out of memory to tell (`an_error_leaves_the_rows` of `beldi_walk`).
+//!   leaves the rows as before, but for a death that it was out of memory to tell (`an_error_leaves_the_rows` of `beldi_query`).
 //! - Laws: a walk for a transaction first puts the row that says that the lock is asked for, and leaves all else. Where the item's rows
 //!   are linked, and it sees what it has to where it stands, it leaves that so; `Got` says that the place has got the lock, in this turn or before, and `Died` that it died, of the owner with
 //!   this age; `Held` names the other owner who has the item and for whom who asks waits, and then the place has no note. A
@@ -39,5 +39,5 @@ pub use laws::{
     a_lock_is_by_the_row, the_first_lockset_is_found, the_next_lockset_is_found, what_came_stands,
 };
 pub use lock::{LockAt, LockGoes, lock_query, lock_told, lockset_key};
-pub use lock_walk::{LockSays, LockWalk};
+pub use lock_walk::{LockOutput, LockWalk};
 pub use lockset::{lockset_next, lockset_query, lockset_told};

@@ -1,12 +1,12 @@
 // What a lock asks of the rows of its item, and what follows from what is told.
 ghost use Rattle.std.specs.Prelude.{◌≡◌, true, IfOk, OnErr};
-ghost use Rattle.beldi_walk.specs.Query.{told_of, lends};
+ghost use Rattle.beldi_query.specs.Query.{query_reply_of, lends};
 ghost use Rattle.beldi_lock.specs.Lock.{lock_first, lockset_key as lockset_key_of, asks_at, put_goes, note_goes, item_goes, lock_goes};
 
 use beldi_daal::{CellOp, WriteAt, WriteGoes, cell_key, write_query, write_told};
-use beldi_row::{Act, Kind, Note, RowKey, Said};
-use beldi_value::{Apart, IntentId, Owner, Place, Str, or_drop};
-use beldi_walk::{Heard, Query};
+use beldi_query::{Query, QueryReplyRef};
+use beldi_row::{Act, ActReplyRef, Kind, Note, RowKey};
+use beldi_value::{Boxed, IntentId, Owner, Place, Str, or_drop};
 use std::alloc::{AllocError, Global};
 
 /// Where a lock stands.
@@ -72,7 +72,7 @@ pub fn lock_query(
     place: Place,
     who: Owner,
     at: &LockAt,
-) -> Result<Apart<Query>, AllocError>
+) -> Result<Boxed<Query>, AllocError>
     ensures { IfOk result (λ q. q ≡ asks_at home table key.now place who at.now) }
 {
     match at {
@@ -90,9 +90,13 @@ pub fn lock_query(
 }
 
 /// Where a lock goes after it was told. Out of memory only for what was lent.
-pub fn lock_told(alloc: Global, at: &LockAt, heard: Heard<'_>) -> Result<LockGoes, AllocError>
-    ensures ok { IfOk result (λ g. g ≡ lock_goes at.now (told_of heard.entry)) }
-    ensures err { OnErr result (lends (told_of heard.entry) ≡ true) }
+pub fn lock_told(
+    alloc: Global,
+    at: &LockAt,
+    heard: QueryReplyRef<'_>,
+) -> Result<LockGoes, AllocError>
+    ensures ok { IfOk result (λ g. g ≡ lock_goes at.now (query_reply_of heard.entry)) }
+    ensures err { OnErr result (lends (query_reply_of heard.entry) ≡ true) }
 {
     match at {
         LockAt::Lockset(_) => Ok(put_told(heard)),
@@ -101,11 +105,11 @@ pub fn lock_told(alloc: Global, at: &LockAt, heard: Heard<'_>) -> Result<LockGoe
 }
 
 // The item comes next once the row is there.
-fn put_told(heard: Heard<'_>) -> LockGoes
-    ensures { result ≡ put_goes (told_of heard.entry) }
+fn put_told(heard: QueryReplyRef<'_>) -> LockGoes
+    ensures { result ≡ put_goes (query_reply_of heard.entry) }
 {
     match heard {
-        Heard::Said(Said::Added) | Heard::Said(Said::Present) => {
+        QueryReplyRef::Act(ActReplyRef::Added) | QueryReplyRef::Act(ActReplyRef::Present) => {
             LockGoes::On(LockAt::Item(WriteAt::Try(0)))
         }
         _ => LockGoes::Stays,

@@ -3,15 +3,15 @@ ghost use Rattle.std.specs.Prelude.{◌≡◌};
 ghost use Rattle.beldi_lock.specs.Lock.{first_lock};
 
 use crate::lock::{LockAt, LockGoes, lock_query, lock_told};
+use beldi_query::{Query, QueryReplyRef, Walk};
 use beldi_row::copy_owner;
-use beldi_value::{Apart, IntentId, Owner, Place, Str, or_drop};
-use beldi_walk::{Heard, Query, Walk};
+use beldi_value::{Boxed, IntentId, Owner, Place, Str, or_drop};
 use std::alloc::{AllocError, Global};
 use std::mem::replace;
 
 /// What a turn of the walk of a lock says.
 #[derive(Drop)]
-pub enum LockSays {
+pub enum LockOutput {
     /// The walk goes on.
     Going,
     /// The place has got the lock; `first` says that this act took it.
@@ -37,17 +37,17 @@ pub struct LockWalk {
 }
 
 impl Walk for LockWalk {
-    ghost use Rattle.beldi_lock.specs.Lock.{lock_asks, lock_next, lock_says};
+    ghost use Rattle.beldi_lock.specs.Lock.{lock_asks, lock_next, lock_output};
 
-    type Says = LockSays;
+    type Output = LockOutput;
 
     ghost asks = { lock_asks };
 
     ghost next = { lock_next };
 
-    ghost says = { lock_says };
+    ghost output = { lock_output };
 
-    fn ask(&self, alloc: Global) -> Result<Apart<Query>, AllocError> {
+    fn ask(&self, alloc: Global) -> Result<Boxed<Query>, AllocError> {
         let place = self.place.copy(alloc)?;
         let who = or_drop!(copy_owner(&self.who, alloc); place);
         lock_query(
@@ -55,17 +55,21 @@ impl Walk for LockWalk {
         )
     }
 
-    fn told(&mut self, alloc: Global, heard: Heard<'_>) -> Result<LockSays, AllocError> {
+    fn resume(
+        &mut self,
+        alloc: Global,
+        heard: QueryReplyRef<'_>,
+    ) -> Result<LockOutput, AllocError> {
         match lock_told(alloc, &self.at, heard)? {
             LockGoes::On(at) => {
                 self.stand(at);
-                Ok(LockSays::Going)
+                Ok(LockOutput::Going)
             }
-            LockGoes::Stays => Ok(LockSays::Going),
-            LockGoes::Got { first } => Ok(LockSays::Got { first }),
-            LockGoes::Died(age) => Ok(LockSays::Died(age)),
-            LockGoes::Held(owner) => Ok(LockSays::Held(owner)),
-            LockGoes::Worn => Ok(LockSays::Worn),
+            LockGoes::Stays => Ok(LockOutput::Going),
+            LockGoes::Got { first } => Ok(LockOutput::Got { first }),
+            LockGoes::Died(age) => Ok(LockOutput::Died(age)),
+            LockGoes::Held(owner) => Ok(LockOutput::Held(owner)),
+            LockGoes::Worn => Ok(LockOutput::Worn),
         }
     }
 }

@@ -1,15 +1,15 @@
 // The items that a transaction asked the locks of, one after another.
 ghost use Rattle.std.specs.Prelude.{◌≡◌, None, true, IfOk, OnErr};
-ghost use Rattle.beldi_walk.specs.Query.{told_of, lends};
-ghost use Rattle.beldi_walk.specs.Walk.{Answered};
-ghost use Rattle.beldi_walk.specs.declared.query.Query.TheVariants.{After};
+ghost use Rattle.beldi_query.specs.Query.{query_reply_of, lends};
+ghost use Rattle.beldi_query.specs.Walk.{Answered};
+ghost use Rattle.beldi_query.specs.declared.query.Query.TheVariants.{After};
 ghost use Rattle.beldi_lock.specs.Lockset.{lockset_after, lockset_asks, lockset_found, item_of, item_lent};
 
 use crate::before::id_before;
 use crate::lock::lockset_key;
+use beldi_query::{Query, QueryReplyRef};
 use beldi_row::{Kind, RowKey, Table, TableErr};
-use beldi_value::{Apart, IntentId, Str};
-use beldi_walk::{Heard, Query};
+use beldi_value::{Boxed, IntentId, Str};
 use std::alloc::{AllocError, Global};
 
 // The key that the row asked for comes after.
@@ -55,7 +55,7 @@ pub fn lockset_query(
     id: &IntentId,
     begin: u32,
     after: Option<(u16, &Str)>,
-) -> Result<Apart<Query>, AllocError>
+) -> Result<Boxed<Query>, AllocError>
     ensures { IfOk result (λ q. q ≡ lockset_asks home id.now begin (item_lent after.entry)) }
 {
     Query::after(alloc, after_key(alloc, home, id, begin, after)?)
@@ -68,12 +68,12 @@ pub fn lockset_told(
     home: u16,
     id: &IntentId,
     begin: u32,
-    heard: Heard<'_>,
+    heard: QueryReplyRef<'_>,
 ) -> Result<Option<(u16, Str)>, AllocError>
-    ensures ok { IfOk result (λ i. i ≡ lockset_found home id.now begin (told_of heard.entry)) }
-    ensures err { OnErr result (lends (told_of heard.entry) ≡ true) }
+    ensures ok { IfOk result (λ i. i ≡ lockset_found home id.now begin (query_reply_of heard.entry)) }
+    ensures err { OnErr result (lends (query_reply_of heard.entry) ≡ true) }
 {
-    let Heard::Found(Some((key, _))) = heard else {
+    let QueryReplyRef::Found(Some((key, _))) = heard else {
         return Ok(None);
     };
     match item_in(home, id, begin, key) {
@@ -115,7 +115,7 @@ fn next_after<T: Table>(
     ensures { Answered (After after.now) 0 (lockset_found home id.now begin) (T.state table.old) (T.state table.new) result }
 {
     match table.next(after) {
-        Ok(found) => match lockset_told(alloc, home, id, begin, Heard::Found(found)) {
+        Ok(found) => match lockset_told(alloc, home, id, begin, QueryReplyRef::Found(found)) {
             Ok(item) => Ok(item),
             Err(_) => Err(TableErr::OutOfMemory),
         },

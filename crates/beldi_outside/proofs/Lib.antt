@@ -1,3 +1,3 @@
-pub mod Told
+pub mod Observed
 pub mod Taking
 mod Transfers

@@ -19,7 +19,7 @@
 //! - Code (`src/`): `traits`; `transfer` whole transfers; `real` readers and writers, `wall_clock` the system's clock; `ready_link`
 //!   the link over TCP, and below it `watch` the port and the waits, `peers` the connections that are held, `peer` one of them,
 //!   `progress` how far its request has come, `buffer` bytes that wait; `memory`, `memory_link`.
-//! - Lemmas (`proofs/`): `Told`, `Transfers`; `Taking` a connection that gives more.
+//! - Lemmas (`proofs/`): `Observed`, `Transfers`; `Taking` a connection that gives more.
 #![tactic(auto)]
 
 mod buffer;

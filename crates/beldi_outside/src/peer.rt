@@ -51,7 +51,7 @@ pub(crate) enum Next {
 }
 
 #[derive(Clone, Copy, PartialEq, Eq)]
-enum Stage {
+enum PeerPhase {
     // Its request comes.
     Coming,
     // Its request is whole, or no more of it comes: it waits to be opened, or is open.
@@ -74,7 +74,7 @@ enum Side {
 #[derive(Drop)]
 pub(crate) struct Peer {
     stream: TcpStream,
-    stage: Stage,
+    stage: PeerPhase,
     side: Side,
     // The moment at which its stage is over.
     until: u64,
@@ -89,7 +89,7 @@ impl Peer {
     pub(crate) fn new(alloc: Global, stream: TcpStream, now: u64) -> Peer {
         Peer {
             stream,
-            stage: Stage::Coming,
+            stage: PeerPhase::Coming,
             side: Side::Open,
             until: now.saturating_add(PATIENCE),
             progress: Progress::new(),
@@ -102,10 +102,10 @@ impl Peer {
     /// Does what its socket is ready for.
     pub(crate) fn go_on(&mut self, now: u64) -> Next {
         match self.stage {
-            Stage::Coming => self.gather(),
-            Stage::Ready => Next::Wait,
-            Stage::Sending => self.send(now),
-            Stage::Parting => self.pass_over(),
+            PeerPhase::Coming => self.gather(),
+            PeerPhase::Ready => Next::Wait,
+            PeerPhase::Sending => self.send(now),
+            PeerPhase::Parting => self.pass_over(),
         }
     }
 
@@ -115,12 +115,12 @@ impl Peer {
             return Next::Wait;
         }
         match self.stage {
-            Stage::Coming => match self.gather() {
+            PeerPhase::Coming => match self.gather() {
                 Next::Wait => self.be_ready(Side::Broken),
                 next => next,
             },
-            Stage::Ready => Next::Wait,
-            Stage::Sending | Stage::Parting => Next::Drop,
+            PeerPhase::Ready => Next::Wait,
+            PeerPhase::Sending | PeerPhase::Parting => Next::Drop,
         }
     }
 
@@ -131,7 +131,7 @@ impl Peer {
 
     /// Whether it was closed, and its end is on the way.
     pub(crate) fn is_parting(&self) -> bool {
-        matches!(self.stage, Stage::Sending | Stage::Parting)
+        matches!(self.stage, PeerPhase::Sending | PeerPhase::Parting)
     }
 
     /// Gives the next bytes of its request.
@@ -160,7 +160,7 @@ impl Peer {
 
     /// Begins to send what was written.
     pub(crate) fn part(&mut self, now: u64) -> Next {
-        self.stage = Stage::Sending;
+        self.stage = PeerPhase::Sending;
         self.until = now.saturating_add(PATIENCE);
         self.send(now)
     }
@@ -202,7 +202,7 @@ impl Peer {
 
     fn be_ready(&mut self, side: Side) -> Next {
         self.side = side;
-        self.stage = Stage::Ready;
+        self.stage = PeerPhase::Ready;
         Next::Open
     }
 
@@ -247,7 +247,7 @@ impl Peer {
         if self.side != Side::Open || self.stream.shutdown(Shutdown::Write).is_err() {
             return Next::Drop;
         }
-        self.stage = Stage::Parting;
+        self.stage = PeerPhase::Parting;
         self.until = now.saturating_add(LINGER);
         self.pass_over()
     }

@@ -1,7 +1,7 @@
 // What stands outside, and what each call promises.
 ghost use Rattle.std.specs.Prelude.{◌≡◌, ◌≤◌, ℕ, Option, List};
 ghost use Rattle.beldi_outside.specs.Connection.{AcceptOn, Connections, LinkRead, LinkWrote, closed};
-ghost use Rattle.beldi_outside.specs.Outside.{HasCause, IsWithin, Reads, Told, Writes, ZeroIsFault};
+ghost use Rattle.beldi_outside.specs.Outside.{HasCause, IsWithin, Reads, Observed, Writes, ZeroIsFault};
 
 /// A call to the outside failed. The count of the object that was called has risen, or stands at its type's end.
 #[derive(Clone, Copy, Debug, PartialEq, Eq)]
@@ -53,7 +53,7 @@ pub trait Link {
 
     /// Begins to listen on the TCP port. `Failed`: the port cannot be had; `refusals` has risen.
     fn listen(&mut self, port: u16) -> Result<(), Failed>
-        ensures bytes { Told (seen self.old) (seen self.new) (λ s t. t ≡ s) }
+        ensures bytes { Observed (seen self.old) (seen self.new) (λ s t. t ≡ s) }
         ensures cause { HasCause (refusals self.old) (refusals self.new) result }
         ensures later { faults self.old ≤ faults self.new };
 
@@ -65,7 +65,7 @@ pub trait Link {
     /// Opens the next connection, for which it may wait; one that is open is closed first. `Failed`: there is none, or
     /// the link does not listen; `refusals` has risen.
     fn accept(&mut self) -> Result<(), Failed>
-        ensures bytes { Told (seen self.old) (seen self.new) (AcceptOn result) }
+        ensures bytes { Observed (seen self.old) (seen self.new) (AcceptOn result) }
         ensures cause { HasCause (refusals self.old) (refusals self.new) result }
         ensures later { faults self.old ≤ faults self.new };
 
@@ -74,7 +74,7 @@ pub trait Link {
     /// `faults` has risen.
     fn read(&mut self, buf: &mut [u8]) -> Result<usize, Failed>
         ensures bound { IsWithin buf.new result }
-        ensures bytes { Told (seen self.old) (seen self.new) (LinkRead buf.new result) }
+        ensures bytes { Observed (seen self.old) (seen self.new) (LinkRead buf.new result) }
         ensures cause { HasCause (faults self.old) (faults self.new) result }
         ensures later { refusals self.old ≤ refusals self.new };
 
@@ -82,14 +82,14 @@ pub trait Link {
     /// broke; `faults` has risen.
     fn write(&mut self, bytes: &[u8]) -> Result<usize, Failed>
         ensures bound { IsWithin bytes.now result }
-        ensures bytes { Told (seen self.old) (seen self.new) (LinkWrote bytes.now result) }
+        ensures bytes { Observed (seen self.old) (seen self.new) (LinkWrote bytes.now result) }
         ensures cause { HasCause (faults self.old) (faults self.new) result }
         ensures zero { ZeroIsFault bytes.now result (faults self.old) (faults self.new) }
         ensures later { refusals self.old ≤ refusals self.new };
 
     /// Ends the open connection. It cannot fail.
     fn close(&mut self)
-        ensures bytes { Told (seen self.old) (seen self.new) (λ s t. t ≡ closed s) }
+        ensures bytes { Observed (seen self.old) (seen self.new) (λ s t. t ≡ closed s) }
         ensures later_refusals { refusals self.old ≤ refusals self.new }
         ensures later_faults { faults self.old ≤ faults self.new };
 }

@@ -1,6 +1,6 @@
 // Whole transfers: all the bytes into a sink, all the bytes of a source.
 ghost use Rattle.std.specs.Prelude.{◌≡◌, ◌≤◌, ℕ, List, length, IfOk, IsErrOf};
-ghost use Rattle.beldi_outside.specs.Outside.{HasCause, ReadAllOn, Rose, Told, WritesAll, max_source};
+ghost use Rattle.beldi_outside.specs.Outside.{HasCause, ReadAllOn, Rose, Observed, WritesAll, max_source};
 
 use crate::traits::{Failed, Sink, Source};
 use std::alloc::{AllocError, Global};
@@ -62,7 +62,7 @@ impl From<AllocError> for ReadErr {
 
 /// All the bytes that a source has, which may be `MAX_SOURCE` bytes. `ReadErr` says when each error comes.
 pub fn read_all<S: Source>(alloc: Global, source: &mut S) -> Result<Vec<u8>, ReadErr>
-    ensures bytes { Told (S.left source.old) (S.left source.new) (ReadAllOn max_source result) }
+    ensures bytes { Observed (S.left source.old) (S.left source.new) (ReadAllOn max_source result) }
     ensures most { IfOk result (λ v. length v.items ≤ max_source) }
     ensures later { S.faults source.old ≤ S.faults source.new }
     ensures failed { IsErrOf result ReadErr.Failed → Rose (S.faults source.old) (S.faults source.new) }
@@ -72,7 +72,7 @@ pub fn read_all<S: Source>(alloc: Global, source: &mut S) -> Result<Vec<u8>, Rea
 
 /// All the bytes that a source has, which may be `most` bytes. `ReadErr` says when each error comes.
 pub fn read_up_to<S: Source>(alloc: Global, source: &mut S, most: u32) -> Result<Vec<u8>, ReadErr>
-    ensures bytes { Told (S.left source.old) (S.left source.new) (ReadAllOn most result) }
+    ensures bytes { Observed (S.left source.old) (S.left source.new) (ReadAllOn most result) }
     ensures most { IfOk result (λ v. length v.items ≤ most) }
     ensures later { S.faults source.old ≤ S.faults source.new }
     ensures failed { IsErrOf result ReadErr.Failed → Rose (S.faults source.old) (S.faults source.new) }

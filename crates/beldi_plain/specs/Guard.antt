@@ -6,8 +6,8 @@ use Rattle.std.specs.FinMap as map
 use Rattle.beldi_value.specs.{Id.root_of, declared.id.IntentId.IntentId, declared.place.Place.Place}
 use Rattle.beldi_tree.specs.declared.deployment.Deployment.{Deployment}
 use Rattle.beldi_lang.specs.declared.effect.Effect.{Effect}
-use Rattle.beldi_book.specs.declared.entry.Entry.{Entry, TheVariants.Start, TheVariants.Read, TheVariants.Step, TheVariants.Tx, TheVariants.Try}
-use Rattle.beldi_plain.specs.{Item.Item, Operation.op_of, Operation.item_in, Holds.holds, Moves.Commits, Moves.Aborts, Moves.TouchedIn, Piece.opened, Piece.tx_begun, Plain.Instance, Plain.PlainState, Plain.effect_of, Plain.item_of, Entries.after}
+use Rattle.beldi_book.specs.declared.entry.Entry.{Entry, TheVariants.Start, TheVariants.Read, TheVariants.Step, TheVariants.CommittedTx, TheVariants.AbortedTx}
+use Rattle.beldi_plain.specs.{Item.Item, Operation.op_of, Operation.item_in, Holds.holds, Moves.Commits, Moves.Aborts, Moves.TouchedIn, Transaction.opened, Transaction.tx_begun, Plain.Instance, Plain.PlainState, Plain.effect_of, Plain.item_of, PlainEntries.after}
 
 -- the item that an instance's next effect touches, if any
 abbrev pub item_touched : Instance → Effect → Option Item
@@ -21,30 +21,30 @@ touched_by d (Some q) = item_touched q (effect_of d q)
 -- the instance that an entry is of
 abbrev pub actor : Entry → IntentId
 actor (Start t f a) = root_of t
-actor (Read id seen) = id
+actor (Read id version) = id
 actor (Step id) = id
-actor (Tx id) = id
-actor (Try id place holder) = id
+actor (CommittedTx id) = id
+actor (AbortedTx id place holder) = id
 
 -- a transaction that commits made a read or an operation on an item ..
-pub record TouchedInPiece (d : Deployment) (p : PlainState) (id : IntentId) (x : Item) : Type 0 where
+pub record TouchedInCommit (d : Deployment) (p : PlainState) (id : IntentId) (x : Item) : Type 0 where
   pub state : PlainState
-  pub piece : Commits d p id state
-  pub touched_it : TouchedIn d (tx_begun id piece.instance) (opened p id piece.instance) piece.moves x
+  pub commit : Commits d p id state
+  pub touched_it : TouchedIn d (tx_begun id commit.instance) (opened p id commit.instance) commit.moves x
 
 -- .. and one that aborts did so before its place
-pub record TouchedInTry (d : Deployment) (p : PlainState) (id : IntentId) (place : Place) (holder : Option IntentId) (x : Item) : Type 0 where
+pub record TouchedInAbort (d : Deployment) (p : PlainState) (id : IntentId) (place : Place) (holder : Option IntentId) (x : Item) : Type 0 where
   pub state : PlainState
-  pub try : Aborts d p id place holder state
-  pub touched_it : TouchedIn d (tx_begun id try.instance) (opened p id try.instance) try.before x
+  pub abort : Aborts d p id place holder state
+  pub touched_it : TouchedIn d (tx_begun id abort.instance) (opened p id abort.instance) abort.before x
 
 -- an entry touches an item: that of its instance's next effect, or those of its transaction
 abbrev pub Touches : Deployment → PlainState → Entry → Item → Type 0
 Touches d p (Start t f a) x = touched_by d (map.get p.made (root_of t)) ≡ Some x
-Touches d p (Read id seen) x = touched_by d (map.get p.made id) ≡ Some x
+Touches d p (Read id version) x = touched_by d (map.get p.made id) ≡ Some x
 Touches d p (Step id) x = touched_by d (map.get p.made id) ≡ Some x
-Touches d p (Tx id) x = TouchedInPiece d p id x
-Touches d p (Try id place holder) x = TouchedInTry d p id place holder x
+Touches d p (CommittedTx id) x = TouchedInCommit d p id x
+Touches d p (AbortedTx id place holder) x = TouchedInAbort d p id place holder x
 
 -- nobody else holds the lock of an item that an entry touches ..
 abbrev pub IsFree : Deployment → PlainState → Entry → Type 0

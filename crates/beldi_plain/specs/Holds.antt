@@ -27,4 +27,4 @@ held_along d x func args inherited given (a ∷ rest) b = held_along d x func ar
 -- whether an instance holds the lock of an item
 abbrev pub holds : Deployment → Item → Option Instance → Bool
 holds d x None = false
-holds d x (Some q) = held_along d x q.func q.args (is_some q.within) [] q.answers false
+holds d x (Some q) = held_along d x q.func q.args (is_some q.enclosing) [] q.answers false

@@ -1,4 +1,3 @@
-pub mod Entries
 pub mod Guard
 pub mod Holds
 pub mod Item
@@ -6,6 +5,7 @@ pub mod Legal
 pub mod Listing
 pub mod Moves
 pub mod Operation
-pub mod Piece
 pub mod Plain
+pub mod PlainEntries
 pub mod Replies
+pub mod Transaction

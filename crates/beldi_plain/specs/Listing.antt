@@ -3,7 +3,7 @@ use Rattle.std.specs.Prelude.{ℕ, List, flat_map}
 use Rattle.std.specs.FinMap as map
 use Rattle.beldi_value.specs.declared.value.Value.{Value}
 use Rattle.beldi_tree.specs.declared.deployment.Deployment.{Deployment}
-use Rattle.beldi_book.specs.Text.{item_text}
+use Rattle.beldi_book.specs.BookText.{item_text}
 use Rattle.beldi_plain.specs.{Item.Item, Plain.PlainState}
 
 -- a line for each item

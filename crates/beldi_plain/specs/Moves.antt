@@ -6,7 +6,7 @@ use Rattle.std.specs.FinMap as map
 use Rattle.beldi_value.specs.declared.{id.IntentId.IntentId, place.Place.Place, place.TxId.TxId}
 use Rattle.beldi_tree.specs.declared.deployment.Deployment.{Deployment}
 use Rattle.beldi_lang.specs.declared.effect.{Effect.Effect, Answer.Answer}
-use Rattle.beldi_plain.specs.Piece.{Going, gives, opened, at_front, moves_by, dies_at, fallen, stands_at, is_holder, tx_begun}
+use Rattle.beldi_plain.specs.Transaction.{Going, gives, opened, at_active, moves_by, dies_at, fallen, stands_at, is_holder, tx_begun}
 use Rattle.beldi_plain.specs.{Item.Item, Operation.touched, Plain.Instance, Plain.PlainState, Plain.with_instance, Plain.answered, Plain.effect_of, Plain.item_of}
 
 -- a plain step; or an effect that was aborted, by itself or by who holds its item
@@ -19,13 +19,13 @@ move_by t p id q e plain = moves_by t p id q e
 move_by t p id q e (fell h) = if dies_at h e then Some (fallen p id q h) else None
 
 -- of the one that can step
-abbrev pub moved : Deployment → TxId → Move → Going → Option Going
-moved d t m s = at_front s (λ q. move_by t s.state s.front q (effect_of d q) m)
+abbrev pub after_move : Deployment → TxId → Move → Going → Option Going
+after_move d t m s = at_active s (λ q. move_by t s.state s.active q (effect_of d q) m)
 
 -- these moves lead there
 abbrev pub Leads : Deployment → TxId → Going → List Move → Going → Type 0
 Leads d t s [] l = s ≡ l
-Leads d t s (m ∷ ms) l = (r : Going) × (moved d t m s ≡ Some r) × Leads d t r ms l
+Leads d t s (m ∷ ms) l = (r : Going) × (after_move d t m s ≡ Some r) × Leads d t r ms l
 
 -- nothing was aborted
 abbrev pub AllPlain : List Move → Type 0
@@ -36,12 +36,12 @@ AllPlain (m ∷ ms) = (m ≡ plain) × AllPlain ms
 -- the one that can step stands at this effect
 pub record Stands (d : Deployment) (s : Going) (e : Effect) : Type 0 where
   pub instance : Instance
-  pub made : map.get s.state.made s.front ≡ Some instance
+  pub made : map.get s.state.made s.active ≡ Some instance
   pub effect : effect_of d instance ≡ e
 
 -- .. and is the owner, at its end
 pub record AtEnd (d : Deployment) (id : IntentId) (s : Going) (commit : Bool) : Type 0 where
-  pub owner : s.front ≡ id
+  pub owner : s.active ≡ id
   pub stands : Stands d s (Effect.End commit)
 
 -- a transaction of an instance that has led so far
@@ -64,14 +64,14 @@ pub record Commits (d : Deployment) (p : PlainState) (id : IntentId) (r : PlainS
 -- no move before the last state was made at the place
 abbrev pub stands_there : Place → Going → Option Instance → Bool
 stands_there a s None = false
-stands_there a s (Some q) = stands_at a s.front q
+stands_there a s (Some q) = stands_at a s.active q
 
 abbrev pub is_there : Place → Going → Bool
-is_there a s = stands_there a s (map.get s.state.made s.front)
+is_there a s = stands_there a s (map.get s.state.made s.active)
 
 abbrev pub NotBefore : Deployment → TxId → Place → Going → List Move → Type 0
 NotBefore d t a s [] = Unit {0}
-NotBefore d t a s (m ∷ ms) = (is_there a s ≡ false) × ((r : Going) → moved d t m s ≡ Some r → NotBefore d t a r ms)
+NotBefore d t a s (m ∷ ms) = (is_there a s ≡ false) × ((r : Going) → after_move d t m s ≡ Some r → NotBefore d t a r ms)
 
 -- from the place where it aborts: what is aborted, and plain steps to the end without commit; or that end alone
 abbrev pub FallsSo : Option IntentId → List Move → Type 0
@@ -107,10 +107,10 @@ touched_at d None = None
 touched_at d (Some q) = touched_item q (effect_of d q)
 
 abbrev pub TouchedBy : Deployment → Going → Move → Item → Type 0
-TouchedBy d s plain x = touched_at d (map.get s.state.made s.front) ≡ Some x
+TouchedBy d s plain x = touched_at d (map.get s.state.made s.active) ≡ Some x
 TouchedBy d s (fell h) x = ⊥
 
 -- .. is one of these moves
 abbrev pub TouchedIn : Deployment → TxId → Going → List Move → Item → Type 0
 TouchedIn d t s [] x = ⊥
-TouchedIn d t s (m ∷ ms) x = TouchedBy d s m x ⊎ ((r : Going) × (moved d t m s ≡ Some r) × TouchedIn d t r ms x)
+TouchedIn d t s (m ∷ ms) x = TouchedBy d s m x ⊎ ((r : Going) × (after_move d t m s ≡ Some r) × TouchedIn d t r ms x)

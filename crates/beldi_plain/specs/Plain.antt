@@ -13,14 +13,14 @@ use Rattle.beldi_plain.specs.{Item.Item, Item.item_cmp, declared.kind.Kind.Kind}
 pub record Instance : Type 0 where
   pub func : ℕ
   pub args : Value
-  pub from : Option Caller
-  pub within : Option TxId
+  pub parent : Option Caller
+  pub enclosing : Option TxId
   pub answers : List Answer
   pub outcome : Option Outcome
 
 -- one that has made no step
 abbrev pub new_instance : ℕ → Value → Option Caller → Instance
-new_instance f a c = record { func = f; args = a; from = c; within = None; answers = []; outcome = None }
+new_instance f a c = record { func = f; args = a; parent = c; enclosing = None; answers = []; outcome = None }
 
 -- the items that are not null, and the instances that were made
 pub record PlainState : Type 0 where
@@ -45,7 +45,7 @@ with_instance p id q = record p { made = map.insert p.made id q }
 
 -- the effect that an instance stands at
 abbrev pub effect_of : Deployment → Instance → Effect
-effect_of d q = wants d q.func q.args (is_some q.within) q.answers
+effect_of d q = wants d q.func q.args (is_some q.enclosing) q.answers
 
 -- how an effect of an instance is entered in a book: a read as one, an operation on an item, a call and a return as a change. A
 -- transaction is entered whole; and what an id of 63 hops calls is not carried out.
@@ -78,7 +78,7 @@ waits_at made id q e = false
 
 -- the effect that it had at a step, from 0
 abbrev pub effect_before : Deployment → Instance → ℕ → Effect
-effect_before d q n = wants d q.func q.args (is_some q.within) (take n q.answers)
+effect_before d q n = wants d q.func q.args (is_some q.enclosing) (take n q.answers)
 
 abbrev pub answered : Instance → Answer → Instance
 answered q a = record q { answers = q.answers ++ a ∷ [] }
@@ -128,7 +128,7 @@ abbrev pub step_by : PlainState → IntentId → Instance → Effect → PlainSt
 step_by p id q (Effect.Read t k) = with_instance p id (answered q (Answer.Value (value_at p (item_of q t k))))
 step_by p id q (Effect.Call f a) = with_callee p id q f a true
 step_by p id q (Effect.Async f a) = with_instance (with_callee p id q f a false) id (answered q Answer.Done)
-step_by p id q (Effect.Return o) = answer_caller (with_instance p id (ended q o)) q.from o
+step_by p id q (Effect.Return o) = answer_caller (with_instance p id (ended q o)) q.parent o
 step_by p id q e = operated p id q (op_of e)
 
 -- what an instance comes to that was made, has no outcome and does not wait for a callee; there is no step of any other

@@ -1,10 +1,10 @@
 -- What the responses to some actions bind, and that the last two of a whole session are the listings.
 use Rattle.std.specs.List.{AllByRecursion}
-use Rattle.beldi_step.{proofs.Runs.either, specs.Told.bound_of, specs.Told.requested}
+use Rattle.beldi_step.{proofs.StepRuns.either, specs.EventContent.bound_of, specs.EventContent.requested}
 use Rattle.std.specs.Prelude.{nat_lt, ◌+◌}
 use Rattle.beldi_step.specs.declared.event.Pruned.{Pruned}
-use Rattle.beldi_session.specs.{Response.PruneAnswered, Response.PruneBroke, Response.SweptIs, Response.Whole, Response.after_request, Response.goes_on, Script.Prune, Script.Sweep, Script.TellSwept, Script.sweep_at, Script.sweep_heard}
-use Rattle.beldi_program.proofs.Names.{Action, Answered, AreTo, AtFirst, BookIs, BrokeOff, Call, Carry, CountRows, Event, Goes, IsTo, LineRefused, List, ListBook, ListTables, None, Option, Over, Refuse, ReplyAlone, ReplyIs, Reported, Response, RowsAre, Seen, Settle, SettledIs, Some, TablesAre, TellReply, Value, WentBack, WentOn, [], ap, append_assoc, bound_by, bound_in, is_turn, refl, subst, sym, true, ℕ, ◌++◌, ◌∙◌, ◌∷◌, ◌≡◌}
+use Rattle.beldi_session.specs.{HostResponse.PruneAnswered, HostResponse.PruneBroke, HostResponse.SweptIs, HostResponse.Whole, HostResponse.after_request, HostResponse.goes_on, Script.Prune, Script.Sweep, Script.TellSwept, Script.sweep_at, Script.on_sweep_reply}
+use Rattle.beldi_program.proofs.Names.{Action, Answered, AreTo, AtFirst, BookIs, BrokeOff, Call, Carry, CountRows, Event, Working, IsTo, LineRefused, List, ListBook, ListTables, None, Option, Over, Refuse, ReplyAlone, ReplyIs, Reported, Response, RowsAre, EventReply, Settle, SettledIs, Some, TablesAre, TellReply, Value, WentBack, WentOn, [], ap, append_assoc, bound_by, bound_in, is_turn, refl, subst, sym, true, ℕ, ◌++◌, ◌∙◌, ◌∷◌, ◌≡◌}
 
 -- ---- what is bound was asked for
 module _ (P : ℕ × Value → Type 0) where
@@ -32,12 +32,12 @@ module _ (P : ℕ × Value → Type 0) where
   requested_so (Event.Request t f a) h = (h, tt)
   requested_so e h = tt
 
-  bound_event : (e : Event) (x : Seen) → AsksSo (Carry e) → BoundSo (bound_of e x)
-  bound_event e (Seen.Bound t r) h = requested_so e h
+  bound_event : (e : Event) (x : EventReply) → AsksSo (Carry e) → BoundSo (bound_of e x)
+  bound_event e (EventReply.Bound t r) h = requested_so e h
   bound_event e x h = tt
 
   -- nor does what goes on after a request
-  after_asks : (t : ℕ) (x : Seen) → AskSo (after_request t x)
+  after_asks : (t : ℕ) (x : EventReply) → AskSo (after_request t x)
   after_asks t x = either AskSo (goes_on x) _ _ (λ h. (tt, (tt, tt))) (λ h. tt)
 
   -- a turn asks for nothing
@@ -50,7 +50,7 @@ module _ (P : ℕ × Value → Type 0) where
   sweep_at_asks : (k budget n : ℕ) → AsksSo (sweep_at k budget n)
   sweep_at_asks k budget n = either AsksSo (nat_lt n budget) _ _ (λ h. tt) (λ h. tt)
 
-  sweep_asks : (k budget n : ℕ) (x : Pruned) → AsksSo (sweep_heard k budget n x)
+  sweep_asks : (k budget n : ℕ) (x : Pruned) → AsksSo (on_sweep_reply k budget n x)
   sweep_asks k budget n Pruned.Round = tt
   sweep_asks k budget n Pruned.Going = sweep_at_asks k budget (n + 1)
   sweep_asks k budget n Pruned.Marked = sweep_at_asks k budget (n + 1)
@@ -66,10 +66,10 @@ module _ (P : ℕ × Value → Type 0) where
   asks_left (Carry e) (BrokeOff (Some f)) left h g = (subst AskSo (sym h.1) (g, tt), tt)
   asks_left (Call t f a) (Answered Whole e x) left h g = (subst AskSo (sym h.1) (after_asks t x), bound_event e x (subst (λ z. AsksSo (Carry z)) (sym h.0) g))
   asks_left (Call t f a) (BrokeOff (Some e)) left h g = (subst AskSo (sym h.1) (g, tt), tt)
-  asks_left (Settle budget (Goes s)) (Answered ReplyAlone e x) left h g = (subst AskSo (sym h.2) (tt, tt), bound_event e x (turn_asks e h.0))
-  asks_left (Settle budget (Goes s)) WentBack left h g = (subst AskSo (sym h.1) (tt, tt), tt)
-  asks_left (Settle budget (Goes s)) (WentOn k) left h g = (subst AskSo (sym h.1) (tt, tt), tt)
-  asks_left (Settle budget (Goes s)) (BrokeOff (Some e)) left h g = (subst AskSo (sym h.2) (tt, tt), tt)
+  asks_left (Settle budget (Working s)) (Answered ReplyAlone e x) left h g = (subst AskSo (sym h.2) (tt, tt), bound_event e x (turn_asks e h.0))
+  asks_left (Settle budget (Working s)) WentBack left h g = (subst AskSo (sym h.1) (tt, tt), tt)
+  asks_left (Settle budget (Working s)) (WentOn k) left h g = (subst AskSo (sym h.1) (tt, tt), tt)
+  asks_left (Settle budget (Working s)) (BrokeOff (Some e)) left h g = (subst AskSo (sym h.2) (tt, tt), tt)
   asks_left (Settle budget (Over r)) (Reported (SettledIs q)) left h g = (subst AskSo (sym h.1) tt, tt)
   asks_left (Prune k) (PruneAnswered Whole j x) left h g = (subst AskSo (sym h.1) tt, tt)
   asks_left (Prune k) (PruneBroke j) left h g = (subst AskSo (sym h.1) (tt, tt), tt)
@@ -115,10 +115,10 @@ quiet_then (a ∷ front) more g h = (g.0, quiet_then front more g.1 h)
 quiet_left : (a : Action) (y : Response) (left : List Action) → IsTo a y left → IsQuiet a → AllByRecursion IsQuiet left × IsOfEvents y
 quiet_left (Carry e) (Answered Whole f x) left h g = (subst (AllByRecursion IsQuiet) (sym h.1) tt, tt)
 quiet_left (Carry e) (BrokeOff (Some f)) left h g = (subst (AllByRecursion IsQuiet) (sym h.1) (tt, tt), tt)
-quiet_left (Settle budget (Goes s)) (Answered ReplyAlone e x) left h g = (subst (AllByRecursion IsQuiet) (sym h.2) (tt, tt), tt)
-quiet_left (Settle budget (Goes s)) WentBack left h g = (subst (AllByRecursion IsQuiet) (sym h.1) (tt, tt), tt)
-quiet_left (Settle budget (Goes s)) (WentOn k) left h g = (subst (AllByRecursion IsQuiet) (sym h.1) (tt, tt), tt)
-quiet_left (Settle budget (Goes s)) (BrokeOff (Some e)) left h g = (subst (AllByRecursion IsQuiet) (sym h.2) (tt, tt), tt)
+quiet_left (Settle budget (Working s)) (Answered ReplyAlone e x) left h g = (subst (AllByRecursion IsQuiet) (sym h.2) (tt, tt), tt)
+quiet_left (Settle budget (Working s)) WentBack left h g = (subst (AllByRecursion IsQuiet) (sym h.1) (tt, tt), tt)
+quiet_left (Settle budget (Working s)) (WentOn k) left h g = (subst (AllByRecursion IsQuiet) (sym h.1) (tt, tt), tt)
+quiet_left (Settle budget (Working s)) (BrokeOff (Some e)) left h g = (subst (AllByRecursion IsQuiet) (sym h.2) (tt, tt), tt)
 quiet_left (Settle budget (Over r)) (Reported (SettledIs q)) left h g = (subst (AllByRecursion IsQuiet) (sym h.1) tt, tt)
 quiet_left (Call t f v) y left h g = absurd g
 quiet_left (Prune k) y left h g = absurd g

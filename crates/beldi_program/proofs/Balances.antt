@@ -5,16 +5,16 @@ use Rattle.std.specs.List.{AllByRecursion}
 use Rattle.std.specs.Str.{bytes_eq}
 use Rattle.beldi_value.{proofs.Ints.numeral_within, specs.Number.numeral_at}
 use Rattle.beldi_plain.specs.{Legal.run_of, Plain.PlainState}
-use Rattle.beldi_command.specs.Command.{after_port, after_requests, command_of, gen_by, gen_with, named_with, option_alone, option_first, plainly, serve_by, serve_of, serve_with}
-use Rattle.beldi_script.proofs.Lines.{cut_some}
+use Rattle.beldi_command.specs.CommandLine.{after_port, after_requests, command_of, gen_by, gen_with, named_with, option_alone, option_first, plainly, serve_by, serve_of, serve_with}
+use Rattle.beldi_script.proofs.ScriptLines.{cut_some}
 use Rattle.beldi_generator.specs.Summary.{totals_text}
-use Rattle.beldi_bank.{proofs.Runs.transfers_keep, specs.Bank.IsTransfer, specs.Bank.bank_code, specs.Laws.AreTransfers, specs.Laws.Balanced}
+use Rattle.beldi_bank.{proofs.BankRuns.transfers_keep, specs.Bank.IsTransfer, specs.Bank.bank_code, specs.BankLaws.AreTransfers, specs.BankLaws.Balanced}
 use Rattle.beldi_bank_lines.proofs.Totals.{are_listed}
-use Rattle.beldi_bank_text.{proofs.Actions.generated_is_the_bank, proofs.Actions.generated_is_work, specs.Text.AreWork, specs.Text.IsWork, specs.Text.bank_source}
+use Rattle.beldi_bank_text.{proofs.Actions.generated_is_the_bank, proofs.Actions.generated_is_work, specs.BankText.AreWork, specs.BankText.IsWork, specs.BankText.bank_source}
 use Rattle.beldi_program.specs.{PlainRun.alone, Balances.IsBalanced, Balances.ToldBalanced, Balances.totals_in, Headline.Ran}
 use Rattle.beldi_program.proofs.{Asked.AskSo, Asked.AsksSo, Asked.BoundSo, Asked.IsQuiet, Asked.asked_then, Asked.bound_of_actions, Asked.listings, Ends.same_end, Flat.names_flat, Listed.ends_told, Skipped.last_text}
 use Rattle.beldi_program.proofs.Names.map
-use Rattle.beldi_program.proofs.Names.{Action, Bool, Carry, Check, Command, Ended, Ends, Entry, Event, Gen, GeneratedEnds, HasEnded, IsReportSo, List, None, Numbered, Option, Rows, Run, Serve, ServingEnds, Session, Settle, SinkState, Some, SourceEnds, SummedUp, TableState, TablesAre, Told, Value, Whole, [], actions_in, ap, arith, bound_in, false, generated, inl, inr, kept, kept_faults, last_book, length, lines_of, new_sink, refl, responses_in, same_Some, script_of, source_at, status_of, subst, sym, true, ℕ, ◌++◌, ◌-◌, ◌^◌, ◌∙◌, ◌∷◌, ◌≡◌, ◌≤◌}
+use Rattle.beldi_program.proofs.Names.{Action, Bool, Carry, Check, Command, Ended, Ends, Entry, Event, Gen, GeneratedEnds, HasEnded, IsReportSo, List, None, Numbered, Option, Rows, Run, Serve, ServingEnds, Session, Settle, SinkState, Some, SourceEnds, SummedUp, TableState, TablesAre, Observed, Value, Whole, [], actions_in, ap, arith, bound_in, false, generated, inl, inr, kept, kept_faults, last_book, length, lines_of, new_sink, refl, responses_in, same_Some, script_of, source_at, status_of, subst, sym, true, ℕ, ◌++◌, ◌-◌, ◌^◌, ◌∙◌, ◌∷◌, ◌≡◌, ◌≤◌}
 
 -- a request for a transfer
 abbrev pub ForTransfer : ℕ × Value → Type 0
@@ -58,10 +58,10 @@ module _ (lines : List Numbered) (front : List Action) (are : actions_in bank_co
       let even = transfers_keep book plain.legal.run starts plain.legal.legal in
       subst (λ z. IsBalanced (totals_text z)) (sym e.totals) (totals_told book plain.legal.run plain.legal.legal even e.tables e.book (e.tells refl))
 
-  ran_whole : (a b : Option Rows) (f g : ℕ) (w : List ℕ) → a ≡ Some map.empty → Told a b (λ m n. Whole bank_code lines m n f g w) → IsBalanced (totals_in w)
-  ran_whole a b f g w none h = by b (subst (λ z. Told z b (λ m n. Whole bank_code lines m n f g w)) none h)
+  ran_whole : (a b : Option Rows) (f g : ℕ) (w : List ℕ) → a ≡ Some map.empty → Observed a b (λ m n. Whole bank_code lines m n f g w) → IsBalanced (totals_in w)
+  ran_whole a b f g w none h = by b (subst (λ z. Observed z b (λ m n. Whole bank_code lines m n f g w)) none h)
     where
-      by : (b : Option Rows) → Told (Some map.empty) b (λ m n. Whole bank_code lines m n f g w) → IsBalanced (totals_in w)
+      by : (b : Option Rows) → Observed (Some map.empty) b (λ m n. Whole bank_code lines m n f g w) → IsBalanced (totals_in w)
       by None h = absurd h
       by (Some n) h = session_balanced n w h.session
 

@@ -1,8 +1,8 @@
 -- The responses of a session, each with the book and the rows after it, and with when a collector changed a row last.
-use Rattle.beldi_session.specs.Response.{PruneAnswered, PruneBroke, Whole}
+use Rattle.beldi_session.specs.HostResponse.{PruneAnswered, PruneBroke, Whole}
 use Rattle.beldi_session.specs.Script.{Prune, Sweep, TellSwept}
 use Rattle.beldi_serve.proofs.Leading.{leads_so}
-use Rattle.beldi_program.proofs.Names.{Action, Answered, AreTo, AtFirst, Booked, BrokeOff, Call, Carry, Collect, Core, CountRows, Deployment, Follows, Goes, Hosted, IsStep, IsTo, IsToSettling, Leads, LeadsTo, Leaves, List, ListBook, ListTables, Next, None, Option, Over, Refuse, ReplyAlone, Reported, Reset, Response, Rows, Session, Settle, SettlingLeaves, Some, State, Steps, StepsTo, TellReply, Turn, Went, WentBack, WentOn, [], ap, is_turn, next_of, opened_at, refl, responses_in, responses_text, subst, sym, ℕ, ◌∙◌, ◌∷◌, ◌≡◌, ◌≤◌}
+use Rattle.beldi_program.proofs.Names.{Action, Answered, AreTo, AtFirst, Booked, BrokeOff, Call, Carry, Collect, Core, CountRows, Deployment, Follows, Working, Hosted, IsStep, IsTo, IsToSettling, Leads, LeadsTo, Leaves, List, ListBook, ListTables, Next, None, Option, Over, Refuse, ReplyAlone, Reported, Reset, Response, Rows, Session, Settle, SettlingLeaves, Some, State, Steps, StepsTo, TellReply, Turn, Went, WentBack, WentOn, [], ap, is_turn, next_of, opened_at, refl, responses_in, responses_text, subst, sym, ℕ, ◌∙◌, ◌∷◌, ◌≡◌, ◌≤◌}
 use Rattle.beldi_program.specs.Hosted.{SessionsArePlainRuns, changed_by}
 
 -- a response, with what there is after it
@@ -63,7 +63,7 @@ is_to_settling budget c n (PruneBroke k) left h = absurd (no_turn n h)
 is_to : (a : Action) (c z : Core) (y : Response) (left : List Action) → Leaves a c z y left → IsTo a y left
 is_to (Carry e) c z y left h = h
 is_to (Call t f v) c z y left h = h
-is_to (Settle budget (Goes s)) c z y left h = is_to_settling budget z (next_of c s) y left h
+is_to (Settle budget (Working s)) c z y left h = is_to_settling budget z (next_of c s) y left h
 is_to (Settle budget (Over r)) c z y left h = h
 is_to (Prune k) c z y left h = h
 is_to (Sweep k budget n) c z y left h = h

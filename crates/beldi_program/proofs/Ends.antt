@@ -1,12 +1,12 @@
 -- How the program ends.
 use Rattle.std.specs.Prelude.{IfOk}
-use Rattle.beldi_program.proofs.Names.{Accepted, AsRead, BareEnds, Bool, ByStatus, Check, CheckEnds, Command, CommandEnds, Connections, Core, Cut, Deployment, Does, DoneBy, Ended, Ends, Err, Failed, Gen, GeneratedEnds, HasEnded, IsErrOf, IsPrefixOf, Line, List, LongOn, None, NothingDone, Numbered, Ok, OnOk, OpenErr, Opened, Option, OutOfMemory, ReadAllOn, ReadEnds, Refusal, Refused, Result, Rose, Rows, Run, ServeEnds, ServiceEnds, Serving, ServingEnds, SessionEnds, Sight, SinkFault, SinkState, Some, Serve, SourceAsRead, SourceCommandEnds, SourceEnds, State, Stop, SummedUp, TableState, TextEnds, Told, TookFront, Untouched, Vec, WentBy, Whole, WordsAsRead, Writes, WroteOn, [], actions_in, ap, arith, check_at, check_by, counted, counted_on, end_of, false, false≢true, fine, first_line, generated, inl, inr, is_bare_source, is_none, is_ok, is_whole, is_whole_asked, is_whole_by, is_whole_source, kept, kept_faults, length, max_source, new_sink, opened_at, opened_core, reads_source, refl, refusal_text, said_at, script_of, source_at, state_at, status_of, subst, subst₂, suc, summary_text, sym, tested, told_map, told_same, told_tells, told_then, true, usage, with_line, zero, ℕ, ◌&&◌, ◌+◌, ◌-◌, ◌^◌, ◌∙◌, ◌∷◌, ◌≡◌, ◌≤◌, ◌⊎◌}
+use Rattle.beldi_program.proofs.Names.{Accepted, AsRead, BareEnds, Bool, ByStatus, Check, CheckEnds, Command, CommandEnds, Connections, Core, Cut, Deployment, Does, DoneBy, Ended, Ends, Err, Failed, Gen, GeneratedEnds, HasEnded, IsErrOf, IsPrefixOf, Line, List, LongOn, None, NothingDone, Numbered, Ok, OnOk, OpenErr, Opened, Option, OutOfMemory, ReadAllOn, ReadEnds, Refusal, Refused, Result, Rose, Rows, Run, ServeEnds, ServiceEnds, Serving, ServingEnds, SessionEnds, Sight, SinkFault, SinkState, Some, Serve, SourceAsRead, SourceCommandEnds, SourceEnds, State, Stop, SummedUp, TableState, TextEnds, Observed, TookPrefix, Untouched, Vec, WentBy, Whole, WordsAsRead, Writes, WroteOn, [], actions_in, ap, arith, check_at, check_by, counted, counted_on, end_of, false, false≢true, fine, first_line, generated, inl, inr, is_bare_source, is_none, is_ok, is_whole, is_whole_asked, is_whole_by, is_whole_source, kept, kept_faults, length, max_source, new_sink, opened_at, opened_core, reads_source, refl, refusal_text, said_at, script_of, source_at, state_at, status_of, subst, subst₂, suc, summary_text, sym, tested, told_map, told_same, told_tells, told_then, true, usage, with_line, zero, ℕ, ◌&&◌, ◌+◌, ◌-◌, ◌^◌, ◌∙◌, ◌∷◌, ◌≡◌, ◌≤◌, ◌⊎◌}
 use Rattle.beldi_program.specs.Hosted.{SessionsArePlainRuns}
 use Rattle.beldi_program.proofs.Booking.{hosted_by, said}
 use Rattle.beldi_program.proofs.Names.map
 
 -- ---- a text that was written, or a front of it
-pub front : (a b : Option (List ℕ)) (text : List ℕ) (e : Failed) → Told a b (WroteOn text (Err e)) → (w : List ℕ) × IsPrefixOf w text × Writes a b w
+pub front : (a b : Option (List ℕ)) (text : List ℕ) (e : Failed) → Observed a b (WroteOn text (Err e)) → (w : List ℕ) × IsPrefixOf w text × Writes a b w
 front None b text e h = ([], (text, refl), tt)
 front (Some x) None text e h = absurd h
 front (Some x) (Some y) text e h = (h.0, h.1, h.3)
@@ -37,7 +37,7 @@ module _ (plain_runs : SessionsArePlainRuns) (d : Deployment) (lines : List Numb
 
 -- a host that was opened over a table, and the script that it carried out
 pub hosted : (plain_runs : SessionsArePlainRuns) {X : Type 0} (d : Deployment) (t : TableState) (a b : Sight) (lines : List Numbered) (r : Result X Stop) → Opened d a.code 0 t a.table a.core → a.waiting ≡ [] → OnOk r (b.waiting ≡ []) → Does (actions_in a.code lines) a b r
-    → (w : List ℕ) × Writes a.held b.held w × Told t.rows b.table.rows (λ m n. SessionBy r d lines m n t.faults b.table.faults w)
+    → (w : List ℕ) × Writes a.held b.held w × Observed t.rows b.table.rows (λ m n. SessionBy r d lines m n t.faults b.table.faults w)
 hosted plain_runs d t a b lines r o none end x = (
   x.written,
   x.sink,
@@ -55,7 +55,7 @@ hosted plain_runs d t a b lines r o none end x = (
 
 -- ---- the parts of the program
 -- the source was read whole
-pub was_read : (o a : Option (List ℕ)) (v : Vec ℕ) (bytes : List ℕ) → bytes ≡ v.items → Told o a (ReadAllOn max_source (Ok v)) → Told o a (λ b c. (b ≡ bytes) × (c ≡ []))
+pub was_read : (o a : Option (List ℕ)) (v : Vec ℕ) (bytes : List ℕ) → bytes ≡ v.items → Observed o a (ReadAllOn max_source (Ok v)) → Observed o a (λ b c. (b ≡ bytes) × (c ≡ []))
 was_read o a v bytes same h = told_map {P = ReadAllOn max_source (Ok v)} {Q = λ b c. (b ≡ bytes) × (c ≡ [])} o a (λ b c x. (sym (same ∙ x.0), x.1)) h
 
 -- a source has no fault just where no line of it, and not its deployment, is refused
@@ -121,7 +121,7 @@ module _ {K : Type 0} (held : K → Option (List ℕ)) (faults : K → ℕ) wher
 
 module _ {K T : Type 0} (held : K → Option (List ℕ)) (faults : K → ℕ) (state : T → TableState) where
   pub session_ends : (d : Deployment) (lines : List Numbered) (k k' : K) (t t' : T) (r : Result Bool Stop) → IfOk r (λ whole. is_whole d lines ≡ whole) → (IsErrOf r SinkFault → Rose (faults k) (faults k'))
-      → (w : List ℕ) × Writes (held k) (held k') w × Told (state t).rows (state t').rows (λ m n. SessionBy r d lines m n (state t).faults (state t').faults w) → SessionEnds held faults state d lines k k' t t' (end_of r)
+      → (w : List ℕ) × Writes (held k) (held k') w × Observed (state t).rows (state t').rows (λ m n. SessionBy r d lines m n (state t).faults (state t').faults w) → SessionEnds held faults state d lines k k' t t' (end_of r)
   session_ends d lines k k' t t' (Ok true) whole fault x = (whole, x)
   session_ends d lines k k' t t' (Ok false) whole fault x = (whole, x)
   session_ends d lines k k' t t' (Err OutOfMemory) whole fault x = inr x
@@ -152,7 +152,7 @@ module _ {K T : Type 0} (held : K → Option (List ℕ)) (faults : K → ℕ) (s
   as_read bytes (Err y) k k' t t' e x = text_as held faults false (refusal_text y) Ended.Refused k k' e refl x.1
 
   table_rose : (bytes : List ℕ) (o : Result Accepted Refusal) (k k' : K) (t t' : T) → SourceEnds held faults state bytes o k k' t t' Ended.TableFault
-      → Rose (state t).faults (state t').faults × (Told (state t).rows (state t').rows (λ m n. n ≡ m) × (k' ≡ k))
+      → Rose (state t).faults (state t').faults × (Observed (state t).rows (state t').rows (λ m n. n ≡ m) × (k' ≡ k))
   table_rose bytes (Ok p) k k' t t' x = (x.0, (x.1.1, x.1.0))
   table_rose bytes (Err y) k k' t t' x = let clash = x.1.0 in cc
 
@@ -169,7 +169,7 @@ pub record IsProper {K T : Type 0} (held : K → Option (List ℕ)) (faults : K 
   pub read : (bytes : List ℕ) (requests : ℕ) (k k' : K) (t t' : T) (e : Ended) → serving bytes requests k k' t t' e → is_read_end e ≡ true
   pub as_read : (bytes : List ℕ) (requests : ℕ) (k k' : K) (t t' : T) (e : Ended) → serving bytes requests k k' t t' e → AsRead (is_bare_source bytes (source_at bytes)) e
   pub rose : (bytes : List ℕ) (requests : ℕ) (k k' : K) (t t' : T) → serving bytes requests k k' t t' Ended.SinkFault → Rose (faults k) (faults k')
-  pub opens : (bytes : List ℕ) (requests : ℕ) (k k' : K) (t t' : T) → serving bytes requests k k' t t' Ended.TableFault → Rose (state t).faults (state t').faults × (Told (state t).rows (state t').rows (λ m n. n ≡ m) × (k' ≡ k))
+  pub opens : (bytes : List ℕ) (requests : ℕ) (k k' : K) (t t' : T) → serving bytes requests k k' t t' Ended.TableFault → Rose (state t).faults (state t').faults × (Observed (state t).rows (state t').rows (λ m n. n ≡ m) × (k' ≡ k))
   pub refuses : (bytes : List ℕ) (requests : ℕ) (k k' : K) (t t' : T) → serving bytes requests k k' t t' Ended.LinkRefused → refused
 
 module _ {K T : Type 0} (held : K → Option (List ℕ)) (faults : K → ℕ) (state : T → TableState) (refused : Type 0) (serving : ServingEnds K T) (proper : IsProper held faults state refused serving) where
@@ -193,7 +193,7 @@ module _ {K T : Type 0} (held : K → Option (List ℕ)) (faults : K → ℕ) (s
   done_rose (Gen seed n) bytes k k' t t' x = absurd x
 
   pub not_hosted : (c : Command) (bytes : List ℕ) (k k' : K) (t t' : T) → DoneBy held faults state serving c bytes k k' t t' Ended.TableFault
-      → Rose (state t).faults (state t').faults × (Told (state t).rows (state t').rows (λ m n. n ≡ m) × (k' ≡ k))
+      → Rose (state t).faults (state t').faults × (Observed (state t).rows (state t').rows (λ m n. n ≡ m) × (k' ≡ k))
   not_hosted Run bytes k k' t t' x = table_rose held faults state bytes (source_at bytes) k k' t t' x
   not_hosted Check bytes k k' t t' x = absurd (checked_opens held faults (check_at bytes) k k' x.1)
   not_hosted (Serve port requests) bytes k k' t t' x = proper.opens bytes requests k k' t t' x
@@ -262,7 +262,7 @@ module _ {K T : Type 0} (held : K → Option (List ℕ)) (faults : K → ℕ) (s
     read = λ bytes requests k k' t t' e x. by_source bytes requests k k' t t' e (is_read_end e ≡ true) (λ p is y. service_read p requests k k' t t' e y) (λ o y is z. text_read held faults (refusal_text y) Ended.Refused k k' e refl z.1) (source_at bytes) x;
     as_read = λ bytes requests k k' t t' e x. as_bare bytes requests k k' t t' e (source_at bytes) x;
     rose = λ bytes requests k k' t t' x. by_source bytes requests k k' t t' Ended.SinkFault (Rose (faults k) (faults k')) (λ p is y. y.0) (λ o y is z. z.1.0) (source_at bytes) x;
-    opens = λ bytes requests k k' t t' x. by_source bytes requests k k' t t' Ended.TableFault (Rose (state t).faults (state t').faults × (Told (state t).rows (state t').rows (λ m n. n ≡ m) × (k' ≡ k))) (λ p is y. (y.0, (y.1.1, y.1.0))) (λ o y is z. let clash = z.1.0 in cc) (source_at bytes) x;
+    opens = λ bytes requests k k' t t' x. by_source bytes requests k k' t t' Ended.TableFault (Rose (state t).faults (state t').faults × (Observed (state t).rows (state t').rows (λ m n. n ≡ m) × (k' ≡ k))) (λ p is y. (y.0, (y.1.1, y.1.0))) (λ o y is z. let clash = z.1.0 in cc) (source_at bytes) x;
     refuses = λ bytes requests k k' t t' x. by_source bytes requests k k' t t' Ended.LinkRefused refused (λ p is y. y.0) (λ o y is z. let clash = z.1.0 in cc) (source_at bytes) x;
   }
 
@@ -315,7 +315,7 @@ module _ {K T : Type 0} (held : K → Option (List ℕ)) (faults : K → ℕ) (s
       by_session Ended.LinkRefused s u = not_refused kept kept_faults state (generated seed n) (source_at (generated seed n)) (new_sink [] (2 ^ 64 - 1)) x.sink t t' s
       by_session end s t = let clash = t.0 in cc
 
-  generated_opens : GeneratedEnds held faults state seed n k k' t t' Ended.TableFault → Rose (state t).faults (state t').faults × (Told (state t).rows (state t').rows (λ m n. n ≡ m) × (k' ≡ k))
+  generated_opens : GeneratedEnds held faults state seed n k k' t t' Ended.TableFault → Rose (state t).faults (state t').faults × (Observed (state t).rows (state t').rows (λ m n. n ≡ m) × (k' ≡ k))
   generated_opens (inl x) = let clash = x.0 in cc
   generated_opens (inr x) =
       let o = summed_opens held faults n x.sink.bytes k k' x.ended x.told in
@@ -325,7 +325,7 @@ module _ {K T : Type 0} (held : K → Option (List ℕ)) (faults : K → ℕ) (s
 -- ---- memory ran out before a command was read
 module _ {S K T : Type 0} (left : S → Option (List ℕ)) (source_faults : S → ℕ) (held : K → Option (List ℕ)) (faults : K → ℕ) (state : T → TableState) (serving : ServingEnds K T) (s : S) (k : K) (t : T) where
   short_source : (c : Command) → SourceCommandEnds left source_faults held faults state serving c s s k k t t Ended.OutOfMemory
-  short_source c = inl (told_same (TookFront (max_source + 1)) (left s) (λ b. ([], refl, omega arith)), refl, refl)
+  short_source c = inl (told_same (TookPrefix (max_source + 1)) (left s) (λ b. ([], refl, omega arith)), refl, refl)
 
   pub short_words : (words : Option Command) → Ends left source_faults held faults state serving words s s k k t t Ended.OutOfMemory
   short_words None = (refl, refl, refl)
@@ -381,11 +381,11 @@ module _ {S K T : Type 0} (left : S → Option (List ℕ)) (source_faults : S �
   link_refusal (Some c) x = by_command Ended.LinkRefused refused (λ c x. done_refused held faults state refused serving proper c x.0 k k' t t' x.3) (λ seed n x. absurd (generated_refused held faults state seed n k k' t t' x)) c x
   link_refusal None x = let clash = x.2.0 in cc
 
-  pub open_fault : (o : Option Command) → Ends left source_faults held faults state serving o s s' k k' t t' Ended.TableFault → Rose (state t).faults (state t').faults × (Told (state t).rows (state t').rows (λ m n. n ≡ m) × (k' ≡ k))
+  pub open_fault : (o : Option Command) → Ends left source_faults held faults state serving o s s' k k' t t' Ended.TableFault → Rose (state t).faults (state t').faults × (Observed (state t).rows (state t').rows (λ m n. n ≡ m) × (k' ≡ k))
   open_fault (Some c) x = by_command Ended.TableFault _ (λ c x. not_hosted held faults state refused serving proper c x.0 k k' t t' x.3) (λ seed n x. generated_opens held faults state seed n k k' t t' x) c x
   open_fault None x = let clash = x.2.0 in cc
 
-  pub untouched : (o : Option Command) (e : Ended) → Ends left source_faults held faults state serving o s s' k k' t t' e → Untouched e (t' ≡ t) (Told (state t).rows (state t').rows (λ m n. n ≡ m)) (k' ≡ k)
+  pub untouched : (o : Option Command) (e : Ended) → Ends left source_faults held faults state serving o s s' k k' t t' e → Untouched e (t' ≡ t) (Observed (state t).rows (state t').rows (λ m n. n ≡ m)) (k' ≡ k)
   untouched (Some c) Ended.SourceFault x = by_command Ended.SourceFault ((t' ≡ t) × (k' ≡ k)) (λ c x. (x.2, x.3)) (λ seed n x. let clash = generated_read held faults state seed n k k' t t' Ended.SourceFault x in cc) c x
   untouched (Some c) Ended.TooLong x = by_command Ended.TooLong ((t' ≡ t) × (k' ≡ k)) (λ c x. (x.1, x.2)) (λ seed n x. let clash = generated_read held faults state seed n k k' t t' Ended.TooLong x in cc) c x
   untouched o Ended.TableFault x = (open_fault o x).1
@@ -405,7 +405,7 @@ module _ {S K T : Type 0} (left : S → Option (List ℕ)) (source_faults : S �
   tested_leaves e x = x.3.0
 
   abbrev Long : Ended → Type 0
-  Long e = Told (left s) (left s') (λ b c. LongOn b c e)
+  Long e = Observed (left s) (left s') (λ b c. LongOn b c e)
 
   short : (e : Ended) → is_read_end e ≡ true → (b c bytes : List ℕ) → length bytes ≤ max_source → b ≡ bytes → LongOn b c e
   short Ended.TooLong is b c bytes l same = cc
@@ -416,10 +416,10 @@ module _ {S K T : Type 0} (left : S → Option (List ℕ)) (source_faults : S �
 
   source_long : (c : Command) (e : Ended) → SourceCommandEnds left source_faults held faults state serving c s s' k k' t t' e → Long e
   source_long c Ended.Usage x = absurd x
-  source_long c Ended.SourceFault x = told_map {P = TookFront max_source} {Q = λ b c. LongOn b c Ended.SourceFault} (left s) (left s') (λ b c v. inr (inl refl)) x.1
+  source_long c Ended.SourceFault x = told_map {P = TookPrefix max_source} {Q = λ b c. LongOn b c Ended.SourceFault} (left s) (left s') (λ b c v. inr (inl refl)) x.1
   source_long c Ended.TooLong x = x.0
   source_long c Ended.OutOfMemory x = elim x [
-    | inl y ↦ told_map {P = TookFront (max_source + 1)} {Q = λ b c. LongOn b c Ended.OutOfMemory} (left s) (left s') (λ b c v. inr (inr refl)) y.0
+    | inl y ↦ told_map {P = TookPrefix (max_source + 1)} {Q = λ b c. LongOn b c Ended.OutOfMemory} (left s) (left s') (λ b c v. inr (inr refl)) y.0
     | inr y ↦ read_short c Ended.OutOfMemory y
   ]
   source_long c e x = read_short c e x
@@ -431,7 +431,7 @@ module _ {S K T : Type 0} (left : S → Option (List ℕ)) (source_faults : S �
   too_long (Some (Serve port requests)) e h x = source_long (Serve port requests) e x
   too_long (Some (Gen seed n)) e h x = cc
 
-  read_as : (c : Command) (o a : Option (List ℕ)) (bytes : List ℕ) (e : Ended) → Told o a (λ b c. (b ≡ bytes) × (c ≡ [])) → AsRead (is_whole_by c bytes) e → SourceAsRead c o e
+  read_as : (c : Command) (o a : Option (List ℕ)) (bytes : List ℕ) (e : Ended) → Observed o a (λ b c. (b ≡ bytes) × (c ≡ [])) → AsRead (is_whole_by c bytes) e → SourceAsRead c o e
   read_as c None a bytes e t h = tt
   read_as c (Some b) None bytes e t h = absurd t
   read_as c (Some b) (Some d) bytes e t h = subst (λ z. AsRead (is_whole_by c z) e) (sym t.0) h
@@ -497,8 +497,8 @@ module _ (c : Command) (b : List ℕ) (P Q R : Type 0) (p : P → ⊥) (q : Q �
   done_or_short Ended.TooLong a after l s t u = absurd (omega (arith, short, l.0))
   done_or_short Ended.TableFault a after l s t u = inr (inr refl)
 
-pub completed : (words : Option Command) (o a : Option (List ℕ)) (e : Ended) (P Q R : Type 0) → WordsAsRead words o e → Told o a (λ b c. LongOn b c e) → (e ≡ Ended.SourceFault → P) → (e ≡ Ended.SinkFault → Q) → (e ≡ Ended.LinkRefused → R) → (P → ⊥) → (Q → ⊥) → (R → ⊥)
-    → Told o a (λ b c. length b ≤ max_source → is_whole_asked words b ≡ true → (status_of e ≡ 0) ⊎ (status_of e ≡ 1) ⊎ (status_of e ≡ 8))
+pub completed : (words : Option Command) (o a : Option (List ℕ)) (e : Ended) (P Q R : Type 0) → WordsAsRead words o e → Observed o a (λ b c. LongOn b c e) → (e ≡ Ended.SourceFault → P) → (e ≡ Ended.SinkFault → Q) → (e ≡ Ended.LinkRefused → R) → (P → ⊥) → (Q → ⊥) → (R → ⊥)
+    → Observed o a (λ b c. length b ≤ max_source → is_whole_asked words b ≡ true → (status_of e ≡ 0) ⊎ (status_of e ≡ 1) ⊎ (status_of e ≡ 8))
 completed words None a e P Q R read l s t u p q r = tt
 completed words (Some b) None e P Q R read l s t u p q r = l
 completed None (Some b) (Some c) e P Q R read l s t u p q r = λ short whole. cc
@@ -531,7 +531,7 @@ module _ {S K T : Type 0} {left : S → Option (List ℕ)} {source_faults : S �
   pub session_at : ByStatus n (Ends left source_faults held faults state serving words s s' k k' t t')
   session_at = (e, is, x.ends)
 
-  pub too_long_at : reads_source words ≡ true → ByStatus n (λ e. Told (left s) (left s') (λ b c. LongOn b c e))
+  pub too_long_at : reads_source words ≡ true → ByStatus n (λ e. Observed (left s) (left s') (λ b c. LongOn b c e))
   too_long_at h = (e, is, too_long left source_faults held faults state refused serving proper s s' k k' t t' words e h x.ends)
 
   pub link_refused_at : n ≡ 6 → refused
@@ -540,16 +540,16 @@ module _ {S K T : Type 0} {left : S → Option (List ℕ)} {source_faults : S �
   pub refused_at : reads_source words ≡ true → ByStatus n (λ e. WordsAsRead words (left s) e)
   refused_at h = (e, is, read_refused_by left source_faults held faults state refused serving proper s s' k k' t t' words e h x.ends)
 
-  pub untouched_at : ByStatus n (λ e. Untouched e (t' ≡ t) (Told (state t).rows (state t').rows (λ m n. n ≡ m)) (k' ≡ k))
+  pub untouched_at : ByStatus n (λ e. Untouched e (t' ≡ t) (Observed (state t).rows (state t').rows (λ m n. n ≡ m)) (k' ≡ k))
   untouched_at = (e, is, untouched left source_faults held faults state refused serving proper s s' k k' t t' words e x.ends)
 
   pub unread_at : (reads_source words ≡ false → s' ≡ s) × (words ≡ None → t' ≡ t)
   unread_at = (λ h. unread left source_faults held faults state refused serving proper s s' k k' t t' words e h x.ends, λ h. (usage_told left source_faults held faults state refused serving proper s s' k k' t t' words e h x.ends).0)
 
   pub complete_at : reads_source words ≡ true → (Rose (source_faults s) (source_faults s') → ⊥) → (Rose (faults k) (faults k') → ⊥) → (refused → ⊥)
-      → Told (left s) (left s') (λ b c. length b ≤ max_source → is_whole_asked words b ≡ true → (n ≡ 0) ⊎ (n ≡ 1) ⊎ (n ≡ 8))
+      → Observed (left s) (left s') (λ b c. length b ≤ max_source → is_whole_asked words b ≡ true → (n ≡ 0) ⊎ (n ≡ 1) ⊎ (n ≡ 8))
   complete_at h p q r =
-      subst (λ (z : ℕ). Told (left s) (left s') (λ b c. length b ≤ max_source → is_whole_asked words b ≡ true → (z ≡ 0) ⊎ (z ≡ 1) ⊎ (z ≡ 8))) (sym is)
+      subst (λ (z : ℕ). Observed (left s) (left s') (λ b c. length b ≤ max_source → is_whole_asked words b ≡ true → (z ≡ 0) ⊎ (z ≡ 1) ⊎ (z ≡ 8))) (sym is)
       (completed words (left s) (left s') e (Rose (source_faults s) (source_faults s')) (Rose (faults k) (faults k')) refused (read_refused_by left source_faults held faults state refused serving proper s s' k k' t t' words e h x.ends) (too_long left source_faults held faults state refused serving proper s s' k k' t t' words e h x.ends)
       (λ f. source_fault left source_faults held faults state refused serving proper s s' k k' t t' words (by_ending Ended.SourceFault f))
       (λ f. sink_fault left source_faults held faults state refused serving proper s s' k k' t t' words (by_ending Ended.SinkFault f))

@@ -3,9 +3,9 @@ use Rattle.std.specs.Prelude.{decimal, slice_get}
 use Rattle.std.specs.List.{AllByRecursion}
 use Rattle.std.proofs.Common.{List, None, Option, Some, [], arith, refl, suc, zero, ℕ, ◌++◌, ◌∷◌, ◌≡◌}
 use Rattle.beldi_value.specs.declared.{id.IntentId.IntentId, outcome.Code.Code, outcome.Outcome.Outcome, place.Owner.Owner, place.Place.Place}
-use Rattle.beldi_value.specs.{Cut.after, Json.text_of, Text.code_text, Text.hops_text, Text.id_text, Text.outcome_text, Text.owner_text, Text.place_text, Value.datum_of}
+use Rattle.beldi_value.specs.{ByteCut.after, Json.text_of, ValueText.code_text, ValueText.hops_text, ValueText.id_text, ValueText.outcome_text, ValueText.owner_text, ValueText.place_text, Value.datum_of}
 use Rattle.beldi_tree.specs.{Names.func_text, Names.name_or, declared.deployment.Deployment.Deployment, declared.deployment.Func.Func}
-use Rattle.beldi_book.specs.{Text.entry_text, Text.holder_text, declared.entry.Entry.Entry}
+use Rattle.beldi_book.specs.{BookText.entry_text, BookText.holder_text, declared.entry.Entry.Entry}
 use Rattle.beldi_book.proofs.Cuts.{none_after}
 use Rattle.beldi_bank_lines.proofs.Unbroken.{decimal_clear, text_flat}
 
@@ -63,8 +63,8 @@ pub entry_flat : (d : Deployment) (e : Entry) → AreFlat d → IsFlat (entry_te
 entry_flat d (Entry.Start t f a) names = spaced (decimal t) (func_text d f ++ 32 ∷ text_of (datum_of a)) (decimal_flat t) (spaced (func_text d f) (text_of (datum_of a)) (names f) (text_flat (datum_of a)))
 entry_flat d (Entry.Read id s) names = spaced (id_text id) (decimal s) (id_flat id) (decimal_flat s)
 entry_flat d (Entry.Step id) names = id_flat id
-entry_flat d (Entry.Tx id) names = id_flat id
-entry_flat d (Entry.Try id p k) names = spaced (id_text id) (place_text p ++ 32 ∷ holder_text k) (id_flat id) (spaced (place_text p) (holder_text k) (place_flat p) (holder_flat k))
+entry_flat d (Entry.CommittedTx id) names = id_flat id
+entry_flat d (Entry.AbortedTx id p k) names = spaced (id_text id) (place_text p ++ 32 ∷ holder_text k) (id_flat id) (spaced (place_text p) (holder_text k) (place_flat p) (holder_flat k))
 
 func_flat : (fs : List Func) (m n : ℕ) → AllByRecursion (λ f. IsFlat f.name) fs → IsFlat (name_or m (slice_get fs n))
 func_flat [] m n h = decimal_flat m

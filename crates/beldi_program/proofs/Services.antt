@@ -1,11 +1,11 @@
 -- How a service ends, by what served it.
 use Rattle.beldi_row.specs.declared.table.Table.{Ghosts}
-use Rattle.beldi_host.specs.{declared.host.Host.Host, Host.core_of}
-use Rattle.beldi_session.specs.Response.{responses_text}
-use Rattle.beldi_serve.specs.{Desk.state_of, Service.Exchange, Service.Same, Service.Served, Service.ServedAll, Service.ServesBy, Service.Serving as Served_by, Service.World, Service.lines_from, Service.moment_of, Service.pruning, Service.responses_of, Service.sight as serve_sight, Service.tick_to, declared.connections.ServeErr.ServeErr}
+use Rattle.beldi_host.specs.{declared.host.Host.Host, HostCore.core_of}
+use Rattle.beldi_session.specs.HostResponse.{responses_text}
+use Rattle.beldi_serve.specs.{Desk.state_of, ServedConnections.Exchange, ServedConnections.Same, ServedConnections.Served, ServedConnections.ServedAll, ServedConnections.ServesBy, ServedConnections.Serving as Served_by, ServedConnections.World, ServedConnections.lines_from, ServedConnections.moment_of, ServedConnections.pruning, ServedConnections.responses_of, ServedConnections.sight as serve_sight, ServedConnections.tick_to, declared.connections.ServeErr.ServeErr}
 use Rattle.beldi_serve.proofs.Leading.{leads_so, leads_then}
 use Rattle.beldi_program.specs.{Serves.Lists, Serves.ServesHost, Service.Course, Service.ServedTo, Service.Service, Service.is_service_end, Service.listed_end, Service.served_end}
-use Rattle.beldi_program.proofs.Names.{Connections, Core, Deployment, Does, Ended, Err, IsErrOf, IsStep, Leads, List, ListBook, ListTables, None, Ok, OnOk, Opened, Option, Response, Result, Rose, Rows, ServiceEnds, State, Stop, Told, WentBy, Writes, [], ap, append-nil, append_assoc, arith, false≢true, inl, inr, opened_at, opened_core, refl, sight, subst, sym, told_map, told_same, told_tells, told_then, true, ℕ, ◌++◌, ◌∙◌, ◌∷◌, ◌≡◌, ◌≤◌}
+use Rattle.beldi_program.proofs.Names.{Connections, Core, Deployment, Does, Ended, Err, IsErrOf, IsStep, Leads, List, ListBook, ListTables, None, Ok, OnOk, Opened, Option, Response, Result, Rose, Rows, ServiceEnds, State, Stop, Observed, WentBy, Writes, [], ap, append-nil, append_assoc, arith, false≢true, inl, inr, opened_at, opened_core, refl, sight, subst, sym, told_map, told_same, told_tells, told_then, true, ℕ, ◌++◌, ◌∙◌, ◌∷◌, ◌≡◌, ◌≤◌}
 use Rattle.beldi_program.specs.Hosted.{SessionsArePlainRuns}
 use Rattle.beldi_program.proofs.Booking.{are_to, booked, booked_back, leads_to}
 
@@ -27,10 +27,10 @@ module _ {C : Type 0} (tells : C → ℕ → C → Type 0) (d : Deployment) (roo
   all_lead (x ∷ xs) v w h = leads_then (IsStep d room) x.responses (responses_of xs) v.state h.0.state w.state (one_leads v h.0 x h.1) (all_lead xs h.0 w h.2)
 
 -- ---- by the ending
-abbrev Goes : Type 0 → Type 1
-Goes C = List Exchange → List Response → World C → Type 0
+abbrev OfEnding : Type 0 → Type 1
+OfEnding C = List Exchange → List Response → World C → Type 0
 
-module _ {C : Type 0} (d : Deployment) (requests : ℕ) (link' : Option Connections) (written : List ℕ) (P Q : Goes C) (f : (xs : List Exchange) (ys : List Response) (last : World C) → P xs ys last → Q xs ys last) where
+module _ {C : Type 0} (d : Deployment) (requests : ℕ) (link' : Option Connections) (written : List ℕ) (P Q : OfEnding C) (f : (xs : List Exchange) (ys : List Response) (last : World C) → P xs ys last → Q xs ys last) where
   served_map : (e : Ended) → ServedTo d requests link' written P e → ServedTo d requests link' written Q e
   served_map Ended.Done (xs, ys, last, len, are, text, link, p) = (xs, ys, last, len, are, text, link, f xs ys last p)
   served_map Ended.LinkRefused (xs, last, few, text, link, p) = (xs, last, few, text, link, f xs [] last p)
@@ -40,7 +40,7 @@ module _ {C : Type 0} (d : Deployment) (requests : ℕ) (link' : Option Connecti
 
 -- ---- over a host that is open
 module _ {T : Type 0} {G : Ghosts T} {C : Type 0} (tells : C → ℕ → C → Type 0) (requests : ℕ) (h b : Host T G) (l0 l1 l2 : Option Connections) (c e : C) (listens : Same l0 l1) where
-  abbrev Along : Rows → State → Goes C
+  abbrev Along : Rows → State → OfEnding C
   Along m t xs ys last = Course tells h.code (G.state h.table).room l0 c xs ys last (state_of h m) t
 
   abbrev start : Rows → World C
@@ -117,7 +117,7 @@ module _ {K T : Type 0} {G : Ghosts T} {C : Type 0} (held : K → Option (List �
   unserved l l' refused k t' e is none no_fault refusal ends = record {
     written = [];
     sink = told_same (λ a b. b ≡ a ++ []) (held k) (λ a. sym (append-nil a));
-    went = subst (λ (x : T). Told (G.state host.table).rows (G.state x).rows (λ m n. (core : Core) × ServedTo host.code requests l' [] (λ xs ys last. Course tells host.code (G.state host.table).room l c xs ys last (state_of host m) (record { core = core; rows = n; faults = (G.state x).faults })) e)) (sym is)
+    went = subst (λ (x : T). Observed (G.state host.table).rows (G.state x).rows (λ m n. (core : Core) × ServedTo host.code requests l' [] (λ xs ys last. Course tells host.code (G.state host.table).room l c xs ys last (state_of host m) (record { core = core; rows = n; faults = (G.state x).faults })) e)) (sym is)
         (told_same (λ m n. (core : Core) × ServedTo host.code requests l' [] (λ xs ys last. Course tells host.code (G.state host.table).room l c xs ys last (state_of host m) (record { core = core; rows = n; faults = (G.state host.table).faults })) e) (G.state host.table).rows
         (λ m. (core_of host, none m)));
     fault = λ e. absurd (no_fault e);
@@ -144,7 +144,7 @@ module _ {K T : Type 0} {G : Ghosts T} {C : Type 0} (held : K → Option (List �
   service_broke b l0 l1 l2 e refused k k' t' why same is s fault refusal = record {
     written = s.written;
     sink = s.sink;
-    went = subst (λ (x : T). Told (G.state host.table).rows (G.state x).rows (λ m n. (core : Core) × ServedTo host.code requests l2 s.written (λ xs ys last. Course tells host.code (G.state host.table).room l0 c xs ys last (state_of host m) (record { core = core; rows = n; faults = (G.state x).faults })) (served_end why))) (sym is)
+    went = subst (λ (x : T). Observed (G.state host.table).rows (G.state x).rows (λ m n. (core : Core) × ServedTo host.code requests l2 s.written (λ xs ys last. Course tells host.code (G.state host.table).room l0 c xs ys last (state_of host m) (record { core = core; rows = n; faults = (G.state x).faults })) (served_end why))) (sym is)
         (told_map {P = λ m n. ServesBy tells host.code (G.state host.table).room {X = Unit {0}} requests s.written (start tells requests host b l0 l1 l2 c e same m) (final tells requests host b l0 l1 l2 c e same n) (Err why)}
         {Q = λ m n. (core : Core) × ServedTo host.code requests l2 s.written (λ xs ys last. Course tells host.code (G.state host.table).room l0 c xs ys last (state_of host m) (record { core = core; rows = n; faults = (G.state b.table).faults })) (served_end why)} (G.state host.table).rows (G.state b.table).rows
         (λ m n w. (core_of b, broke tells requests host b l0 l1 l2 c e same why m n s.written w)) s.passes.went);
@@ -174,7 +174,7 @@ module _ {K T : Type 0} {G : Ghosts T} {C : Type 0} (held : K → Option (List �
   service_listed b l0 l1 l2 e refused k k' k'' t' end same s later x = subst (Goal l0 l2 refused k k'' t') (sym x.ends) (record {
     written = s.written ++ x.does.written;
     sink = told_then {P = λ a j. j ≡ a ++ s.written} {Q = λ a j. j ≡ a ++ x.does.written} {R = λ a j. j ≡ a ++ (s.written ++ x.does.written)} (held k) (held k') (held k'') (λ a j i v w. w ∙ ap (λ z. z ++ x.does.written) v ∙ append_assoc a s.written x.does.written) s.sink x.does.sink;
-    went = subst (λ (y : T). Told (G.state host.table).rows (G.state y).rows (λ m n. (core : Core) × ServedTo host.code requests l2 (s.written ++ x.does.written) (λ xs ys last. Course tells host.code (G.state host.table).room l0 c xs ys last (state_of host m) (record { core = core; rows = n; faults = (G.state y).faults })) (listed_end x.listed))) (sym x.table)
+    went = subst (λ (y : T). Observed (G.state host.table).rows (G.state y).rows (λ m n. (core : Core) × ServedTo host.code requests l2 (s.written ++ x.does.written) (λ xs ys last. Course tells host.code (G.state host.table).room l0 c xs ys last (state_of host m) (record { core = core; rows = n; faults = (G.state y).faults })) (listed_end x.listed))) (sym x.table)
         (told_then {P = λ m n. ServesBy tells host.code (G.state host.table).room requests s.written (start tells requests host b l0 l1 l2 c e same m) (final tells requests host b l0 l1 l2 c e same n) (served_all tt)}
         {Q = λ m n. WentBy b.code (G.state b.table).room (ListTables ∷ ListBook ∷ []) [] (state_of b m) (state_of x.after n) [] x.does.written x.waiting x.listed}
         {R = λ m n. (core : Core) × ServedTo host.code requests l2 (s.written ++ x.does.written) (λ xs ys last. Course tells host.code (G.state host.table).room l0 c xs ys last (state_of host m) (record { core = core; rows = n; faults = (G.state x.after.table).faults })) (listed_end x.listed)}
@@ -236,7 +236,7 @@ module _ (plain_runs : SessionsArePlainRuns) {K T : Type 0} {G : Ghosts T} {C : 
   opened_so m k v = λ j. record { core = v.1 j; rows = v.0 j; faults = (G.state host.table).faults }
 
   ran : (k k' : K) (t' : T) (e : Ended) → ServesHost held faults tells host requests l l' c refused k k' t' e
-      → (w : List ℕ) × Writes (held k) (held k') w × Told (G.state t).rows (G.state t').rows (λ m n. ServedTo d requests l' w (Service tells d m n (G.state t).faults (G.state t').faults l c0) e)
+      → (w : List ℕ) × Writes (held k) (held k') w × Observed (G.state t).rows (G.state t').rows (λ m n. ServedTo d requests l' w (Service tells d m n (G.state t).faults (G.state t').faults l c0) e)
   ran k k' t' e x = (
     x.written,
     x.sink,

@@ -2,17 +2,17 @@
 use Rattle.std.specs.Prelude.{codes, decimal, flat_map}
 use Rattle.std.specs.List.{AllByRecursion}
 use Rattle.std.proofs.Common.{if◌then◌else◌, ◌==◌}
-use Rattle.beldi_value.specs.{Json.text_of, Text.id_text, Text.outcome_text, Text.owner_text, Value.datum_of}
+use Rattle.beldi_value.specs.{Json.text_of, ValueText.id_text, ValueText.outcome_text, ValueText.owner_text, Value.datum_of}
 use Rattle.beldi_tree.specs.Names.{func_text}
 use Rattle.beldi_book.proofs.Cuts.{parts}
-use Rattle.beldi_script.{proofs.Lines.cut_some, specs.Cut.unreturned}
+use Rattle.beldi_script.{proofs.ScriptLines.cut_some, specs.LineCut.unreturned}
 use Rattle.beldi_generator.specs.Summary.{past}
 use Rattle.beldi_session.specs.Answer.{answer_text, entry_part, numbered, outcome_line, over_part, reply_part, reply_told, run_part}
 use Rattle.beldi_schedule.specs.{declared.machine.Settled.Settled}
-use Rattle.beldi_session.specs.{Response.PruneAnswered, Response.PruneBroke, Response.Whole, Response.book_head, Response.response_text, Response.unread_line, Settled.settled_text, Settled.wait_text}
+use Rattle.beldi_session.specs.{HostResponse.PruneAnswered, HostResponse.PruneBroke, HostResponse.Whole, HostResponse.book_head, HostResponse.response_text, HostResponse.unread_line, Settled.settled_text, Settled.wait_text}
 use Rattle.beldi_bank_lines.proofs.Unbroken.{text_flat}
 use Rattle.beldi_program.proofs.{Asked.EndsListed, Asked.IsOfEvents, Asked.IsQuiet, Flat.AreFlat, Flat.IsFlat, Flat.decimal_flat, Flat.entry_flat, Flat.id_flat, Flat.joined, Flat.outcome_flat, Flat.owner_flat}
-use Rattle.beldi_program.proofs.Names.{Action, Answered, Bool, BookIs, BrokeOff, Deployment, Entry, Event, List, None, Option, Outcome, ReplyAlone, Reported, Response, Seen, SettledIs, Some, TablesAre, WentBack, WentOn, [], ap, append-nil, append_assoc, false, lines_of, refl, responses_text, sym, true, ℕ, ◌++◌, ◌∙◌, ◌∷◌, ◌≡◌}
+use Rattle.beldi_program.proofs.Names.{Action, Answered, Bool, BookIs, BrokeOff, Deployment, Entry, Event, List, None, Option, Outcome, ReplyAlone, Reported, Response, EventReply, SettledIs, Some, TablesAre, WentBack, WentOn, [], ap, append-nil, append_assoc, false, lines_of, refl, responses_text, sym, true, ℕ, ◌++◌, ◌∙◌, ◌∷◌, ◌≡◌}
 
 -- ---- lines
 -- a text that begins with the rest of a line, ended, and goes on so
@@ -135,58 +135,58 @@ module _ (h : List ℕ) (d : Deployment) (names : AreFlat d) where
   after_word word text w f = line (past (61 ∷ h)) word text w f
 
   -- the lines of an answer
-  pub answer_told : (x : Seen) → AreTold (answer_text d x)
-  answer_told (Seen.Issued n) = number_told (codes "ticket ") n (λ l ls. refl, refl, refl)
-  answer_told Seen.NoTicket = word_told (codes "no-ticket") (λ l ls. refl, refl, refl)
-  answer_told (Seen.Bound t r) = after_word (codes "bound ") (decimal t ++ (codes " run " ++ (decimal r ++ codes "\n"))) (λ l ls. refl, refl, refl)
+  pub answer_told : (x : EventReply) → AreTold (answer_text d x)
+  answer_told (EventReply.Issued n) = number_told (codes "ticket ") n (λ l ls. refl, refl, refl)
+  answer_told EventReply.NoTicket = word_told (codes "no-ticket") (λ l ls. refl, refl, refl)
+  answer_told (EventReply.Bound t r) = after_word (codes "bound ") (decimal t ++ (codes " run " ++ (decimal r ++ codes "\n"))) (λ l ls. refl, refl, refl)
       (behind (decimal t) (codes " run " ++ (decimal r ++ codes "\n")) [] (decimal_flat t) (behind (codes " run ") (decimal r ++ codes "\n") [] refl (behind (decimal r) (codes "\n") [] (decimal_flat r) (ends []))))
-  answer_told (Seen.Running t) = number_told (codes "running ") t (λ l ls. refl, refl, refl)
-  answer_told (Seen.Replied t o) = outcome_told (codes "ended ") t o (λ l ls. refl, refl, refl)
-  answer_told (Seen.Other t f a) = after_word (codes "other ") (decimal t ++ (codes " " ++ (func_text d f ++ (codes " " ++ (text_of (datum_of a) ++ codes "\n"))))) (λ l ls. refl, refl, refl)
+  answer_told (EventReply.Running t) = number_told (codes "running ") t (λ l ls. refl, refl, refl)
+  answer_told (EventReply.Replied t o) = outcome_told (codes "ended ") t o (λ l ls. refl, refl, refl)
+  answer_told (EventReply.Other t f a) = after_word (codes "other ") (decimal t ++ (codes " " ++ (func_text d f ++ (codes " " ++ (text_of (datum_of a) ++ codes "\n"))))) (λ l ls. refl, refl, refl)
       (behind (decimal t) (codes " " ++ (func_text d f ++ (codes " " ++ (text_of (datum_of a) ++ codes "\n")))) [] (decimal_flat t)
       (behind (codes " ") (func_text d f ++ (codes " " ++ (text_of (datum_of a) ++ codes "\n"))) [] refl
       (behind (func_text d f) (codes " " ++ (text_of (datum_of a) ++ codes "\n")) [] (names f)
       (behind (codes " ") (text_of (datum_of a) ++ codes "\n") [] refl
       (behind (text_of (datum_of a)) (codes "\n") [] (text_flat (datum_of a)) (ends []))))))
-  answer_told (Seen.Gone t) = number_told (codes "gone ") t (λ l ls. refl, refl, refl)
-  answer_told (Seen.Unknown t) = number_told (codes "unknown ") t (λ l ls. refl, refl, refl)
-  answer_told (Seen.Acted e started over r) =
+  answer_told (EventReply.Gone t) = number_told (codes "gone ") t (λ l ls. refl, refl, refl)
+  answer_told (EventReply.Unknown t) = number_told (codes "unknown ") t (λ l ls. refl, refl, refl)
+  answer_told (EventReply.Acted e started over r) =
       lines_then (past (61 ∷ h)) (codes "acted") (entry_part d e ++ (run_part started ++ (over_part over ++ (codes "\n" ++ reply_part r)))) (reply_part r) (λ l ls. refl, refl, refl)
       (behind (entry_part d e) (run_part started ++ (over_part over ++ (codes "\n" ++ reply_part r))) (reply_part r) (entry_part_flat e)
       (behind (run_part started) (over_part over ++ (codes "\n" ++ reply_part r)) (reply_part r) (run_part_flat started)
       (behind (over_part over) (codes "\n" ++ reply_part r) (reply_part r) (over_part_flat over) (ends (reply_part r)))))
       (reply_passed r)
-  answer_told (Seen.Held o) = text_line (past (61 ∷ h)) (codes "held ") (owner_text o) (λ l ls. refl, refl, refl) (owner_flat o)
-  answer_told (Seen.NotYet id) = text_line (past (61 ∷ h)) (codes "waits ") (id_text id) (λ l ls. refl, refl, refl) (id_flat id)
-  answer_told (Seen.Full live room) = spaced_line (past (61 ∷ h)) (codes "full ") (decimal room) live (λ l ls. refl, refl, refl) (decimal_flat room)
-  answer_told Seen.Worn = word_told (codes "worn") (λ l ls. refl, refl, refl)
-  answer_told Seen.Crowded = word_told (codes "crowded 1024") (λ l ls. refl, refl, refl)
-  answer_told Seen.Expired = word_told (codes "expired") (λ l ls. refl, refl, refl)
-  answer_told Seen.NoRun = word_told (codes "no-run") (λ l ls. refl, refl, refl)
-  answer_told Seen.RunOver = word_told (codes "run-over") (λ l ls. refl, refl, refl)
-  answer_told Seen.Dropped = word_told (codes "dropped") (λ l ls. refl, refl, refl)
-  answer_told Seen.Crashed = word_told (codes "crashed") (λ l ls. refl, refl, refl)
-  answer_told (Seen.Started r) = number_told (codes "run ") r (λ l ls. refl, refl, refl)
-  answer_told Seen.Passed = word_told (codes "passed") (λ l ls. refl, refl, refl)
-  answer_told (Seen.Launched r id) = spaced_line (past (61 ∷ h)) (codes "launched run ") (id_text id) r (λ l ls. refl, refl, refl) (id_flat id)
-  answer_told Seen.Round = word_told (codes "round") (λ l ls. refl, refl, refl)
-  answer_told (Seen.Now n) = number_told (codes "now ") n (λ l ls. refl, refl, refl)
-  answer_told Seen.ClockEnd = word_told (codes "clock-end") (λ l ls. refl, refl, refl)
-  answer_told Seen.Halted = word_told (codes "halted") (λ l ls. refl, refl, refl)
-  answer_told Seen.Shut = word_told (codes "shut") (λ l ls. refl, refl, refl)
-  answer_told Seen.Spent = word_told (codes "spent") (λ l ls. refl, refl, refl)
+  answer_told (EventReply.Held o) = text_line (past (61 ∷ h)) (codes "held ") (owner_text o) (λ l ls. refl, refl, refl) (owner_flat o)
+  answer_told (EventReply.NotYet id) = text_line (past (61 ∷ h)) (codes "waits ") (id_text id) (λ l ls. refl, refl, refl) (id_flat id)
+  answer_told (EventReply.Full live room) = spaced_line (past (61 ∷ h)) (codes "full ") (decimal room) live (λ l ls. refl, refl, refl) (decimal_flat room)
+  answer_told EventReply.Worn = word_told (codes "worn") (λ l ls. refl, refl, refl)
+  answer_told EventReply.Crowded = word_told (codes "crowded 1024") (λ l ls. refl, refl, refl)
+  answer_told EventReply.Expired = word_told (codes "expired") (λ l ls. refl, refl, refl)
+  answer_told EventReply.NoRun = word_told (codes "no-run") (λ l ls. refl, refl, refl)
+  answer_told EventReply.RunOver = word_told (codes "run-over") (λ l ls. refl, refl, refl)
+  answer_told EventReply.Dropped = word_told (codes "dropped") (λ l ls. refl, refl, refl)
+  answer_told EventReply.Crashed = word_told (codes "crashed") (λ l ls. refl, refl, refl)
+  answer_told (EventReply.Started r) = number_told (codes "run ") r (λ l ls. refl, refl, refl)
+  answer_told EventReply.Passed = word_told (codes "passed") (λ l ls. refl, refl, refl)
+  answer_told (EventReply.Launched r id) = spaced_line (past (61 ∷ h)) (codes "launched run ") (id_text id) r (λ l ls. refl, refl, refl) (id_flat id)
+  answer_told EventReply.Round = word_told (codes "round") (λ l ls. refl, refl, refl)
+  answer_told (EventReply.Now n) = number_told (codes "now ") n (λ l ls. refl, refl, refl)
+  answer_told EventReply.ClockEnd = word_told (codes "clock-end") (λ l ls. refl, refl, refl)
+  answer_told EventReply.Halted = word_told (codes "halted") (λ l ls. refl, refl, refl)
+  answer_told EventReply.Shut = word_told (codes "shut") (λ l ls. refl, refl, refl)
+  answer_told EventReply.Spent = word_told (codes "spent") (λ l ls. refl, refl, refl)
 
-  reply_told_passed : (x : Seen) → IsPassed (reply_told x)
-  reply_told_passed (Seen.Acted e started over r) = reply_passed r
+  reply_told_passed : (x : EventReply) → IsPassed (reply_told x)
+  reply_told_passed (EventReply.Acted e started over r) = reply_passed r
   reply_told_passed x = nothing (past (61 ∷ h))
 
-  waiting_passed : (w : ℕ × Seen) → IsPassed (wait_text d w)
+  waiting_passed : (w : ℕ × EventReply) → IsPassed (wait_text d w)
   waiting_passed w =
       let a = answer_told w.1 in
       (lines_then (past (61 ∷ h)) (codes "run ") (decimal w.0 ++ (codes " " ++ answer_text d w.1)) a.more (λ l ls. refl, refl, refl)
       (behind (decimal w.0) (codes " " ++ answer_text d w.1) a.more (decimal_flat w.0) (behind (codes " ") (answer_text d w.1) a.more refl a.leads)) a.later).skipped
 
-  all_passed : (ws : List (ℕ × Seen)) → IsPassed (flat_map (wait_text d) ws)
+  all_passed : (ws : List (ℕ × EventReply)) → IsPassed (flat_map (wait_text d) ws)
   all_passed [] = nothing (past (61 ∷ h))
   all_passed (w ∷ ws) = skipped_then (past (61 ∷ h)) (wait_text d w) (flat_map (wait_text d) ws) (waiting_passed w) (all_passed ws)
 
@@ -198,7 +198,7 @@ module _ (h : List ℕ) (d : Deployment) (names : AreFlat d) where
   settled_passed (Settled.Stuck n ws) = skipped_then (past (61 ∷ h)) (numbered (codes "stuck ") n) (flat_map (wait_text d) ws) (number_told (codes "stuck ") n (λ l ls. refl, refl, refl)).skipped (all_passed ws)
 
   -- inside a settling
-  alone_passed : (e : Event) (x : Seen) → IsPassed (response_text d (Answered ReplyAlone e x))
+  alone_passed : (e : Event) (x : EventReply) → IsPassed (response_text d (Answered ReplyAlone e x))
   alone_passed Event.Ic x = nothing (past (61 ∷ h))
   alone_passed e x = reply_told_passed x
 

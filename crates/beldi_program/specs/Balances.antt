@@ -1,8 +1,8 @@
 -- What is told of the accounts after generated work.
 use Rattle.std.specs.Prelude.{◌≡◌, ◌⊎◌, ℕ, List, Option, codes}
-use Rattle.beldi_script.specs.Cut.{lines_of}
+use Rattle.beldi_script.specs.LineCut.{lines_of}
 use Rattle.beldi_generator.specs.Summary.{past, summary_text, totals_text}
-use Rattle.beldi_bank_lines.specs.Lines.{totals_of}
+use Rattle.beldi_bank_lines.specs.BankLines.{totals_of}
 use Rattle.beldi_session.specs.Session.{Writes}
 
 -- what a summary of this text ends with

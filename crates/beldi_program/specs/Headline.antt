@@ -2,7 +2,7 @@
 use Rattle.std.specs.Prelude.{◌≡◌, ◌⊎◌, ◌≤◌, ◌<◌, ◌+◌, ◌-◌, ◌^◌, ℕ, length, Bool, true, false, is_none, List, [], drop, Option, Some, None, Result, Ok, Err, codes}
 use Rattle.beldi_tree.specs.declared.deployment.Deployment.{Deployment}
 use Rattle.beldi_row.specs.Table.{Rows, TableState}
-use Rattle.beldi_outside.specs.{Connection.Connections, Memory.SinkState, Memory.new_sink, Outside.IsPrefixOf, Outside.Told, Outside.Rose, Outside.TookFront, Outside.max_source, declared.transfer.ReadErr.ReadErr}
+use Rattle.beldi_outside.specs.{Connection.Connections, Memory.SinkState, Memory.new_sink, Outside.IsPrefixOf, Outside.Observed, Outside.Rose, Outside.TookPrefix, Outside.max_source, declared.transfer.ReadErr.ReadErr}
 use Rattle.beldi_command.specs.declared.command.Command.{Command, TheVariants.Run, TheVariants.Check, TheVariants.Serve, TheVariants.Gen}
 use Rattle.beldi_generator.specs.{Generated.generated, Summary.summary_text}
 use Rattle.beldi_session.specs.{declared.refusal.Refusal.Refusal, declared.source.Accepted.Accepted, declared.session.Stop.Stop, Refusal.refusal_text, Script.Action, Script.actions_in, Script.is_whole, Session.Writes, Source.Numbered, Source.first_line, Source.script_of, Source.source_at, Check.check_at}
@@ -79,11 +79,11 @@ kept_faults s = s.plan.faults
 module _ {K T : Type 0} (held : K → Option (List ℕ)) (faults : K → ℕ) (state : T → TableState) where
   -- nothing was done or written
   abbrev pub NothingDone : K → K → T → T → Type 0
-  NothingDone k k' t t' = (k' ≡ k) × Told (state t).rows (state t').rows (λ m n. n ≡ m) × ((state t).faults ≤ (state t').faults)
+  NothingDone k k' t t' = (k' ≡ k) × Observed (state t).rows (state t').rows (λ m n. n ≡ m) × ((state t).faults ≤ (state t').faults)
 
   -- a session and its text: the one that the sink got, where it tells it; and what came of the rows, where they are told
   abbrev pub Ran : (Rows → Rows → ℕ → ℕ → List ℕ → Type 0) → K → K → T → T → Type 0
-  Ran Leads k k' t t' = (written : List ℕ) × Writes (held k) (held k') written × Told (state t).rows (state t').rows (λ m n. Leads m n (state t).faults (state t').faults written)
+  Ran Leads k k' t t' = (written : List ℕ) × Writes (held k) (held k') written × Observed (state t).rows (state t').rows (λ m n. Leads m n (state t).faults (state t').faults written)
 
   -- the lines of a deployment are carried out
   abbrev pub SessionEnds : Deployment → List Numbered → K → K → T → T → Ended → Type 0
@@ -151,15 +151,15 @@ module _ {K T : Type 0} (held : K → Option (List ℕ)) (faults : K → ℕ) (s
 module _ {S K T : Type 0} (left : S → Option (List ℕ)) (source_faults : S → ℕ) (held : K → Option (List ℕ)) (faults : K → ℕ) (state : T → TableState) (serving : ServingEnds K T) where
   -- the source was read: these are all of its bytes, and no more than it may have
   abbrev pub ReadEnds : Command → S → S → K → K → T → T → Ended → Type 0
-  ReadEnds c s s' k k' t t' e = (bytes : List ℕ) × (length bytes ≤ max_source) × Told (left s) (left s') (λ b c. (b ≡ bytes) × (c ≡ [])) × DoneBy held faults state serving c bytes k k' t t' e
+  ReadEnds c s s' k k' t t' e = (bytes : List ℕ) × (length bytes ≤ max_source) × Observed (left s) (left s') (λ b c. (b ≡ bytes) × (c ≡ [])) × DoneBy held faults state serving c bytes k k' t t' e
 
   -- a command that reads the source: it is read, unless it failed, has more bytes than it may, of which just one more was taken, or
   -- memory ran out; then nothing is done or written
   abbrev pub SourceCommandEnds : Command → S → S → K → K → T → T → Ended → Type 0
   SourceCommandEnds c s s' k k' t t' Ended.Usage = ⊥
-  SourceCommandEnds c s s' k k' t t' Ended.SourceFault = Rose (source_faults s) (source_faults s') × Told (left s) (left s') (TookFront max_source) × (t' ≡ t) × (k' ≡ k)
-  SourceCommandEnds c s s' k k' t t' Ended.TooLong = Told (left s) (left s') (λ b c. (max_source < length b) × (c ≡ drop (max_source + 1) b)) × (t' ≡ t) × (k' ≡ k)
-  SourceCommandEnds c s s' k k' t t' Ended.OutOfMemory = (Told (left s) (left s') (TookFront (max_source + 1)) × (t' ≡ t) × (k' ≡ k)) ⊎ ReadEnds c s s' k k' t t' Ended.OutOfMemory
+  SourceCommandEnds c s s' k k' t t' Ended.SourceFault = Rose (source_faults s) (source_faults s') × Observed (left s) (left s') (TookPrefix max_source) × (t' ≡ t) × (k' ≡ k)
+  SourceCommandEnds c s s' k k' t t' Ended.TooLong = Observed (left s) (left s') (λ b c. (max_source < length b) × (c ≡ drop (max_source + 1) b)) × (t' ≡ t) × (k' ≡ k)
+  SourceCommandEnds c s s' k k' t t' Ended.OutOfMemory = (Observed (left s) (left s') (TookPrefix (max_source + 1)) × (t' ≡ t) × (k' ≡ k)) ⊎ ReadEnds c s s' k k' t t' Ended.OutOfMemory
   SourceCommandEnds c s s' k k' t t' e = ReadEnds c s s' k k' t t' e
 
   -- the words are those of a command: generated work reads nothing of the source

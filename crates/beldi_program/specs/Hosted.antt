@@ -1,16 +1,16 @@
--- How the host moved in a session: by one step for each response, as `plan`, `heard`, `no_memory` and `refused` define it; a settling
--- goes as `next_of`, `turn_heard` and `ic_heard` do.
+-- How the host moved in a session: by one step for each response, as `plan`, `on_reply`, `no_memory` and `refused` define it; a settling
+-- goes as `next_of`, `on_turn_reply` and `on_ic_reply` do.
 use Rattle.std.specs.Prelude.{◌≡◌, ◌≤◌, ℕ, List, [], ◌∷◌, Option, Some, None, if◌then◌else◌}
 use Rattle.std.specs.FinMap as map
 use Rattle.beldi_tree.specs.declared.deployment.Deployment.{Deployment}
 use Rattle.beldi_plain.specs.{Plain.PlainState, Legal.run_of, Listing.listing_of}
 use Rattle.beldi_row.specs.Table.{Rows}
 use Rattle.beldi_book.specs.declared.entry.Entry.{Entry}
-use Rattle.beldi_step.specs.{Host.Core, Tables.tables_text}
+use Rattle.beldi_step.specs.{HostStep.Core, Tables.tables_text}
 use Rattle.beldi_joined.specs.Joined.{joined}
 use Rattle.beldi_host.specs.Survey.{opened_core}
 use Rattle.beldi_schedule.specs.Settles.{State}
-use Rattle.beldi_session.specs.{Response.Response, Script.Action, Session.IsStep, Session.Follows}
+use Rattle.beldi_session.specs.{HostResponse.Response, Script.Action, Session.IsStep, Session.Follows}
 use Rattle.beldi_program.specs.PlainRun.{Booked, IsPlainRun, alone, last_changed, later, changes_row}
 
 -- the host over rows, once it was open, at this moment or the greatest one of the rows, with the table's count of failures then

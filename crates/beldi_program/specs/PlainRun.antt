@@ -3,21 +3,21 @@ use Rattle.std.specs.Prelude.{◌≡◌, ◌&&◌, ℕ, max, Bool, true, false, 
 use Rattle.std.specs.FinMap as finite
 use Rattle.beldi_value.specs.declared.{value.Value.Value, outcome.Outcome.Outcome}
 use Rattle.beldi_tree.specs.declared.deployment.Deployment.{Deployment}
-use Rattle.beldi_book.specs.{Text.book_text, declared.entry.Entry.Entry}
+use Rattle.beldi_book.specs.{BookText.book_text, declared.entry.Entry.Entry}
 use Rattle.beldi_plain.specs.{Plain.PlainState, Legal.IsLegal, Legal.run_of, Listing.listing_of, Replies.starts_of, Replies.HasReply}
 use Rattle.beldi_row.specs.Table.{Rows}
 use Rattle.beldi_kept.specs.Safe.{changes}
-use Rattle.beldi_step.specs.Told.{bound_of, entries_told, is_dropped, is_lost, told_outcome}
-use Rattle.beldi_known.specs.Stands.{Stands}
-use Rattle.beldi_kept.specs.Stands.{StandsLess}
-use Rattle.beldi_host.specs.{Said.SaidOf, declared.survey.ReplySeen.TheVariants.Gone, declared.survey.ReplySeen.TheVariants.Reply}
-use Rattle.beldi_session.specs.Response.{Report, ReplyIs, TablesAre, BookIs, Response, Answered, Reported, BrokeOff, PruneAnswered, IsTo, AtFirst, responses_text}
+use Rattle.beldi_step.specs.EventContent.{bound_of, reply_entries, is_dropped, is_lost, reply_outcome}
+use Rattle.beldi_histories.specs.Stands.{Stands}
+use Rattle.beldi_kept.specs.StandsLess.{StandsLess}
+use Rattle.beldi_host.specs.{ReplyStatus.IsStatusSo, declared.survey.ReplyStatus.TheVariants.Gone, declared.survey.ReplyStatus.TheVariants.Reply}
+use Rattle.beldi_session.specs.HostResponse.{Report, ReplyIs, TablesAre, BookIs, Response, Answered, Reported, BrokeOff, PruneAnswered, IsTo, AtFirst, responses_text}
 use Rattle.beldi_session.specs.Script.{Action}
 
 -- ---- the moment after an action
 -- the entries that a response tells
 abbrev pub entries_in : Response → List Entry
-entries_in (Answered share e x) = entries_told e x
+entries_in (Answered share e x) = reply_entries e x
 entries_in y = []
 
 -- the answer of an act was lost, or memory ran out in an event
@@ -63,14 +63,14 @@ alone book = book
 module _ (d : Deployment) (history : List Entry → List Entry) (gone : Option ℕ) where
   -- a ticket is gone only where a collector changed a row
   abbrev pub IsReportSo : List Entry → Option ℕ → Report → Type 0
-  IsReportSo book changed (ReplyIs t (Some x)) = SaidOf d (history book) t x × (x ≡ Gone → is_some (later gone changed) ≡ true)
+  IsReportSo book changed (ReplyIs t (Some x)) = IsStatusSo d (history book) t x × (x ≡ Gone → is_some (later gone changed) ≡ true)
   IsReportSo book changed (TablesAre (Some lines)) = (p : PlainState) → run_of d (history book) ≡ Some p → lines ≡ listing_of d p
   IsReportSo book changed (BookIs lines) = lines ≡ book_text d book
   IsReportSo book changed r = Unit {0}
 
   -- what a response says is so in the run of the history
   abbrev pub IsSo : List Entry → Option ℕ → Response → Type 0
-  IsSo book changed (Answered share e x) = (t : ℕ) (o : Outcome) → told_outcome x ≡ Some (t, o) → HasReply d (history book) t o
+  IsSo book changed (Answered share e x) = (t : ℕ) (o : Outcome) → reply_outcome x ≡ Some (t, o) → HasReply d (history book) t o
   IsSo book changed (Reported r) = IsReportSo book changed r
   IsSo book changed y = Unit {0}
 
@@ -113,7 +113,7 @@ bound_in ys = flat_map bound_by ys
 
 -- the outcome of a root that a response tells, with the root's ticket
 abbrev pub outcome_in : Response → Option (ℕ × Outcome)
-outcome_in (Answered share e x) = told_outcome x
+outcome_in (Answered share e x) = reply_outcome x
 outcome_in (Reported (ReplyIs t (Some (Reply o)))) = Some (t, o)
 outcome_in y = None
 
@@ -124,7 +124,7 @@ TellOutcomes d book (y ∷ ys) = ((t : ℕ) (o : Outcome) → outcome_in y ≡ S
 
 -- after each response the history is legal, what was said is so in its run, and the rows stand for it. At the end it is legal, so that
 -- each step of an instance acts once and in its order, each transaction that committed is one entry, whole, and each that was aborted
--- one that leaves no item changed (`after` of `beldi_plain/specs/Entries`); the history starts what it had started before the session, and
+-- one that leaves no item changed (`after` of `beldi_plain/specs/PlainEntries`); the history starts what it had started before the session, and
 -- then exactly the requests that were answered bound, in order; every outcome that was told is its root's; and the rows stand for the
 -- history's run.
 pub record IsPlainRun (d : Deployment) (history : List Entry → List Entry) (gone : Option ℕ) (rows : Rows) (ys : List Booked) : Type 0 where

@@ -4,12 +4,12 @@ use Rattle.std.specs.FinMap as map
 use Rattle.beldi_tree.specs.declared.deployment.Deployment.{Deployment}
 use Rattle.beldi_book.specs.declared.entry.Entry.{Entry}
 use Rattle.beldi_row.specs.Table.{Rows}
-use Rattle.beldi_step.specs.Host.{Core}
+use Rattle.beldi_step.specs.HostStep.{Core}
 use Rattle.beldi_joined.specs.Joined.{joined}
 use Rattle.beldi_outside.specs.{Connection.Connections, Outside.IsPrefixOf}
 use Rattle.beldi_schedule.specs.Settles.{State}
-use Rattle.beldi_session.specs.{Response.Response, Response.responses_text, Script.ListTables, Script.ListBook, Session.IsStep, Session.Leads, declared.session.Stop.Stop}
-use Rattle.beldi_serve.specs.{Service.Exchange, Service.Same, Service.ServedAll, Service.World, Service.lines_from, Service.moment_of, Service.responses_of, declared.connections.ServeErr.ServeErr}
+use Rattle.beldi_session.specs.{HostResponse.Response, HostResponse.responses_text, Script.ListTables, Script.ListBook, Session.IsStep, Session.Leads, declared.session.Stop.Stop}
+use Rattle.beldi_serve.specs.{ServedConnections.Exchange, ServedConnections.Same, ServedConnections.ServedAll, ServedConnections.World, ServedConnections.lines_from, ServedConnections.moment_of, ServedConnections.responses_of, declared.connections.ServeErr.ServeErr}
 use Rattle.beldi_program.specs.{Hosted.LeadsTo, Hosted.Left, Hosted.opened_at, PlainRun.AreTo, PlainRun.Booked, PlainRun.IsPlainRun, PlainRun.alone, PlainRun.responses_in, declared.program.Ended.Ended}
 
 -- ---- by the ending: the connections that were served, the host's responses after the last of them, and the text

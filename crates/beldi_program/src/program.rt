@@ -1,9 +1,9 @@
 // The program, over a source, a sink, a table, a link and a clock.
 ghost use Rattle.std.specs.Prelude.{◌≡◌, ◌≤◌, ◌⊎◌, ℕ, true, false, length, None, Some};
 ghost use Rattle.std.specs.FinMap as map;
-ghost use Rattle.beldi_outside.specs.Outside.{Told, Rose, max_source};
-ghost use Rattle.beldi_script.specs.Cut.{lines_of};
-ghost use Rattle.beldi_command.specs.Command.{command_of};
+ghost use Rattle.beldi_outside.specs.Outside.{Observed, Rose, max_source};
+ghost use Rattle.beldi_script.specs.LineCut.{lines_of};
+ghost use Rattle.beldi_command.specs.CommandLine.{command_of};
 ghost use Rattle.beldi_generator.specs.Summary.{summary_text};
 ghost use Rattle.beldi_command.specs.declared.command.Command.TheVariants as commands;
 ghost use Rattle.beldi_session.specs.Check.{check_at};
@@ -75,12 +75,12 @@ pub fn top<S: Source, K: Sink, T: Table, N: Link, C: Clock>(
     ensures source_fault { result.0 ≡ 3 → Rose (S.faults source.old) (S.faults source.new) }
     ensures sink_fault { result.0 ≡ 4 → Rose (K.faults sink.old) (K.faults sink.new) }
     ensures open_fault { result.0 ≡ 8 → Rose (T.state table).faults (T.state result.1).faults }
-    ensures too_long { reads_source (command_of words.now) ≡ true → ByStatus result.0 (λ e. Told (S.left source.old) (S.left source.new) (λ b c. LongOn b c e)) }
+    ensures too_long { reads_source (command_of words.now) ≡ true → ByStatus result.0 (λ e. Observed (S.left source.old) (S.left source.new) (λ b c. LongOn b c e)) }
     // Only a source that is not refused is carried out whole, and only one that is refused is answered so.
     ensures refused { reads_source (command_of words.now) ≡ true → ByStatus result.0 (λ e. WordsAsRead (command_of words.now) (S.left source.old) e) }
     // Where the words are those of a command that reads the source, neither the source nor the sink fails, and the link refuses
     // nothing, a source that is not refused is carried out whole, or the table failed as the host was opened, or memory ran out.
-    ensures complete { reads_source (command_of words.now) ≡ true → (Rose (S.faults source.old) (S.faults source.new) → ⊥) → (Rose (K.faults sink.old) (K.faults sink.new) → ⊥) → (Rose (N.refusals link.old) (N.refusals link.new) → ⊥) → Told (S.left source.old) (S.left source.new) (λ b c. length b ≤ max_source → is_whole_asked (command_of words.now) b ≡ true → (result.0 ≡ 0) ⊎ (result.0 ≡ 1) ⊎ (result.0 ≡ 8)) }
+    ensures complete { reads_source (command_of words.now) ≡ true → (Rose (S.faults source.old) (S.faults source.new) → ⊥) → (Rose (K.faults sink.old) (K.faults sink.new) → ⊥) → (Rose (N.refusals link.old) (N.refusals link.new) → ⊥) → Observed (S.left source.old) (S.left source.new) (λ b c. length b ≤ max_source → is_whole_asked (command_of words.now) b ≡ true → (result.0 ≡ 0) ⊎ (result.0 ≡ 1) ⊎ (result.0 ≡ 8)) }
     // Other words and generated work leave the source, and other words the table.
     ensures unread { (reads_source (command_of words.now) ≡ false → source.new ≡ source.old) × (command_of words.now ≡ None → result.1 ≡ table) }
     // To test a source leaves the table as it was handed in.
@@ -88,7 +88,7 @@ pub fn top<S: Source, K: Sink, T: Table, N: Link, C: Clock>(
     // What is told of generated work that ends well over a table without rows ends with a sum of a hundred times the keys, or
     // with the word that the table failed as it was listed.
     ensures balanced { (seed requests : ℕ) → command_of words.now ≡ Some (commands.Gen seed requests) → result.0 ≡ 0 → (T.state table).rows ≡ Some map.empty → ToldBalanced requests (K.held sink.old) (K.held sink.new) }
-    ensures untouched { ByStatus result.0 (λ e. Untouched e (result.1 ≡ table) (Told (T.state table).rows (T.state result.1).rows (λ m n. n ≡ m)) (sink.new ≡ sink.old)) }
+    ensures untouched { ByStatus result.0 (λ e. Untouched e (result.1 ≡ table) (Observed (T.state table).rows (T.state result.1).rows (λ m n. n ≡ m)) (sink.new ≡ sink.old)) }
 {
     let (ended, table) = carry_out(alloc, words, source, sink, table, link, clock);
     (status(ended), table)

@@ -5,13 +5,13 @@ use Rattle.std.proofs.Common.{◌≡◌, ◌⊎◌, inl, inr, ℕ, ◌<◌, Bool
 use Rattle.std.proofs.lemmas.Bool.{Decides.nat_tests}
 use Rattle.beldi_row.specs.declared.act.Act.TheVariants.{Look, MarkCell, SkipCell}
 use Rattle.beldi_row.specs.{Key.RowKey, Key.at_row, Key.row_of, Act.act, Table.Rows, Table.next_row, declared.row.Cell.Cell, declared.row.Row.Row}
-use Rattle.beldi_walk.specs.Query.{said}
-use Rattle.beldi_prune.specs.{Laws.rows_turned, Laws.turned, Marks.IsPastRow, Marks.OnlyPassedRowsAreToDangle, Marks.SeesPast, Marks.Skips}
+use Rattle.beldi_query.specs.Query.{replied}
+use Rattle.beldi_prune.specs.{PruneLaws.rows_turned, PruneLaws.turned, Marks.IsPastRow, Marks.OnlyPassedRowsAreToDangle, Marks.SeesPast, Marks.Skips}
 use Rattle.beldi_prune.specs.Prune.{begins, led_next, marked_next, row_next, stand_if, to_prove, todo_of}
 use Rattle.beldi_prune.specs.Unlink.{is_did, lead_to, step_to, told_marked, told_next}
 use Rattle.beldi_prune.specs.declared.collector.CollectorAt.{CollectorAt, TheVariants.Before, TheVariants.ToDropIntent, TheVariants.ToLook, TheVariants.ToDrop, TheVariants.ToProve, TheVariants.ToMark, TheVariants.ToLead, TheVariants.ToSkip, TheVariants.ToDangle, TheVariants.ToDropCell}
 use Rattle.beldi_prune.specs.declared.found.Todo.{Todo, TheVariants.Pass, TheVariants.DropIt, TheVariants.LookAt, TheVariants.DropAdrift, TheVariants.LeadPast, TheVariants.Prove}
-use Rattle.beldi_prune.proofs.{Quiet.clash, Quiet.none, Quiet.proved_quiet, Said.skips_so}
+use Rattle.beldi_prune.proofs.{Quiet.clash, Quiet.none, Quiet.proved_quiet, PruneOutput.skips_so}
 
 same_dangle : (q k : RowKey) → ToDangle q ≡ ToDangle k → q ≡ k
 same_dangle q k h = cc
@@ -55,7 +55,7 @@ module _ (c k : RowKey) (m : Rows) (q : RowKey) (y at : ℕ) where
   sees_next x there None is h = sees x there (subst (IsPastRow (row_of q.kind)) (sym is) tt) (same_dangle q k h)
   sees_next x there (Some next) is h = sees_step x there next is (next == row_of q.kind) (nat_lt next (row_of q.kind)) refl refl h
 
-  sees_row : (now : ℕ) (o : Option Row) → map.get m (at_row q at) ≡ o → (led_next c q y at (told_next (said (act Look now o).1))).at ≡ ToDangle k → Sees
+  sees_row : (now : ℕ) (o : Option Row) → map.get m (at_row q at) ≡ o → (led_next c q y at (told_next (replied (act Look now o).1))).at ≡ ToDangle k → Sees
   sees_row now None there h = cc
   sees_row now (Some (Row.Cell x)) there h = sees_next x there x.next refl h
   sees_row now (Some (Row.Intent i)) there h = cc
@@ -63,7 +63,7 @@ module _ (c k : RowKey) (m : Rows) (q : RowKey) (y at : ℕ) where
   sees_row now (Some (Row.Invoke v)) there h = cc
   sees_row now (Some Row.Lockset) there h = cc
 
-  skips : (life now : ℕ) (b : Bool) → is_did (said (act (SkipCell (row_of q.kind) y) now (map.get m (at_row q at))).1) ≡ b → (stand_if c q (ToDangle q) b).at ≡ ToDangle k
+  skips : (life now : ℕ) (b : Bool) → is_did (replied (act (SkipCell (row_of q.kind) y) now (map.get m (at_row q at))).1) ≡ b → (stand_if c q (ToDangle q) b).at ≡ ToDangle k
       → Skips (ToSkip q y at) m (rows_turned life now (record { cursor = c; at = ToSkip q y at }) m) k
   skips life now true is h = let change = skips_so life now c q y at m is in
       record { change = change; key = sym (same_skip q change.key y change.to at change.at change.begun) ∙ same_dangle q k h }
@@ -76,9 +76,9 @@ by_at newest life now m c k (ToDropIntent q) h = cc
 by_at newest life now m c k (ToLook q) h = absurd (none newest life now m c (ToLook q) (ToDangle k) refl refl h)
 by_at newest life now m c k (ToDrop q) h = cc
 by_at newest life now m c k (ToProve q i js) h = absurd (none newest life now m c (ToProve q i js) (ToDangle k) refl refl h)
-by_at newest life now m c k (ToMark q) h = absurd (marks_none c q k (told_marked (said (act MarkCell now (map.get m q)).1)) h)
+by_at newest life now m c k (ToMark q) h = absurd (marks_none c q k (told_marked (replied (act MarkCell now (map.get m q)).1)) h)
 by_at newest life now m c k (ToLead q y at) h = inl (sees_row c k m q y at now (map.get m (at_row q at)) refl h)
-by_at newest life now m c k (ToSkip q y at) h = inr (skips c k m q y at life now (is_did (said (act (SkipCell (row_of q.kind) y) now (map.get m (at_row q at))).1)) refl h)
+by_at newest life now m c k (ToSkip q y at) h = inr (skips c k m q y at life now (is_did (replied (act (SkipCell (row_of q.kind) y) now (map.get m (at_row q at))).1)) refl h)
 by_at newest life now m c k (ToDangle q) h = cc
 by_at newest life now m c k (ToDropCell q) h = cc
 

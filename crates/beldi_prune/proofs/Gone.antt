@@ -5,15 +5,15 @@ use Rattle.std.proofs.Common.{◌≡◌, ℕ, Bool, true, false, Option, None, S
 use Rattle.beldi_value.specs.{declared.id.IntentId.IntentId}
 use Rattle.beldi_row.specs.declared.act.Act.TheVariants.{Look, MarkCell, SkipCell}
 use Rattle.beldi_row.specs.{Key.RowKey, Key.at_row, Key.row_of, Act.act, Table.Rows, Table.next_row, declared.key.Kind.Kind, declared.row.Row.Row}
-use Rattle.beldi_walk.specs.Query.{said}
+use Rattle.beldi_query.specs.Query.{replied}
 use Rattle.beldi_intent.specs.Intent.{intent_key}
 use Rattle.beldi_prune.specs.{Seat.belongs_to, Seat.seat, Seat.seat_if, Prune.begins, Prune.is_recyclable, Prune.led_next, Prune.marked_next, Prune.row_next, Prune.stand_if, Prune.to_prove, Prune.todo_of}
 use Rattle.beldi_prune.specs.Unlink.{is_did, step_to, told_marked, told_next}
-use Rattle.beldi_prune.specs.Laws.{OnlyRecyclableRowsAreToGo, IsBegun, IsOldAt, IsRecyclable, is_left, turned}
+use Rattle.beldi_prune.specs.PruneLaws.{OnlyRecyclableRowsAreToGo, IsBegun, IsOldAt, IsRecyclable, is_left, turned}
 use Rattle.beldi_prune.specs.declared.{found.Todo.Todo, found.Todo.TheVariants.Pass, found.Todo.TheVariants.DropIt, found.Todo.TheVariants.LookAt, found.Todo.TheVariants.DropAdrift, found.Todo.TheVariants.LeadPast, found.Todo.TheVariants.Prove}
 use Rattle.beldi_prune.specs.declared.collector.CollectorAt.{CollectorAt, TheVariants.Before, TheVariants.ToDropIntent, TheVariants.ToLook, TheVariants.ToDrop, TheVariants.ToProve, TheVariants.ToMark, TheVariants.ToLead, TheVariants.ToSkip, TheVariants.ToDangle, TheVariants.ToDropCell}
 
-pub found_old : (life now : ℕ) (o : Option Row) → is_recyclable life now (said (act Look now o).1) ≡ true → IsOldAt life now o
+pub found_old : (life now : ℕ) (o : Option Row) → is_recyclable life now (replied (act Look now o).1) ≡ true → IsOldAt life now o
 found_old life now None h = tt
 found_old life now (Some (Row.Intent i)) h = h
 found_old life now (Some r) h = cc
@@ -72,19 +72,19 @@ not_found newest life now c q None h = cc
 not_found newest life now c q (Some e) h = not_begun c e.0 q (todo_of newest life now e.0.kind e.1) h
 
 module _ (life now : ℕ) (m : Rows) (c k q : RowKey) (left : is_left k.kind ≡ true) where
-  looked_old : (b : Bool) → is_recyclable life now (said (act Look now (map.get m (seat k))).1) ≡ b → (stand_if c k (ToDrop k) b).at ≡ ToDrop q → (ToLook k ≡ ToLook q) × IsRecyclable life now m q
+  looked_old : (b : Bool) → is_recyclable life now (replied (act Look now (map.get m (seat k))).1) ≡ b → (stand_if c k (ToDrop k) b).at ≡ ToDrop q → (ToLook k ≡ ToLook q) × IsRecyclable life now m q
   looked_old true is h = let same = same_drop k q h in (ap ToLook same, subst (IsRecyclable life now m) same (recyclable life now m k left (found_old life now (map.get m (seat k)) is)))
   looked_old false is h = cc
 
 to_go : (newest life now : ℕ) (m : Rows) (c q : RowKey) (a : CollectorAt) → IsBegun newest c a → (turned newest life now (record { cursor = c; at = a }) m).at ≡ ToDrop q → (a ≡ ToLook q) × IsRecyclable life now m q
 to_go newest life now m c q Before right h = absurd (not_found newest life now c q (next_row m c) h)
 to_go newest life now m c q (ToDropIntent k) right h = cc
-to_go newest life now m c q (ToLook k) right h = looked_old life now m c k q right.1 (is_recyclable life now (said (act Look now (map.get m (seat k))).1)) refl h
+to_go newest life now m c q (ToLook k) right h = looked_old life now m c k q right.1 (is_recyclable life now (replied (act Look now (map.get m (seat k))).1)) refl h
 to_go newest life now m c q (ToDrop k) right h = cc
-to_go newest life now m c q (ToProve k i is) right h = absurd (not_if c k q (to_prove k is) (not_proved k q is) (is_recyclable life now (said (act Look now (map.get m (intent_key i k.home))).1)) h)
-to_go newest life now m c q (ToMark k) right h = absurd (not_marked c k q (told_marked (said (act MarkCell now (map.get m k)).1)) h)
-to_go newest life now m c q (ToLead k to at) right h = absurd (not_led c k q to at (told_next (said (act Look now (map.get m (at_row k at))).1)) h)
-to_go newest life now m c q (ToSkip k to at) right h = absurd (not_if c k q (ToDangle k) (not_dangle k q) (is_did (said (act (SkipCell (row_of k.kind) to) now (map.get m (at_row k at))).1)) h)
+to_go newest life now m c q (ToProve k i is) right h = absurd (not_if c k q (to_prove k is) (not_proved k q is) (is_recyclable life now (replied (act Look now (map.get m (intent_key i k.home))).1)) h)
+to_go newest life now m c q (ToMark k) right h = absurd (not_marked c k q (told_marked (replied (act MarkCell now (map.get m k)).1)) h)
+to_go newest life now m c q (ToLead k to at) right h = absurd (not_led c k q to at (told_next (replied (act Look now (map.get m (at_row k at))).1)) h)
+to_go newest life now m c q (ToSkip k to at) right h = absurd (not_if c k q (ToDangle k) (not_dangle k q) (is_did (replied (act (SkipCell (row_of k.kind) to) now (map.get m (at_row k at))).1)) h)
 to_go newest life now m c q (ToDangle k) right h = cc
 to_go newest life now m c q (ToDropCell k) right h = cc
 

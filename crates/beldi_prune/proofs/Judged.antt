@@ -3,7 +3,7 @@ use Rattle.std.specs.Prelude.{nat_lt, not, is_some, ◌&&◌}
 use Rattle.std.proofs.Common.{◌≡◌, ℕ, Bool, true, false, List, Option, None, Some, if◌then◌else◌, refl}
 use Rattle.beldi_value.specs.declared.id.IntentId.{IntentId}
 use Rattle.beldi_row.specs.{Act.is_old_row, Act.is_past, declared.key.Kind.Kind, declared.row.Cell.Cell, declared.row.Row.Row}
-use Rattle.beldi_prune.specs.{Entries.intents_of, Laws.is_behind, Prune.is_newest, Prune.todo_of}
+use Rattle.beldi_prune.specs.{CellEntries.intents_of, PruneLaws.is_behind, Prune.is_newest, Prune.todo_of}
 use Rattle.beldi_prune.specs.Unlink.{adrift_todo, cell_todo, item_todo, linked_todo, next_todo}
 use Rattle.beldi_prune.specs.declared.found.Todo.{Todo, TheVariants.Pass, TheVariants.DropIt, TheVariants.LookAt, TheVariants.DropAdrift, TheVariants.LeadPast, TheVariants.Prove}
 

@@ -1,12 +1,12 @@
 pub mod Adrift
+pub mod CollectorInvariant
 pub mod Gone
 pub mod Judged
 pub mod Named
-pub mod Newest
 pub mod Order
 pub mod Passed
 pub mod Proved
+pub mod PruneNewest
+pub mod PruneOutput
 pub mod Quiet
-pub mod Right
-pub mod Said
 pub mod Tables

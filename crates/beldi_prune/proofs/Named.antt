@@ -3,7 +3,7 @@ use Rattle.std.specs.Prelude.{not}
 use Rattle.std.proofs.Common.{◌≡◌, ◌⊎◌, inl, inr, Bool, true, false, List, [], ◌∷◌, Option, None, Some, if◌then◌else◌, refl, ap, sym, ◌∙◌}
 use Rattle.beldi_value.specs.declared.{id.IntentId.IntentId, place.Place.Place}
 use Rattle.beldi_row.{specs.Log.id_eq, specs.declared.notes.Note.Note, proofs.Logs.id_same}
-use Rattle.beldi_prune.specs.Entries.{HasEntryOf, IsOf, intents_from, intents_of, is_other}
+use Rattle.beldi_prune.specs.CellEntries.{HasEntryOf, IsOf, intents_from, intents_of, is_other}
 
 not_false : (b : Bool) → not b ≡ false → b ≡ true
 not_false true h = refl

@@ -5,8 +5,8 @@ use Rattle.std.proofs.Common.{◌≡◌, ◌⊎◌, inl, inr, ℕ, Bool, true, f
 use Rattle.std.proofs.lemmas.Bool.{eqb-true, ltb-true}
 use Rattle.beldi_row.specs.declared.act.Act.TheVariants.{Look, MarkCell, SkipCell}
 use Rattle.beldi_row.specs.{Key.RowKey, Key.at_row, Key.row_of, Act.act, Act.mark_by, Table.Rows, Table.next_row, Table.set_row, declared.row.Cell.Cell, declared.row.Row.Row}
-use Rattle.beldi_walk.specs.Query.{said}
-use Rattle.beldi_prune.specs.{Laws.rows_turned, Marks.FindsMarked, Marks.Marks, Marks.OnlyMarkedRowsAreLedPast, Marks.LeadsOn, Marks.LeadsThere}
+use Rattle.beldi_query.specs.Query.{replied}
+use Rattle.beldi_prune.specs.{PruneLaws.rows_turned, Marks.FindsMarked, Marks.Marks, Marks.OnlyMarkedRowsAreLedPast, Marks.LeadsOn, Marks.LeadsThere}
 use Rattle.beldi_prune.specs.Prune.{begins, led_next, marked_next, row_next, stand_if, to_prove, todo_of}
 use Rattle.beldi_prune.specs.Unlink.{is_did, lead_to, step_to, told_marked, told_next}
 use Rattle.beldi_prune.specs.declared.collector.LogCollector.{LogCollector}
@@ -48,12 +48,12 @@ module _ (life now : ℕ) (c k : RowKey) (m : Rows) (to at : ℕ) where
     Marked = Begins life now (record { cursor = c; at = ToMark q }) m k to at
 
     marks_cell : (x : Cell) → map.get m q ≡ Some (Row.Cell x) → (o : Option ℕ) → x.next ≡ o → rows_turned life now (record { cursor = c; at = ToMark q }) m ≡ set_row m q (Some (Row.Cell (mark_by o x).0))
-        → (marked_next c q (told_marked (said (mark_by o x).1))).at ≡ ToLead k to at → Marked
+        → (marked_next c q (told_marked (replied (mark_by o x).1))).at ≡ ToLead k to at → Marked
     marks_cell x there None next is h = cc
     marks_cell x there (Some y) next is h = let e = same_lead q k y to 0 at h in
         (sym e.2, inr (record { change = record { key = q; cell = x; to = y; begun = refl; there = there; next = next; done = is }; key = e.0; next = e.1 }))
 
-    marks : (o : Option Row) → map.get m q ≡ o → rows_turned life now (record { cursor = c; at = ToMark q }) m ≡ set_row m q (act MarkCell now o).0 → (marked_next c q (told_marked (said (act MarkCell now o).1))).at ≡ ToLead k to at → Marked
+    marks : (o : Option Row) → map.get m q ≡ o → rows_turned life now (record { cursor = c; at = ToMark q }) m ≡ set_row m q (act MarkCell now o).0 → (marked_next c q (told_marked (replied (act MarkCell now o).1))).at ≡ ToLead k to at → Marked
     marks None there is h = cc
     marks (Some (Row.Cell x)) there is h = marks_cell x there x.next refl is h
     marks (Some (Row.Intent i)) there is h = cc
@@ -77,7 +77,7 @@ module _ (c k : RowKey) (m : Rows) (to at : ℕ) (q : RowKey) (y b : ℕ) where
   leads_next x there None is h = cc
   leads_next x there (Some next) is h = leads x there next is (next == row_of q.kind) (nat_lt next (row_of q.kind)) refl h
 
-  leads_row : (now : ℕ) (o : Option Row) → map.get m (at_row q b) ≡ o → (led_next c q y b (told_next (said (act Look now o).1))).at ≡ ToLead k to at → LeadsOn Stands m k to at
+  leads_row : (now : ℕ) (o : Option Row) → map.get m (at_row q b) ≡ o → (led_next c q y b (told_next (replied (act Look now o).1))).at ≡ ToLead k to at → LeadsOn Stands m k to at
   leads_row now None there h = cc
   leads_row now (Some (Row.Cell x)) there h = leads_next x there x.next refl h
   leads_row now (Some (Row.Intent i)) there h = cc
@@ -97,7 +97,7 @@ module _ (c k : RowKey) (m : Rows) (to at : ℕ) (q : RowKey) (y b : ℕ) where
   ends_next x there None is h = cc
   ends_next x there (Some next) is h = ends x there next is (next == row_of q.kind) (nat_lt next (row_of q.kind)) refl h
 
-  ends_row : (now : ℕ) (o : Option Row) → map.get m (at_row q b) ≡ o → (led_next c q y b (told_next (said (act Look now o).1))).at ≡ ToSkip k to at → LeadsThere Stands m k to at
+  ends_row : (now : ℕ) (o : Option Row) → map.get m (at_row q b) ≡ o → (led_next c q y b (told_next (replied (act Look now o).1))).at ≡ ToSkip k to at → LeadsThere Stands m k to at
   ends_row now None there h = cc
   ends_row now (Some (Row.Cell x)) there h = ends_next x there x.next refl h
   ends_row now (Some (Row.Intent i)) there h = cc
@@ -139,7 +139,7 @@ to_lead newest life now m c k to at (ToDrop q) h = cc
 to_lead newest life now m c k to at (ToProve q i js) h = absurd (none newest life now m c (ToProve q i js) (ToLead k to at) refl refl h)
 to_lead newest life now m c k to at (ToMark q) h = inl (marks life now c k m to at q (map.get m q) refl refl h)
 to_lead newest life now m c k to at (ToLead q y b) h = inr (leads_row c k m to at q y b now (map.get m (at_row q b)) refl h)
-to_lead newest life now m c k to at (ToSkip q y b) h = absurd (no_lead_if c q k to at (is_did (said (act (SkipCell (row_of q.kind) y) now (map.get m (at_row q b))).1)) h)
+to_lead newest life now m c k to at (ToSkip q y b) h = absurd (no_lead_if c q k to at (is_did (replied (act (SkipCell (row_of q.kind) y) now (map.get m (at_row q b))).1)) h)
 to_lead newest life now m c k to at (ToDangle q) h = cc
 to_lead newest life now m c k to at (ToDropCell q) h = cc
 
@@ -149,9 +149,9 @@ to_skip newest life now m c k to at (ToDropIntent q) h = cc
 to_skip newest life now m c k to at (ToLook q) h = absurd (none newest life now m c (ToLook q) (ToSkip k to at) refl refl h)
 to_skip newest life now m c k to at (ToDrop q) h = cc
 to_skip newest life now m c k to at (ToProve q i js) h = absurd (none newest life now m c (ToProve q i js) (ToSkip k to at) refl refl h)
-to_skip newest life now m c k to at (ToMark q) h = absurd (no_skip_marked c q k to at (told_marked (said (act MarkCell now (map.get m q)).1)) h)
+to_skip newest life now m c k to at (ToMark q) h = absurd (no_skip_marked c q k to at (told_marked (replied (act MarkCell now (map.get m q)).1)) h)
 to_skip newest life now m c k to at (ToLead q y b) h = ends_row c k m to at q y b now (map.get m (at_row q b)) refl h
-to_skip newest life now m c k to at (ToSkip q y b) h = absurd (no_skip_if c q k to at (is_did (said (act (SkipCell (row_of q.kind) y) now (map.get m (at_row q b))).1)) h)
+to_skip newest life now m c k to at (ToSkip q y b) h = absurd (no_skip_if c q k to at (is_did (replied (act (SkipCell (row_of q.kind) y) now (map.get m (at_row q b))).1)) h)
 to_skip newest life now m c k to at (ToDangle q) h = cc
 to_skip newest life now m c k to at (ToDropCell q) h = cc
 

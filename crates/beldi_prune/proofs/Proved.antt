@@ -5,9 +5,9 @@ use Rattle.std.proofs.Common.{◌≡◌, ◌⊎◌, inl, inr, ℕ, Bool, true, f
 use Rattle.beldi_value.specs.declared.id.IntentId.{IntentId}
 use Rattle.beldi_row.specs.declared.act.Act.TheVariants.{Look, MarkCell, SkipCell}
 use Rattle.beldi_row.specs.{Key.RowKey, Key.at_row, Key.row_of, Act.act, Table.Rows, Table.next_row, declared.row.Row.Row}
-use Rattle.beldi_walk.specs.Query.{said}
+use Rattle.beldi_query.specs.Query.{replied}
 use Rattle.beldi_intent.specs.Intent.{intent_key}
-use Rattle.beldi_prune.specs.{Laws.turned, Marks.FindsOld, Marks.FindsUnmarked, Marks.OnlyProvedRowsAreToBeMarked, Marks.left_to_prove, Seat.seat}
+use Rattle.beldi_prune.specs.{PruneLaws.turned, Marks.FindsOld, Marks.FindsUnmarked, Marks.OnlyProvedRowsAreToBeMarked, Marks.left_to_prove, Seat.seat}
 use Rattle.beldi_prune.specs.Prune.{begins, is_recyclable, led_next, marked_next, row_next, stand_if, to_prove, todo_of}
 use Rattle.beldi_prune.specs.Unlink.{is_did, step_to, told_marked, told_next}
 use Rattle.beldi_prune.specs.declared.collector.CollectorAt.{CollectorAt, TheVariants.Before, TheVariants.ToDropIntent, TheVariants.ToLook, TheVariants.ToDrop, TheVariants.ToProve, TheVariants.ToMark, TheVariants.ToLead, TheVariants.ToSkip, TheVariants.ToDangle, TheVariants.ToDropCell}
@@ -45,7 +45,7 @@ module _ (c k : RowKey) (m : Rows) (is : List IntentId) where
     finds_next None found h = cc
     finds_next (Some e) found h = finds e.0 e.1 found (todo_of newest life now e.0.kind e.1) (judged newest life now e.1 e.0.kind) h
 
-    looks : (q : RowKey) (i : IntentId) (js : List IntentId) (b : Bool) → is_recyclable life now (said (act Look now (map.get m (intent_key i q.home))).1) ≡ b → left_to_prove (stand_if c q (to_prove q js) b).at ≡ Some (k, is)
+    looks : (q : RowKey) (i : IntentId) (js : List IntentId) (b : Bool) → is_recyclable life now (replied (act Look now (map.get m (intent_key i q.home))).1) ≡ b → left_to_prove (stand_if c q (to_prove q js) b).at ≡ Some (k, is)
         → FindsOld life now (record { cursor = c; at = ToProve q i js }) m k is
     looks q i js true so h =
         let e = same_left q k js is h in
@@ -77,12 +77,12 @@ by_at : (newest life now : ℕ) (m : Rows) (c k : RowKey) (is : List IntentId) (
     → FindsUnmarked (record { cursor = c; at = a }) m k is ⊎ FindsOld life now (record { cursor = c; at = a }) m k is
 by_at newest life now m c k is Before h = inl (finds_next c k m is newest life now (next_row m c) refl h)
 by_at newest life now m c k is (ToDropIntent q) h = cc
-by_at newest life now m c k is (ToLook q) h = absurd (none_if c k q is (ToDrop q) refl (is_recyclable life now (said (act Look now (map.get m (seat q))).1)) h)
+by_at newest life now m c k is (ToLook q) h = absurd (none_if c k q is (ToDrop q) refl (is_recyclable life now (replied (act Look now (map.get m (seat q))).1)) h)
 by_at newest life now m c k is (ToDrop q) h = cc
-by_at newest life now m c k is (ToProve q i js) h = inr (looks c k m is newest life now q i js (is_recyclable life now (said (act Look now (map.get m (intent_key i q.home))).1)) refl h)
-by_at newest life now m c k is (ToMark q) h = absurd (none_marked c k q is (told_marked (said (act MarkCell now (map.get m q)).1)) h)
-by_at newest life now m c k is (ToLead q to at) h = absurd (none_led c k q is to at (told_next (said (act Look now (map.get m (at_row q at))).1)) h)
-by_at newest life now m c k is (ToSkip q to at) h = absurd (none_if c k q is (ToDangle q) refl (is_did (said (act (SkipCell (row_of q.kind) to) now (map.get m (at_row q at))).1)) h)
+by_at newest life now m c k is (ToProve q i js) h = inr (looks c k m is newest life now q i js (is_recyclable life now (replied (act Look now (map.get m (intent_key i q.home))).1)) refl h)
+by_at newest life now m c k is (ToMark q) h = absurd (none_marked c k q is (told_marked (replied (act MarkCell now (map.get m q)).1)) h)
+by_at newest life now m c k is (ToLead q to at) h = absurd (none_led c k q is to at (told_next (replied (act Look now (map.get m (at_row q at))).1)) h)
+by_at newest life now m c k is (ToSkip q to at) h = absurd (none_if c k q is (ToDangle q) refl (is_did (replied (act (SkipCell (row_of q.kind) to) now (map.get m (at_row q at))).1)) h)
 by_at newest life now m c k is (ToDangle q) h = cc
 by_at newest life now m c k is (ToDropCell q) h = cc
 

@@ -4,9 +4,9 @@ use Rattle.std.proofs.Common.{◌≡◌, ℕ, Bool, true, false, List, [], ◌�
 use Rattle.beldi_value.specs.declared.id.IntentId.{IntentId}
 use Rattle.beldi_row.specs.declared.act.Act.TheVariants.{Look}
 use Rattle.beldi_row.specs.{Key.RowKey, Act.act, Table.Rows}
-use Rattle.beldi_walk.specs.Query.{said}
+use Rattle.beldi_query.specs.Query.{replied}
 use Rattle.beldi_intent.specs.Intent.{intent_key}
-use Rattle.beldi_prune.specs.{Laws.turned, Seat.seat}
+use Rattle.beldi_prune.specs.{PruneLaws.turned, Seat.seat}
 use Rattle.beldi_prune.specs.Prune.{is_recyclable, stand_if, to_prove}
 use Rattle.beldi_prune.specs.declared.collector.CollectorAt.{CollectorAt, TheVariants.Before, TheVariants.ToDropIntent, TheVariants.ToLook, TheVariants.ToDrop, TheVariants.ToProve, TheVariants.ToMark, TheVariants.ToLead, TheVariants.ToSkip, TheVariants.ToDangle, TheVariants.ToDropCell}
 
@@ -53,9 +53,9 @@ at_after newest life now m c a = (turned newest life now (record { cursor = c; a
 pub quiet : (newest life now : ℕ) (m : Rows) (c : RowKey) (a : CollectorAt) → is_quiet a ≡ true → is_way (at_after newest life now m c a) ≡ false
 quiet newest life now m c Before h = cc
 quiet newest life now m c (ToDropIntent q) h = refl
-quiet newest life now m c (ToLook q) h = if_quiet c q (ToDrop q) refl (is_recyclable life now (said (act Look now (map.get m (seat q))).1))
+quiet newest life now m c (ToLook q) h = if_quiet c q (ToDrop q) refl (is_recyclable life now (replied (act Look now (map.get m (seat q))).1))
 quiet newest life now m c (ToDrop q) h = refl
-quiet newest life now m c (ToProve q i js) h = if_quiet c q (to_prove q js) (proved_quiet q js) (is_recyclable life now (said (act Look now (map.get m (intent_key i q.home))).1))
+quiet newest life now m c (ToProve q i js) h = if_quiet c q (to_prove q js) (proved_quiet q js) (is_recyclable life now (replied (act Look now (map.get m (intent_key i q.home))).1))
 quiet newest life now m c (ToMark q) h = cc
 quiet newest life now m c (ToLead q to at) h = cc
 quiet newest life now m c (ToSkip q to at) h = cc

@@ -4,10 +4,10 @@ use Rattle.std.specs.FinMap as map
 use Rattle.std.proofs.Common.{◌≡◌, ℕ, Bool, true, false, Ok, Err, refl, ap, sym, ◌∙◌, subst}
 use Rattle.beldi_row.specs.{Key.RowKey, Table.Rows, declared.table.TableErr.TableErr, declared.table.TableErr.TheVariants.OutOfMemory, declared.table.TableErr.TheVariants.Failed, declared.table.TableErr.TheVariants.Full}
 use Rattle.beldi_row.proofs.Tells.{tells_map}
-use Rattle.beldi_walk.specs.{Query.Told, Query.CameOn, Query.RefusedBy, Query.lends, Query.may_tell_death, Query.rows_after, Query.told_by, Walk.LeftAt}
-use Rattle.beldi_walk.proofs.Lent.{refused_stand, unheard_left}
-use Rattle.beldi_prune.specs.{Prune.anew, Prune.at_asks, Prune.prune_asks, Prune.prune_next, Prune.prune_says, Laws.TablesAreTurned, Laws.TurnedOn}
-use Rattle.beldi_prune.specs.declared.{collector.LogCollector.LogCollector, collector.GcSays.GcSays}
+use Rattle.beldi_query.specs.{Query.QueryReply, Query.CameOn, Query.RefusedBy, Query.lends, Query.may_tell_death, Query.rows_after, Query.query_reply, Walk.LeftAt}
+use Rattle.beldi_query.proofs.Lent.{refused_stand, unheard_left}
+use Rattle.beldi_prune.specs.{Prune.anew, Prune.at_asks, Prune.prune_asks, Prune.prune_next, Prune.prune_output, PruneLaws.TablesAreTurned, PruneLaws.TurnedOn}
+use Rattle.beldi_prune.specs.declared.{collector.LogCollector.LogCollector, collector.GcOutput.GcOutput}
 use Rattle.beldi_prune.specs.declared.collector.CollectorAt.{CollectorAt, TheVariants.Before, TheVariants.ToDropIntent, TheVariants.ToLook, TheVariants.ToDrop, TheVariants.ToProve, TheVariants.ToMark, TheVariants.ToLead, TheVariants.ToSkip, TheVariants.ToDangle, TheVariants.ToDropCell}
 
 tells_no_death : (life : ℕ) (c : RowKey) (a : CollectorAt) → may_tell_death (at_asks life c a) ≡ false
@@ -40,10 +40,10 @@ never_full life now room live most c (ToDangle k) m n h = adds_none (not (map.co
 never_full life now room live most c (ToDropCell k) m n h = adds_none (not (map.contains_key m k)) h.1.more
 
 module _ (newest life now : ℕ) (w x : LogCollector) where
-  heard : (m n : Rows) (s : GcSays) (t : Told) → (x ≡ prune_next newest life now w t) × (s ≡ prune_says w t) → n ≡ rows_after (prune_asks life w) now m → t ≡ told_by (prune_asks life w) now m → TurnedOn newest life now w x m n (Ok s)
-  heard m n s t h after by = (h.0 ∙ ap (prune_next newest life now w) by, after, h.1 ∙ ap (prune_says w) by)
+  heard : (m n : Rows) (s : GcOutput) (t : QueryReply) → (x ≡ prune_next newest life now w t) × (s ≡ prune_output w t) → n ≡ rows_after (prune_asks life w) now m → t ≡ query_reply (prune_asks life w) now m → TurnedOn newest life now w x m n (Ok s)
+  heard m n s t h after by = (h.0 ∙ ap (prune_next newest life now w) by, after, h.1 ∙ ap (prune_output w) by)
 
-  unheard : (m n : Rows) (e : TableErr) (t : Told) → (x ≡ anew w) × (e ≡ OutOfMemory) × (lends t ≡ true) → n ≡ rows_after (prune_asks life w) now m → t ≡ told_by (prune_asks life w) now m → TurnedOn newest life now w x m n (Err e)
+  unheard : (m n : Rows) (e : TableErr) (t : QueryReply) → (x ≡ anew w) × (e ≡ OutOfMemory) × (lends t ≡ true) → n ≡ rows_after (prune_asks life w) now m → t ≡ query_reply (prune_asks life w) now m → TurnedOn newest life now w x m n (Err e)
   unheard m n e t h after by = subst (λ v. TurnedOn newest life now w x m n (Err v)) (sym h.1)
       (h.0, subst (λ b. LeftAt b OutOfMemory (prune_asks life w) now m n) (tells_no_death life w.cursor w.at) (unheard_left (prune_asks life w) now OutOfMemory t m n refl h.2 after by))
 

@@ -1,8 +1,8 @@
+pub mod CellEntries
 pub mod Changed
 pub mod Collectors
-pub mod Entries
-pub mod Laws
 pub mod Marks
 pub mod Prune
+pub mod PruneLaws
 pub mod Seat
 pub mod Unlink

@@ -4,7 +4,7 @@ use Rattle.std.specs.FinMap as map
 use Rattle.beldi_value.specs.declared.{id.IntentId.IntentId, place.Place.Place}
 use Rattle.beldi_row.specs.{Key.RowKey, Key.at_row, Key.row_of, Table.Rows, Table.next_row, declared.notes.Note.Note, declared.row.Cell.Cell, declared.row.Row.Row}
 use Rattle.beldi_intent.specs.Intent.{intent_key}
-use Rattle.beldi_prune.specs.{Changed.HasMarked, Changed.HasSkipped, Entries.HasEntryOf, Entries.IsOf, Entries.intents_of, Laws.IsOldAt, Laws.is_behind, Laws.rows_turned, Laws.turned}
+use Rattle.beldi_prune.specs.{Changed.HasMarked, Changed.HasSkipped, CellEntries.HasEntryOf, CellEntries.IsOf, CellEntries.intents_of, PruneLaws.IsOldAt, PruneLaws.is_behind, PruneLaws.rows_turned, PruneLaws.turned}
 use Rattle.beldi_prune.specs.declared.collector.LogCollector.{LogCollector}
 use Rattle.beldi_prune.specs.declared.collector.CollectorAt.{CollectorAt, TheVariants.Before, TheVariants.ToProve, TheVariants.ToMark, TheVariants.ToLead, TheVariants.ToSkip, TheVariants.ToDangle}
 

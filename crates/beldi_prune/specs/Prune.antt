@@ -4,10 +4,10 @@ use Rattle.beldi_value.specs.{Id.has_no_hops, declared.id.IntentId.IntentId}
 use Rattle.beldi_row.specs.Act.{absent, here, is_past, is_old_row}
 use Rattle.beldi_row.specs.declared.act.Act.TheVariants.{Look, DropIntent, DropRow, MarkCell, SkipCell, DangleCell, DropCell}
 use Rattle.beldi_row.specs.{Key.RowKey, Key.at_row, Key.least_key, Key.row_of, declared.key.Kind.Kind, declared.row.Row.Row}
-use Rattle.beldi_walk.specs.{declared.query.Query.Query, declared.query.Query.TheVariants.Act, declared.query.Query.TheVariants.After, Query.Told, Query.said, Query.found}
+use Rattle.beldi_query.specs.{declared.query.Query.Query, declared.query.Query.TheVariants.Act, declared.query.Query.TheVariants.After, Query.QueryReply, Query.replied, Query.found}
 use Rattle.beldi_intent.specs.Intent.{intent_key}
 use Rattle.beldi_prune.specs.{Seat.seat, Unlink.is_did, Unlink.lead_to, Unlink.row_todo, Unlink.told_marked, Unlink.told_next}
-use Rattle.beldi_prune.specs.declared.collector.{LogCollector.LogCollector, GcSays.GcSays, GcSays.TheVariants.Going, GcSays.TheVariants.Marked, GcSays.TheVariants.Skipped, GcSays.TheVariants.Dangled, GcSays.TheVariants.Removed, GcSays.TheVariants.Round}
+use Rattle.beldi_prune.specs.declared.collector.{LogCollector.LogCollector, GcOutput.GcOutput, GcOutput.TheVariants.Going, GcOutput.TheVariants.Marked, GcOutput.TheVariants.Skipped, GcOutput.TheVariants.Dangled, GcOutput.TheVariants.Removed, GcOutput.TheVariants.Round}
 use Rattle.beldi_prune.specs.declared.found.Todo.{Todo, TheVariants.Pass, TheVariants.DropIt, TheVariants.LookAt, TheVariants.DropAdrift, TheVariants.LeadPast, TheVariants.Prove}
 use Rattle.beldi_prune.specs.declared.collector.CollectorAt.{CollectorAt, TheVariants.Before, TheVariants.ToDropIntent, TheVariants.ToLook, TheVariants.ToDrop, TheVariants.ToProve, TheVariants.ToMark, TheVariants.ToLead, TheVariants.ToSkip, TheVariants.ToDangle, TheVariants.ToDropCell}
 
@@ -84,9 +84,9 @@ abbrev pub is_past_row : ℕ → ℕ → Row → Bool
 is_past_row life now (Row.Intent i) = is_past life now i.finish
 is_past_row life now r = false
 
-abbrev pub is_recyclable : ℕ → ℕ → Told → Bool
-is_recyclable life now (said absent) = true
-is_recyclable life now (said (here r)) = is_past_row life now r
+abbrev pub is_recyclable : ℕ → ℕ → QueryReply → Bool
+is_recyclable life now (replied absent) = true
+is_recyclable life now (replied (here r)) = is_past_row life now r
 is_recyclable life now t = false
 
 -- .. then it is at this, and else it is done with the row
@@ -106,11 +106,11 @@ led_next cursor k to at None = past k
 led_next cursor k to at (Some next) = stand cursor (lead_to k to at next)
 
 -- ---- where it stands then, by the newest ticket, the life and the moment
-abbrev pub before_next : ℕ → ℕ → ℕ → RowKey → Told → LogCollector
+abbrev pub before_next : ℕ → ℕ → ℕ → RowKey → QueryReply → LogCollector
 before_next newest life now cursor (found e) = row_next newest life now cursor e
 before_next newest life now cursor t = first_collector
 
-abbrev pub at_next : ℕ → ℕ → ℕ → RowKey → CollectorAt → Told → LogCollector
+abbrev pub at_next : ℕ → ℕ → ℕ → RowKey → CollectorAt → QueryReply → LogCollector
 at_next newest life now cursor Before t = before_next newest life now cursor t
 at_next newest life now cursor (ToDropIntent k) t = past k
 at_next newest life now cursor (ToLook k) t = stand_if cursor k (ToDrop k) (is_recyclable life now t)
@@ -122,34 +122,34 @@ at_next newest life now cursor (ToSkip k to at) t = stand_if cursor k (ToDangle 
 at_next newest life now cursor (ToDangle k) t = past k
 at_next newest life now cursor (ToDropCell k) t = past k
 
-abbrev pub prune_next : ℕ → ℕ → ℕ → LogCollector → Told → LogCollector
+abbrev pub prune_next : ℕ → ℕ → ℕ → LogCollector → QueryReply → LogCollector
 prune_next newest life now w t = at_next newest life now w.cursor w.at t
 
 -- ---- what it says
 -- this, only where the act says that it did so
-abbrev pub says_if : GcSays → Bool → GcSays
-says_if s true = s
-says_if s false = Going
+abbrev pub output_if : GcOutput → Bool → GcOutput
+output_if s true = s
+output_if s false = Going
 
-abbrev pub mark_says : Option ℕ → GcSays
-mark_says None = Going
-mark_says (Some to) = Marked
+abbrev pub mark_output : Option ℕ → GcOutput
+mark_output None = Going
+mark_output (Some to) = Marked
 
-abbrev pub before_says : Told → GcSays
-before_says (found (Some e)) = Going
-before_says t = Round
+abbrev pub before_output : QueryReply → GcOutput
+before_output (found (Some e)) = Going
+before_output t = Round
 
-abbrev pub at_says : CollectorAt → Told → GcSays
-at_says Before t = before_says t
-at_says (ToDropIntent k) t = says_if Removed (is_did t)
-at_says (ToLook k) t = Going
-at_says (ToDrop k) t = says_if Removed (is_did t)
-at_says (ToProve k i is) t = Going
-at_says (ToMark k) t = mark_says (told_marked t)
-at_says (ToLead k to at) t = Going
-at_says (ToSkip k to at) t = says_if Skipped (is_did t)
-at_says (ToDangle k) t = says_if Dangled (is_did t)
-at_says (ToDropCell k) t = says_if Removed (is_did t)
+abbrev pub at_output : CollectorAt → QueryReply → GcOutput
+at_output Before t = before_output t
+at_output (ToDropIntent k) t = output_if Removed (is_did t)
+at_output (ToLook k) t = Going
+at_output (ToDrop k) t = output_if Removed (is_did t)
+at_output (ToProve k i is) t = Going
+at_output (ToMark k) t = mark_output (told_marked t)
+at_output (ToLead k to at) t = Going
+at_output (ToSkip k to at) t = output_if Skipped (is_did t)
+at_output (ToDangle k) t = output_if Dangled (is_did t)
+at_output (ToDropCell k) t = output_if Removed (is_did t)
 
-abbrev pub prune_says : LogCollector → Told → GcSays
-prune_says w t = at_says w.at t
+abbrev pub prune_output : LogCollector → QueryReply → GcOutput
+prune_output w t = at_output w.at t

@@ -2,8 +2,8 @@
 use Rattle.std.specs.Prelude.{ℕ, ◌==◌, nat_lt, Bool, true, false, is_some, Option, Some, None, if◌then◌else◌}
 use Rattle.beldi_row.specs.Act.{did, here, marked, is_past}
 use Rattle.beldi_row.specs.{Key.RowKey, Key.row_of, declared.row.Cell.Cell, declared.row.Row.Row}
-use Rattle.beldi_walk.specs.Query.{Told, said}
-use Rattle.beldi_prune.specs.Entries.{intents_of}
+use Rattle.beldi_query.specs.Query.{QueryReply, replied}
+use Rattle.beldi_prune.specs.CellEntries.{intents_of}
 use Rattle.beldi_prune.specs.declared.found.Todo.{Todo, TheVariants.Pass, TheVariants.DropAdrift, TheVariants.LeadPast, TheVariants.Prove}
 use Rattle.beldi_prune.specs.declared.collector.CollectorAt.{CollectorAt, TheVariants.ToLead, TheVariants.ToSkip, TheVariants.ToDangle}
 
@@ -36,18 +36,18 @@ abbrev pub row_todo : ℕ → ℕ → ℕ → Row → Todo
 row_todo number life now r = if nat_lt 0 number then item_todo life now r else Pass
 
 -- ---- what an act tells
-abbrev pub is_did : Told → Bool
-is_did (said did) = true
+abbrev pub is_did : QueryReply → Bool
+is_did (replied did) = true
 is_did t = false
 
 -- the row after one that is marked
-abbrev pub told_marked : Told → Option ℕ
-told_marked (said (marked to)) = Some to
+abbrev pub told_marked : QueryReply → Option ℕ
+told_marked (replied (marked to)) = Some to
 told_marked t = None
 
 -- the row after a cell that was looked at, if that is there
-abbrev pub told_next : Told → Option (Option ℕ)
-told_next (said (here (Row.Cell c))) = Some c.next
+abbrev pub told_next : QueryReply → Option (Option ℕ)
+told_next (replied (here (Row.Cell c))) = Some c.next
 told_next t = None
 
 -- ---- a row at which it looks, on the way to the row of this key

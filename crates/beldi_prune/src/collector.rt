@@ -1,24 +1,24 @@
 // The log collector: what is asked of a table, and what follows.
 ghost use Rattle.std.specs.Prelude.{◌≡◌, ℕ, true, false, IfOk, OnErr};
-ghost use Rattle.beldi_walk.specs.Query.{told_of, lends};
-ghost use Rattle.beldi_walk.specs.Walk.{Turned};
+ghost use Rattle.beldi_query.specs.Query.{query_reply_of, lends};
+ghost use Rattle.beldi_query.specs.Walk.{Turned};
 ghost use Rattle.beldi_prune.specs.declared.collector.CollectorAt.TheVariants as at;
-ghost use Rattle.beldi_prune.specs.declared.collector.GcSays.TheVariants as says;
-ghost use Rattle.beldi_prune.specs.Prune.{first_collector, past, is_before, anew as anew_of, prune_asks, prune_next, prune_says, before_next, before_says, begins, to_prove as to_prove_of, stand_if, marked_next, led_next, says_if as says_if_of, mark_says as mark_says_of};
+ghost use Rattle.beldi_prune.specs.declared.collector.GcOutput.TheVariants as says;
+ghost use Rattle.beldi_prune.specs.Prune.{first_collector, past, is_before, anew as anew_of, prune_asks, prune_next, prune_output, before_next, before_output, begins, to_prove as to_prove_of, stand_if, marked_next, led_next, output_if as output_if_of, mark_output as mark_output_of};
 
 use crate::asking::{ask, ask_at, ask_intent, ask_skip};
 use crate::entries::Intents;
 use crate::found::{Todo, is_recyclable, judge, seat};
 use crate::unlink::{is_did, lead, told_marked, told_next};
+use beldi_query::{Query, QueryReplyRef};
 use beldi_row::{Act, RowKey, Table, TableErr};
-use beldi_value::{Apart, IntentId, or_drop};
-use beldi_walk::{Heard, Query};
+use beldi_value::{Boxed, IntentId, or_drop};
 use std::alloc::{AllocError, Global};
 use std::mem::replace;
 
 /// What a turn of a log collector says.
 #[derive(Drop)]
-pub enum GcSays {
+pub enum GcOutput {
     /// It goes on, and left all rows as they are.
     Going,
     /// It marked a row of an item in this turn: that is to go.
@@ -90,7 +90,7 @@ impl LogCollector {
     }
 
     // What it asks in its next turn.
-    fn query(&self, alloc: Global, life: u64) -> Result<Apart<Query>, AllocError>
+    fn query(&self, alloc: Global, life: u64) -> Result<Boxed<Query>, AllocError>
         ensures { IfOk result (λ q. q ≡ prune_asks life self.now) }
     {
         match &self.at {
@@ -109,16 +109,16 @@ impl LogCollector {
 
     // Moves it, by the newest ticket, the life in ticks, and the moment. Out of memory only for what was lent, and then it stands
     // where it stood.
-    fn told(
+    fn resume(
         &mut self,
         alloc: Global,
         newest: u32,
         life: u64,
         now: u64,
-        heard: Heard<'_>,
-    ) -> Result<GcSays, AllocError>
-        ensures ok { IfOk result (λ s. (self.new ≡ prune_next newest life now self.old (told_of heard.entry)) × (s ≡ prune_says self.old (told_of heard.entry))) }
-        ensures err { OnErr result ((self.new ≡ self.old) × (lends (told_of heard.entry) ≡ true)) }
+        heard: QueryReplyRef<'_>,
+    ) -> Result<GcOutput, AllocError>
+        ensures ok { IfOk result (λ s. (self.new ≡ prune_next newest life now self.old (query_reply_of heard.entry)) × (s ≡ prune_output self.old (query_reply_of heard.entry))) }
+        ensures err { OnErr result ((self.new ≡ self.old) × (lends (query_reply_of heard.entry) ≡ true)) }
     {
         match &self.at {
             CollectorAt::Before => self.found(alloc, newest, life, now, heard),
@@ -127,13 +127,13 @@ impl LogCollector {
     }
 
     // .. where it has begun a row.
-    fn moved(&mut self, heard: &Heard<'_>, life: u64, now: u64) -> GcSays
+    fn moved(&mut self, heard: &QueryReplyRef<'_>, life: u64, now: u64) -> GcOutput
         requires { is_before self.old.at ≡ false }
-        ensures moved { (newest : ℕ) → self.new ≡ prune_next newest life now self.old (told_of heard.entry.now) }
-        ensures says { result ≡ prune_says self.old (told_of heard.entry.now) }
+        ensures moved { (newest : ℕ) → self.new ≡ prune_next newest life now self.old (query_reply_of heard.entry.now) }
+        ensures says { result ≡ prune_output self.old (query_reply_of heard.entry.now) }
     {
         match replace(&mut self.at, CollectorAt::Before) {
-            CollectorAt::Before => GcSays::Going,
+            CollectorAt::Before => GcOutput::Going,
             CollectorAt::ToLook(key) => self.looked(key, is_recyclable(heard, life, now)),
             CollectorAt::ToProve { key, intent, rest } => {
                 drop(intent);
@@ -142,10 +142,10 @@ impl LogCollector {
             CollectorAt::ToMark(key) => self.marked(key, told_marked(heard)),
             CollectorAt::ToLead { key, to, at } => self.led(key, to, at, told_next(heard)),
             CollectorAt::ToSkip { key, .. } => self.skipped(key, is_did(heard)),
-            CollectorAt::ToDangle(key) => self.done(key, GcSays::Dangled, is_did(heard)),
+            CollectorAt::ToDangle(key) => self.done(key, GcOutput::Dangled, is_did(heard)),
             CollectorAt::ToDropIntent(key)
             | CollectorAt::ToDrop(key)
-            | CollectorAt::ToDropCell(key) => self.done(key, GcSays::Removed, is_did(heard)),
+            | CollectorAt::ToDropCell(key) => self.done(key, GcOutput::Removed, is_did(heard)),
         }
     }
 
@@ -159,8 +159,8 @@ impl LogCollector {
         newest: u32,
         life: u64,
         now: u64,
-    ) -> Result<GcSays, TableErr>
-        ensures { Turned (prune_asks life self.old) now (prune_next newest life now self.old) (prune_says self.old) (anew_of self.old) self.new (T.state table.old) (T.state table.new) result }
+    ) -> Result<GcOutput, TableErr>
+        ensures { Turned (prune_asks life self.old) now (prune_next newest life now self.old) (prune_output self.old) (anew_of self.old) self.new (T.state table.old) (T.state table.new) result }
     {
         match self.make_turn(alloc, table, newest, life, now) {
             Ok(says) => Ok(says),
@@ -179,8 +179,8 @@ impl LogCollector {
         newest: u32,
         life: u64,
         now: u64,
-    ) -> Result<GcSays, TableErr>
-        ensures { Turned (prune_asks life self.old) now (prune_next newest life now self.old) (prune_says self.old) self.old self.new (T.state table.old) (T.state table.new) result }
+    ) -> Result<GcOutput, TableErr>
+        ensures { Turned (prune_asks life self.old) now (prune_next newest life now self.old) (prune_output self.old) self.old self.new (T.state table.old) (T.state table.new) result }
     {
         let query = match self.query(alloc, life) {
             Ok(query) => query,
@@ -188,7 +188,7 @@ impl LogCollector {
         };
         match query.into_inner() {
             Query::Act(key, act) => match table.act(key, act, now) {
-                Ok(said) => match self.told(alloc, newest, life, now, Heard::Said(said)) {
+                Ok(said) => match self.resume(alloc, newest, life, now, QueryReplyRef::Act(said)) {
                     Ok(says) => Ok(says),
                     Err(_) => Err(TableErr::OutOfMemory),
                 },
@@ -198,7 +198,13 @@ impl LogCollector {
                 let next = table.next(&key);
                 drop(key);
                 match next {
-                    Ok(found) => match self.told(alloc, newest, life, now, Heard::Found(found)) {
+                    Ok(found) => match self.resume(
+                        alloc,
+                        newest,
+                        life,
+                        now,
+                        QueryReplyRef::Found(found),
+                    ) {
                         Ok(says) => Ok(says),
                         Err(_) => Err(TableErr::OutOfMemory),
                     },
@@ -215,20 +221,20 @@ impl LogCollector {
         newest: u32,
         life: u64,
         now: u64,
-        heard: Heard<'_>,
-    ) -> Result<GcSays, AllocError>
+        heard: QueryReplyRef<'_>,
+    ) -> Result<GcOutput, AllocError>
         requires { self.old.at ≡ at.Before }
-        ensures ok { IfOk result (λ s. (self.new ≡ before_next newest life now self.old.cursor (told_of heard.entry)) × (s ≡ before_says (told_of heard.entry))) }
-        ensures err { OnErr result ((self.new ≡ self.old) × (lends (told_of heard.entry) ≡ true)) }
+        ensures ok { IfOk result (λ s. (self.new ≡ before_next newest life now self.old.cursor (query_reply_of heard.entry)) × (s ≡ before_output (query_reply_of heard.entry))) }
+        ensures err { OnErr result ((self.new ≡ self.old) × (lends (query_reply_of heard.entry) ≡ true)) }
     {
-        let Heard::Found(Some((key, row))) = heard else {
+        let QueryReplyRef::Found(Some((key, row))) = heard else {
             self.go_to(RowKey::least(alloc));
-            return Ok(GcSays::Round);
+            return Ok(GcOutput::Round);
         };
         let begun = key.copy(alloc)?;
         let todo = or_drop!(judge(alloc, key, row, newest, life, now); begun);
         self.begin_row(begun, todo);
-        Ok(GcSays::Going)
+        Ok(GcOutput::Going)
     }
 
     // Begins a row, or goes past it.
@@ -247,7 +253,7 @@ impl LogCollector {
     }
 
     // The intent of a row that it left was looked at.
-    fn looked(&mut self, key: RowKey, is_so: bool) -> GcSays
+    fn looked(&mut self, key: RowKey, is_so: bool) -> GcOutput
         ensures moved { self.new ≡ stand_if self.old.cursor key (at.ToDrop key) is_so }
         ensures says { result ≡ says.Going }
     {
@@ -256,11 +262,11 @@ impl LogCollector {
         } else {
             self.go_to(key);
         }
-        GcSays::Going
+        GcOutput::Going
     }
 
     // The intent of some entries of a row was looked at, before the rest.
-    fn proved(&mut self, key: RowKey, rest: Intents, is_so: bool) -> GcSays
+    fn proved(&mut self, key: RowKey, rest: Intents, is_so: bool) -> GcOutput
         ensures moved { self.new ≡ stand_if self.old.cursor key (to_prove_of key rest) is_so }
         ensures says { result ≡ says.Going }
     {
@@ -270,28 +276,28 @@ impl LogCollector {
             drop(rest);
             self.go_to(key);
         }
-        GcSays::Going
+        GcOutput::Going
     }
 
     // A row was marked, and this one comes after it; or it was not.
-    fn marked(&mut self, key: RowKey, next: Option<u32>) -> GcSays
+    fn marked(&mut self, key: RowKey, next: Option<u32>) -> GcOutput
         ensures moved { self.new ≡ marked_next self.old.cursor key next }
-        ensures says { result ≡ mark_says_of next }
+        ensures says { result ≡ mark_output_of next }
     {
         match next {
             Some(to) => {
                 self.begin(CollectorAt::ToLead { key, to, at: 0 });
-                GcSays::Marked
+                GcOutput::Marked
             }
             None => {
                 self.go_to(key);
-                GcSays::Going
+                GcOutput::Going
             }
         }
     }
 
     // The row `at` was looked at, on the way to that of the key.
-    fn led(&mut self, key: RowKey, to: u32, at: u32, next: Option<Option<u32>>) -> GcSays
+    fn led(&mut self, key: RowKey, to: u32, at: u32, next: Option<Option<u32>>) -> GcOutput
         ensures moved { self.new ≡ led_next self.old.cursor key to at next }
         ensures says { result ≡ says.Going }
     {
@@ -299,30 +305,30 @@ impl LogCollector {
             Some(next) => self.begin(lead(key, to, at, next)),
             None => self.go_to(key),
         }
-        GcSays::Going
+        GcOutput::Going
     }
 
     // A row leads past that of the key, or it was not led so.
-    fn skipped(&mut self, key: RowKey, is_so: bool) -> GcSays
+    fn skipped(&mut self, key: RowKey, is_so: bool) -> GcOutput
         ensures moved { self.new ≡ stand_if self.old.cursor key (at.ToDangle key) is_so }
-        ensures says { result ≡ says_if_of says.Skipped is_so }
+        ensures says { result ≡ output_if_of says.Skipped is_so }
     {
         if is_so {
             self.begin(CollectorAt::ToDangle(key));
-            GcSays::Skipped
+            GcOutput::Skipped
         } else {
             self.go_to(key);
-            GcSays::Going
+            GcOutput::Going
         }
     }
 
     // It is done with a row. It says this, where the act did what it was asked for.
-    fn done(&mut self, key: RowKey, says: GcSays, is_so: bool) -> GcSays
+    fn done(&mut self, key: RowKey, says: GcOutput, is_so: bool) -> GcOutput
         ensures moved { self.new ≡ past key }
-        ensures says { result ≡ says_if_of says is_so }
+        ensures says { result ≡ output_if_of says is_so }
     {
         self.go_to(key);
-        if is_so { says } else { GcSays::Going }
+        if is_so { says } else { GcOutput::Going }
     }
 
     // Sets it past this key.

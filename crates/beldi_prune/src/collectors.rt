@@ -1,10 +1,10 @@
 // Eight log collectors.
 ghost use Rattle.std.specs.Prelude.{◌≡◌, length};
-ghost use Rattle.beldi_walk.specs.Walk.{Turned};
+ghost use Rattle.beldi_query.specs.Walk.{Turned};
 ghost use Rattle.beldi_prune.specs.Collectors.{first_collectors, collector_at, set_collector};
-ghost use Rattle.beldi_prune.specs.Prune.{anew as anew_of, prune_asks, prune_next, prune_says};
+ghost use Rattle.beldi_prune.specs.Prune.{anew as anew_of, prune_asks, prune_next, prune_output};
 
-use crate::collector::{GcSays, LogCollector};
+use crate::collector::{GcOutput, LogCollector};
 use beldi_row::{Table, TableErr};
 use std::alloc::Global;
 use std::marker::Model;
@@ -61,9 +61,9 @@ impl Collectors {
         newest: u32,
         life: u64,
         now: u64,
-    ) -> Result<GcSays, TableErr>
+    ) -> Result<GcOutput, TableErr>
         ensures others { self.new ≡ set_collector self.old number (collector_at self.new number) }
-        ensures turned { Turned (prune_asks life (collector_at self.old number)) now (prune_next newest life now (collector_at self.old number)) (prune_says (collector_at self.old number)) (anew_of (collector_at self.old number)) (collector_at self.new number) (T.state table.old) (T.state table.new) result }
+        ensures turned { Turned (prune_asks life (collector_at self.old number)) now (prune_next newest life now (collector_at self.old number)) (prune_output (collector_at self.old number)) (anew_of (collector_at self.old number)) (collector_at self.new number) (T.state table.old) (T.state table.new) result }
     {
         self.all[usize::from(number % 8)].turn(alloc, table, newest, life, now)
     }

@@ -1,7 +1,7 @@
 // The intents of the entries of a row.
 ghost use Rattle.std.specs.Prelude.{◌≡◌, [], ◌∷◌, ◌++◌, IfOk, OnOk, MatchOption};
 ghost use Rattle.std.specs.Option.{option_copied, option_to_list};
-ghost use Rattle.beldi_prune.specs.Entries.{intents_of, is_other as is_other_of};
+ghost use Rattle.beldi_prune.specs.CellEntries.{intents_of, is_other as is_other_of};
 
 use beldi_row::Log;
 use beldi_value::IntentId;

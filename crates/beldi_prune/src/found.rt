@@ -1,16 +1,16 @@
 // What a log collector is to do with a row, and what a look at the row of an intent tells.
 ghost use Rattle.std.specs.Prelude.{◌≡◌, IfOk};
 ghost use Rattle.beldi_row.specs.declared.key.Kind.TheVariants as kinds;
-ghost use Rattle.beldi_walk.specs.Query.{told_of};
+ghost use Rattle.beldi_query.specs.Query.{query_reply_of};
 ghost use Rattle.beldi_prune.specs.Seat.{seat as seat_of_row};
 ghost use Rattle.beldi_prune.specs.Prune.{todo_of, is_newest as is_newest_of, is_past_row as is_past_row_of, is_recyclable as is_recyclable_of};
 
 use crate::entries::Intents;
 use crate::unlink::judge_row;
 use beldi_intent::intent_key;
-use beldi_row::{Kind, Row, RowKey, Said, is_old_row, is_past};
+use beldi_query::QueryReplyRef;
+use beldi_row::{ActReplyRef, Kind, Row, RowKey, is_old_row, is_past};
 use beldi_value::IntentId;
-use beldi_walk::Heard;
 use std::alloc::{AllocError, Global};
 
 /// What is to be done with a row.
@@ -82,12 +82,12 @@ pub(crate) fn seat(alloc: Global, key: &RowKey) -> Result<RowKey, AllocError>
 }
 
 /// Whether the intent that was looked at is gone, or finished more than a life ago.
-pub(crate) fn is_recyclable(heard: &Heard<'_>, life: u64, now: u64) -> bool
-    ensures { result ≡ is_recyclable_of life now (told_of heard.entry.now) }
+pub(crate) fn is_recyclable(heard: &QueryReplyRef<'_>, life: u64, now: u64) -> bool
+    ensures { result ≡ is_recyclable_of life now (query_reply_of heard.entry.now) }
 {
     match heard {
-        Heard::Said(Said::Absent) => true,
-        Heard::Said(Said::Row(row)) => is_past_row(row, life, now),
+        QueryReplyRef::Act(ActReplyRef::Absent) => true,
+        QueryReplyRef::Act(ActReplyRef::Row(row)) => is_past_row(row, life, now),
         _ => false,
     }
 }

@@ -1,12 +1,12 @@
 // The laws of the log collector.
-ghost use Rattle.beldi_prune.specs.Laws.{CollectorsStayRight, OnlyRecyclableRowsAreToGo, TurnsSayWhatTheyDid, NewestStays, RowsArePassedInOrder, TablesAreTurned};
+ghost use Rattle.beldi_prune.specs.PruneLaws.{CollectorsKeepTheInvariant, OnlyRecyclableRowsAreToGo, TurnsSayWhatTheyDid, NewestStays, RowsArePassedInOrder, TablesAreTurned};
 ghost use Rattle.beldi_prune.specs.Marks.{OnlyProvedRowsAreToBeMarked, OnlyMarkedRowsAreLedPast, OnlyPassedRowsAreToDangle};
 
 /// A row that a collector has begun lies past its cursor. It is the row of an intent, but of no root of the newest ticket, or a row
 /// that an intent left beside its own, or a row of an item that is not its first; of the same item it looks only at rows below that.
 /// So it is at first, as the newest ticket rises, and after each turn.
-pub fn a_collector_stays_right()
-    ensures { CollectorsStayRight }
+pub fn a_collector_keeps_its_invariant()
+    ensures { CollectorsKeepTheInvariant }
 {}
 
 /// A row that an intent left is to go only where the turn before looked at the intent's row, and found none, or a finish more
@@ -38,7 +38,7 @@ pub fn only_passed_rows_are_to_dangle()
 /// `Removed` says that the row which was to go was there, and went, and of an intent's row that it was old, and of an item's that it
 /// was adrift for more than a life. `Marked`, `Skipped` and `Dangled` say which cell of an item was set to what. Otherwise all rows
 /// stay. `Round` says that no row follows the cursor.
-pub fn a_turn_says_what_it_did()
+pub fn a_turn_outputs_what_it_did()
     ensures { TurnsSayWhatTheyDid }
 {}
 

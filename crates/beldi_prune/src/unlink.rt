@@ -1,14 +1,14 @@
 // A row of an item: what is to be done with it, and how the rows before it come to lead past it.
 ghost use Rattle.std.specs.Prelude.{◌≡◌, IfOk};
 ghost use Rattle.beldi_row.specs.Key.{row_of as row_in};
-ghost use Rattle.beldi_walk.specs.Query.{told_of};
+ghost use Rattle.beldi_query.specs.Query.{query_reply_of};
 ghost use Rattle.beldi_prune.specs.Unlink.{row_todo, item_todo, cell_todo, adrift_todo, is_did as is_did_of, told_marked as told_marked_of, told_next as told_next_of, lead_to};
 
 use crate::collector::CollectorAt;
 use crate::entries::Intents;
 use crate::found::Todo;
-use beldi_row::{Cell, Kind, Row, RowKey, Said, is_past};
-use beldi_walk::Heard;
+use beldi_query::QueryReplyRef;
+use beldi_row::{ActReplyRef, Cell, Kind, Row, RowKey, is_past};
 use std::alloc::{AllocError, Global};
 
 /// What is to be done with the row of an item that has this number. The first row stays.
@@ -65,28 +65,28 @@ fn judge_adrift(is_past: bool) -> Todo
 }
 
 /// Whether an act said that it did what it was asked for.
-pub(crate) fn is_did(heard: &Heard<'_>) -> bool
-    ensures { result ≡ is_did_of (told_of heard.entry.now) }
+pub(crate) fn is_did(heard: &QueryReplyRef<'_>) -> bool
+    ensures { result ≡ is_did_of (query_reply_of heard.entry.now) }
 {
-    matches!(heard, Heard::Said(Said::Did))
+    matches!(heard, QueryReplyRef::Act(ActReplyRef::Did))
 }
 
 /// The number of the row after one that is marked.
-pub(crate) fn told_marked(heard: &Heard<'_>) -> Option<u32>
-    ensures { result ≡ told_marked_of (told_of heard.entry.now) }
+pub(crate) fn told_marked(heard: &QueryReplyRef<'_>) -> Option<u32>
+    ensures { result ≡ told_marked_of (query_reply_of heard.entry.now) }
 {
     match heard {
-        Heard::Said(Said::Marked(to)) => Some(*to),
+        QueryReplyRef::Act(ActReplyRef::Marked(to)) => Some(*to),
         _ => None,
     }
 }
 
 /// The number of the row after the one that was looked at, if that is there.
-pub(crate) fn told_next(heard: &Heard<'_>) -> Option<Option<u32>>
-    ensures { result ≡ told_next_of (told_of heard.entry.now) }
+pub(crate) fn told_next(heard: &QueryReplyRef<'_>) -> Option<Option<u32>>
+    ensures { result ≡ told_next_of (query_reply_of heard.entry.now) }
 {
     match heard {
-        Heard::Said(Said::Row(Row::Cell(cell))) => Some(cell.next),
+        QueryReplyRef::Act(ActReplyRef::Row(Row::Cell(cell))) => Some(cell.next),
         _ => None,
     }
 }

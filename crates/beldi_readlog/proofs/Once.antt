@@ -4,21 +4,21 @@ use Rattle.std.specs.FinMap as map
 use Rattle.std.proofs.Common.{◌≡◌, ℕ, false, Option, None, Some, refl, sym, subst}
 use Rattle.beldi_value.specs.declared.value.Value.{Value}
 use Rattle.beldi_row.{specs.Key.RowKey, specs.declared.row.Row.Row, specs.declared.act.Act.Act, specs.declared.act.Act.TheVariants.Bind, specs.declared.act.Act.TheVariants.Look, specs.declared.act.Act.TheVariants.PutRead, specs.declared.act.Act.TheVariants.DropIntent, specs.declared.act.Act.TheVariants.DropRow, specs.Act.act, specs.Act.prunes, specs.Table.Rows, specs.Table.set_row, proofs.Unchanged.unchanged, proofs.Unchanged.looked}
-use Rattle.beldi_walk.{specs.Query.said, proofs.Promises.promised, proofs.Promises.at_each}
+use Rattle.beldi_query.{specs.Query.replied, proofs.Promises.promised, proofs.Promises.at_each}
 use Rattle.beldi_readlog.specs.ReadLog.{log_key, given_asks, keep_asks, given_in, given, given_of, kept_of, PutOn, GetGives, IsKept, ValuesArePutOnce, ValuesStay}
 
-given_row : (now : ℕ) (o : Option Row) → given_of (said (act Look now o).1) ≡ option_map given_in o
+given_row : (now : ℕ) (o : Option Row) → given_of (replied (act Look now o).1) ≡ option_map given_in o
 given_row now None = refl
 given_row now (Some r) = refl
 
 pub get_gives : GetGives
 get_gives home at now = promised (given_asks home at) now given_of (λ m n r. (n ≡ m) × (r ≡ given m (log_key home at))) (λ m. (looked now (log_key home at) m, given_row now (map.get m (log_key home at))))
 
-kept_there : (v : Value) (now : ℕ) (r : Row) → kept_of v (said (act (PutRead v) now (Some r)).1) ≡ record { value = given_in r; added = false }
+kept_there : (v : Value) (now : ℕ) (r : Row) → kept_of v (replied (act (PutRead v) now (Some r)).1) ≡ record { value = given_in r; added = false }
 kept_there v now (Row.ReadLog w) = refl
 kept_there v now r = refl
 
-put_at : (v : Value) (now : ℕ) (k : RowKey) (m : Rows) (o : Option Row) → map.get m k ≡ o → PutOn v k o m (set_row m k (act (PutRead v) now o).0) (kept_of v (said (act (PutRead v) now o).1))
+put_at : (v : Value) (now : ℕ) (k : RowKey) (m : Rows) (o : Option Row) → map.get m k ≡ o → PutOn v k o m (set_row m k (act (PutRead v) now o).0) (kept_of v (replied (act (PutRead v) now o).1))
 put_at v now k m None there = (refl, refl)
 put_at v now k m (Some r) there = (unchanged m k (Some r) (sym there), kept_there v now r)
 

@@ -4,7 +4,7 @@ use Rattle.std.specs.Option.{option_map}
 use Rattle.std.specs.FinMap as map
 use Rattle.beldi_value.specs.declared.{value.Value.Value, value.Value.TheVariants.Null, place.Place.Place}
 use Rattle.beldi_row.specs.{Key.RowKey, declared.key.Kind.TheVariants.ReadLog, declared.row.Row.Row, declared.act.Act.TheVariants.Look, declared.act.Act.TheVariants.PutRead, Act.here, Act.added, Act.kept, Table.Rows, Table.set_row}
-use Rattle.beldi_walk.specs.{declared.query.Query.Query, declared.query.Query.TheVariants.Act, Query.Told, Query.said, Query.may_remove, Query.rows_after, Walk.Promises}
+use Rattle.beldi_query.specs.{declared.query.Query.Query, declared.query.Query.TheVariants.Act, Query.QueryReply, Query.replied, Query.may_remove, Query.rows_after, Walk.Promises}
 use Rattle.beldi_readlog.specs.declared.read_log.{Kept.Kept, Given.Given, Keep.Keep}
 
 -- the row of what the read of a function at a place was given
@@ -24,39 +24,39 @@ given m k = option_map given_in (map.get m k)
 abbrev pub given_asks : ℕ → Place → Query
 given_asks home p = Act (log_key home p) Look
 
-abbrev pub given_of : Told → Option Value
-given_of (said (here r)) = Some (given_in r)
+abbrev pub given_of : QueryReply → Option Value
+given_of (replied (here r)) = Some (given_in r)
 given_of t = None
 
 abbrev pub keep_asks : ℕ → Place → Value → Query
 keep_asks home p v = Act (log_key home p) (PutRead v)
 
-abbrev pub kept_of : Value → Told → Kept
-kept_of v (said added) = record { value = v; added = true }
-kept_of v (said (kept w)) = record { value = w; added = false }
+abbrev pub kept_of : Value → QueryReply → Kept
+kept_of v (replied added) = record { value = v; added = true }
+kept_of v (replied (kept w)) = record { value = w; added = false }
 kept_of v t = record { value = Null; added = false }
 
 -- ---- as walks, which stand where they stood
 abbrev pub look_asks : Given → Query
 look_asks w = given_asks w.home w.at
 
-abbrev pub look_next : Given → Told → Given
+abbrev pub look_next : Given → QueryReply → Given
 look_next w t = w
 
-abbrev pub look_says : Given → Told → Option Value
-look_says w t = given_of t
+abbrev pub look_output : Given → QueryReply → Option Value
+look_output w t = given_of t
 
 abbrev pub put_asks : Keep → Query
 put_asks w = keep_asks w.home w.at w.value
 
-abbrev pub put_next : Keep → Told → Keep
+abbrev pub put_next : Keep → QueryReply → Keep
 put_next w t = w
 
 -- the value that was there, none where this one was put
-abbrev pub put_says : Keep → Told → Option Value
-put_says w (said added) = None
-put_says w (said (kept v)) = Some v
-put_says w t = Some Null
+abbrev pub put_output : Keep → QueryReply → Option Value
+put_output w (replied added) = None
+put_output w (replied (kept v)) = Some v
+put_output w t = Some Null
 
 abbrev pub kept_so : Value → Option Value → Kept
 kept_so v None = record { value = v; added = true }

@@ -1,4 +1,4 @@
-//! What reads were given, kept once a place, and the parts of it that runs share. It stands on `beldi_row` and `beldi_walk`.
+//! What reads were given, kept once a place, and the parts of it that runs share. It stands on `beldi_row` and `beldi_query`.
 //! Its definitions: `specs/ReadLog` (what a place was given, by its row; what is asked, and what is answered by what was told).
 //!
 //! Proved:

@@ -1,12 +1,12 @@
 // The value that a read was given, by its place. Each call makes one act.
 ghost use Rattle.std.specs.Prelude.{◌≡◌, true, IfOk, OnErr};
-ghost use Rattle.beldi_walk.specs.Query.{told_of, lends};
-ghost use Rattle.beldi_walk.specs.Walk.{Answered};
+ghost use Rattle.beldi_query.specs.Query.{query_reply_of, lends};
+ghost use Rattle.beldi_query.specs.Walk.{Answered};
 ghost use Rattle.beldi_readlog.specs.ReadLog.{log_key as key_of, given_asks, given_of, keep_asks, kept_of, kept_so};
 
-use beldi_row::{Act, Kind, Row, RowKey, Said, Table, TableErr};
-use beldi_value::{Apart, Place, Value, or_drop};
-use beldi_walk::{Heard, Query, Walk};
+use beldi_query::{Query, QueryReplyRef, Walk};
+use beldi_row::{Act, ActReplyRef, Kind, Row, RowKey, Table, TableErr};
+use beldi_value::{Boxed, Place, Value, or_drop};
 use std::alloc::{AllocError, Global};
 
 /// What a place has after a value was put there.
@@ -27,27 +27,27 @@ pub fn log_key(home: u16, at: Place) -> RowKey
 
 /// The value that was given, after a Look; None exactly where no row was there. A row of another kind, which no session
 /// writes there, reads as null. Out of memory only for what was lent.
-pub fn given_told(alloc: Global, heard: Heard<'_>) -> Result<Option<Value>, AllocError>
-    ensures ok { IfOk result (λ v. v ≡ given_of (told_of heard.entry)) }
-    ensures err { OnErr result (lends (told_of heard.entry) ≡ true) }
+pub fn given_told(alloc: Global, heard: QueryReplyRef<'_>) -> Result<Option<Value>, AllocError>
+    ensures ok { IfOk result (λ v. v ≡ given_of (query_reply_of heard.entry)) }
+    ensures err { OnErr result (lends (query_reply_of heard.entry) ≡ true) }
 {
     match heard {
-        Heard::Said(Said::Row(Row::ReadLog(value))) => Ok(Some(value.copy(alloc)?)),
-        Heard::Said(Said::Row(_)) => Ok(Some(Value::Null)),
+        QueryReplyRef::Act(ActReplyRef::Row(Row::ReadLog(value))) => Ok(Some(value.copy(alloc)?)),
+        QueryReplyRef::Act(ActReplyRef::Row(_)) => Ok(Some(Value::Null)),
         _ => Ok(None),
     }
 }
 
 /// What a place has after `value` was put there: a copy of it, or of the value that was there before.
-pub fn kept_told(alloc: Global, value: &Value, heard: Heard<'_>) -> Result<Kept, AllocError>
-    ensures { IfOk result (λ k. k ≡ kept_of value.now (told_of heard.entry)) }
+pub fn kept_told(alloc: Global, value: &Value, heard: QueryReplyRef<'_>) -> Result<Kept, AllocError>
+    ensures { IfOk result (λ k. k ≡ kept_of value.now (query_reply_of heard.entry)) }
 {
     match heard {
-        Heard::Said(Said::Added) => Ok(Kept {
+        QueryReplyRef::Act(ActReplyRef::Added) => Ok(Kept {
             value: value.copy(alloc)?,
             added: true,
         }),
-        Heard::Said(Said::Kept(there)) => Ok(Kept {
+        QueryReplyRef::Act(ActReplyRef::Kept(there)) => Ok(Kept {
             value: there.copy(alloc)?,
             added: false,
         }),
@@ -66,21 +66,25 @@ struct Given {
 }
 
 impl Walk for Given {
-    ghost use Rattle.beldi_readlog.specs.ReadLog.{look_asks, look_next, look_says};
+    ghost use Rattle.beldi_readlog.specs.ReadLog.{look_asks, look_next, look_output};
 
-    type Says = Option<Value>;
+    type Output = Option<Value>;
 
     ghost asks = { look_asks };
 
     ghost next = { look_next };
 
-    ghost says = { look_says };
+    ghost output = { look_output };
 
-    fn ask(&self, alloc: Global) -> Result<Apart<Query>, AllocError> {
+    fn ask(&self, alloc: Global) -> Result<Boxed<Query>, AllocError> {
         Query::look(alloc, log_key(self.home, self.at.copy(alloc)?))
     }
 
-    fn told(&mut self, alloc: Global, heard: Heard<'_>) -> Result<Option<Value>, AllocError> {
+    fn resume(
+        &mut self,
+        alloc: Global,
+        heard: QueryReplyRef<'_>,
+    ) -> Result<Option<Value>, AllocError> {
         given_told(alloc, heard)
     }
 }
@@ -113,26 +117,30 @@ struct Keep {
 }
 
 impl Walk for Keep {
-    ghost use Rattle.beldi_readlog.specs.ReadLog.{put_asks, put_next, put_says};
+    ghost use Rattle.beldi_readlog.specs.ReadLog.{put_asks, put_next, put_output};
 
-    type Says = Option<Value>;
+    type Output = Option<Value>;
 
     ghost asks = { put_asks };
 
     ghost next = { put_next };
 
-    ghost says = { put_says };
+    ghost output = { put_output };
 
-    fn ask(&self, alloc: Global) -> Result<Apart<Query>, AllocError> {
+    fn ask(&self, alloc: Global) -> Result<Boxed<Query>, AllocError> {
         let key = log_key(self.home, self.at.copy(alloc)?);
         let value = or_drop!(self.value.copy(alloc); key);
         Query::act(alloc, key, Act::PutRead { value })
     }
 
-    fn told(&mut self, alloc: Global, heard: Heard<'_>) -> Result<Option<Value>, AllocError> {
+    fn resume(
+        &mut self,
+        alloc: Global,
+        heard: QueryReplyRef<'_>,
+    ) -> Result<Option<Value>, AllocError> {
         match heard {
-            Heard::Said(Said::Added) => Ok(None),
-            Heard::Said(Said::Kept(there)) => Ok(Some(there.copy(alloc)?)),
+            QueryReplyRef::Act(ActReplyRef::Added) => Ok(None),
+            QueryReplyRef::Act(ActReplyRef::Kept(there)) => Ok(Some(there.copy(alloc)?)),
             _ => Ok(Some(Value::Null)),
         }
     }

@@ -1,13 +1,13 @@
 -- Two tables with the same rows and room answer alike.
 use Rattle.std.specs.FinMap as fin
 use Rattle.std.proofs.Common.{◌≡◌, ℕ, ◌<◌, ◌≤◌, Result, Ok, Err, IsErrOf, refl, subst, ap, sym, ◌∙◌, arith}
-use Rattle.beldi_row.specs.{Key.RowKey, Table.Rows, Table.ActedOn, Table.Rose, declared.act.Act.Act, declared.act.Said.Said, declared.table.TableErr.TableErr, declared.table.TableErr.TheVariants.OutOfMemory, declared.table.TableErr.TheVariants.Failed, declared.table.TableErr.TheVariants.Full}
+use Rattle.beldi_row.specs.{Key.RowKey, Table.Rows, Table.ActedOn, Table.Rose, declared.act.Act.Act, declared.act.ActReplyRef.ActReplyRef, declared.table.TableErr.TableErr, declared.table.TableErr.TheVariants.OutOfMemory, declared.table.TableErr.TheVariants.Failed, declared.table.TableErr.TheVariants.Full}
 use Rattle.beldi_region.specs.{RegionTable.answer_of, RegionTable.ActsAlike, RegionTable.rows_of}
 
 clash : (a b : ℕ) → a < b → b ≤ a → ⊥
 clash a b h g = omega (arith, h, g)
 
-answers : (a : Act) (now : ℕ) (k : RowKey) (room : ℕ) (m n p : Rows) (x y : Result Said TableErr) → (IsErrOf x OutOfMemory → ⊥) → (IsErrOf x Failed → ⊥) → (IsErrOf y OutOfMemory → ⊥) → (IsErrOf y Failed → ⊥)
+answers : (a : Act) (now : ℕ) (k : RowKey) (room : ℕ) (m n p : Rows) (x y : Result ActReplyRef TableErr) → (IsErrOf x OutOfMemory → ⊥) → (IsErrOf x Failed → ⊥) → (IsErrOf y OutOfMemory → ⊥) → (IsErrOf y Failed → ⊥)
     → ActedOn a now k room m n x → ActedOn a now k room m p y → (answer_of x ≡ answer_of y) × (n ≡ p)
 answers a now k room m n p (Err OutOfMemory) y nx fx ny fy h g = absurd (nx refl)
 answers a now k room m n p (Err Failed) y nx fx ny fy h g = absurd (fx refl)

@@ -2,7 +2,7 @@
 use Rattle.std.proofs.Common.{◌≡◌, ◌≢◌, ℕ, zero, suc, ◌+◌, Bool, false, List, [], ◌∷◌, map, get_or, Option, Some, None, is_some, cond, count_by, refl, sym, ap, ◌∙◌, arith}
 use Rattle.std.proofs.lemmas.List.Sums.{sum_by-cons}
 use Rattle.beldi_region.specs.declared.region.Slot.{Slot}
-use Rattle.beldi_region.specs.Slots.{seen, seen_of}
+use Rattle.beldi_region.specs.Slots.{viewed, viewed_of}
 
 -- what a place counts for
 abbrev pub weight : Bool → ℕ
@@ -45,7 +45,7 @@ module _ {A : Type 0} (p : Option A → Bool) where
         omega (arith, more x xs, more y ys, first, one_moves xs ys k (λ j n. at (suc j) (λ e. n (omega (arith, e)))))
 
 -- as many slots are seen as were written
-pub seen_count : {V : Type 0} (slots : List (Option (Slot V))) → count_by is_some (map seen_of slots) ≡ count_by is_some slots
-seen_count [] = refl
-seen_count (None ∷ rest) = omega (arith, more is_some None (map seen_of rest), seen_count rest, more is_some None rest)
-seen_count (Some s ∷ rest) = omega (arith, more is_some (Some (seen s)) (map seen_of rest), seen_count rest, more is_some (Some s) rest)
+pub viewed_count : {V : Type 0} (slots : List (Option (Slot V))) → count_by is_some (map viewed_of slots) ≡ count_by is_some slots
+viewed_count [] = refl
+viewed_count (None ∷ rest) = omega (arith, more is_some None (map viewed_of rest), viewed_count rest, more is_some None rest)
+viewed_count (Some s ∷ rest) = omega (arith, more is_some (Some (viewed s)) (map viewed_of rest), viewed_count rest, more is_some (Some s) rest)

@@ -7,10 +7,10 @@ use Rattle.slab.specs.Slab.{Slab, get, slab_len, Updates, with_value}
 use Rattle.slab.proofs.SlabLemmas.{Updates-with_value}
 use Rattle.beldi_region.specs.declared.region.Slot.{Slot}
 use Rattle.beldi_region.specs.declared.region.SlotId.{SlotId}
-use Rattle.beldi_region.specs.Region.{SeenRegion, SeenSlot, slot_at, find, is_usable, is_free_at, lasts, with_value as lent_at, PutAt, Taken, Released}
-use Rattle.beldi_region.specs.Slots.{seen, seen_of, IsFreeList, IsSound}
-use Rattle.beldi_region.proofs.Counts.{weight, seen_count}
-use Rattle.beldi_region.proofs.Seen.{OneSlot, moves, freed, puts, releases, takes, seen_found}
+use Rattle.beldi_region.specs.Region.{ViewedRegion, ViewedSlot, slot_at, find, is_usable, is_free_at, lasts, with_value as lent_at, PutAt, Taken, Released}
+use Rattle.beldi_region.specs.Slots.{viewed, viewed_of, IsFreeList, IsSound}
+use Rattle.beldi_region.proofs.Counts.{weight, viewed_count}
+use Rattle.beldi_region.proofs.Viewed.{OneSlot, moves, freed, puts, releases, takes, viewed_found}
 
 module _ {V : Type 0} where
   free_is : (o : Option V) (g : ℕ) → is_free_at o g ≡ true → (o ≡ None) × (lasts g ≡ true)
@@ -22,38 +22,38 @@ module _ {V : Type 0} where
   not_free (Some v) g h = refl
 
   -- a region over a slab, as it is seen
-  abbrev pub seen_in : Slab (Slot V) → ℕ → SeenRegion V
-  seen_in slab room = record { slots = map seen_of slab.slots; room = room }
+  abbrev pub viewed_in : Slab (Slot V) → ℕ → ViewedRegion V
+  viewed_in slab room = record { slots = map viewed_of slab.slots; room = room }
 
-  seen_at : (slab : Slab (Slot V)) (room key : ℕ) → slot_at (seen_in slab room) key ≡ seen_of (get slab key)
-  seen_at slab room key = get_or-map seen_of slab.slots key None
+  viewed_at : (slab : Slab (Slot V)) (room key : ℕ) → slot_at (viewed_in slab room) key ≡ viewed_of (get slab key)
+  viewed_at slab room key = get_or-map viewed_of slab.slots key None
 
   -- one slot changes in the slab, and so in what is seen
-  pub as_seen : (room : ℕ) (old new : Slab (Slot V)) (key : ℕ) (was is : Option (Slot V)) → get old key ≡ was → Updates old new key is → OneSlot (seen_in old room) (seen_in new room) key (seen_of was) (seen_of is)
-  as_seen room old new key was is before u =
+  pub as_viewed : (room : ℕ) (old new : Slab (Slot V)) (key : ℕ) (was is : Option (Slot V)) → get old key ≡ was → Updates old new key is → OneSlot (viewed_in old room) (viewed_in new room) key (viewed_of was) (viewed_of is)
+  as_viewed room old new key was is before u =
       record {
-        before = seen_at old room key ∙ ap seen_of before;
-        after = seen_at new room key ∙ ap seen_of u.changed;
-        others = λ other n. seen_at new room other ∙ ap seen_of (u.others other n) ∙ sym (seen_at old room other);
+        before = viewed_at old room key ∙ ap viewed_of before;
+        after = viewed_at new room key ∙ ap viewed_of u.changed;
+        others = λ other n. viewed_at new room other ∙ ap viewed_of (u.others other n) ∙ sym (viewed_at old room other);
         room = refl;
       }
 
   -- the slot of an id that has a value
-  pub slot_found : (slab : Slab (Slot V)) (room : ℕ) (id : SlotId) (s : Slot V) → get slab id.slot ≡ Some s → is_some (find (seen_in slab room) id) ≡ true → (v : V) × (s.generation ≡ id.generation) × (s.value ≡ Some v) × (find (seen_in slab room) id ≡ Some v)
+  pub slot_found : (slab : Slab (Slot V)) (room : ℕ) (id : SlotId) (s : Slot V) → get slab id.slot ≡ Some s → is_some (find (viewed_in slab room) id) ≡ true → (v : V) × (s.generation ≡ id.generation) × (s.value ≡ Some v) × (find (viewed_in slab room) id ≡ Some v)
   slot_found slab room id s at found =
-      let has = seen_found (seen_in slab room) id found in
-      let same : seen s ≡ record { generation = id.generation; value = Some has.0 } = let both = sym (ap seen_of at) ∙ sym (seen_at slab room id.slot) ∙ has.1 in cc in
-      (has.0, ap (λ (t : SeenSlot V). t.generation) same, ap (λ (t : SeenSlot V). t.value) same, has.2)
+      let has = viewed_found (viewed_in slab room) id found in
+      let same : viewed s ≡ record { generation = id.generation; value = Some has.0 } = let both = sym (ap viewed_of at) ∙ sym (viewed_at slab room id.slot) ∙ has.1 in cc in
+      (has.0, ap (λ (t : ViewedSlot V). t.generation) same, ap (λ (t : ViewedSlot V). t.value) same, has.2)
 
   -- its value is lent, and this one is left
-  pub lent : (slab : Slab (Slot V)) (room : ℕ) (id : SlotId) (s : Slot V) (w : V) → s.generation ≡ id.generation → seen_in (with_value slab id.slot (record { generation = s.generation; value = Some w; next = s.next })) room ≡ lent_at (seen_in slab room) id w
+  pub lent : (slab : Slab (Slot V)) (room : ℕ) (id : SlotId) (s : Slot V) (w : V) → s.generation ≡ id.generation → viewed_in (with_value slab id.slot (record { generation = s.generation; value = Some w; next = s.next })) room ≡ lent_at (viewed_in slab room) id w
   lent slab room id s w same = rw (map-set, same) refl
 
   -- its value is taken out
-  pub takes_from : (old : Slab (Slot V)) (room : ℕ) (id : SlotId) (next : Option ℕ) (s : Slot V) (v : V) → get old id.slot ≡ Some s → s.generation ≡ id.generation → s.value ≡ Some v → Taken (seen_in old room) (seen_in (with_value old id.slot (record { generation = s.generation + 1; value = None; next = next })) room) id v
+  pub takes_from : (old : Slab (Slot V)) (room : ℕ) (id : SlotId) (next : Option ℕ) (s : Slot V) (v : V) → get old id.slot ≡ Some s → s.generation ≡ id.generation → s.value ≡ Some v → Taken (viewed_in old room) (viewed_in (with_value old id.slot (record { generation = s.generation + 1; value = None; next = next })) room) id v
   takes_from old room id next s v at same taken =
       let is : Slot V = record { generation = s.generation + 1; value = None; next = next } in
-      let one = as_seen room old (with_value old id.slot is) id.slot (Some s) (Some is) at (Updates-with_value old id.slot is (ap is_some at)) in
+      let one = as_viewed room old (with_value old id.slot is) id.slot (Some s) (Some is) at (Updates-with_value old id.slot is (ap is_some at)) in
       takes _ _ id v (record {
         before = one.before ∙ ap₂ (λ g o. Some (record { generation = g; value = o })) same taken;
         after = one.after ∙ ap (λ g. Some (record { generation = g + 1; value = None })) same;
@@ -62,10 +62,10 @@ module _ {V : Type 0} where
       })
 
   -- .. and the slot keeps its generation
-  pub releases_from : (old : Slab (Slot V)) (room : ℕ) (id : SlotId) (next : Option ℕ) (s : Slot V) (v : V) → get old id.slot ≡ Some s → s.generation ≡ id.generation → s.value ≡ Some v → lasts s.generation ≡ true → Released (seen_in old room) (seen_in (with_value old id.slot (record { generation = s.generation; value = None; next = next })) room) id v
+  pub releases_from : (old : Slab (Slot V)) (room : ℕ) (id : SlotId) (next : Option ℕ) (s : Slot V) (v : V) → get old id.slot ≡ Some s → s.generation ≡ id.generation → s.value ≡ Some v → lasts s.generation ≡ true → Released (viewed_in old room) (viewed_in (with_value old id.slot (record { generation = s.generation; value = None; next = next })) room) id v
   releases_from old room id next s v at same taken last =
       let is : Slot V = record { generation = s.generation; value = None; next = next } in
-      let one = as_seen room old (with_value old id.slot is) id.slot (Some s) (Some is) at (Updates-with_value old id.slot is (ap is_some at)) in
+      let one = as_viewed room old (with_value old id.slot is) id.slot (Some s) (Some is) at (Updates-with_value old id.slot is (ap is_some at)) in
       releases _ _ id v (subst (λ g. lasts g ≡ true) same last) (record {
         before = one.before ∙ ap₂ (λ g o. Some (record { generation = g; value = o })) same taken;
         after = one.after ∙ ap (λ g. Some (record { generation = g; value = None })) same;
@@ -95,29 +95,29 @@ module _ {V : Type 0} where
       (p.0, p.1, p.2, u.others p.0 other ∙ p.3, p.4, list_kept old new key is u n p.1.next (λ m below. off m (omega arith)) p.5)
 
   -- the first slot of a list may be used again, and the list goes on behind it
-  first_free : (slots : List (Option (Slot V))) (n key : ℕ) (s : Slot V) → get_or slots key None ≡ Some s → IsFreeList slots n (Some key) → (m : ℕ) × (n ≡ suc m) × (is_usable (Some (seen s)) ≡ true) × IsFreeList slots m s.next
+  first_free : (slots : List (Option (Slot V))) (n key : ℕ) (s : Slot V) → get_or slots key None ≡ Some s → IsFreeList slots n (Some key) → (m : ℕ) × (n ≡ suc m) × (is_usable (Some (viewed s)) ≡ true) × IsFreeList slots m s.next
   first_free slots zero key s at p = absurd (cc)
   first_free slots (suc m) key s at p =
       let a = p.2 in
       let b = p.3 in
       let same : p.0 ≡ key = cc in
       let slot : p.1 ≡ s = cc in
-      (m, refl, subst (λ t. is_usable (Some (seen t)) ≡ true) slot p.4, subst (λ t. IsFreeList slots m t.next) slot p.5)
+      (m, refl, subst (λ t. is_usable (Some (viewed t)) ≡ true) slot p.4, subst (λ t. IsFreeList slots m t.next) slot p.5)
 
   -- a slot that may not be used again is on no list
-  off_list : (slots : List (Option (Slot V))) (key : ℕ) (was : Option (Slot V)) → get_or slots key None ≡ was → is_usable (seen_of was) ≡ false → (m : ℕ) → IsFreeList slots (suc m) (Some key) → ⊥
+  off_list : (slots : List (Option (Slot V))) (key : ℕ) (was : Option (Slot V)) → get_or slots key None ≡ was → is_usable (viewed_of was) ≡ false → (m : ℕ) → IsFreeList slots (suc m) (Some key) → ⊥
   off_list slots key was at off m p =
       let a = p.2 in
       let same : p.0 ≡ key = cc in
       let slot : was ≡ Some p.1 = sym at ∙ ap (λ k. get_or slots k None) (sym same) ∙ p.3 in
-      true≢false (sym p.4 ∙ ap (λ o. is_usable (seen_of o)) (sym slot) ∙ off)
+      true≢false (sym p.4 ∙ ap (λ o. is_usable (viewed_of o)) (sym slot) ∙ off)
 
   pub none_free : (slots : List (Option (Slot V))) (n : ℕ) → IsFreeList slots n None → n ≡ 0
   none_free slots zero p = refl
   none_free slots (suc n) p = absurd (let some = p.2 in cc)
 
   -- a slot changes, and the list of free slots is this one now
-  sound_then : (old new : Slab (Slot V)) (room key : ℕ) (first after : Option ℕ) (is : Slot V) → IsSound old room first → Updates old new key (Some is) → new.capacity ≡ old.capacity → (is_some is.value ≡ true → lasts is.generation ≡ true) → IsFreeList new.slots (count_by is_usable (map seen_of new.slots)) after → IsSound new room after
+  sound_then : (old new : Slab (Slot V)) (room key : ℕ) (first after : Option ℕ) (is : Slot V) → IsSound old room first → Updates old new key (Some is) → new.capacity ≡ old.capacity → (is_some is.value ≡ true → lasts is.generation ≡ true) → IsFreeList new.slots (count_by is_usable (map viewed_of new.slots)) after → IsSound new room after
   sound_then old new room key first after is h u capacity here free =
       record {
         fits = omega (arith, capacity, h.fits);
@@ -131,13 +131,13 @@ module _ {V : Type 0} where
         free = free;
       }
 
-  usable_moves : (old new : Slab (Slot V)) (key : ℕ) (was is : Option (Slot V)) → get old key ≡ was → Updates old new key is → count_by is_usable (map seen_of new.slots) + weight (is_usable (seen_of was)) ≡ count_by is_usable (map seen_of old.slots) + weight (is_usable (seen_of is))
-  usable_moves old new key was is at u = moves is_usable refl (seen_in old 0) (seen_in new 0) key (seen_of was) (seen_of is) (as_seen 0 old new key was is at u)
+  usable_moves : (old new : Slab (Slot V)) (key : ℕ) (was is : Option (Slot V)) → get old key ≡ was → Updates old new key is → count_by is_usable (map viewed_of new.slots) + weight (is_usable (viewed_of was)) ≡ count_by is_usable (map viewed_of old.slots) + weight (is_usable (viewed_of is))
+  usable_moves old new key was is at u = moves is_usable refl (viewed_in old 0) (viewed_in new 0) key (viewed_of was) (viewed_of is) (as_viewed 0 old new key was is at u)
 
   -- a slot changes that may not be used again, neither before nor after
-  pub sound_beside : (old new : Slab (Slot V)) (room key : ℕ) (first : Option ℕ) (was : Option (Slot V)) (is : Slot V) → IsSound old room first → get old key ≡ was → Updates old new key (Some is) → new.capacity ≡ old.capacity → (is_some is.value ≡ true → lasts is.generation ≡ true) → is_usable (seen_of was) ≡ false → is_usable (Some (seen is)) ≡ false → IsSound new room first
+  pub sound_beside : (old new : Slab (Slot V)) (room key : ℕ) (first : Option ℕ) (was : Option (Slot V)) (is : Slot V) → IsSound old room first → get old key ≡ was → Updates old new key (Some is) → new.capacity ≡ old.capacity → (is_some is.value ≡ true → lasts is.generation ≡ true) → is_usable (viewed_of was) ≡ false → is_usable (Some (viewed is)) ≡ false → IsSound new room first
   sound_beside old new room key first was is h at u capacity here before after =
-      let count : count_by is_usable (map seen_of old.slots) ≡ count_by is_usable (map seen_of new.slots) = omega (arith, usable_moves old new key was (Some is) at u, ap weight before, ap weight after) in
+      let count : count_by is_usable (map viewed_of old.slots) ≡ count_by is_usable (map viewed_of new.slots) = omega (arith, usable_moves old new key was (Some is) at u, ap weight before, ap weight after) in
       sound_then old new room key first first is h u capacity here (list_kept old new key (Some is) u _ first (λ m _. off_list old.slots key was at before m) (subst (λ n. IsFreeList old.slots n first) count h.free))
 
   -- the value of a slot is lent
@@ -153,7 +153,7 @@ module _ {V : Type 0} where
       let free = first_free old.slots _ key s at h.free in
       let whole = subst (λ n. IsFreeList old.slots n (Some key)) free.1 h.free in
       let list = list_kept old new key (Some is) u free.0 s.next (λ j below again. omega (arith, below, one_length old.slots (suc j) (suc free.0) (Some key) again whole)) free.3 in
-      let count : free.0 ≡ count_by is_usable (map seen_of new.slots) = omega (arith, usable_moves old new key (Some s) (Some is) at u, ap weight free.2, ap weight (not_free is.value is.generation taken), free.1) in
+      let count : free.0 ≡ count_by is_usable (map viewed_of new.slots) = omega (arith, usable_moves old new key (Some s) (Some is) at u, ap weight free.2, ap weight (not_free is.value is.generation taken), free.1) in
       sound_then old new room key (Some key) s.next is h u refl (λ _. ap lasts same ∙ (free_is s.value s.generation free.2).1) (subst (λ n. IsFreeList new.slots n s.next) count list)
 
   -- a slot is emptied, and is the first free one where it may be used again
@@ -166,7 +166,7 @@ module _ {V : Type 0} where
       u : Updates old new key (Some is)
       u = Updates-with_value old key is (ap is_some at)
 
-      was : is_usable (Some (seen s)) ≡ false
+      was : is_usable (Some (viewed s)) ≡ false
       was = not_free s.value s.generation taken
 
       here : is_some is.value ≡ true → lasts is.generation ≡ true
@@ -178,35 +178,35 @@ module _ {V : Type 0} where
           subst (IsSound new room) begins (sound_beside old new room key first (Some s) is h at u refl here was (ap (λ o. is_free_at o is.generation) gone ∙ high))
       by_lasting true low =
           let begins : after ≡ Some key = free ∙ ap (λ b. if b then Some key else first) low in
-          let usable : is_usable (Some (seen is)) ≡ true = ap (λ o. is_free_at o is.generation) gone ∙ low in
-          let count : suc (count_by is_usable (map seen_of old.slots)) ≡ count_by is_usable (map seen_of new.slots) = omega (arith, usable_moves old new key (Some s) (Some is) at u, ap weight was, ap weight usable) in
+          let usable : is_usable (Some (viewed is)) ≡ true = ap (λ o. is_free_at o is.generation) gone ∙ low in
+          let count : suc (count_by is_usable (map viewed_of old.slots)) ≡ count_by is_usable (map viewed_of new.slots) = omega (arith, usable_moves old new key (Some s) (Some is) at u, ap weight was, ap weight usable) in
           let list = list_kept old new key (Some is) u _ first (λ m _. off_list old.slots key (Some s) at was m) h.free in
           sound_then old new room key first after is h u refl here (subst (λ n. IsFreeList new.slots n after) count (key, is, begins, u.changed, usable, subst (IsFreeList new.slots _) (sym next) list))
 
   -- .. and a value is put into it
-  pub puts_again : (old : Slab (Slot V)) (room key : ℕ) (s is : Slot V) (v : V) → IsSound old room (Some key) → get old key ≡ Some s → is.generation ≡ s.generation → is.value ≡ Some v → PutAt (seen_in old room) (seen_in (with_value old key is) room) (record { slot = key; generation = s.generation }) v
+  pub puts_again : (old : Slab (Slot V)) (room key : ℕ) (s is : Slot V) (v : V) → IsSound old room (Some key) → get old key ≡ Some s → is.generation ≡ s.generation → is.value ≡ Some v → PutAt (viewed_in old room) (viewed_in (with_value old key is) room) (record { slot = key; generation = s.generation }) v
   puts_again old room key s is v h at same taken =
       let new = with_value old key is in
       let u = Updates-with_value old key is (ap is_some at) in
-      let one = as_seen room old new key (Some s) (Some is) at u in
+      let one = as_viewed room old new key (Some s) (Some is) at u in
       let usable = (first_free old.slots _ key s at h.free).2 in
-      let written = moves is_some refl _ _ key (Some (seen s)) (Some (seen is)) one in
-      puts (seen_in old room) (seen_in new room) (record { slot = key; generation = s.generation }) v (Some (seen s)) (record {
+      let written = moves is_some refl _ _ key (Some (viewed s)) (Some (viewed is)) one in
+      puts (viewed_in old room) (viewed_in new room) (record { slot = key; generation = s.generation }) v (Some (viewed s)) (record {
         before = one.before;
         after = one.after ∙ ap₂ (λ g o. Some (record { generation = g; value = o })) same taken;
         others = one.others;
         room = refl;
-      }) (λ g. freed g (seen s) (free_is s.value s.generation usable).0) (λ g later. later) (omega (arith, written, usable_moves old new key (Some s) (Some is) at u, ap weight usable, ap weight (not_free is.value is.generation (ap is_some taken))))
+      }) (λ g. freed g (viewed s) (free_is s.value s.generation usable).0) (λ g later. later) (omega (arith, written, usable_moves old new key (Some s) (Some is) at u, ap weight usable, ap weight (not_free is.value is.generation (ap is_some taken))))
 
   -- a value is put into a slot that was not used yet
-  pub puts_first : (old new : Slab (Slot V)) (room key : ℕ) (is : Slot V) (v : V) → get old key ≡ None → Updates old new key (Some is) → is ≡ record { generation = 0; value = Some v; next = None } → slab_len old < room → PutAt (seen_in old room) (seen_in new room) (record { slot = key; generation = 0 }) v
+  pub puts_first : (old new : Slab (Slot V)) (room key : ℕ) (is : Slot V) (v : V) → get old key ≡ None → Updates old new key (Some is) → is ≡ record { generation = 0; value = Some v; next = None } → slab_len old < room → PutAt (viewed_in old room) (viewed_in new room) (record { slot = key; generation = 0 }) v
   puts_first old new room key is v at u first some =
-      let one = as_seen room old new key None (Some is) at u in
-      let written = moves is_some refl _ _ key None (Some (seen is)) one in
-      let after = ap (λ t. is_usable (Some (seen t))) first in
-      puts (seen_in old room) (seen_in new room) (record { slot = key; generation = 0 }) v None (record {
+      let one = as_viewed room old new key None (Some is) at u in
+      let written = moves is_some refl _ _ key None (Some (viewed is)) one in
+      let after = ap (λ t. is_usable (Some (viewed t))) first in
+      puts (viewed_in old room) (viewed_in new room) (record { slot = key; generation = 0 }) v None (record {
         before = one.before;
-        after = one.after ∙ ap (λ t. Some (seen t)) first;
+        after = one.after ∙ ap (λ t. Some (viewed t)) first;
         others = one.others;
         room = refl;
-      }) (λ g. refl) (λ g later. absurd later) (omega (arith, written, usable_moves old new key None (Some is) at u, ap weight after, seen_count old.slots, some))
+      }) (λ g. refl) (λ g later. absurd later) (omega (arith, written, usable_moves old new key None (Some is) at u, ap weight after, viewed_count old.slots, some))

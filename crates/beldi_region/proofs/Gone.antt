@@ -4,15 +4,15 @@ use Rattle.std.specs.FinMap as fin
 use Rattle.std.proofs.lemmas.List.{get_or-map}
 use Rattle.std.proofs.lemmas.List.Elements.{All-from_recursion}
 use Rattle.std.proofs.Common.{◌≡◌, ◌≢◌, ℕ, ◌+◌, ◌<◌, true, false, cond, List, [], ◌∷◌, length, map, Option, Some, None, is_some, IsTrue, refl, subst, ap, sym, ◌∙◌, slice_index_or, remove, option_map, arith, if◌then◌else◌}
-use Rattle.beldi_row.{specs.Key.RowKey, specs.Key.key_cmp, specs.KeyOrder.key_total, specs.KeyOrder.key_exact, specs.declared.row.Row.Row, proofs.Rows.one_gone}
-use Rattle.beldi_region.specs.{Region.SeenRegion, Region.find, Region.Released, Order.pair_of, Order.pair_at, Order.pairs, Order.rows_in, Order.seat, Order.slot_of, Order.side, Order.IsGap, Order.IsOrdered, Order.IsHeld, Order.IsListed, Order.IsWithout, declared.region.SlotId.SlotId, declared.order.Entry.Entry}
-use Rattle.beldi_region.proofs.{Lists.all_map, Lists.all_both, Lists.map_same, Lists.map_removed, Lists.all_removed, Lists.length_removed, Lists.rising_removed, Lists.lookup_removed, Lists.lookup_gone, Lists.lookup_here, Lists.unpassed, Held.nowhere, Held.not_none, Held.some_same, Held.tied, Held.tied_self, Held.side_of, Held.some_of, Held.taken_all, Held.absent_slot, Held.by_slot, Held.keys_seats, Held.length_keys, Held.key_of}
+use Rattle.beldi_row.{specs.Key.RowKey, specs.Key.key_cmp, specs.KeyOrder.key_total, specs.KeyOrder.key_exact, specs.declared.row.Row.Row, proofs.TableRows.one_gone}
+use Rattle.beldi_region.specs.{Region.ViewedRegion, Region.find, Region.Released, SlotOrder.pair_of, SlotOrder.pair_at, SlotOrder.pairs, SlotOrder.rows_in, SlotOrder.seat, SlotOrder.slot_of, SlotOrder.side, SlotOrder.IsGap, SlotOrder.IsOrdered, SlotOrder.IsHeld, SlotOrder.IsListed, SlotOrder.IsWithout, declared.region.SlotId.SlotId, declared.order.Entry.Entry}
+use Rattle.beldi_region.proofs.{RegionLists.all_map, RegionLists.all_both, RegionLists.map_same, RegionLists.map_removed, RegionLists.all_removed, RegionLists.length_removed, RegionLists.rising_removed, RegionLists.lookup_removed, RegionLists.lookup_gone, RegionLists.lookup_here, RegionLists.unpassed, Held.nowhere, Held.not_none, Held.some_same, Held.tied, Held.tied_self, Held.side_of, Held.some_of, Held.taken_all, Held.absent_slot, Held.by_slot, Held.keys_seats, Held.length_keys, Held.key_of}
 
 abbrev counted : Option SlotId → ℕ
 counted o = if is_some o then 1 else 0
 
 -- ---- the slots without that of a key
-module _ (r : SeenRegion Entry) (k : RowKey) where
+module _ (r : ViewedRegion Entry) (k : RowKey) where
   -- no slot has the key
   apart : (ids : List SlotId) → slot_of r ids k ≡ None → AllByRecursion (λ j. is_at (key_cmp k) (pair_at r j).0 ≡ false) ids
   apart [] h = tt
@@ -65,11 +65,11 @@ module _ (r : SeenRegion Entry) (k : RowKey) where
           ap (slot_of r ids) key ∙ sym (ap (λ z. slot_of r ids z.0) is) ∙ lookup_here key_total p (map (seat r) ids) (seat r nowhere) sorted (omega (arith, less, many)) ∙ ap (λ z. Some z.1) is
 
 -- ---- the row of a slot was taken out
-module _ (r s : SeenRegion Entry) (ids less : List SlotId) (id : SlotId) (x : Entry) (out : Released r s id x) (w : IsWithout r x.key ids less) where
+module _ (r s : ViewedRegion Entry) (ids less : List SlotId) (id : SlotId) (x : Entry) (out : Released r s id x) (w : IsWithout r x.key ids less) where
   others_stay : AllByRecursion (λ j. find s j ≡ find r j) less
   others_stay =
       all_map {P = λ j. is_at (key_cmp x.key) (pair_at r j).0 ≡ false} {Q = λ j. find s j ≡ find r j}
-      (λ j a. out.beside.others j (λ e. let clash : false ≡ true = sym a ∙ ap (λ i. is_at (key_cmp x.key) (pair_at r i).0) e ∙ ap (λ o. is_at (key_cmp x.key) (pair_of o).0) out.was ∙ tied_self x.key in cc))
+      (λ j a. out.frame.others j (λ e. let clash : false ≡ true = sym a ∙ ap (λ i. is_at (key_cmp x.key) (pair_at r i).0) e ∙ ap (λ o. is_at (key_cmp x.key) (pair_of o).0) out.was ∙ tied_self x.key in cc))
       less (apart r x.key less w.none)
 
   pairs_stay : pairs s less ≡ pairs r less
@@ -91,7 +91,7 @@ module _ (r s : SeenRegion Entry) (ids less : List SlotId) (id : SlotId) (x : En
   other j e at = λ same. not_none e (sym out.gone ∙ ap (find s) (sym same) ∙ at)
 
   was_there : (j : SlotId) (e : Entry) → find s j ≡ Some e → find r j ≡ Some e
-  was_there j e at = sym (out.beside.others j (other j e at)) ∙ at
+  was_there j e at = sym (out.frame.others j (other j e at)) ∙ at
 
   key_apart : (all : List SlotId) → IsHeld r all → (j : SlotId) (e : Entry) → find s j ≡ Some e → is_at (key_cmp e.key) x.key ≡ false
   key_apart all h j e at = (elim (is_at (key_cmp e.key) x.key) as (λ b. is_at (key_cmp e.key) x.key ≡ b → b ≡ false) [
@@ -103,7 +103,7 @@ module _ (r s : SeenRegion Entry) (ids less : List SlotId) (id : SlotId) (x : En
   held_gone h =
       let one = out.spaces in
       let all = h.count in
-      let room = out.beside.room in
+      let room = out.frame.room in
       let long = w.count in
       let was = ap counted (h.seated id x out.was) in
       record {

@@ -8,11 +8,11 @@ use Rattle.std.proofs.lemmas.Option.{slice_get-map, slice_get_within, get_or_fro
 use lib.ListN.{length-map}
 use Rattle.std.proofs.lemmas.List.Elements.{All-from_recursion, recursion_from_All}
 use Rattle.std.proofs.Common.{◌≡◌, ◌≢◌, ◌⊎◌, inl, inr, ℕ, ◌+◌, ◌-◌, ◌<◌, Bool, true, false, cond, List, [], ◌∷◌, length, map, Option, Some, None, Ok, is_some, IsTrue, IfSome, refl, subst, ap, sym, ◌∙◌, slice_index_or, slice_get, insert, option_map, arith, true≢false}
-use Rattle.beldi_row.{specs.Key.RowKey, specs.Key.key_cmp, specs.KeyOrder.key_total, specs.KeyOrder.key_exact, specs.Table.first_above, specs.Table.next_row, specs.Table.LeadsOn, specs.Act.Changes, specs.Act.drops, specs.declared.row.Row.Row, specs.declared.act.Act.Act, specs.declared.act.Change.Change, proofs.Rows.get_rows, proofs.Rows.one_set, proofs.Rows.entries_rows, proofs.Rows.len_rows}
+use Rattle.beldi_row.{specs.Key.RowKey, specs.Key.key_cmp, specs.KeyOrder.key_total, specs.KeyOrder.key_exact, specs.Table.first_above, specs.Table.next_row, specs.Table.LeadsOn, specs.Act.Changes, specs.Act.drops, specs.declared.row.Row.Row, specs.declared.act.Act.Act, specs.declared.act.Change.Change, proofs.TableRows.get_rows, proofs.TableRows.one_set, proofs.TableRows.entries_rows, proofs.TableRows.len_rows}
 use Rattle.beldi_value.specs.declared.place.Place.{Place}
 use Rattle.beldi_table.{specs.MapTable.ChangedOn, proofs.Changes.there}
-use Rattle.beldi_region.specs.{Region.SeenRegion, Region.find, Region.spaces, Region.PutAt, Region.Changed, Order.pair_of, Order.pair_at, Order.pairs, Order.rows_in, Order.seat, Order.slot_of, Order.side, Order.IsPast, Order.IsGap, Order.IsOrdered, Order.IsHeld, Follows.Follows, declared.region.SlotId.SlotId, declared.order.Entry.Entry}
-use Rattle.beldi_region.proofs.{Seen.same_id, Lists.all_map, Lists.any_default, Lists.map_same, Lists.map_inserted, Lists.all_inserted, Lists.length_inserted, Lists.IsBetween, Lists.rising_inserted, Lists.absent, Lists.lookup_inserted, Past.IsFirstPast, Past.first_at, Past.less_of}
+use Rattle.beldi_region.specs.{Region.ViewedRegion, Region.find, Region.spaces, Region.PutAt, Region.Changed, SlotOrder.pair_of, SlotOrder.pair_at, SlotOrder.pairs, SlotOrder.rows_in, SlotOrder.seat, SlotOrder.slot_of, SlotOrder.side, SlotOrder.IsPast, SlotOrder.IsGap, SlotOrder.IsOrdered, SlotOrder.IsHeld, Follows.Follows, declared.region.SlotId.SlotId, declared.order.Entry.Entry}
+use Rattle.beldi_region.proofs.{Viewed.same_id, RegionLists.all_map, RegionLists.any_default, RegionLists.map_same, RegionLists.map_inserted, RegionLists.all_inserted, RegionLists.length_inserted, RegionLists.IsBetween, RegionLists.rising_inserted, RegionLists.absent, RegionLists.lookup_inserted, Past.IsFirstPast, Past.first_at, Past.less_of}
 
 pub nowhere : SlotId
 nowhere = record { slot = 0; generation = 0 }
@@ -54,11 +54,11 @@ pub some_of : (e : Option Entry) → IsTrue (is_some e) → (x : Entry) × (e �
 some_of None h = cc
 some_of (Some x) h = (x, refl)
 
-pub taken_all : (r : SeenRegion Entry) (ids : List SlotId) → IsOrdered r ids → AllByRecursion (λ j. IsTrue (is_some (find r j))) ids
+pub taken_all : (r : ViewedRegion Entry) (ids : List SlotId) → IsOrdered r ids → AllByRecursion (λ j. IsTrue (is_some (find r j))) ids
 taken_all r ids h = recursion_from_All (λ j. IsTrue (is_some (find r j))) ids h.taken
 
 -- a slot that stands at a place has a row
-pub taken_at : (r : SeenRegion Entry) (ids : List SlotId) (i : ℕ) (id : SlotId) → IsOrdered r ids → slice_get ids i ≡ Some id → find r id ≡ None → ⊥
+pub taken_at : (r : ViewedRegion Entry) (ids : List SlotId) (i : ℕ) (id : SlotId) → IsOrdered r ids → slice_get ids i ≡ Some id → find r id ≡ None → ⊥
 taken_at r ids i id h at gone =
     let there : IsTrue (is_some (find r (slice_index_or ids i id))) = h.taken i id (slice_get_within ids i id at) in
     let none : is_some (find r (slice_index_or ids i id)) ≡ false = ap (λ j. is_some (find r j)) (get_or_from_slice_get ids i id id at) ∙ ap is_some gone in
@@ -70,7 +70,7 @@ greater Equal h n = cc
 greater Greater h n = refl
 
 -- a place past a key, where the slot before it has not this key
-pub gap_past : (r : SeenRegion Entry) (ids : List SlotId) (k : RowKey) (p : ℕ) → IsPast r ids k p → ((j : ℕ) (d : SlotId) → j + 1 ≡ p → is_eq (side k (find r (slice_index_or ids j d))) ≡ false) → IsGap r ids k p
+pub gap_past : (r : ViewedRegion Entry) (ids : List SlotId) (k : RowKey) (p : ℕ) → IsPast r ids k p → ((j : ℕ) (d : SlotId) → j + 1 ≡ p → is_eq (side k (find r (slice_index_or ids j d))) ≡ false) → IsGap r ids k p
 gap_past r ids k p h n =
     record {
       fits = h.fits;
@@ -78,14 +78,14 @@ gap_past r ids k p h n =
       above = λ d l. less_of _ (h.above d l);
     }
 
-pub gap_before : (r : SeenRegion Entry) (ids : List SlotId) (k : RowKey) (p : ℕ) (id : SlotId) → IsPast r ids k p → 0 < p → id ≡ slice_index_or ids (p - 1) id → is_eq (side k (find r id)) ≡ false → IsGap r ids k p
+pub gap_before : (r : ViewedRegion Entry) (ids : List SlotId) (k : RowKey) (p : ℕ) (id : SlotId) → IsPast r ids k p → 0 < p → id ≡ slice_index_or ids (p - 1) id → is_eq (side k (find r id)) ≡ false → IsGap r ids k p
 gap_before r ids k p id h some at n =
     gap_past r ids k p h (λ j d e.
     let fits = h.fits in
     let j_is : p - 1 ≡ j = omega (arith, e, some) in
     ap (λ i. is_eq (side k (find r i))) (any_default ids j d id (omega (arith, e, fits)) ∙ sym (at ∙ ap (λ i. slice_index_or ids i id) j_is)) ∙ n)
 
-module _ (r : SeenRegion Entry) where
+module _ (r : ViewedRegion Entry) where
   -- the row with a key is that of the slot with it
   pub by_slot : (ids : List SlotId) (q : RowKey) → lookup (is_at (key_cmp q)) (pairs r ids) ≡ option_map (λ id. (pair_at r id).1) (slot_of r ids q)
   by_slot [] q = refl
@@ -167,7 +167,7 @@ module _ (r : SeenRegion Entry) where
   row_at ids id x h at = by_slot ids x.key ∙ ap (option_map (λ i. (pair_at r i).1)) (h.seated id x at) ∙ ap (λ e. Some (pair_of e).1) at
 
 -- no slot is taken
-pub held_none : (r : SeenRegion Entry) → ((id : SlotId) → find r id ≡ None) → spaces r ≡ r.room → IsHeld r []
+pub held_none : (r : ViewedRegion Entry) → ((id : SlotId) → find r id ≡ None) → spaces r ≡ r.room → IsHeld r []
 unfolding IsStrictlySortedBy
 held_none r none all =
     record {
@@ -177,14 +177,14 @@ held_none r none all =
     }
 
 -- ---- one row is changed
-module _ (r s : SeenRegion Entry) (ids : List SlotId) (id : SlotId) (x y : Entry) (h : IsHeld r ids) (was : find r id ≡ Some x) (c : Changed r s id y) (same : y.key ≡ x.key) where
+module _ (r s : ViewedRegion Entry) (ids : List SlotId) (id : SlotId) (x y : Entry) (h : IsHeld r ids) (was : find r id ≡ Some x) (c : Changed r s id y) (same : y.key ≡ x.key) where
   here : pair_at s id ≡ (x.key, y.row)
   here = ap pair_of c.found ∙ ap (λ k. (k, y.row)) same
 
   pub key_kept : (j : SlotId) → (pair_at s j).0 ≡ (pair_at r j).0
   key_kept j = elim (same_or j id) [
     | inl e ↦ ap (λ i. (pair_at s i).0) e ∙ ap (λ p. p.0) here ∙ sym (ap (λ p. (pair_of p).0) was) ∙ ap (λ i. (pair_at r i).0) (sym e)
-    | inr n ↦ ap (λ p. (pair_of p).0) (c.beside.others j n)
+    | inr n ↦ ap (λ p. (pair_of p).0) (c.frame.others j n)
   ]
 
   slots_kept : (q : RowKey) → slot_of s ids q ≡ slot_of r ids q
@@ -197,7 +197,7 @@ module _ (r s : SeenRegion Entry) (ids : List SlotId) (id : SlotId) (x y : Entry
   pub taken_kept : (j : SlotId) → is_some (find s j) ≡ is_some (find r j)
   taken_kept j = elim (same_or j id) [
     | inl e ↦ ap (λ i. is_some (find s i)) e ∙ ap is_some c.found ∙ sym (ap is_some was) ∙ ap (λ i. is_some (find r i)) (sym e)
-    | inr n ↦ ap is_some (c.beside.others j n)
+    | inr n ↦ ap is_some (c.frame.others j n)
   ]
 
   pub held_changed : IsHeld s ids
@@ -209,9 +209,9 @@ module _ (r s : SeenRegion Entry) (ids : List SlotId) (id : SlotId) (x y : Entry
         };
         seated = λ j e at. slots_kept e.key ∙ (elim (same_or j id) [
           | inl g ↦ ap (slot_of r ids) (some_key e y (sym at ∙ ap (find s) g ∙ c.found) ∙ same) ∙ h.seated id x was ∙ ap (λ i. Some i) (sym g)
-          | inr n ↦ h.seated j e (sym (c.beside.others j n) ∙ at)
+          | inr n ↦ h.seated j e (sym (c.frame.others j n) ∙ at)
         ]);
-        count = ap (λ n. length ids + n) c.spaces ∙ h.count ∙ sym c.beside.room;
+        count = ap (λ n. length ids + n) c.spaces ∙ h.count ∙ sym c.frame.room;
       }
     where
       some_key : (a b : Entry) → Some a ≡ Some b → a.key ≡ b.key
@@ -229,13 +229,13 @@ module _ (r s : SeenRegion Entry) (ids : List SlotId) (id : SlotId) (x y : Entry
         | inl g ↦
             let ties : is_at (key_cmp q) x.key ≡ true = sym (ap (λ p. is_at (key_cmp q) (pair_of p).0) (ap (find r) g ∙ was)) ∙ slot_tied r ids q j at in
             let clash : true ≡ false = sym ties ∙ (eq_by_cmp_equiv key_total).symm q x.key ∙ e in cc
-        | inr n ↦ ap (λ p. Some (pair_of p).1) (c.beside.others j n)
+        | inr n ↦ ap (λ p. Some (pair_of p).1) (c.frame.others j n)
       ]
 
 -- ---- one row is put
-module _ (r s : SeenRegion Entry) (ids : List SlotId) (id : SlotId) (x : Entry) (p : ℕ) (h : IsHeld r ids) (put : PutAt r s id x) (g : IsGap r ids x.key p) where
+module _ (r s : ViewedRegion Entry) (ids : List SlotId) (id : SlotId) (x : Entry) (p : ℕ) (h : IsHeld r ids) (put : PutAt r s id x) (g : IsGap r ids x.key p) where
   pub stays : (j : SlotId) → IsTrue (is_some (find r j)) → find s j ≡ find r j
-  stays j t = put.beside.others j (λ e. let none : true ≡ false = sym t ∙ ap (λ i. is_some (find r i)) e ∙ ap is_some put.was_new in cc)
+  stays j t = put.frame.others j (λ e. let none : true ≡ false = sym t ∙ ap (λ i. is_some (find r i)) e ∙ ap is_some put.was_new in cc)
 
   pub pairs_put : pairs s (insert ids p id) ≡ insert (pairs r ids) p (x.key, x.row)
   pairs_put =
@@ -260,9 +260,9 @@ module _ (r s : SeenRegion Entry) (ids : List SlotId) (id : SlotId) (x : Entry) 
           | inl f ↦
               let is : e ≡ x = some_same e x (sym at ∙ ap (find s) f ∙ put.found) in
               ap (λ b. cond b (Some id) (slot_of r ids e.key)) (ap (λ z. is_at (key_cmp e.key) z.key) (sym is) ∙ tied_self e.key) ∙ ap (λ i. Some i) (sym f)
-          | inr n ↦ apart j e (h.seated j e (sym (put.beside.others j n) ∙ at))
+          | inr n ↦ apart j e (h.seated j e (sym (put.frame.others j n) ∙ at))
         ]);
-        count = let long = length_inserted p id ids in let one = put.spaces in let all = h.count in let room = put.beside.room in omega (arith, long, one, all, room);
+        count = let long = length_inserted p id ids in let one = put.spaces in let all = h.count in let room = put.frame.room in omega (arith, long, one, all, room);
       }
     where
       apart : (j : SlotId) (e : Entry) → slot_of r ids e.key ≡ Some j → cond (is_at (key_cmp e.key) x.key) (Some id) (slot_of r ids e.key) ≡ Some j
@@ -278,28 +278,28 @@ module _ (r s : SeenRegion Entry) (ids : List SlotId) (id : SlotId) (x : Entry) 
       ∙ ap (λ b. cond b (Some x.row) (lookup (is_at (key_cmp q)) (pairs r ids))) ((eq_by_cmp_equiv key_total).symm q x.key)
 
 -- ---- the same, of the rows as a map
-pub row_found : (r : SeenRegion Entry) (ids : List SlotId) (id : SlotId) (k : RowKey) (x : Entry) → IsHeld r ids → side k (find r id) ≡ Equal → find r id ≡ Some x → fin.get (rows_in r ids) k ≡ Some x.row
+pub row_found : (r : ViewedRegion Entry) (ids : List SlotId) (id : SlotId) (k : RowKey) (x : Entry) → IsHeld r ids → side k (find r id) ≡ Equal → find r id ≡ Some x → fin.get (rows_in r ids) k ≡ Some x.row
 row_found r ids id k x h at is =
     get_rows key_total key_exact (pairs r ids) k ∙ ap (λ q. lookup (is_at (key_cmp q)) (pairs r ids)) (key_exact k x.key (ap (side k) (sym is) ∙ at)) ∙ row_at r ids id x h is
 
-pub no_row : (r : SeenRegion Entry) (ids : List SlotId) (k : RowKey) (p : ℕ) → IsHeld r ids → IsGap r ids k p → fin.get (rows_in r ids) k ≡ None
+pub no_row : (r : ViewedRegion Entry) (ids : List SlotId) (k : RowKey) (p : ℕ) → IsHeld r ids → IsGap r ids k p → fin.get (rows_in r ids) k ≡ None
 no_row r ids k p h g = get_rows key_total key_exact (pairs r ids) k ∙ absent_row r ids k p h.ordered g
 
-pub map_put : (r s : SeenRegion Entry) (ids : List SlotId) (id : SlotId) (x : Entry) (p : ℕ) → IsHeld r ids → PutAt r s id x → IsGap r ids x.key p → rows_in s (insert ids p id) ≡ fin.insert (rows_in r ids) x.key x.row
+pub map_put : (r s : ViewedRegion Entry) (ids : List SlotId) (id : SlotId) (x : Entry) (p : ℕ) → IsHeld r ids → PutAt r s id x → IsGap r ids x.key p → rows_in s (insert ids p id) ≡ fin.insert (rows_in r ids) x.key x.row
 map_put r s ids id x p h put g = one_set key_total key_exact (pairs r ids) (pairs s (insert ids p id)) x.key x.row (rows_put r s ids id x p h put g)
 
-pub map_changed : (r s : SeenRegion Entry) (ids : List SlotId) (id : SlotId) (x y : Entry) → IsHeld r ids → find r id ≡ Some x → Changed r s id y → y.key ≡ x.key → rows_in s ids ≡ fin.insert (rows_in r ids) x.key y.row
+pub map_changed : (r s : ViewedRegion Entry) (ids : List SlotId) (id : SlotId) (x y : Entry) → IsHeld r ids → find r id ≡ Some x → Changed r s id y → y.key ≡ x.key → rows_in s ids ≡ fin.insert (rows_in r ids) x.key y.row
 map_changed r s ids id x y h was c same = one_set key_total key_exact (pairs r ids) (pairs s ids) x.key y.row (rows_changed r s ids id x y h was c same)
 
 -- an act on the row of a slot
-pub changed_on : (a : Act) (now : ℕ) (k : RowKey) (room : ℕ) (r s : SeenRegion Entry) (ids : List SlotId) (id : SlotId) (x y : Entry) (c : Change) → IsHeld r ids → drops a ≡ false → side k (find r id) ≡ Equal → find r id ≡ Some x → Changed r s id y → y.key ≡ x.key
+pub changed_on : (a : Act) (now : ℕ) (k : RowKey) (room : ℕ) (r s : ViewedRegion Entry) (ids : List SlotId) (id : SlotId) (x y : Entry) (c : Change) → IsHeld r ids → drops a ≡ false → side k (find r id) ≡ Equal → find r id ≡ Some x → Changed r s id y → y.key ≡ x.key
     → Changes a now x.row y.row c → ChangedOn a now k room (rows_in r ids) (rows_in s ids) (fin.get (rows_in s ids) k) (Ok c)
 changed_on a now k room r s ids id x y c h keeps at was change same done =
     let key : x.key ≡ k = sym (key_exact k x.key (ap (side k) (sym was) ∙ at)) in
     there a now k room (rows_in r ids) (rows_in s ids) x.row y.row c keeps (row_found r ids id k x h at was) (map_changed r s ids id x y h was change same ∙ ap (λ q. fin.insert (rows_in r ids) q y.row) key) done
 
 -- the row that follows the one in a slot
-pub leads : (r : SeenRegion Entry) (ids : List SlotId) (id : SlotId) (k : RowKey) (x : Entry) (p : Option Place) (o : Option ℕ) → IsHeld r ids → side k (find r id) ≡ Equal → find r id ≡ Some x → IfSome o (Follows x.row p) → IfSome o (λ n. LeadsOn (rows_in r ids) k p n)
+pub leads : (r : ViewedRegion Entry) (ids : List SlotId) (id : SlotId) (k : RowKey) (x : Entry) (p : Option Place) (o : Option ℕ) → IsHeld r ids → side k (find r id) ≡ Equal → find r id ≡ Some x → IfSome o (Follows x.row p) → IfSome o (λ n. LeadsOn (rows_in r ids) k p n)
 leads r ids id k x p None h at is f = tt
 leads r ids id k x p (Some n) h at is f =
     record { cell = f.cell; here = row_found r ids id k x h at is ∙ ap (λ w. Some w) f.is; followed = f.followed; lacks = f.lacks }

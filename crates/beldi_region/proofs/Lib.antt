@@ -5,11 +5,11 @@ mod Flat
 mod Free
 mod Gone
 mod Held
-mod Kept
 mod Listed
-mod Lists
 mod Moved
 mod Near
 mod Past
-mod Seen
+mod RegionKept
+mod RegionLists
 mod Spots
+mod Viewed

@@ -6,9 +6,9 @@ use Rattle.std.proofs.lemmas.List.{get_or-map}
 use Rattle.std.proofs.lemmas.List.Elements.{All-from_recursion}
 use Rattle.std.proofs.lemmas.Map.Keys.{sorted_head, sorted_tail}
 use Rattle.std.proofs.Common.{◌≡◌, ◌≢◌, ◌⊎◌, inl, inr, ℕ, ◌<◌, ◌≤◌, Bool, true, false, cond, ◌||◌, List, [], ◌∷◌, length, map, Option, Some, None, is_some, IsTrue, refl, subst, ap, sym, ◌∙◌, slice_index_or, slice_get, insert, remove, option_map, arith}
-use Rattle.beldi_row.{specs.Key.RowKey, specs.Key.key_cmp, specs.KeyOrder.key_total, specs.KeyOrder.key_exact, specs.Table.IsNext, specs.Table.NoneOpen, specs.Table.NoneOpenTo, specs.Table.is_open, specs.declared.row.Row.Row, proofs.Rows.get_rows, proofs.Least.next_row_least}
-use Rattle.beldi_region.specs.{Region.SeenRegion, Region.find, Region.PutAt, Region.Changed, Order.pair_of, Order.pair_at, Order.pairs, Order.rows_in, Order.seat, Order.slot_of, Order.side, Order.IsPast, Order.IsGap, Order.IsOrdered, Order.IsHeld, Order.AreListed, Order.IsListed, Order.IsListedBut, Order.IsWithin, declared.region.SlotId.SlotId, declared.order.Entry.Entry}
-use Rattle.beldi_region.proofs.{Lists.all_map, Lists.map_inserted, Lists.all_inserted, Lists.length_inserted, Lists.map_removed, Lists.all_removed, Lists.rising_inserted, Lists.rising_removed, Lists.lookup_inserted, Lists.lookup_removed, Lists.lookup_here, Held.nowhere, Held.same_or, Held.not_none, Held.some_same, Held.tied, Held.tied_self, Held.side_of, Held.some_of, Held.taken_all, Held.between, Held.absent_slot, Held.slot_tied, Held.by_slot, Held.keys_seats, Held.length_keys, Held.key_of, Held.next_is, Held.stays, Held.taken_kept, Held.key_kept}
+use Rattle.beldi_row.{specs.Key.RowKey, specs.Key.key_cmp, specs.KeyOrder.key_total, specs.KeyOrder.key_exact, specs.Table.IsNext, specs.Table.NoneOpen, specs.Table.NoneOpenTo, specs.Table.is_open, specs.declared.row.Row.Row, proofs.TableRows.get_rows, proofs.Least.next_row_least}
+use Rattle.beldi_region.specs.{Region.ViewedRegion, Region.find, Region.PutAt, Region.Changed, SlotOrder.pair_of, SlotOrder.pair_at, SlotOrder.pairs, SlotOrder.rows_in, SlotOrder.seat, SlotOrder.slot_of, SlotOrder.side, SlotOrder.IsPast, SlotOrder.IsGap, SlotOrder.IsOrdered, SlotOrder.IsHeld, SlotOrder.AreListed, SlotOrder.IsListed, SlotOrder.IsListedBut, SlotOrder.IsWithin, declared.region.SlotId.SlotId, declared.order.Entry.Entry}
+use Rattle.beldi_region.proofs.{RegionLists.all_map, RegionLists.map_inserted, RegionLists.all_inserted, RegionLists.length_inserted, RegionLists.map_removed, RegionLists.all_removed, RegionLists.rising_inserted, RegionLists.rising_removed, RegionLists.lookup_inserted, RegionLists.lookup_removed, RegionLists.lookup_here, Held.nowhere, Held.same_or, Held.not_none, Held.some_same, Held.tied, Held.tied_self, Held.side_of, Held.some_of, Held.taken_all, Held.between, Held.absent_slot, Held.slot_tied, Held.by_slot, Held.keys_seats, Held.length_keys, Held.key_of, Held.next_is, Held.stays, Held.taken_kept, Held.key_kept}
 
 -- ---- how many slots a list in order may have
 -- whether a key stands in a list
@@ -52,7 +52,7 @@ fewer (x ∷ xs) (y ∷ ys) s t a = elim (or_parts (is_at (key_cmp x) y) (stands
       omega (arith, rest)
 ]
 
-module _ (r : SeenRegion Entry) where
+module _ (r : ViewedRegion Entry) where
   slot_stands : (ids : List SlotId) (k : RowKey) (id : SlotId) → slot_of r ids k ≡ Some id → stands k (keys_of (pairs r ids)) ≡ true
   slot_stands [] k id h = absurd (not_none id h)
   slot_stands (i ∷ ids) k id h = (elim (is_at (key_cmp k) (pair_at r i).0) as (λ b. is_at (key_cmp k) (pair_at r i).0 ≡ b → (b || stands k (keys_of (pairs r ids))) ≡ true) [
@@ -80,7 +80,7 @@ module _ (r : SeenRegion Entry) where
       }
 
 -- ---- a row is changed or put: the slots that were listed are so in order
-module _ (r s : SeenRegion Entry) where
+module _ (r s : ViewedRegion Entry) where
   abbrev pub Stays : SlotId → Type 0
   Stays j = IsTrue (is_some (find s j)) × ((pair_at s j).0 ≡ (pair_at r j).0)
 
@@ -107,20 +107,20 @@ module _ (r s : SeenRegion Entry) where
       }
 
 -- a row was put
-pub listed_put : (r s : SeenRegion Entry) (ids js : List SlotId) (id : SlotId) (x : Entry) (p : ℕ) (h : IsHeld r ids) (put : PutAt r s id x) (g : IsGap r ids x.key p) → IsListed r js → IsListedBut id s js
+pub listed_put : (r s : ViewedRegion Entry) (ids js : List SlotId) (id : SlotId) (x : Entry) (p : ℕ) (h : IsHeld r ids) (put : PutAt r s id x) (g : IsGap r ids x.key p) → IsListed r js → IsListedBut id s js
 listed_put r s ids js id x p h put g l =
     listed_still r s js
     (λ j t. let same = stays r s ids id x p h put g j t in (ap is_some same ∙ t, ap (λ e. (pair_of e).0) same))
     l
-    (λ j e n at live. (tt, (e, sym (put.beside.others j n) ∙ at, refl, live)))
+    (λ j e n at live. (tt, (e, sym (put.frame.others j n) ∙ at, refl, live)))
 
 -- a row was changed
-module _ (r s : SeenRegion Entry) (ids js : List SlotId) (id : SlotId) (x y : Entry) (h : IsHeld r ids) (was : find r id ≡ Some x) (c : Changed r s id y) (same : y.key ≡ x.key) (l : IsListed r js) where
+module _ (r s : ViewedRegion Entry) (ids js : List SlotId) (id : SlotId) (x y : Entry) (h : IsHeld r ids) (was : find r id ≡ Some x) (c : Changed r s id y) (same : y.key ≡ x.key) (l : IsListed r js) where
   there : (j : SlotId) → IsTrue (is_some (find r j)) → Stays r s j
   there j t = (taken_kept r s ids id x y h was c same j ∙ t, key_kept r s ids id x y h was c same j)
 
   pub listed_changed : IsListedBut id s js
-  listed_changed = listed_still r s js there l (λ j e n at live. (tt, (e, sym (c.beside.others j n) ∙ at, refl, live)))
+  listed_changed = listed_still r s js there l (λ j e n at live. (tt, (e, sym (c.frame.others j n) ∙ at, refl, live)))
 
   -- .. and is as open as it was
   pub listed_unchanged : is_open x.key.kind y.row ≡ is_open x.key.kind x.row → IsListed s js
@@ -130,11 +130,11 @@ module _ (r s : SeenRegion Entry) (ids js : List SlotId) (id : SlotId) (x y : En
         let key : x.key ≡ e.key = sym same ∙ ap (λ z. z.key) is in
         let shows : is_open x.key.kind y.row ≡ true = ap (λ k. is_open k.kind y.row) key ∙ ap (λ z. is_open e.key.kind z.row) is ∙ live in
         (tt, (x, ap (find r) g ∙ was, key, sym alike ∙ shows))
-    | inr n ↦ (tt, (e, sym (c.beside.others j n) ∙ at, refl, live))
+    | inr n ↦ (tt, (e, sym (c.frame.others j n) ∙ at, refl, live))
   ])
 
 -- ---- a slot is listed, or is not
-module _ (r : SeenRegion Entry) (js : List SlotId) (id : SlotId) (x : Entry) (at : find r id ≡ Some x) (l : IsListedBut id r js) where
+module _ (r : ViewedRegion Entry) (js : List SlotId) (id : SlotId) (x : Entry) (at : find r id ≡ Some x) (l : IsListedBut id r js) where
   others_or : (ks : List SlotId) → ((j : SlotId) (e : Entry) → j ≢ id → find r j ≡ Some e → slot_of r ks e.key ≡ slot_of r js e.key) → IsOrdered r ks → (is_open x.key.kind x.row ≡ true → slot_of r ks x.key ≡ Some id) → IsListed r ks
   others_or ks same o own =
       record {
@@ -170,11 +170,11 @@ module _ (r : SeenRegion Entry) (js : List SlotId) (id : SlotId) (x : Entry) (at
       found_at : slot_of r js x.key ≡ Some id
       found_at =
           let long : length (map (seat r) js) ≡ length js = length_seats js in
-          let seen = lookup_here key_total p (map (seat r) js) (seat r nowhere) (subst (IsStrictlySortedBy key_cmp) (sym (keys_seats r js)) l.ordered.rising) (omega (arith, less, long)) in
+          let viewed = lookup_here key_total p (map (seat r) js) (seat r nowhere) (subst (IsStrictlySortedBy key_cmp) (sym (keys_seats r js)) l.ordered.rising) (omega (arith, less, long)) in
           let is : slice_index_or (map (seat r) js) p (seat r nowhere) ≡ seat r here = get_or-map (seat r) js p nowhere (seat r nowhere) less in
           let y = some_of (find r here) (l.ordered.taken p nowhere less) in
           let one : here ≡ id = w.alone here id y.0 x y.1 at (sym (ap (λ e. (pair_of e).0) y.1) ∙ sym key) in
-          ap (slot_of r js) key ∙ sym (ap (λ z. slot_of r js z.0) is) ∙ seen ∙ ap (λ z. Some z.1) is ∙ ap (λ i. Some i) one
+          ap (slot_of r js) key ∙ sym (ap (λ z. slot_of r js z.0) is) ∙ viewed ∙ ap (λ z. Some z.1) is ∙ ap (λ i. Some i) one
         where
           length_seats : (ks : List SlotId) → length (map (seat r) ks) ≡ length ks
           length_seats [] = refl
@@ -232,19 +232,19 @@ module _ (r : SeenRegion Entry) (js : List SlotId) (id : SlotId) (x : Entry) (at
           ∙ sym (key_exact x.key (pair_at r here).0 (sym (side_of x.key (find r here) (l.ordered.taken p nowhere less)) ∙ tie))
 
 -- ---- what is told of open intents
-module _ (r : SeenRegion Entry) (ids js : List SlotId) (h : IsHeld r ids) (l : IsListed r js) where
+module _ (r : ViewedRegion Entry) (ids js : List SlotId) (h : IsHeld r ids) (l : IsListed r js) where
   -- the row of an open intent is one of the listed
   open_row : (q : RowKey) (w : Row) → fin.get (rows_in r ids) q ≡ Some w → is_open q.kind w ≡ true → fin.get (rows_in r js) q ≡ Some w
   open_row q w got live = by_found (slot_of r ids q) refl
     where
-      seen : option_map (λ i. (pair_at r i).1) (slot_of r ids q) ≡ Some w
-      seen = sym (by_slot r ids q) ∙ sym (get_rows key_total key_exact (pairs r ids) q) ∙ got
+      viewed : option_map (λ i. (pair_at r i).1) (slot_of r ids q) ≡ Some w
+      viewed = sym (by_slot r ids q) ∙ sym (get_rows key_total key_exact (pairs r ids) q) ∙ got
 
       by_found : (o : Option SlotId) → slot_of r ids q ≡ o → fin.get (rows_in r js) q ≡ Some w
-      by_found None e = absurd (not_none w (sym (ap (option_map (λ i. (pair_at r i).1)) e) ∙ seen))
+      by_found None e = absurd (not_none w (sym (ap (option_map (λ i. (pair_at r i).1)) e) ∙ viewed))
       by_found (Some i) e =
           let key : q ≡ (pair_at r i).0 = tied q (pair_at r i).0 (slot_tied r ids q i e) in
-          let row : (pair_at r i).1 ≡ w = some_same _ w (sym (ap (option_map (λ j. (pair_at r j).1)) e) ∙ seen) in
+          let row : (pair_at r i).1 ≡ w = some_same _ w (sym (ap (option_map (λ j. (pair_at r j).1)) e) ∙ viewed) in
           let x = some_of (find r i) (slot_taken ids q i h e) in
           let own : q ≡ x.0.key = key ∙ ap (λ z. (pair_of z).0) x.1 in
           let is : x.0.row ≡ w = sym (ap (λ z. (pair_of z).1) x.1) ∙ row in
@@ -280,7 +280,7 @@ module _ (r : SeenRegion Entry) (ids js : List SlotId) (h : IsHeld r ids) (l : I
       λ q w less before got. none_between k q w got (least.2 q less before)
 
 -- where there are no slots none is listed
-pub listed_none : (r : SeenRegion Entry) → ((id : SlotId) → find r id ≡ None) → IsListed r []
+pub listed_none : (r : ViewedRegion Entry) → ((id : SlotId) → find r id ≡ None) → IsListed r []
 unfolding IsStrictlySortedBy
 listed_none r none =
     record {

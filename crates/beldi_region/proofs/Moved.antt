@@ -6,7 +6,7 @@ use Rattle.std.proofs.lemmas.Map.Keys.{Less-from_sorted}
 use lib.ListN.{length-map}
 use Rattle.std.proofs.Common.{◌≡◌, ℕ, ◌+◌, ◌<◌, ◌≤◌, false, List, [], ◌∷◌, ◌++◌, length, take, Some, None, is_some, IsTrue, refl, subst, ap, sym, ◌∙◌, slice_index_or, insert, arith, true≢false}
 use Rattle.beldi_row.{specs.Key.RowKey, specs.Key.key_cmp, specs.KeyOrder.key_total, specs.declared.row.Row.Row}
-use Rattle.beldi_region.specs.{Region.SeenRegion, Region.find, Region.Taken, Order.pair_of, Order.pair_at, Order.pairs, Order.side, Order.IsGap, Order.IsHeld, declared.region.SlotId.SlotId, declared.order.Entry.Entry}
+use Rattle.beldi_region.specs.{Region.ViewedRegion, Region.find, Region.Taken, SlotOrder.pair_of, SlotOrder.pair_at, SlotOrder.pairs, SlotOrder.side, SlotOrder.IsGap, SlotOrder.IsHeld, declared.region.SlotId.SlotId, declared.order.Entry.Entry}
 use Rattle.beldi_region.proofs.Held.{nowhere, key_of, length_keys, side_of}
 
 at_end : {A : Type 0} (xs : List A) (x : A) → insert xs (length xs) x ≡ xs ++ x ∷ []
@@ -14,23 +14,23 @@ at_end [] x = refl
 at_end (y ∷ ys) x = ap (λ zs. y ∷ zs) (at_end ys x)
 
 -- the slots from one on have the rows that they had
-abbrev pub StillThere : SeenRegion Entry → SeenRegion Entry → List SlotId → ℕ → Type 0
+abbrev pub StillThere : ViewedRegion Entry → ViewedRegion Entry → List SlotId → ℕ → Type 0
 StillThere r now ids i = (j : ℕ) (d : SlotId) → i ≤ j → j < length ids → find now (slice_index_or ids j d) ≡ find r (slice_index_or ids j d)
 
-pub moved_length : (r s : SeenRegion Entry) (ids js : List SlotId) (i : ℕ) → i ≤ length ids → pairs s js ≡ take i (pairs r ids) → length js ≡ i
+pub moved_length : (r s : ViewedRegion Entry) (ids js : List SlotId) (i : ℕ) → i ≤ length ids → pairs s js ≡ take i (pairs r ids) → length js ≡ i
 moved_length r s ids js i fits moved =
     let all = length-map ids (pair_at r) in
     sym (length-map js (pair_at s)) ∙ ap length moved ∙ length-take-le i (pairs r ids) (omega (arith, fits, all))
 
 -- it is still there
-pub not_gone : (r now : SeenRegion Entry) (ids : List SlotId) (i : ℕ) (id : SlotId) → IsHeld r ids → i < length ids → id ≡ slice_index_or ids i id → StillThere r now ids i → find now id ≡ None → ⊥
+pub not_gone : (r now : ViewedRegion Entry) (ids : List SlotId) (i : ℕ) (id : SlotId) → IsHeld r ids → i < length ids → id ≡ slice_index_or ids i id → StillThere r now ids i → find now id ≡ None → ⊥
 not_gone r now ids i id l fits at still gone =
     let there : IsTrue (is_some (find r (slice_index_or ids i id))) = l.ordered.taken i id fits in
     let none : is_some (find r (slice_index_or ids i id)) ≡ false = ap is_some (sym (still i id (omega arith) fits) ∙ ap (find now) (sym at) ∙ gone) in
     true≢false (sym there ∙ none)
 
 -- the next one is taken out of a region now, which was r
-module _ (r now rest : SeenRegion Entry) (ids : List SlotId) (i : ℕ) (id : SlotId) (x : Entry) (l : IsHeld r ids) (fits : i < length ids) (at : id ≡ slice_index_or ids i id) (still : StillThere r now ids i) (out : Taken now rest id x) where
+module _ (r now rest : ViewedRegion Entry) (ids : List SlotId) (i : ℕ) (id : SlotId) (x : Entry) (l : IsHeld r ids) (fits : i < length ids) (at : id ≡ slice_index_or ids i id) (still : StillThere r now ids i) (out : Taken now rest id x) where
   here : (d : SlotId) → slice_index_or ids i d ≡ id
   here d = get_or_default ids i d id fits ∙ sym at
 
@@ -45,7 +45,7 @@ module _ (r now rest : SeenRegion Entry) (ids : List SlotId) (i : ℕ) (id : Slo
 
   pub still_later : StillThere r rest ids (i + 1)
   still_later j d from less =
-      out.beside.others (slice_index_or ids j d) (λ e.
+      out.frame.others (slice_index_or ids j d) (λ e.
       let long = length_keys r ids in
       let above = Less-from_sorted key_cmp (keys_of (pairs r ids)) i j x.key l.ordered.rising (omega (arith, from)) (omega (arith, long, less)) in
       let same : slice_index_or (keys_of (pairs r ids)) j x.key ≡ x.key = key_of r ids j x.key less ∙ ap (λ k. (pair_at r k).0) (get_or_default ids j nowhere d less ∙ e) ∙ ap (λ z. (pair_of z).0) was in
@@ -54,7 +54,7 @@ module _ (r now rest : SeenRegion Entry) (ids : List SlotId) (i : ℕ) (id : Slo
       ∙ still j d (omega (arith, from)) less
 
   -- it stands behind those that were moved
-  pub gap_at_end : (s : SeenRegion Entry) (js : List SlotId) → IsHeld s js → pairs s js ≡ take i (pairs r ids) → IsGap s js x.key (length js)
+  pub gap_at_end : (s : ViewedRegion Entry) (js : List SlotId) → IsHeld s js → pairs s js ≡ take i (pairs r ids) → IsGap s js x.key (length js)
   gap_at_end s js m moved =
       let long = moved_length r s ids js i (omega (arith, fits)) moved in
       record {

@@ -3,7 +3,7 @@ use Rattle.std.specs.{Ordering.is_gt, declared.cmp.Ordering.Ordering, declared.c
 use Rattle.std.proofs.lemmas.Option.{get_or_from_slice_get}
 use Rattle.std.proofs.Common.{◌≡◌, ◌+◌, ◌-◌, ◌<◌, ◌≤◌, true, List, [], ◌∷◌, length, Some, None, refl, ap, sym, ◌∙◌, slice_index_or, slice_get, arith}
 use Rattle.beldi_row.specs.Key.{RowKey}
-use Rattle.beldi_region.specs.{Region.SeenRegion, Region.find, Blocks.flat, Blocks.place_in, Blocks.IsSpot, Blocks.slot_at, Order.side, Order.IsBehind, Order.IsGap, declared.region.SlotId.SlotId, declared.blocks.Spot.Spot, declared.order.Entry.Entry}
+use Rattle.beldi_region.specs.{Region.ViewedRegion, Region.find, Blocks.flat, Blocks.place_in, Blocks.IsSpot, Blocks.slot_at, SlotOrder.side, SlotOrder.IsBehind, SlotOrder.IsGap, declared.region.SlotId.SlotId, declared.blocks.Spot.Spot, declared.order.Entry.Entry}
 use Rattle.beldi_region.proofs.{Flat.within, Spots.at_slot, Spots.none_behind, Spots.slot_is, Spots.spot_in}
 
 greater_of : (o : Ordering) → is_gt o ≡ true → o ≡ Greater
@@ -15,7 +15,7 @@ fits : (bs : List (List SlotId)) (p : Spot) → IsSpot bs p → place_in bs p �
 fits [] p h = let at = h.1 in omega (arith, at)
 fits (b ∷ bs) p h = let all = within (b ∷ bs) p.block h.block in let at = h.at in omega (arith, all, at)
 
-module _ (r : SeenRegion Entry) (bs : List (List SlotId)) (k : RowKey) (p : Spot) where
+module _ (r : ViewedRegion Entry) (bs : List (List SlotId)) (k : RowKey) (p : Spot) where
   -- a slot with a lesser key stands before the place in its block
   pub behind_slot : (id : SlotId) → 0 < p.at → slot_at bs (record { block = p.block; at = p.at - 1 }) ≡ Some id → is_gt (side k (find r id)) ≡ true → IsBehind r bs k p
   behind_slot id some here g =

@@ -2,7 +2,7 @@
 use Rattle.std.specs.{List.Sorted.IsStrictlySortedBy, Map.keys_of, Ordering.is_lt, declared.cmp.Ordering.Ordering, declared.cmp.Ordering.TheVariants.Less, declared.cmp.Ordering.TheVariants.Equal, declared.cmp.Ordering.TheVariants.Greater}
 use Rattle.std.proofs.lemmas.Map.Keys.{sorted_head, sorted_tail}
 use Rattle.std.proofs.Common.{◌≡◌, ℕ, zero, suc, ◌+◌, ◌<◌, ◌≤◌, true, false, List, [], ◌∷◌, length, Some, refl, ap, sym, ◌∙◌, slice_index_or, slice_get, if◌then◌else◌, arith}
-use Rattle.beldi_region.proofs.Lists.{at_each}
+use Rattle.beldi_region.proofs.RegionLists.{at_each}
 use Rattle.beldi_row.specs.{Key.RowKey, Key.key_cmp, KeyOrder.key_total, Table.first_above, declared.row.Row.Row}
 
 pub less_of : (o : Ordering) → is_lt o ≡ true → o ≡ Less

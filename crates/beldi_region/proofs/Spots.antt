@@ -4,7 +4,7 @@ use Rattle.std.proofs.lemmas.Bool.{cases_lt, leb-true, leb-false}
 use Rattle.std.proofs.lemmas.Option.{slice_get_past, slice_get_within, get_or_from_slice_get}
 use Rattle.std.proofs.Common.{◌≡◌, ℕ, zero, suc, ◌+◌, ◌-◌, ◌<◌, ◌≤◌, Bool, true, false, cond, nat_le, inl, inr, List, [], ◌∷◌, length, Option, Some, None, option_map, IfSome, refl, sym, subst, ap, ◌∙◌, slice_index_or, slice_get, arith}
 use Rattle.beldi_row.specs.Key.{RowKey}
-use Rattle.beldi_region.specs.{Region.SeenRegion, Region.find, Blocks.flat, Blocks.before, Blocks.block_at, Blocks.AreTight, Blocks.place_in, Blocks.IsAt, Blocks.IsSpot, Blocks.slot_at, Blocks.then_at, Blocks.next_or, Blocks.next_in, Order.side, Order.begins_past, Order.IsPast, Order.IsBlockPast, declared.region.SlotId.SlotId, declared.blocks.Spot.Spot, declared.order.Entry.Entry}
+use Rattle.beldi_region.specs.{Region.ViewedRegion, Region.find, Blocks.flat, Blocks.before, Blocks.block_at, Blocks.AreTight, Blocks.place_in, Blocks.IsAt, Blocks.IsSpot, Blocks.slot_at, Blocks.then_at, Blocks.next_or, Blocks.next_in, SlotOrder.side, SlotOrder.begins_past, SlotOrder.IsPast, SlotOrder.IsBlockPast, declared.region.SlotId.SlotId, declared.blocks.Spot.Spot, declared.order.Entry.Entry}
 use Rattle.beldi_region.proofs.Flat.{before_next, before_all, within, item_at, item_or, tight_some}
 
 module _ {A : Type 0} where
@@ -116,7 +116,7 @@ module _ {A : Type 0} where
   one_before (b ∷ bs) p h some none = let out = none_behind (block_at (b ∷ bs) p.block) (p.at - 1) none in let at = h.at in omega (arith, out, at, some)
 
 -- ---- where a search ends
-module _ (r : SeenRegion Entry) (k : RowKey) where
+module _ (r : ViewedRegion Entry) (k : RowKey) where
   begins : (b : List SlotId) (d : SlotId) → 0 < length b → begins_past r k b ≡ true → is_lt (side k (find r (slice_index_or b 0 d))) ≡ true
   begins [] d some h = absurd (omega (arith, some))
   begins (x ∷ b) d some h = h

@@ -83,20 +83,20 @@ split_spot p = if nat_le p.at half_room then p else record { block = p.block + 1
 
 -- ---- the changes of blocks
 -- the slots of each block, and how many blocks there is room for besides
-pub record SeenBlocks : Type 0 where
+pub record ViewedBlocks : Type 0 where
   pub lists : List (List SlotId)
   pub spares : ℕ
 
 -- a block has these slots
-abbrev pub with_block : SeenBlocks → ℕ → List SlotId → SeenBlocks
+abbrev pub with_block : ViewedBlocks → ℕ → List SlotId → ViewedBlocks
 with_block s n b = record { lists = slice_set s.lists n b; spares = s.spares }
 
 -- a block without slots stands before all others
-abbrev pub opened : SeenBlocks → SeenBlocks
+abbrev pub opened : ViewedBlocks → ViewedBlocks
 opened s = record { lists = [] ∷ s.lists; spares = s.spares - 1 }
 
 -- the slots behind the first half of a block are in a block of their own
-abbrev pub split_at : SeenBlocks → ℕ → SeenBlocks
+abbrev pub split_at : ViewedBlocks → ℕ → ViewedBlocks
 split_at s n =
     record {
       lists = insert (slice_set s.lists n (take half_room (block_at s.lists n))) (n + 1) (drop half_room (block_at s.lists n));
@@ -104,7 +104,7 @@ split_at s n =
     }
 
 -- a block has those of the next one too
-abbrev pub joined : SeenBlocks → ℕ → SeenBlocks
+abbrev pub joined : ViewedBlocks → ℕ → ViewedBlocks
 joined s n =
     record {
       lists = slice_set (remove s.lists (n + 1)) n (block_at s.lists n ++ block_at s.lists (n + 1));
@@ -112,18 +112,18 @@ joined s n =
     }
 
 -- a block is away
-abbrev pub closed : SeenBlocks → ℕ → SeenBlocks
+abbrev pub closed : ViewedBlocks → ℕ → ViewedBlocks
 closed s n = record { lists = remove s.lists n; spares = s.spares + 1 }
 
 -- the block of a place has room for one more; the place then
-abbrev pub roomy : SeenBlocks → Spot → SeenBlocks × Spot
+abbrev pub roomy : ViewedBlocks → Spot → ViewedBlocks × Spot
 roomy s p =
     if length s.lists == 0 then (opened s, p)
     else if length (block_at s.lists p.block) == block_room then (split_at s p.block, split_spot p)
     else (s, p)
 
 -- a block that may be empty, or small with one beside it, is so no more
-abbrev pub closed_up : SeenBlocks → ℕ → SeenBlocks
+abbrev pub closed_up : ViewedBlocks → ℕ → ViewedBlocks
 closed_up s n =
     if length (block_at s.lists n) == 0 then closed s n
     else if is_small s.lists n then joined s n

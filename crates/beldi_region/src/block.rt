@@ -1,6 +1,6 @@
 // A few slots of an order, in a row.
 ghost use Rattle.std.specs.Prelude.{◌≡◌, ◌+◌, ◌<◌, ◌≤◌, false, [], ◌++◌, ◌==◌, IfSome, length, take, drop, slice_get, insert, remove};
-ghost use Rattle.beldi_region.specs.Order.{begins_past, IsPast};
+ghost use Rattle.beldi_region.specs.SlotOrder.{begins_past, IsPast};
 ghost use Rattle.beldi_region.specs.Blocks.{block_room, half_room};
 
 use crate::order::{Entry, side};

@@ -23,9 +23,9 @@ pub struct Blocks {
 
 impl Model for Blocks {
     ghost use Rattle.std.specs.Prelude.{◌-◌, length, vec_capacity};
-    ghost use Rattle.beldi_region.specs.Blocks.{SeenBlocks};
+    ghost use Rattle.beldi_region.specs.Blocks.{ViewedBlocks};
 
-    ghost Value = { SeenBlocks };
+    ghost Value = { ViewedBlocks };
 
     ghost view = { λ b. record { lists = b.used.items; spares = vec_capacity b.used - length b.used.items } };
 }

@@ -1,11 +1,11 @@
 //! Slots with generations, and a table over them: `Region`, over the kit's `slab`, and `RegionTable`. Its definitions:
 //! `specs/Region` (a region as contracts see it, and what its calls do), `specs/Lends` (what it ends as where a value is lent),
-//! `specs/Slots` (how it lies in its slab), `specs/Blocks` (a list in blocks, and places in it), `specs/Order` (slots in the order
+//! `specs/Slots` (how it lies in its slab), `specs/Blocks` (a list in blocks, and places in it), `specs/SlotOrder` (slots in the order
 //! of their keys), `specs/Ids` (the slots of an order), `specs/Follows` (the row after one of an item), `specs/RegionTable` (the
 //! rows of a table).
 //!
 //! Proved:
-//! - An id has the value that was put under it until that is taken, and no call changes what another id has (`Beside`).
+//! - An id has the value that was put under it until that is taken, and no call changes what another id has (`Frame`).
 //! - A value is taken in exactly where there is space (`spaces`): a slot that was never used, or a free one below the last
 //!   generation, or after a `release` of any. No call after `open` takes memory.
 //! - A `take` raises the generation of its slot, so the id is stale from then on, and what is stale stays so (`IsStale`).
@@ -24,8 +24,8 @@
 //! Files:
 //! - Code (`src/`): `region`; `block` a few slots, `blocks` a list of slots in blocks, `order` slots by their keys, `hints` where
 //!   rows may be, `opened` which have open intents, `region_table`; `laws`.
-//! - Lemmas (`proofs/`): `Counts` one slot that changes; `Seen` what the calls do; `Free` the list of free slots; `Flat` lists in
-//!   blocks, `Kept` blocks that are split and joined, `Spots` places in them, `Near` one that is tried; `Lists` one more in a list in
+//! - Lemmas (`proofs/`): `Counts` one slot that changes; `Viewed` what the calls do; `Free` the list of free slots; `Flat` lists in
+//!   blocks, `RegionKept` blocks that are split and joined, `Spots` places in them, `Near` one that is tried; `RegionLists` one more in a list in
 //!   order; `Past` the first one past a key; `Held` the slots of a table, `Gone` one of them that is taken away, `Listed` those of
 //!   open intents, `Moved` those of its rows that go to another region; `Along` a chain of rows; `Alike` the law.
 #![tactic(auto)]

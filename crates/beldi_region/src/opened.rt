@@ -2,7 +2,7 @@
 ghost use Rattle.std.specs.Prelude.{◌≡◌, false, IsTrue, is_some};
 ghost use Rattle.beldi_region.specs.Region.{find};
 ghost use Rattle.beldi_region.specs.Ids.{ids_of};
-ghost use Rattle.beldi_region.specs.Order.{IsListed, IsListedBut, IsWithin};
+ghost use Rattle.beldi_region.specs.SlotOrder.{IsListed, IsListedBut, IsWithin};
 
 use crate::order::{Entry, Order};
 use crate::region::{Region, SlotId};

@@ -2,7 +2,7 @@
 ghost use Rattle.std.specs.Prelude.{◌≡◌, ◌+◌, ◌-◌, ◌*◌, ◌<◌, ◌≤◌, true, [], IfOk, IfErr, IfSome, length, insert, remove, slice_get, option_map};
 ghost use Rattle.beldi_region.specs.Region.{find};
 ghost use Rattle.beldi_region.specs.Blocks.{AreTight, tight_prop, flat, half_room, IsAt, IsSpot};
-ghost use Rattle.beldi_region.specs.Order.{side, IsBehind, IsBlockPast, IsGap, IsOrdered, IsPast, IsWithout, Places, Finds};
+ghost use Rattle.beldi_region.specs.SlotOrder.{side, IsBehind, IsBlockPast, IsGap, IsOrdered, IsPast, IsWithout, Places, Finds};
 
 use crate::blocks::{Blocks, Spot};
 use crate::region::{Region, SlotId};

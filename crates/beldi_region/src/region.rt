@@ -38,7 +38,7 @@ struct Slot<V> {
 
 impl<V: Drop> Slot<V> {
     ghost use Rattle.beldi_region.specs.contracts.region.Slot.{the_row};
-    ghost use Rattle.beldi_region.specs.Slots.{seen};
+    ghost use Rattle.beldi_region.specs.Slots.{viewed};
 
     // A slot as it is first used.
     fn first(value: V) -> Slot<V>
@@ -53,8 +53,8 @@ impl<V: Drop> Slot<V> {
 
     // The value, where the id has this generation.
     fn get(&self, id: SlotId) -> Result<&V, RegionErr>
-        ensures found { IfOk result (λ v. value_of (Some (seen self.now)) id.generation ≡ Some v.now) }
-        ensures none { OnErr result (value_of (Some (seen self.now)) id.generation ≡ None) }
+        ensures found { IfOk result (λ v. value_of (Some (viewed self.now)) id.generation ≡ Some v.now) }
+        ensures none { OnErr result (value_of (Some (viewed self.now)) id.generation ≡ None) }
         ensures stale { IfErr result (λ e. e ≡ Stale id) }
     {
         if self.generation != id.generation {
@@ -125,15 +125,15 @@ pub struct Region<V> {
 
 impl<V> Model for Region<V> {
     ghost use Rattle.std.specs.Prelude.{map};
-    ghost use Rattle.beldi_region.specs.Region.{SeenRegion, region_code};
+    ghost use Rattle.beldi_region.specs.Region.{ViewedRegion, region_code};
 
-    ghost Value = { SeenRegion V };
+    ghost Value = { ViewedRegion V };
 
     ghost coded = { region_code V.code };
 
-    ghost use Rattle.beldi_region.specs.Slots.{seen_of, IsSound};
+    ghost use Rattle.beldi_region.specs.Slots.{viewed_of, IsSound};
 
-    ghost view = { λ r. record { slots = map seen_of r.slots.slots; room = r.room } };
+    ghost view = { λ r. record { slots = map viewed_of r.slots.slots; room = r.room } };
 
     ghost invariant = { λ r. IsSound r.slots r.room r.free };
 }

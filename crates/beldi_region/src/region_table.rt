@@ -6,7 +6,7 @@ ghost use mathlib.Core.Option.{none};
 ghost use Rattle.std.specs.Option.{option_copied};
 ghost use Rattle.std.specs.FinMap as map;
 ghost use Rattle.std.specs.declared.cmp.Ordering.TheVariants.{Equal};
-ghost use Rattle.beldi_row.specs.Act.{drops, off, removes, said_by};
+ghost use Rattle.beldi_row.specs.Act.{drops, off, removes, change_reply};
 ghost use Rattle.beldi_row.specs.Log.{note_at};
 ghost use Rattle.beldi_row.specs.declared.act.Act.TheVariants as acts;
 ghost use Rattle.beldi_row.specs.declared.row.Row as row_data;
@@ -16,7 +16,7 @@ ghost use Rattle.beldi_table.specs.MapTable.{ChangedOn};
 ghost use Rattle.beldi_region.specs.Region.{find, Released};
 ghost use Rattle.beldi_region.specs.Ids.{ids_of, place_of, found};
 ghost use Rattle.beldi_region.specs.Blocks.{IsSpot};
-ghost use Rattle.beldi_region.specs.Order.{pairs, rows_in, side, Finds, IsGap, IsHeld, IsListed};
+ghost use Rattle.beldi_region.specs.SlotOrder.{pairs, rows_in, side, Finds, IsGap, IsHeld, IsListed};
 ghost use Rattle.beldi_region.specs.Follows.{Follows};
 
 use crate::blocks::Spot;
@@ -25,8 +25,8 @@ use crate::opened::follow;
 use crate::order::{Entry, Order, side};
 use crate::region::{Region, SlotId};
 use beldi_row::{
-    Act, Change, Log, Opens, Row, RowKey, Said, Table, TableErr, apply, drops, is_of_row, made,
-    missing, removes, tell,
+    Act, ActReplyRef, Change, Log, Opens, Row, RowKey, Table, TableErr, apply, drops, is_of_row,
+    made, missing, removes, tell,
 };
 use beldi_table::{is_open, room_in, switches};
 use beldi_value::{Place, or_drop};
@@ -207,7 +207,7 @@ impl RegionTable {
     // The row in this slot, where a change tells what lies in it.
     fn row_told(&self, id: SlotId, key: &RowKey, change: Change) -> Option<&Row>
         requires { side key.now (find self.now.region id) ≡ Equal }
-        ensures { said_by change (option_copied result) ≡ said_by change (map.get (rows_of self.now) key.now) }
+        ensures { change_reply change (option_copied result) ≡ change_reply change (map.get (rows_of self.now) key.now) }
     {
         if !is_of_row(change) {
             return None;
@@ -247,7 +247,7 @@ impl RegionTable {
     ) -> Result<Change, TableErr>
         requires spot { IsSpot self.old.index.blocks.lists spot }
         requires gap { IsGap self.old.region (ids_of self.old.index) key (place_of self.old.index spot) }
-        requires said { (row : Option row_data.Row) → said_by said row ≡ (off act now).1 }
+        requires said { (row : Option row_data.Row) → change_reply said row ≡ (off act now).1 }
         ensures rows { ChangedOn act now key self.old.room (rows_of self.old) (rows_of self.new) None result }
         ensures room { self.new.room ≡ self.old.room }
         ensures never { IsErrOf result OutOfMemory → ⊥ }
@@ -404,7 +404,7 @@ impl Table for RegionTable {
         Ok(())
     }
 
-    fn act(&mut self, key: RowKey, act: Act, now: u64) -> Result<Said<'_>, TableErr>
+    fn act(&mut self, key: RowKey, act: Act, now: u64) -> Result<ActReplyRef<'_>, TableErr>
         ensures* acts { sem 𝓛 (follows_so the_row the_row self.entry.ghost_name none (λ _ _. ⊤) (λ after.
             Acted act now key (region_state self.entry.now) (region_state after) result)) }
         ensures never { IsErrOf result OutOfMemory → ⊥ }

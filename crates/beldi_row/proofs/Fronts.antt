@@ -55,5 +55,5 @@ module _ (a b : RowKey) (f g : ℕ) (af : f ≡ front_of a.home a.kind) (bg : g 
   pub by_kinds : nat_cmp f g ≡ Equal → kind_cmp a.kind b.kind ≡ key_cmp a b
   by_kinds same = sym (ap (λ o. ordering_then o (kind_cmp a.kind b.kind)) same) ∙ by_fronts
 
-  pub at_once : (nat_cmp f g ≡ Equal → ⊥) → nat_cmp f g ≡ key_cmp a b
-  at_once unlike = sym (first _ _ unlike) ∙ by_fronts
+  pub immediately : (nat_cmp f g ≡ Equal → ⊥) → nat_cmp f g ≡ key_cmp a b
+  immediately unlike = sym (first _ _ unlike) ∙ by_fronts

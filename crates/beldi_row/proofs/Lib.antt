@@ -6,6 +6,6 @@ pub mod Least
 pub mod Logs
 pub mod Removed
 pub mod Room
-pub mod Rows
+pub mod TableRows
 pub mod Tells
 pub mod Unchanged

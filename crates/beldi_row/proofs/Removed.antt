@@ -1,6 +1,6 @@
 -- Acts that may remove a row, and all others.
 use Rattle.std.proofs.Common.{◌≡◌, ℕ, true, false, None, Some, refl, ap}
-use Rattle.beldi_row.specs.{declared.row.Row.Row, declared.act.Act.Act, Act.act, Act.on, Act.off, Act.drops, Act.prunes, Act.removes, Act.removed_tell, Act.stays, Act.stays_unless}
+use Rattle.beldi_row.specs.{declared.row.Row.Row, declared.act.Act.Act, Act.act, Act.on, Act.off, Act.drops, Act.prunes, Act.removes, Act.removed_reply, Act.stays, Act.stays_unless}
 
 -- an act of no log collector removes none
 pub spares : (a : Act) → prunes a ≡ false → drops a ≡ false
@@ -20,7 +20,7 @@ pub act_stays : (a : Act) (now : ℕ) (r : Row) → drops a ≡ false → act a 
 act_stays a now r h = ap (λ b. stays_unless b (on a now r)) (not_removed a now r h)
 
 -- one that may remove rows changes none, and says whether it removes this one
-pub act_drops : (a : Act) (now : ℕ) (r : Row) → drops a ≡ true → act a now (Some r) ≡ stays_unless (removes a now r) (r, removed_tell (removes a now r))
+pub act_drops : (a : Act) (now : ℕ) (r : Row) → drops a ≡ true → act a now (Some r) ≡ stays_unless (removes a now r) (r, removed_reply (removes a now r))
 act_drops (Act.DropIntent l) now r h = refl
 act_drops Act.DropRow now r h = refl
 act_drops (Act.DropCell l) now r h = refl

@@ -1,7 +1,7 @@
 -- Rows that an act leaves as they are.
 use Rattle.std.specs.FinMap as map
 use Rattle.std.proofs.Common.{◌≡◌, ℕ, Option, None, Some, refl, ap, sym, ◌∙◌}
-use Rattle.beldi_row.{specs.KeyOrder.key_total, specs.KeyOrder.key_exact, specs.Key.RowKey, specs.declared.row.Row.Row, specs.declared.act.Act.Act, specs.declared.act.Act.TheVariants.Look, specs.Act.act, specs.Table.Rows, specs.Table.set_row, specs.Table.after_act, proofs.Rows.same_set, proofs.Rows.none_removed}
+use Rattle.beldi_row.{specs.KeyOrder.key_total, specs.KeyOrder.key_exact, specs.Key.RowKey, specs.declared.row.Row.Row, specs.declared.act.Act.Act, specs.declared.act.Act.TheVariants.Look, specs.Act.act, specs.Table.Rows, specs.Table.set_row, specs.Table.after_act, proofs.TableRows.same_set, proofs.TableRows.none_removed}
 
 -- a row set to what it is
 pub unchanged : (m : Rows) (k : RowKey) (v : Option Row) → v ≡ map.get m k → set_row m k v ≡ m

@@ -3,68 +3,68 @@ use Rattle.std.specs.Prelude.{◌≡◌, ℕ, ◌+◌, Bool, true, false, not, �
 use Rattle.std.specs.Option.{option_copied}
 use Rattle.beldi_value.specs.{declared.value.Value.Value, declared.outcome.Outcome.Outcome, declared.place.Place.Place, declared.place.Owner.Owner, declared.id.IntentId.IntentId, Id.age_of, Id.is_older, declared.rel.Rel.Rel, Passes.passes, Same.same_value}
 use Rattle.beldi_row.specs.declared.act.Act.TheVariants.{Look, Issue, Bind, Register, End, Stamp, PutRead, OpenInvoke, CallBack, NoteRegistered, PutLockset, MakeCell, WriteCell, CondCell, LockCell, FreeCell, LinkCell, DropIntent, DropRow, MarkCell, SkipCell, DangleCell, DropCell}
-use Rattle.beldi_row.specs.{declared.notes.Note.Note, declared.notes.Note.TheVariants.Wrote, declared.notes.Note.TheVariants.Cond, declared.notes.Note.TheVariants.Got, declared.notes.Note.TheVariants.Died, declared.notes.Note.TheVariants.Freed, declared.row.Body.Body, declared.row.IntentRow.IntentRow, declared.row.InvokeRow.InvokeRow, declared.row.Cell.Cell, declared.row.Row.Row, declared.act.Act.Act, declared.act.Said.Said, declared.act.Change.Change, Log.most_entries, Log.note_at, Log.note_of, Log.owner_eq}
+use Rattle.beldi_row.specs.{declared.notes.Note.Note, declared.notes.Note.TheVariants.Wrote, declared.notes.Note.TheVariants.Cond, declared.notes.Note.TheVariants.Got, declared.notes.Note.TheVariants.Died, declared.notes.Note.TheVariants.Freed, declared.row.Body.Body, declared.row.IntentRow.IntentRow, declared.row.InvokeRow.InvokeRow, declared.row.Cell.Cell, declared.row.Row.Row, declared.act.Act.Act, declared.act.ActReplyRef.ActReplyRef, declared.act.Change.Change, Log.most_entries, Log.note_at, Log.note_of, Log.owner_eq}
 
 -- what an act says, without where it lies in memory
-pub data Tell : Type 0 where
-  absent : Tell
-  here : Row → Tell
-  added : Tell
-  present : Tell
-  gone : Tell
-  bound : Tell
-  other : Body → Tell
-  ended : Outcome → Tell
-  running : Tell
-  already : Tell
-  did : Tell
-  kept : Value → Tell
-  no_row : Tell
-  noted : Note → Tell
-  next : ℕ → Tell
-  held : Owner → Tell
-  not_owner : Tell
-  tested : Bool → Tell
-  died : IntentId → Tell
-  packed : Value → Option Owner → Tell
-  not_full : Tell
-  not_so : Tell
-  marked : ℕ → Tell
+pub data ActReply : Type 0 where
+  absent : ActReply
+  here : Row → ActReply
+  added : ActReply
+  present : ActReply
+  gone : ActReply
+  bound : ActReply
+  other : Body → ActReply
+  ended : Outcome → ActReply
+  running : ActReply
+  already : ActReply
+  did : ActReply
+  kept : Value → ActReply
+  no_row : ActReply
+  noted : Note → ActReply
+  next : ℕ → ActReply
+  held : Owner → ActReply
+  not_owner : ActReply
+  tested : Bool → ActReply
+  died : IntentId → ActReply
+  packed : Value → Option Owner → ActReply
+  not_full : ActReply
+  not_so : ActReply
+  marked : ℕ → ActReply
 
-abbrev pub tell_of : Said → Tell
-tell_of Said.Absent = absent
-tell_of (Said.Row r) = here r.now
-tell_of Said.Added = added
-tell_of Said.Present = present
-tell_of Said.Gone = gone
-tell_of Said.Bound = bound
-tell_of (Said.Other b) = other b.now
-tell_of (Said.Ended o) = ended o.now
-tell_of Said.Running = running
-tell_of Said.Already = already
-tell_of Said.Did = did
-tell_of (Said.Kept v) = kept v.now
-tell_of Said.NoRow = no_row
-tell_of (Said.Noted n) = noted n.now
-tell_of (Said.Next n) = next n
-tell_of (Said.Held o) = held o.now
-tell_of Said.NotOwner = not_owner
-tell_of (Said.Tested b) = tested b
-tell_of (Said.Died a) = died a.now
-tell_of (Said.Packed v o) = packed v.now (option_copied o)
-tell_of Said.NotFull = not_full
-tell_of Said.NotSo = not_so
-tell_of (Said.Marked n) = marked n
+abbrev pub act_reply_of : ActReplyRef → ActReply
+act_reply_of ActReplyRef.Absent = absent
+act_reply_of (ActReplyRef.Row r) = here r.now
+act_reply_of ActReplyRef.Added = added
+act_reply_of ActReplyRef.Present = present
+act_reply_of ActReplyRef.Gone = gone
+act_reply_of ActReplyRef.Bound = bound
+act_reply_of (ActReplyRef.Other b) = other b.now
+act_reply_of (ActReplyRef.Ended o) = ended o.now
+act_reply_of ActReplyRef.Running = running
+act_reply_of ActReplyRef.Already = already
+act_reply_of ActReplyRef.Did = did
+act_reply_of (ActReplyRef.Kept v) = kept v.now
+act_reply_of ActReplyRef.NoRow = no_row
+act_reply_of (ActReplyRef.Noted n) = noted n.now
+act_reply_of (ActReplyRef.Next n) = next n
+act_reply_of (ActReplyRef.Held o) = held o.now
+act_reply_of ActReplyRef.NotOwner = not_owner
+act_reply_of (ActReplyRef.Tested b) = tested b
+act_reply_of (ActReplyRef.Died a) = died a.now
+act_reply_of (ActReplyRef.Packed v o) = packed v.now (option_copied o)
+act_reply_of ActReplyRef.NotFull = not_full
+act_reply_of ActReplyRef.NotSo = not_so
+act_reply_of (ActReplyRef.Marked n) = marked n
 
 -- ---- the acts on the row of an intent
-abbrev pub outcome_tell : Option Outcome → Tell
-outcome_tell None = running
-outcome_tell (Some o) = ended o
+abbrev pub outcome_reply : Option Outcome → ActReply
+outcome_reply None = running
+outcome_reply (Some o) = ended o
 
 -- binds it to a function and arguments, by the body that is there
-abbrev pub bind_to : ℕ → Value → IntentRow → Option Body → IntentRow × Tell
-bind_to f a i None = (record i { body = Some (record { func = f; args = a; tx = None; from = None }) }, bound)
-bind_to f a i (Some b) = (i, (if (b.func == f) && same_value b.args a then outcome_tell i.outcome else other b))
+abbrev pub bind_to : ℕ → Value → IntentRow → Option Body → IntentRow × ActReply
+bind_to f a i None = (record i { body = Some (record { func = f; args = a; tx = None; parent = None }) }, bound)
+bind_to f a i (Some b) = (i, (if (b.func == f) && same_value b.args a then outcome_reply i.outcome else other b))
 
 -- the moment of the finish, by whether one is to be set and the one that is there
 abbrev pub finish_at : Bool → ℕ → Option ℕ → Option ℕ
@@ -73,28 +73,28 @@ finish_at true now None = Some now
 finish_at true now (Some f) = Some f
 
 -- ends it, by the outcome that is there
-abbrev pub end_with : Outcome → Bool → ℕ → IntentRow → Option Outcome → IntentRow × Tell
+abbrev pub end_with : Outcome → Bool → ℕ → IntentRow → Option Outcome → IntentRow × ActReply
 end_with o stamp now i None = (record i { outcome = Some o; finish = finish_at stamp now i.finish }, did)
 end_with o stamp now i (Some p) = (i, already)
 
 -- sets its finish, by the finish that is there
-abbrev pub stamp_with : ℕ → IntentRow → Option ℕ → IntentRow × Tell
+abbrev pub stamp_with : ℕ → IntentRow → Option ℕ → IntentRow × ActReply
 stamp_with now i None = (record i { finish = Some now }, did)
 stamp_with now i (Some f) = (i, already)
 
 -- ---- the act on what a read was given: it stays as it is, and is told
-abbrev pub kept_tell : Option Row → Tell
-kept_tell (Some (Row.ReadLog v)) = kept v
-kept_tell r = no_row
+abbrev pub kept_reply : Option Row → ActReply
+kept_reply (Some (Row.ReadLog v)) = kept v
+kept_reply r = no_row
 
 -- ---- the acts on the row of a call
 -- sets what it gave back, by what is there
-abbrev pub call_back_to : Outcome → InvokeRow → Option Outcome → InvokeRow × Tell
+abbrev pub call_back_to : Outcome → InvokeRow → Option Outcome → InvokeRow × ActReply
 call_back_to o i None = (record i { result = Some o }, did)
 call_back_to o i (Some p) = (i, already)
 
 -- says that it is registered, by whether that was said
-abbrev pub register_to : InvokeRow → Bool → InvokeRow × Tell
+abbrev pub register_to : InvokeRow → Bool → InvokeRow × ActReply
 register_to i false = (record i { registered = true }, did)
 register_to i true = (i, already)
 
@@ -105,22 +105,22 @@ other_owner who None = None
 other_owner who (Some o) = if owner_eq o who then None else Some o
 
 -- by the owner that stands in the way: it is told, or else the act is done
-abbrev pub held_or : Cell → Option Owner → Cell × Tell → Cell × Tell
+abbrev pub held_or : Cell → Option Owner → Cell × ActReply → Cell × ActReply
 held_or c None r = r
 held_or c (Some o) r = (c, held o)
 
 -- by the row after this one: it is told, or else the act is done
-abbrev pub next_or : Cell → Option ℕ → Cell × Tell → Cell × Tell
+abbrev pub next_or : Cell → Option ℕ → Cell × ActReply → Cell × ActReply
 next_or c None r = r
 next_or c (Some n) r = (c, next n)
 
 -- by the note that the place has: it is told, or else the act is done
-abbrev pub noted_or : Cell → Option Note → Cell × Tell → Cell × Tell
+abbrev pub noted_or : Cell → Option Note → Cell × ActReply → Cell × ActReply
 noted_or c None r = r
 noted_or c (Some n) r = (c, noted n)
 
 -- what is done only by a place without a note, and only at the last row of an item
-abbrev pub at_tail : Place → Cell → Cell × Tell → Cell × Tell
+abbrev pub at_tail : Place → Cell → Cell × ActReply → Cell × ActReply
 at_tail p c r = noted_or c (note_at c.log p) (next_or c c.next r)
 
 -- an entry is made for a place: the cell has its note, this value and this owner
@@ -128,14 +128,14 @@ abbrev pub entered : Place → Note → Value → Option Owner → Cell → Cell
 entered p n v o c = record c { value = v; owner = o; log = c.log ++ (p, n) ∷ [] }
 
 -- .. where no other than who asks owns it
-abbrev pub unless_held : Owner → Cell → Cell × Tell → Cell × Tell
+abbrev pub unless_held : Owner → Cell → Cell × ActReply → Cell × ActReply
 unless_held w c r = held_or c (other_owner w c.owner) r
 
 -- .. and where there is room for the entry: else the value and the owner are told
 abbrev pub is_full : Cell → Bool
 is_full c = length c.log == most_entries
 
-abbrev pub if_room : Cell → Cell × Tell → Cell × Tell
+abbrev pub if_room : Cell → Cell × ActReply → Cell × ActReply
 if_room c r = if is_full c then (c, packed c.value c.owner) else r
 
 -- .. or where who asks owns it
@@ -143,7 +143,7 @@ abbrev pub owns : Owner → Option Owner → Bool
 owns who None = false
 owns who (Some o) = owner_eq o who
 
-abbrev pub if_owned : Owner → Cell → Cell × Tell → Cell × Tell
+abbrev pub if_owned : Owner → Cell → Cell × ActReply → Cell × ActReply
 if_owned w c r = if owns w c.owner then r else (c, not_owner)
 
 -- the value, or the one that is there
@@ -151,14 +151,14 @@ abbrev pub given_or : Option Value → Value → Value
 given_or None w = w
 given_or (Some v) w = v
 
-abbrev pub write_at : Place → Owner → Value → Cell → Cell × Tell
+abbrev pub write_at : Place → Owner → Value → Cell → Cell × ActReply
 write_at p w v c = at_tail p c (unless_held w c (if_room c (entered p Wrote v c.owner c, did)))
 
 -- a condition, by the test of the value that is there
-abbrev pub cond_to : Bool → Place → Value → Cell → Cell × Tell
+abbrev pub cond_to : Bool → Place → Value → Cell → Cell × ActReply
 cond_to b p v c = (entered p (Cond b) (if b then v else c.value) c.owner c, tested b)
 
-abbrev pub cond_at : Place → Owner → Rel → Value → Value → Cell → Cell × Tell
+abbrev pub cond_at : Place → Owner → Rel → Value → Value → Cell → Cell × ActReply
 cond_at p w r o v c = at_tail p c (unless_held w c (if_room c (cond_to (passes c.value r o) p v c)))
 
 -- a lock: who waits for another owner is an intent, or a transaction that is older than that owner; ..
@@ -167,21 +167,21 @@ waits_for (Owner.Intent a) o = true
 waits_for (Owner.Tx t) o = is_older t.intent (age_of o)
 
 -- .. any other transaction dies there, and its death is kept, with that owner's age
-abbrev pub wait_or_die : Place → Owner → Cell → Owner → Cell × Tell
+abbrev pub wait_or_die : Place → Owner → Cell → Owner → Cell × ActReply
 wait_or_die p w c o = if waits_for w o then (c, held o) else if_room c (entered p (Died (age_of o)) c.value c.owner c, died (age_of o))
 
-abbrev pub owned_or : Place → Owner → Cell → Option Owner → Cell × Tell → Cell × Tell
+abbrev pub owned_or : Place → Owner → Cell → Option Owner → Cell × ActReply → Cell × ActReply
 owned_or p w c None r = r
 owned_or p w c (Some o) r = wait_or_die p w c o
 
-abbrev pub lock_at : Place → Owner → Cell → Cell × Tell
+abbrev pub lock_at : Place → Owner → Cell → Cell × ActReply
 lock_at p w c = at_tail p c (owned_or p w c (other_owner w c.owner) (if_room c (entered p Got c.value (Some w) c, did)))
 
-abbrev pub free_at : Place → Owner → Option Value → Cell → Cell × Tell
+abbrev pub free_at : Place → Owner → Option Value → Cell → Cell × ActReply
 free_at p w v c = at_tail p c (if_owned w c (if_room c (entered p Freed (given_or v c.value) None c, did)))
 
 -- the row of this number follows a full cell that none follows
-abbrev pub link_to : ℕ → Cell → Cell × Tell
+abbrev pub link_to : ℕ → Cell → Cell × ActReply
 link_to n c = next_or c c.next (if is_full c then (record c { next = Some n }, next n) else (c, not_full))
 
 -- ---- the acts that remove a row
@@ -229,13 +229,13 @@ prunes DangleCell = true
 prunes a = drops a
 
 -- what is said then
-abbrev pub removed_tell : Bool → Tell
-removed_tell true = did
-removed_tell false = not_so
+abbrev pub removed_reply : Bool → ActReply
+removed_reply true = did
+removed_reply false = not_so
 
 -- ---- the acts that lead past a cell: it is marked, the one before leads past it, and then it is adrift
 -- a cell that has a next is marked, and that is told
-abbrev pub mark_by : Option ℕ → Cell → Cell × Tell
+abbrev pub mark_by : Option ℕ → Cell → Cell × ActReply
 mark_by None c = (c, not_so)
 mark_by (Some n) c = (record c { marked = true }, marked n)
 
@@ -244,37 +244,37 @@ abbrev pub leads_from : ℕ → Option ℕ → Bool
 leads_from f None = false
 leads_from f (Some n) = n == f
 
-abbrev pub skip_by : Bool → ℕ → Cell → Cell × Tell
+abbrev pub skip_by : Bool → ℕ → Cell → Cell × ActReply
 skip_by false t c = (c, not_so)
 skip_by true t c = (record c { next = Some t }, did)
 
-abbrev pub skip_to : ℕ → ℕ → Cell → Cell × Tell
+abbrev pub skip_to : ℕ → ℕ → Cell → Cell × ActReply
 skip_to f t c = skip_by (not c.marked && leads_from f c.next && nat_lt f t) t c
 
 -- a marked one is adrift from now on
-abbrev pub dangle_by : Bool → ℕ → Cell → Cell × Tell
+abbrev pub dangle_by : Bool → ℕ → Cell → Cell × ActReply
 dangle_by false now c = (c, not_so)
 dangle_by true now c = (record c { dangled = Some now }, did)
 
-abbrev pub dangle_at : ℕ → Cell → Cell × Tell
+abbrev pub dangle_at : ℕ → Cell → Cell × ActReply
 dangle_at now c = dangle_by (c.marked && not (is_some c.dangled)) now c
 
 -- ---- the acts on a row of any kind: one that does not fit its kind changes nothing, and says this
-abbrev pub on_intent : (IntentRow → IntentRow × Tell) → Tell → Row → Row × Tell
+abbrev pub on_intent : (IntentRow → IntentRow × ActReply) → ActReply → Row → Row × ActReply
 on_intent f t (Row.Intent i) = (Row.Intent (f i).0, (f i).1)
 on_intent f t (Row.ReadLog v) = (Row.ReadLog v, t)
 on_intent f t (Row.Invoke v) = (Row.Invoke v, t)
 on_intent f t (Row.Cell c) = (Row.Cell c, t)
 on_intent f t Row.Lockset = (Row.Lockset, t)
 
-abbrev pub on_invoke : (InvokeRow → InvokeRow × Tell) → Tell → Row → Row × Tell
+abbrev pub on_invoke : (InvokeRow → InvokeRow × ActReply) → ActReply → Row → Row × ActReply
 on_invoke f t (Row.Intent i) = (Row.Intent i, t)
 on_invoke f t (Row.ReadLog v) = (Row.ReadLog v, t)
 on_invoke f t (Row.Invoke i) = (Row.Invoke (f i).0, (f i).1)
 on_invoke f t (Row.Cell c) = (Row.Cell c, t)
 on_invoke f t Row.Lockset = (Row.Lockset, t)
 
-abbrev pub on_cell : (Cell → Cell × Tell) → Tell → Row → Row × Tell
+abbrev pub on_cell : (Cell → Cell × ActReply) → ActReply → Row → Row × ActReply
 on_cell f t (Row.Intent i) = (Row.Intent i, t)
 on_cell f t (Row.ReadLog v) = (Row.ReadLog v, t)
 on_cell f t (Row.Invoke v) = (Row.Invoke v, t)
@@ -282,14 +282,14 @@ on_cell f t (Row.Cell c) = (Row.Cell (f c).0, (f c).1)
 on_cell f t Row.Lockset = (Row.Lockset, t)
 
 -- on a row that is there: the row afterwards, and what is said. An act that removes it says so, and leaves it as it is
-abbrev pub on : Act → ℕ → Row → Row × Tell
+abbrev pub on : Act → ℕ → Row → Row × ActReply
 on Look now r = (r, here r)
 on Issue now r = (r, present)
 on (Bind f a) now r = on_intent (λ i. bind_to f a i i.body) gone r
 on (Register b) now r = (r, here r)
 on (End o s) now r = on_intent (λ i. end_with o s now i i.outcome) gone r
 on Stamp now r = on_intent (λ i. stamp_with now i i.finish) gone r
-on (PutRead v) now r = (r, kept_tell (Some r))
+on (PutRead v) now r = (r, kept_reply (Some r))
 on (OpenInvoke f) now r = (r, here r)
 on (CallBack o) now r = on_invoke (λ i. call_back_to o i i.result) gone r
 on NoteRegistered now r = on_invoke (λ i. register_to i i.registered) gone r
@@ -300,15 +300,15 @@ on (CondCell p w k o v) now r = on_cell (cond_at p w k o v) no_row r
 on (LockCell p w s) now r = on_cell (lock_at p w) no_row r
 on (FreeCell p w v) now r = on_cell (free_at p w v) no_row r
 on (LinkCell n) now r = on_cell (link_to n) no_row r
-on (DropIntent l) now r = (r, removed_tell (is_old_row l now r))
-on DropRow now r = (r, removed_tell (is_left_row r))
+on (DropIntent l) now r = (r, removed_reply (is_old_row l now r))
+on DropRow now r = (r, removed_reply (is_left_row r))
 on MarkCell now r = on_cell (λ c. mark_by c.next c) not_so r
 on (SkipCell f t) now r = on_cell (skip_to f t) not_so r
 on DangleCell now r = on_cell (dangle_at now) not_so r
-on (DropCell l) now r = (r, removed_tell (is_adrift l now r))
+on (DropCell l) now r = (r, removed_reply (is_adrift l now r))
 
 -- where no row is
-abbrev pub off : Act → ℕ → Option Row × Tell
+abbrev pub off : Act → ℕ → Option Row × ActReply
 off Look now = (None, absent)
 off Issue now = (Some (Row.Intent (record { issued = now; body = None; outcome = None; finish = None })), added)
 off (Bind f a) now = (None, gone)
@@ -333,82 +333,82 @@ off (SkipCell f t) now = (None, not_so)
 off DangleCell now = (None, not_so)
 off (DropCell l) now = (None, not_so)
 
-abbrev pub stays : Row × Tell → Option Row × Tell
+abbrev pub stays : Row × ActReply → Option Row × ActReply
 stays r = (Some r.0, r.1)
 
 -- .. and where it is removed
-abbrev pub stays_unless : Bool → Row × Tell → Option Row × Tell
+abbrev pub stays_unless : Bool → Row × ActReply → Option Row × ActReply
 stays_unless false r = stays r
 stays_unless true r = (None, r.1)
 
 -- the row afterwards, or none, and what is said
-abbrev pub act : Act → ℕ → Option Row → Option Row × Tell
+abbrev pub act : Act → ℕ → Option Row → Option Row × ActReply
 act a now None = off a now
 act a now (Some r) = stays_unless (removes a now r) (on a now r)
 
 -- ---- a change, and what is said of it once the row is as the change left it
-abbrev pub here_tell : Option Row → Tell
-here_tell None = absent
-here_tell (Some r) = here r
+abbrev pub here_reply : Option Row → ActReply
+here_reply None = absent
+here_reply (Some r) = here r
 
-abbrev pub other_tell : Option Body → Tell
-other_tell None = gone
-other_tell (Some b) = other b
+abbrev pub other_reply : Option Body → ActReply
+other_reply None = gone
+other_reply (Some b) = other b
 
-abbrev pub ended_tell : Option Outcome → Tell
-ended_tell None = gone
-ended_tell (Some o) = ended o
+abbrev pub ended_reply : Option Outcome → ActReply
+ended_reply None = gone
+ended_reply (Some o) = ended o
 
-abbrev pub held_tell : Option Owner → Tell
-held_tell None = no_row
-held_tell (Some o) = held o
+abbrev pub held_reply : Option Owner → ActReply
+held_reply None = no_row
+held_reply (Some o) = held o
 
-abbrev pub died_tell : Option Owner → Tell
-died_tell None = no_row
-died_tell (Some o) = died (age_of o)
+abbrev pub died_reply : Option Owner → ActReply
+died_reply None = no_row
+died_reply (Some o) = died (age_of o)
 
-abbrev pub noted_tell : Option Note → Tell
-noted_tell None = no_row
-noted_tell (Some n) = noted n
+abbrev pub noted_reply : Option Note → ActReply
+noted_reply None = no_row
+noted_reply (Some n) = noted n
 
-abbrev pub intent_tell : (IntentRow → Tell) → Option Row → Tell
-intent_tell f (Some (Row.Intent i)) = f i
-intent_tell f r = gone
+abbrev pub intent_reply : (IntentRow → ActReply) → Option Row → ActReply
+intent_reply f (Some (Row.Intent i)) = f i
+intent_reply f r = gone
 
-abbrev pub cell_tell : (Cell → Tell) → Option Row → Tell
-cell_tell f (Some (Row.Cell c)) = f c
-cell_tell f r = no_row
+abbrev pub cell_reply : (Cell → ActReply) → Option Row → ActReply
+cell_reply f (Some (Row.Cell c)) = f c
+cell_reply f r = no_row
 
-abbrev pub said_by : Change → Option Row → Tell
-said_by Change.Absent r = absent
-said_by Change.Row r = here_tell r
-said_by Change.Added r = added
-said_by Change.Present r = present
-said_by Change.Gone r = gone
-said_by Change.Bound r = bound
-said_by Change.Other r = intent_tell (λ i. other_tell i.body) r
-said_by Change.Ended r = intent_tell (λ i. ended_tell i.outcome) r
-said_by Change.Running r = running
-said_by Change.Already r = already
-said_by Change.Did r = did
-said_by Change.Kept r = kept_tell r
-said_by Change.NoRow r = no_row
-said_by (Change.Noted n) r = cell_tell (λ c. noted_tell (note_of (slice_get c.log n))) r
-said_by (Change.Next n) r = next n
-said_by Change.Held r = cell_tell (λ c. held_tell c.owner) r
-said_by Change.NotOwner r = not_owner
-said_by (Change.Tested b) r = tested b
-said_by Change.Died r = cell_tell (λ c. died_tell c.owner) r
-said_by Change.Packed r = cell_tell (λ c. packed c.value c.owner) r
-said_by Change.NotFull r = not_full
-said_by Change.NotSo r = not_so
-said_by (Change.Marked n) r = marked n
+abbrev pub change_reply : Change → Option Row → ActReply
+change_reply Change.Absent r = absent
+change_reply Change.Row r = here_reply r
+change_reply Change.Added r = added
+change_reply Change.Present r = present
+change_reply Change.Gone r = gone
+change_reply Change.Bound r = bound
+change_reply Change.Other r = intent_reply (λ i. other_reply i.body) r
+change_reply Change.Ended r = intent_reply (λ i. ended_reply i.outcome) r
+change_reply Change.Running r = running
+change_reply Change.Already r = already
+change_reply Change.Did r = did
+change_reply Change.Kept r = kept_reply r
+change_reply Change.NoRow r = no_row
+change_reply (Change.Noted n) r = cell_reply (λ c. noted_reply (note_of (slice_get c.log n))) r
+change_reply (Change.Next n) r = next n
+change_reply Change.Held r = cell_reply (λ c. held_reply c.owner) r
+change_reply Change.NotOwner r = not_owner
+change_reply (Change.Tested b) r = tested b
+change_reply Change.Died r = cell_reply (λ c. died_reply c.owner) r
+change_reply Change.Packed r = cell_reply (λ c. packed c.value c.owner) r
+change_reply Change.NotFull r = not_full
+change_reply Change.NotSo r = not_so
+change_reply (Change.Marked n) r = marked n
 
 -- what stands in the way of an act on a cell is told, or else the act is done
-abbrev pub way_or : Option Change → Cell → Cell × Tell → Cell × Tell
+abbrev pub way_or : Option Change → Cell → Cell × ActReply → Cell × ActReply
 way_or None c r = r
-way_or (Some w) c r = (c, said_by w (Some (Row.Cell c)))
+way_or (Some w) c r = (c, change_reply w (Some (Row.Cell c)))
 
 -- the row and the answer of a change are those of the act, but for its removal
 abbrev pub Changes : Act → ℕ → Row → Row → Change → Type 0
-Changes a now before after c = (after, said_by c (Some after)) ≡ on a now before
+Changes a now before after c = (after, change_reply c (Some after)) ≡ on a now before

@@ -4,7 +4,7 @@ use Rattle.std.specs.{FinMap.FinMap, Option.option_map, Ordering.is_lt, declared
 use denote.Bor.{Bor}
 use Rattle.std.specs.FinMap as map
 use Rattle.beldi_value.specs.declared.place.Place.{Place}
-use Rattle.beldi_row.specs.{Key.RowKey, Key.key_cmp, Key.at_row, Key.row_of, Log.note_at, declared.notes.Note.Note, declared.row.Cell.Cell, Act.Tell, Act.act, Act.off, Act.tell_of, declared.key.Kind.Kind, declared.row.Row.Row, declared.act.Act.Act, declared.act.Said.Said, declared.table.Opens.Opens, declared.table.TableErr.TableErr, declared.table.TableErr.TheVariants.OutOfMemory, declared.table.TableErr.TheVariants.Failed, declared.table.TableErr.TheVariants.Full}
+use Rattle.beldi_row.specs.{Key.RowKey, Key.key_cmp, Key.at_row, Key.row_of, Log.note_at, declared.notes.Note.Note, declared.row.Cell.Cell, Act.ActReply, Act.act, Act.off, Act.act_reply_of, declared.key.Kind.Kind, declared.row.Row.Row, declared.act.Act.Act, declared.act.ActReplyRef.ActReplyRef, declared.table.Opens.Opens, declared.table.TableErr.TableErr, declared.table.TableErr.TheVariants.OutOfMemory, declared.table.TableErr.TheVariants.Failed, declared.table.TableErr.TheVariants.Full}
 
 abbrev pub Rows : Type 0
 Rows = FinMap key_cmp Row
@@ -42,8 +42,8 @@ abbrev pub after_act : Act → ℕ → RowKey → Rows → Rows
 after_act a now k m = set_row m k (act a now (map.get m k)).0
 
 -- what an act on one of them says
-abbrev pub tell_act : Act → ℕ → RowKey → Rows → Tell
-tell_act a now k m = (act a now (map.get m k)).1
+abbrev pub act_reply : Act → ℕ → RowKey → Rows → ActReply
+act_reply a now k m = (act a now (map.get m k)).1
 
 -- the act adds a row
 abbrev pub adds : Act → ℕ → RowKey → Rows → Bool
@@ -72,8 +72,8 @@ Refused a now k room m n Failed = n ≡ m
 Refused a now k room m n (Full live most) = (n ≡ m) × IsFull a now k room m live most
 
 -- what an answer to an act says of the rows before and after
-abbrev pub ActedOn : Act → ℕ → RowKey → ℕ → Rows → Rows → Result Said TableErr → Type 0
-ActedOn a now k room m n (Ok s) = (n ≡ after_act a now k m) × (tell_of s ≡ tell_act a now k m) × (IsTrue (adds a now k m) → map.len m < room)
+abbrev pub ActedOn : Act → ℕ → RowKey → ℕ → Rows → Rows → Result ActReplyRef TableErr → Type 0
+ActedOn a now k room m n (Ok s) = (n ≡ after_act a now k m) × (act_reply_of s ≡ act_reply a now k m) × (IsTrue (adds a now k m) → map.len m < room)
 ActedOn a now k room m n (Err e) = Refused a now k room m n e
 
 -- a count that rose, or stands at its end
@@ -92,7 +92,7 @@ Tells (Some m) None P = ⊥
 Tells (Some m) (Some n) P = P m n
 
 -- an act
-pub record Acted (a : Act) (now : ℕ) (k : RowKey) (old new : TableState) (result : Result Said TableErr) : Type 0 where
+pub record Acted (a : Act) (now : ℕ) (k : RowKey) (old new : TableState) (result : Result ActReplyRef TableErr) : Type 0 where
   pub rows : Tells old.rows new.rows (λ m n. ActedOn a now k old.room m n result)
   pub cause : HasCause old.faults new.faults result
   pub room : new.room ≡ old.room

@@ -2,7 +2,7 @@
 ghost use Rattle.std.specs.Prelude.{◌≡◌, ◌&&◌, ◌==◌, ℕ, Some, Option};
 ghost use Rattle.beldi_value.specs.Same.{same_value};
 ghost use Rattle.beldi_row.specs.declared.row.Row as row_data;
-ghost use Rattle.beldi_row.specs.Act.{bind_to, end_with, stamp_with, call_back_to, register_to, kept_tell, on_intent, on_invoke, gone, off, said_by, drops, removes, removed_tell, is_past, is_old, is_old_row, is_left_row, is_adrift, Changes};
+ghost use Rattle.beldi_row.specs.Act.{bind_to, end_with, stamp_with, call_back_to, register_to, kept_reply, on_intent, on_invoke, gone, off, change_reply, drops, removes, removed_reply, is_past, is_old, is_old_row, is_left_row, is_adrift, Changes};
 
 use crate::cell::{free, link, lock, write, write_where};
 use crate::notes::{Blank, Note};
@@ -117,7 +117,7 @@ pub enum Act {
 
 /// What an act says. It lends what lies in the row.
 #[derive(Drop)]
-pub enum Said<'a> {
+pub enum ActReplyRef<'a> {
     /// No row is there.
     Absent,
     /// The row.
@@ -166,7 +166,7 @@ pub enum Said<'a> {
     Marked(u32),
 }
 
-/// What an act did: each says the same as the answer of `Said` with its name, but for what lies in the row.
+/// What an act did: each says the same as the answer of `ActReplyRef` with its name, but for what lies in the row.
 #[derive(Clone, Copy)]
 pub enum Change {
     Absent,
@@ -240,7 +240,7 @@ pub fn made(act: Act, now: u64) -> Option<Row>
 
 /// What an act says where no row is.
 pub fn missing(act: &Act) -> Change
-    ensures { (now : ℕ) (row : Option row_data.Row) → said_by result row ≡ (off act.now now).1 }
+    ensures { (now : ℕ) (row : Option row_data.Row) → change_reply result row ≡ (off act.now now).1 }
 {
     match act {
         Act::Look => Change::Absent,
@@ -329,7 +329,7 @@ pub fn removes(act: &Act, row: &Row, now: u64) -> bool
 
 // What is said of a row that is to be removed, or is not.
 fn removal(is_so: bool) -> Change
-    ensures { (row : Option row_data.Row) → said_by result row ≡ removed_tell is_so }
+    ensures { (row : Option row_data.Row) → change_reply result row ≡ removed_reply is_so }
 {
     if is_so { Change::Did } else { Change::NotSo }
 }
@@ -380,7 +380,7 @@ fn is_left_row(row: &Row) -> bool
 }
 
 fn kept(row: &Row) -> Change
-    ensures { said_by result (Some row.now) ≡ kept_tell (Some row.now) }
+    ensures { change_reply result (Some row.now) ≡ kept_reply (Some row.now) }
 {
     match row {
         Row::ReadLog(_) => Change::Kept,
@@ -389,7 +389,7 @@ fn kept(row: &Row) -> Change
 }
 
 fn bind(row: &mut Row, func: u16, args: Value) -> Change
-    ensures { (row.new, said_by result (Some row.new)) ≡ on_intent (λ i. bind_to func args i i.body) gone row.old }
+    ensures { (row.new, change_reply result (Some row.new)) ≡ on_intent (λ i. bind_to func args i i.body) gone row.old }
 {
     match row {
         Row::Intent(intent) => bind_intent(intent, func, args),
@@ -401,7 +401,7 @@ fn bind(row: &mut Row, func: u16, args: Value) -> Change
 }
 
 fn bind_intent(intent: &mut IntentRow, func: u16, args: Value) -> Change
-    ensures { (intent.new, said_by result (Some (Row.Intent intent.new))) ≡ bind_to func args intent.old intent.old.body }
+    ensures { (intent.new, change_reply result (Some (Row.Intent intent.new))) ≡ bind_to func args intent.old intent.old.body }
 {
     match &intent.body {
         None => {
@@ -409,7 +409,7 @@ fn bind_intent(intent: &mut IntentRow, func: u16, args: Value) -> Change
                 func,
                 args,
                 tx: None,
-                from: None,
+                parent: None,
             };
             drop(intent.body.replace(body));
             Change::Bound
@@ -436,7 +436,7 @@ fn is_call(body: &Body, func: u16, args: &Value) -> bool
 }
 
 fn end(row: &mut Row, outcome: Outcome, stamp: bool, now: u64) -> Change
-    ensures { (row.new, said_by result (Some row.new)) ≡ on_intent (λ i. end_with outcome stamp now i i.outcome) gone row.old }
+    ensures { (row.new, change_reply result (Some row.new)) ≡ on_intent (λ i. end_with outcome stamp now i i.outcome) gone row.old }
 {
     match row {
         Row::Intent(intent) => end_intent(intent, outcome, stamp, now),
@@ -448,7 +448,7 @@ fn end(row: &mut Row, outcome: Outcome, stamp: bool, now: u64) -> Change
 }
 
 fn end_intent(intent: &mut IntentRow, outcome: Outcome, stamp: bool, now: u64) -> Change
-    ensures { (intent.new, said_by result (Some (Row.Intent intent.new))) ≡ end_with outcome stamp now intent.old intent.old.outcome }
+    ensures { (intent.new, change_reply result (Some (Row.Intent intent.new))) ≡ end_with outcome stamp now intent.old intent.old.outcome }
 {
     if intent.outcome.is_some() {
         drop(outcome);
@@ -462,7 +462,7 @@ fn end_intent(intent: &mut IntentRow, outcome: Outcome, stamp: bool, now: u64) -
 }
 
 fn stamp(row: &mut Row, now: u64) -> Change
-    ensures { (row.new, said_by result (Some row.new)) ≡ on_intent (λ i. stamp_with now i i.finish) gone row.old }
+    ensures { (row.new, change_reply result (Some row.new)) ≡ on_intent (λ i. stamp_with now i i.finish) gone row.old }
 {
     match row {
         Row::Intent(intent) => stamp_intent(intent, now),
@@ -471,7 +471,7 @@ fn stamp(row: &mut Row, now: u64) -> Change
 }
 
 fn stamp_intent(intent: &mut IntentRow, now: u64) -> Change
-    ensures { (intent.new, said_by result (Some (Row.Intent intent.new))) ≡ stamp_with now intent.old intent.old.finish }
+    ensures { (intent.new, change_reply result (Some (Row.Intent intent.new))) ≡ stamp_with now intent.old intent.old.finish }
 {
     if intent.finish.is_some() {
         return Change::Already;
@@ -481,7 +481,7 @@ fn stamp_intent(intent: &mut IntentRow, now: u64) -> Change
 }
 
 fn call_back(row: &mut Row, outcome: Outcome) -> Change
-    ensures { (row.new, said_by result (Some row.new)) ≡ on_invoke (λ i. call_back_to outcome i i.result) gone row.old }
+    ensures { (row.new, change_reply result (Some row.new)) ≡ on_invoke (λ i. call_back_to outcome i i.result) gone row.old }
 {
     match row {
         Row::Invoke(call) => end_call(call, outcome),
@@ -493,7 +493,7 @@ fn call_back(row: &mut Row, outcome: Outcome) -> Change
 }
 
 fn end_call(call: &mut InvokeRow, outcome: Outcome) -> Change
-    ensures { (call.new, said_by result (Some (Row.Invoke call.new))) ≡ call_back_to outcome call.old call.old.result }
+    ensures { (call.new, change_reply result (Some (Row.Invoke call.new))) ≡ call_back_to outcome call.old call.old.result }
 {
     if call.result.is_some() {
         drop(outcome);
@@ -504,7 +504,7 @@ fn end_call(call: &mut InvokeRow, outcome: Outcome) -> Change
 }
 
 fn note_registered(row: &mut Row) -> Change
-    ensures { (row.new, said_by result (Some row.new)) ≡ on_invoke (λ i. register_to i i.registered) gone row.old }
+    ensures { (row.new, change_reply result (Some row.new)) ≡ on_invoke (λ i. register_to i i.registered) gone row.old }
 {
     match row {
         Row::Invoke(call) => register(call),
@@ -513,7 +513,7 @@ fn note_registered(row: &mut Row) -> Change
 }
 
 fn register(call: &mut InvokeRow) -> Change
-    ensures { (call.new, said_by result (Some (Row.Invoke call.new))) ≡ register_to call.old call.old.registered }
+    ensures { (call.new, change_reply result (Some (Row.Invoke call.new))) ≡ register_to call.old call.old.registered }
 {
     if call.registered {
         return Change::Already;

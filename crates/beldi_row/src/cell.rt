@@ -1,7 +1,7 @@
 // The acts on a cell. Each leaves one that has the place already, or that a row follows, as it is, and a full one but for the row
 // that follows it.
 ghost use Rattle.std.specs.Prelude.{◌≡◌, false, None, Some, Option, is_some};
-ghost use Rattle.beldi_row.specs.Act.{Tell, at_tail, way_or, unless_held, if_owned, if_room, is_full, link_to, said_by, other_owner, owns, given_or, waits_for, Changes};
+ghost use Rattle.beldi_row.specs.Act.{ActReply, at_tail, way_or, unless_held, if_owned, if_room, is_full, link_to, change_reply, other_owner, owns, given_or, waits_for, Changes};
 ghost use Rattle.beldi_row.specs.declared.row.Cell as cell_data;
 
 use crate::act::{Act, Change};
@@ -31,7 +31,7 @@ fn is_owned(owner: &Option<Owner>, who: &Owner) -> bool
 
 // The entry that the place has already, or else the row after this one.
 fn in_the_way(cell: &Cell, place: &Place) -> Option<Change>
-    ensures { (r : cell_data.Cell × Tell) → at_tail place.now cell.now r ≡ way_or result cell.now r }
+    ensures { (r : cell_data.Cell × ActReply) → at_tail place.now cell.now r ≡ way_or result cell.now r }
 {
     match cell.log.find(place) {
         Some(index) => Some(Change::Noted(index)),
@@ -44,7 +44,7 @@ fn in_the_way(cell: &Cell, place: &Place) -> Option<Change>
 
 // What stands in the way of a write: what stands in the way of any act, another owner, or that there is no room for an entry.
 fn in_the_way_of(cell: &Cell, place: &Place, who: &Owner) -> Option<Change>
-    ensures way { (r : cell_data.Cell × Tell) → at_tail place.now cell.now (unless_held who.now cell.now (if_room cell.now r)) ≡ way_or result cell.now r }
+    ensures way { (r : cell_data.Cell × ActReply) → at_tail place.now cell.now (unless_held who.now cell.now (if_room cell.now r)) ≡ way_or result cell.now r }
     ensures room { result ≡ None → is_full cell.now ≡ false }
 {
     match in_the_way(cell, place) {
@@ -216,7 +216,7 @@ pub(crate) fn free(row: &mut Row, place: Place, who: Owner, value: Option<Value>
 // What stands in the way of the owner's giving the item back: what stands in the way of any act, that it is not the owner, or
 // that there is no room for an entry.
 fn in_the_way_of_free(cell: &Cell, place: &Place, who: &Owner) -> Option<Change>
-    ensures way { (r : cell_data.Cell × Tell) → at_tail place.now cell.now (if_owned who.now cell.now (if_room cell.now r)) ≡ way_or result cell.now r }
+    ensures way { (r : cell_data.Cell × ActReply) → at_tail place.now cell.now (if_owned who.now cell.now (if_room cell.now r)) ≡ way_or result cell.now r }
     ensures room { result ≡ None → is_full cell.now ≡ false }
 {
     match in_the_way(cell, place) {

@@ -13,7 +13,7 @@ pub struct Body {
     pub func: u16,
     pub args: Value,
     pub tx: Option<TxId>,
-    pub from: Option<Caller>,
+    pub parent: Option<Caller>,
 }
 
 impl Body {
@@ -26,15 +26,15 @@ impl Body {
             None => None,
             Some(tx) => Some(or_drop!(copy_tx(tx, alloc); args)),
         };
-        let from = match &self.from {
+        let parent = match &self.parent {
             None => None,
-            Some(from) => Some(or_drop!(from.copy(alloc); args, tx)),
+            Some(parent) => Some(or_drop!(parent.copy(alloc); args, tx)),
         };
         Ok(Body {
             func: self.func,
             args,
             tx,
-            from,
+            parent,
         })
     }
 }

@@ -6,7 +6,7 @@ ghost use Rattle.std.specs.Option.{option_copied};
 ghost use Rattle.beldi_row.specs.Table.{TableState, Acted, Went, Readied, IsCount, OpensTold, PassesTold};
 ghost use Rattle.beldi_row.specs.declared.table.Opens.TheVariants.{Untold};
 
-use crate::act::{Act, Said};
+use crate::act::{Act, ActReplyRef};
 use crate::key::RowKey;
 use crate::row::Row;
 use beldi_value::Place;
@@ -66,7 +66,7 @@ pub trait Table {
     /// Carries out an act on the row with the key, at the moment `now`, in ticks. An act that adds a row is refused as
     /// `Full` exactly where the table has as many rows as its room or more. An act that does not fit the kind of the
     /// row changes nothing. It counts one call.
-    fn act(&mut self, key: RowKey, act: Act, now: u64) -> Result<Said<'_>, TableErr>
+    fn act(&mut self, key: RowKey, act: Act, now: u64) -> Result<ActReplyRef<'_>, TableErr>
         ensures* acts { sem 𝓛 (follows_so Self.row Self.row self.entry.ghost_name none (λ _ _. ⊤) (λ after.
             Acted act now key (state self.entry.now) (state after) result)) };
 

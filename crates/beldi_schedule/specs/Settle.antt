@@ -1,15 +1,15 @@
 -- Settling, as a machine over the events of a host: each live run is given turns until all that are left wait, and an intent that has
 -- no run is given one. The runs that wait are the live ones up to a number, so no set of them is kept.
 use Rattle.std.specs.Prelude.{◌≡◌, ℕ, ◌+◌, ◌-◌, ◌<◌, ◌≤◌, nat_le, Bool, true, false, not, ◌&&◌, List, [], ◌∷◌, ◌++◌, Option, Some, None, if◌then◌else◌}
-use Rattle.beldi_step.specs.{declared.event.Event.Event, declared.event.Seen.Seen, Host.Core, Host.most_events, Next.next_run, Next.reset}
-use Rattle.beldi_schedule.specs.declared.machine.{At.At, Next.Next, Next.TheVariants.Turn, Next.TheVariants.Collect, Next.TheVariants.Reset, Settled.Settled, Settled.TheVariants.All, Settled.TheVariants.Unsettled, Settled.TheVariants.Spent, Settled.TheVariants.Shut, Settled.TheVariants.Stuck, Standing.Standing, Standing.TheVariants.Goes, Standing.TheVariants.Over}
+use Rattle.beldi_step.specs.{declared.event.Event.Event, declared.event.EventReply.EventReply, HostStep.Core, HostStep.most_events, Next.next_run, Next.reset}
+use Rattle.beldi_schedule.specs.declared.machine.{At.At, Next.Next, Next.TheVariants.Turn, Next.TheVariants.Collect, Next.TheVariants.Reset, Settled.Settled, Settled.TheVariants.All, Settled.TheVariants.Unsettled, Settled.TheVariants.Spent, Settled.TheVariants.Shut, Settled.TheVariants.Stuck, Standing.Standing, Standing.TheVariants.Working, Standing.TheVariants.Over}
 
 abbrev pub first_at : At
 first_at = record { turns = 0; past = 0; waiting = []; moved = false; round = None }
 
 -- it is over where the budget is used up
 abbrev pub go_on : ℕ → At → Standing
-go_on budget s = if nat_le budget s.turns then Over (Unsettled s.turns) else Goes s
+go_on budget s = if nat_le budget s.turns then Over (Unsettled s.turns) else Working s
 
 -- ---- what comes next
 abbrev pub is_empty : {X : Type 0} → List X → Bool
@@ -43,15 +43,15 @@ begun s = record s { round = Some false }
 
 -- ---- what follows of an answer
 -- the run stays where it stands
-abbrev pub is_waiting : Seen → Bool
-is_waiting (Seen.Held o) = true
-is_waiting (Seen.NotYet id) = true
-is_waiting (Seen.Full live room) = true
-is_waiting Seen.Worn = true
-is_waiting Seen.Crowded = true
+abbrev pub is_waiting : EventReply → Bool
+is_waiting (EventReply.Held o) = true
+is_waiting (EventReply.NotYet id) = true
+is_waiting (EventReply.Full live room) = true
+is_waiting EventReply.Worn = true
+is_waiting EventReply.Crowded = true
 is_waiting x = false
 
-abbrev pub parked : At → ℕ → Seen → At
+abbrev pub parked : At → ℕ → EventReply → At
 parked s i x = record s { past = i; waiting = s.waiting ++ (i, x) ∷ [] }
 
 -- so many turns more
@@ -63,32 +63,32 @@ abbrev pub counted : ℕ → At → Standing
 counted budget s = go_on budget (strode s 1)
 
 -- a host that is spent takes no event more, and one that is shut none but a halt
-abbrev pub is_turned_away : Seen → Bool
-is_turned_away Seen.Spent = true
-is_turned_away Seen.Shut = true
+abbrev pub is_turned_away : EventReply → Bool
+is_turned_away EventReply.Spent = true
+is_turned_away EventReply.Shut = true
 is_turned_away x = false
 
-abbrev pub away : ℕ → Seen → Settled
-away n Seen.Shut = Shut n
+abbrev pub away : ℕ → EventReply → Settled
+away n EventReply.Shut = Shut n
 away n x = Spent n
 
-abbrev pub unless_away : At → Seen → Standing → Standing
+abbrev pub unless_away : At → EventReply → Standing → Standing
 unless_away s x next = if is_turned_away x then Over (away s.turns x) else next
 
 -- a run was given a turn
-abbrev pub turn_heard : ℕ → At → ℕ → Seen → Standing
-turn_heard budget s i x = unless_away s x (if is_waiting x then Goes (parked s i x) else counted budget s)
+abbrev pub on_turn_reply : ℕ → At → ℕ → EventReply → Standing
+on_turn_reply budget s i x = unless_away s x (if is_waiting x then Working (parked s i x) else counted budget s)
 
 -- the intent collector has gone round, or can start no run
-abbrev pub ends_round : Seen → Bool
-ends_round Seen.Round = true
-ends_round Seen.Crowded = true
+abbrev pub ends_round : EventReply → Bool
+ends_round EventReply.Round = true
+ends_round EventReply.Crowded = true
 ends_round x = false
 
 -- it started a run, or the table failed
-abbrev pub counts : Seen → Bool
-counts (Seen.Launched i id) = true
-counts Seen.Dropped = true
+abbrev pub counts : EventReply → Bool
+counts (EventReply.Launched i id) = true
+counts EventReply.Dropped = true
 counts x = false
 
 -- nobody goes on, by the least live run
@@ -98,12 +98,12 @@ end_of s (Some i) = Stuck s.turns s.waiting
 
 -- that is the end, unless the intent collector started a run
 abbrev pub round_over : Option ℕ → At → Option Bool → Standing
-round_over live s (Some true) = Goes (record s { round = None })
+round_over live s (Some true) = Working (record s { round = None })
 round_over live s b = Over (end_of s live)
 
 -- the intent collector was given a turn; then this is the least live run
-abbrev pub ic_heard : ℕ → Option ℕ → At → Seen → Standing
-ic_heard budget live s x = unless_away s x (if ends_round x then round_over live s s.round else if counts x then counted budget (record s { round = Some true }) else Goes s)
+abbrev pub on_ic_reply : ℕ → Option ℕ → At → EventReply → Standing
+on_ic_reply budget live s x = unless_away s x (if ends_round x then round_over live s s.round else if counts x then counted budget (record s { round = Some true }) else Working s)
 
 -- ---- an event
 -- the event that comes next, and the core that it comes to
@@ -118,10 +118,10 @@ core_for (Collect s) c = c
 core_for (Reset s) c = reset c
 
 -- what follows of its answer, with the core after it
-abbrev pub heard_of : ℕ → Core → Next → Seen → Standing
-heard_of budget c (Turn s i) x = turn_heard budget s i x
-heard_of budget c (Collect s) x = ic_heard budget (next_run c 0) s x
-heard_of budget c (Reset s) x = ic_heard budget (next_run c 0) (begun s) x
+abbrev pub on_reply_of : ℕ → Core → Next → EventReply → Standing
+on_reply_of budget c (Turn s i) x = on_turn_reply budget s i x
+on_reply_of budget c (Collect s) x = on_ic_reply budget (next_run c 0) s x
+on_reply_of budget c (Reset s) x = on_ic_reply budget (next_run c 0) (begun s) x
 
 -- the turns that were counted at its end
 abbrev pub turns_of : Settled → ℕ
@@ -133,7 +133,7 @@ turns_of (Stuck n ws) = n
 
 -- ---- what is kept: a settling that goes on has turns left, and the events that it went on after were taken, one at least
 abbrev pub HasTurns : ℕ → Standing → Type 0
-HasTurns budget (Goes s) = s.turns < budget
+HasTurns budget (Working s) = s.turns < budget
 HasTurns budget (Over r) = Unit {0}
 
 abbrev pub turns_in : Next → ℕ
@@ -142,10 +142,10 @@ turns_in (Collect s) = s.turns
 turns_in (Reset s) = s.turns
 
 abbrev pub WasTaken : Core → Core → Standing → Type 0
-WasTaken c z (Goes s) = (c.taken < z.taken) × (z.taken ≤ most_events)
+WasTaken c z (Working s) = (c.taken < z.taken) × (z.taken ≤ most_events)
 WasTaken c z (Over r) = Unit {0}
 
 -- how many events a settling may still make; none where it is over
 abbrev pub events_left : Core → Standing → ℕ
-events_left c (Goes s) = most_events - c.taken + 1
+events_left c (Working s) = most_events - c.taken + 1
 events_left c (Over r) = 0

@@ -13,6 +13,6 @@
 mod machine;
 
 pub use machine::{
-    At, Next, Settled, Standing, Waits, begun, first_at, go_on, ic_heard, strode, turn_heard,
+    At, Next, Settled, Standing, Waits, begun, first_at, go_on, on_ic_reply, on_turn_reply, strode,
     unparked,
 };

@@ -1,25 +1,25 @@
 // Where a settling stands, and where it goes.
 ghost use Rattle.std.specs.Prelude.{◌≡◌, ◌+◌, ◌<◌, ◌≤◌, ◌++◌, ◌∷◌, [], IfOk, OnOk};
-ghost use Rattle.beldi_schedule.specs.Settle.{HasTurns, away, begun, counted, counts, end_of, ends_round, first_at, go_on, ic_heard, is_empty, is_turned_away, is_waiting, parked, round_over, strode, turn_heard, unparked};
-ghost use Rattle.beldi_schedule.specs.declared.machine.Standing.TheVariants.{Goes};
+ghost use Rattle.beldi_schedule.specs.Settle.{HasTurns, away, begun, counted, counts, end_of, ends_round, first_at, go_on, on_ic_reply, is_empty, is_turned_away, is_waiting, parked, round_over, strode, on_turn_reply, unparked};
+ghost use Rattle.beldi_schedule.specs.declared.machine.Standing.TheVariants.{Working};
 
-use beldi_step::Seen;
+use beldi_step::EventReply;
 use std::alloc::{AllocError, Global};
 use std::marker::Model;
 
 /// Runs that wait, each with what its last turn was answered.
 #[derive(Drop)]
 pub struct Waits {
-    runs: Vec<(u64, Seen)>,
+    runs: Vec<(u64, EventReply)>,
 }
 
 impl Model for Waits {
     ghost use Rattle.std.specs.Prelude.{ℕ, List};
     ghost use Rattle.std.specs.Coded.{codes, coded_ℕ};
-    ghost use Rattle.beldi_step.specs.contracts.event.Seen as seen;
-    ghost use Rattle.beldi_step.specs.declared.event.Seen.{Seen};
+    ghost use Rattle.beldi_step.specs.contracts.event.EventReply as seen;
+    ghost use Rattle.beldi_step.specs.declared.event.EventReply.{EventReply};
 
-    ghost Value = { List (ℕ × Seen) };
+    ghost Value = { List (ℕ × EventReply) };
 
     ghost coded = { Prim.hlevel (codes, coded_ℕ, seen.the_row.coded) };
 
@@ -59,7 +59,7 @@ pub enum Settled {
 /// A settling goes on, or is over.
 #[derive(Drop)]
 pub enum Standing {
-    Goes(At),
+    Working(At),
     Over(Settled),
 }
 
@@ -91,13 +91,13 @@ impl Waits {
     }
 
     /// The runs that wait, in the order of their numbers, each with its last answer.
-    pub fn as_slice(&self) -> &[(u64, Seen)]
+    pub fn as_slice(&self) -> &[(u64, EventReply)]
         ensures { result.now ≡ self.entry.now }
     {
         self.runs.as_slice()
     }
 
-    fn push(&mut self, run: u64, seen: Seen) -> Result<(), AllocError>
+    fn push(&mut self, run: u64, seen: EventReply) -> Result<(), AllocError>
         ensures { OnOk result (self.new ≡ self.old ++ (run, seen) ∷ []) }
     {
         match self.runs.push((run, seen)) {
@@ -135,7 +135,7 @@ pub fn go_on(budget: u64, at: At) -> Standing
     if budget <= at.turns {
         Standing::Over(Settled::Unsettled(at.turns))
     } else {
-        Standing::Goes(at)
+        Standing::Working(at)
     }
 }
 
@@ -163,11 +163,15 @@ pub fn begun(at: At) -> At
 }
 
 // The run stays where it stands.
-fn is_waiting(seen: &Seen) -> bool
+fn is_waiting(seen: &EventReply) -> bool
     ensures { result ≡ is_waiting seen.now }
 {
     match seen {
-        Seen::Held(_) | Seen::NotYet(_) | Seen::Full { .. } | Seen::Worn | Seen::Crowded => true,
+        EventReply::Held(_)
+        | EventReply::NotYet(_)
+        | EventReply::Full { .. }
+        | EventReply::Worn
+        | EventReply::Crowded => true,
         _ => false,
     }
 }
@@ -195,41 +199,46 @@ fn counted(budget: u64, at: At) -> Standing
     strode(budget, at, 1)
 }
 
-fn parked(mut at: At, run: u64, seen: Seen) -> Result<Standing, AllocError>
-    ensures { IfOk result (λ s. s ≡ Goes (parked at run seen)) }
+fn parked(mut at: At, run: u64, seen: EventReply) -> Result<Standing, AllocError>
+    ensures { IfOk result (λ s. s ≡ Working (parked at run seen)) }
 {
     match at.waiting.push(run, seen) {
         Ok(()) => {
             at.past = run;
-            Ok(Standing::Goes(at))
+            Ok(Standing::Working(at))
         }
         Err(why) => Err(why),
     }
 }
 
 // The host takes no event, or none but a halt.
-fn is_turned_away(seen: &Seen) -> bool
+fn is_turned_away(seen: &EventReply) -> bool
     ensures { result ≡ is_turned_away seen.now }
 {
     match seen {
-        Seen::Spent | Seen::Shut => true,
+        EventReply::Spent | EventReply::Shut => true,
         _ => false,
     }
 }
 
-fn away(turns: u64, seen: &Seen) -> Settled
+fn away(turns: u64, seen: &EventReply) -> Settled
     ensures { result ≡ away turns seen.now }
 {
     match seen {
-        Seen::Shut => Settled::Shut(turns),
+        EventReply::Shut => Settled::Shut(turns),
         _ => Settled::Spent(turns),
     }
 }
 
 /// A run was given a turn: it is counted, unless the run waits.
-pub fn turn_heard(budget: u64, at: At, run: u64, seen: Seen) -> Result<Standing, AllocError>
+pub fn on_turn_reply(
+    budget: u64,
+    at: At,
+    run: u64,
+    seen: EventReply,
+) -> Result<Standing, AllocError>
     requires { at.turns < budget }
-    ensures heard { IfOk result (λ s. s ≡ turn_heard budget at run seen) }
+    ensures heard { IfOk result (λ s. s ≡ on_turn_reply budget at run seen) }
     ensures turns { IfOk result (λ s. HasTurns budget s) }
 {
     if is_turned_away(&seen) {
@@ -241,20 +250,20 @@ pub fn turn_heard(budget: u64, at: At, run: u64, seen: Seen) -> Result<Standing,
     }
 }
 
-fn ends_round(seen: &Seen) -> bool
+fn ends_round(seen: &EventReply) -> bool
     ensures { result ≡ ends_round seen.now }
 {
     match seen {
-        Seen::Round | Seen::Crowded => true,
+        EventReply::Round | EventReply::Crowded => true,
         _ => false,
     }
 }
 
-fn counts(seen: &Seen) -> bool
+fn counts(seen: &EventReply) -> bool
     ensures { result ≡ counts seen.now }
 {
     match seen {
-        Seen::Launched { .. } | Seen::Dropped => true,
+        EventReply::Launched { .. } | EventReply::Dropped => true,
         _ => false,
     }
 }
@@ -277,15 +286,15 @@ fn round_over(at: At, live: Option<u64>) -> Standing
     ensures { result ≡ round_over live at at.round }
 {
     match at.round {
-        Some(true) => Standing::Goes(At { round: None, ..at }),
+        Some(true) => Standing::Working(At { round: None, ..at }),
         _ => Standing::Over(end_of(at, live)),
     }
 }
 
 /// The intent collector was given a turn; `live` is the least live run after it.
-pub fn ic_heard(budget: u64, at: At, seen: &Seen, live: Option<u64>) -> Standing
+pub fn on_ic_reply(budget: u64, at: At, seen: &EventReply, live: Option<u64>) -> Standing
     requires { at.turns < budget }
-    ensures heard { result ≡ ic_heard budget live at seen.now }
+    ensures heard { result ≡ on_ic_reply budget live at seen.now }
     ensures turns { HasTurns budget result }
 {
     if is_turned_away(seen) {
@@ -301,6 +310,6 @@ pub fn ic_heard(budget: u64, at: At, seen: &Seen, live: Option<u64>) -> Standing
             },
         )
     } else {
-        Standing::Goes(at)
+        Standing::Working(at)
     }
 }

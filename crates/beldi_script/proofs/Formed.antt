@@ -2,14 +2,14 @@
 use Rattle.std.specs.Prelude.{decimal, nat_lt, option_and_then, option_map}
 use Rattle.std.{specs.Cmp.Lexicographic.same_text, specs.List.AllByRecursion, proofs.lemmas.Bool.Decides.nat_tests, proofs.lemmas.Option.same_Some}
 use Rattle.std.proofs.Common.{◌≡◌, ℕ, ◌-◌, ◌^◌, ◌<◌, ◌≤◌, ◌==◌, true, false, IsTrue, List, [], ◌∷◌, ◌++◌, append-nil, length, suc, Option, Some, None, Result, Ok, Err, refl, ap, ap₂, sym, ◌∙◌, subst, inl, inr, arith, codes, eqb-true, if◌then◌else◌}
-use Rattle.beldi_value.{specs.Cut.after, specs.Cut.before, specs.IdAt.hops_at, specs.IdAt.id_at, specs.IdAt.id_from, specs.IdAt.parts_of, specs.IdAt.step_at, specs.IdAt.steps_at, specs.IdAt.ticket_at, specs.IdAt.with_hops, specs.Number.numeral_at, specs.Text.id_text, specs.declared.id.IntentId.IntentId, specs.declared.value.Value.Value, proofs.IdTexts.alone as id_alone, proofs.IdTexts.reads as id_reads, proofs.Ints.numeral_of, proofs.Ints.numeral_back, proofs.Ints.numeral_within}
+use Rattle.beldi_value.{specs.ByteCut.after, specs.ByteCut.before, specs.IdAt.hops_at, specs.IdAt.id_at, specs.IdAt.id_from, specs.IdAt.parts_of, specs.IdAt.step_at, specs.IdAt.steps_at, specs.IdAt.ticket_at, specs.IdAt.with_hops, specs.Number.numeral_at, specs.ValueText.id_text, specs.declared.id.IntentId.IntentId, specs.declared.value.Value.Value, proofs.IdTexts.alone as id_alone, proofs.IdTexts.reads as id_reads, proofs.Ints.numeral_of, proofs.Ints.numeral_back, proofs.Ints.numeral_within}
 use Rattle.beldi_tree.specs.{declared.deployment.Deployment.Deployment, Bindings.is_name}
 use Rattle.beldi_script.specs.declared.line.Line.TheVariants.{Blank, Ticket, Request, Turn, Lost, Crash, Restart, Ic, Gc, Sweep, Settle, Tick, Halt, Reply, Rows, Tables, Book}
 use Rattle.beldi_script.specs.declared.line.{Line.Line, ScriptErr.ScriptErr}
-use Rattle.beldi_script.specs.Line.{◌>>=◌, called, formed, func_named, line_at, request_at, restart_at, said, value_at}
-use Rattle.beldi_script.specs.{Forms.HasForm, Forms.LinesHaveForms, Forms.Names, Forms.SaysTimes, Text.IsId}
+use Rattle.beldi_script.specs.ScriptLine.{◌>>=◌, called, formed, func_named, line_at, request_at, restart_at, said, value_at}
+use Rattle.beldi_script.specs.{Forms.HasForm, Forms.LinesHaveForms, Forms.Names, Forms.SaysTimes, ScriptText.IsId}
 use Rattle.beldi_script.proofs.{Parted.id_unspaced, Parted.number_unspaced, Parted.parts, Parted.whole, ReadAgain.budget_read, ReadAgain.collector_read, ReadAgain.number_parts, ReadAgain.small_read, ReadAgain.sweep_read, ReadAgain.times_read, ReadAgain.word_unspaced}
-use Rattle.beldi_script.specs.Words.{alone, budget_at, collector_at, count_at, counted, gc_at, is_blank, is_word, name_at, numbered, small_at, sweep_at, times_at, turn_at}
+use Rattle.beldi_script.specs.ScriptWords.{alone, budget_at, collector_at, count_at, counted, gc_at, is_blank, is_word, name_at, numbered, small_at, sweep_at, times_at, turn_at}
 
 same_ok : {A : Type 0} (a b : A) → ◌≡◌ {A = Result A ScriptErr} (Ok a) (Ok b) → a ≡ b
 same_ok a b e = cc

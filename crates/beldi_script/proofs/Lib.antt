@@ -1,5 +1,5 @@
 pub mod Formed
-pub mod Lines
 pub mod Names
 pub mod Parted
 pub mod ReadAgain
+pub mod ScriptLines

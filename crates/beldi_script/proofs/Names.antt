@@ -1,7 +1,7 @@
 -- Which bytes are a name.
 use Rattle.std.{specs.Str.is_utf8, proofs.lemmas.Str.IsUtf8-from_is_utf8, proofs.lemmas.Str.is_utf8-from_IsUtf8}
 use Rattle.std.proofs.Common.{◌≡◌, ℕ, ◌==◌, Bool, true, false, ◌&&◌, List, [], ◌∷◌, length, Some, None, IsUtf8, refl, ap, sym, ◌∙◌, if◌then◌else◌}
-use Rattle.beldi_script.specs.Words.{has_no_space, is_word, name_at}
+use Rattle.beldi_script.specs.ScriptWords.{has_no_space, is_word, name_at}
 
 tested : (w : List ℕ) (u : Bool) → (length w == 0) ≡ false → has_no_space w ≡ true → is_utf8 w ≡ u → is_word w ≡ u
 tested [] u some clear e = cc

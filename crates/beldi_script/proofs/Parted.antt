@@ -2,8 +2,8 @@
 use Rattle.std.specs.Prelude.{decimal}
 use Rattle.std.{specs.Char.is_ascii_digit, specs.List.AllByRecursion, specs.Str.all_ascii_digits, proofs.lemmas.Bool.Decides.nat_tests, proofs.lemmas.Bool.and_parts, proofs.lemmas.Fmt.digits_decimal}
 use Rattle.std.proofs.Common.{◌≡◌, ℕ, ◌<◌, ◌^◌, ◌==◌, true, false, not, List, [], ◌∷◌, ◌++◌, Some, None, refl, ap, ◌∙◌, arith, if◌then◌else◌}
-use Rattle.beldi_value.{specs.Cut.before, specs.Cut.after, specs.Text.hops_text, specs.Text.id_text, specs.declared.id.IntentId.IntentId, proofs.Ints.own}
-use Rattle.beldi_script.specs.{Text.IsId, Words.has_no_space}
+use Rattle.beldi_value.{specs.ByteCut.before, specs.ByteCut.after, specs.ValueText.hops_text, specs.ValueText.id_text, specs.declared.id.IntentId.IntentId, proofs.Ints.own}
+use Rattle.beldi_script.specs.{ScriptText.IsId, ScriptWords.has_no_space}
 
 -- a text with a mark after it, and then more
 pub record Parts (m : ℕ) (w rest : List ℕ) : Type 0 where

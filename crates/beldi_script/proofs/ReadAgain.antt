@@ -2,12 +2,12 @@
 use Rattle.std.specs.Prelude.{nat_lt, decimal, option_and_then, option_map}
 use Rattle.std.{specs.List.position, specs.Cmp.Lexicographic.same_text, specs.Cmp.Lexicographic.other_text, proofs.lemmas.Bool.Decides.nat_tests, proofs.lemmas.Bool.and_parts, proofs.lemmas.List.Sums.position_or_len_is, proofs.lemmas.Option.get_or_from_slice_get, proofs.lemmas.Option.slice_get-get_or, proofs.lemmas.Option.slice_get_cases}
 use Rattle.std.proofs.Common.{◌≡◌, ℕ, zero, suc, ◌+◌, ◌-◌, ◌^◌, ◌<◌, ◌≤◌, ◌==◌, true, false, cond, IsTrue, List, [], ◌∷◌, ◌++◌, length, get_or, slice_get, Some, None, Ok, refl, ap, sym, ◌∙◌, subst, inl, inr, arith, if◌then◌else◌, lt-ltb}
-use Rattle.beldi_value.{specs.Cut.after, specs.Injective.value_back, specs.Json.text_of, specs.Text.id_text, specs.Value.datum_of, specs.declared.id.IntentId.IntentId, specs.declared.value.Value.Value, proofs.IdTexts.reads, proofs.Ints.numeral_of, proofs.ReadAgain.read_again}
+use Rattle.beldi_value.{specs.ByteCut.after, specs.Injective.value_back, specs.Json.text_of, specs.ValueText.id_text, specs.Value.datum_of, specs.declared.id.IntentId.IntentId, specs.declared.value.Value.Value, proofs.IdTexts.reads, proofs.Ints.numeral_of, proofs.ReadAgain.read_again}
 use Rattle.beldi_tree.specs.{declared.deployment.Deployment.Deployment, declared.deployment.Func.Func, Bindings.is_name, Names.name_or, Names.func_text}
 use Rattle.beldi_script.specs.declared.line.Line.TheVariants.{Blank, Ticket, Request, Turn, Lost, Crash, Restart, Ic, Gc, Sweep, Settle, Tick, Halt, Reply, Rows, Tables, Book}
-use Rattle.beldi_script.specs.Line.{formed, number_or, func_named, value_or, value_at, request_at, restart_at, line_at}
-use Rattle.beldi_script.specs.Text.{line_text, AreNamed, IsFunc, IsId, IsValue, IsTimes, IsBudget, IsProper}
-use Rattle.beldi_script.specs.Words.{is_word, name_at, small_at, collector_at, count_at, budget_at, turn_at, gc_at, sweep_at}
+use Rattle.beldi_script.specs.ScriptLine.{formed, number_or, func_named, value_or, value_at, request_at, restart_at, line_at}
+use Rattle.beldi_script.specs.ScriptText.{line_text, AreNamed, IsFunc, IsId, IsValue, IsTimes, IsBudget, IsProper}
+use Rattle.beldi_script.specs.ScriptWords.{is_word, name_at, small_at, collector_at, count_at, budget_at, turn_at, gc_at, sweep_at}
 use Rattle.beldi_script.{specs.declared.line.Line.Line, proofs.Parted.Parts, proofs.Parted.parts, proofs.Parted.no_space, proofs.Parted.number_unspaced, proofs.Parted.id_unspaced}
 
 -- ---- numbers

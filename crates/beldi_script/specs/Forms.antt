@@ -1,9 +1,9 @@
 -- The forms in which lines are written: numbers in decimal, with no zero in front; one space before each word but the first.
 use Rattle.std.specs.Prelude.{◌≡◌, ◌⊎◌, ℕ, ◌<◌, ◌≤◌, ◌^◌, IsTrue, List, [], ◌++◌, Ok, decimal, codes}
-use Rattle.beldi_value.specs.Text.{id_text}
+use Rattle.beldi_value.specs.ValueText.{id_text}
 use Rattle.beldi_tree.specs.{declared.deployment.Deployment.Deployment}
 use Rattle.beldi_script.specs.declared.line.Line.TheVariants.{Blank, Ticket, Request, Turn, Lost, Crash, Restart, Ic, Gc, Sweep, Settle, Tick, Halt, Reply, Rows, Tables, Book}
-use Rattle.beldi_script.specs.{declared.line.Line.Line, Line.func_named, Line.line_at, Line.value_at, Text.IsBudget, Text.IsId, Text.IsTimes, Words.is_blank, Words.is_word}
+use Rattle.beldi_script.specs.{declared.line.Line.Line, ScriptLine.func_named, ScriptLine.line_at, ScriptLine.value_at, ScriptText.IsBudget, ScriptText.IsId, ScriptText.IsTimes, ScriptWords.is_blank, ScriptWords.is_word}
 
 -- how often, at the end of a line: where nothing is said, once
 abbrev pub SaysTimes : ℕ → List ℕ → Type 0

@@ -1,5 +1,5 @@
-pub mod Cut
 pub mod Forms
-pub mod Line
-pub mod Text
-pub mod Words
+pub mod LineCut
+pub mod ScriptLine
+pub mod ScriptText
+pub mod ScriptWords

@@ -1,6 +1,6 @@
 // A text cut into lines.
 ghost use Rattle.std.specs.Prelude.{◌≡◌, ◌<◌, ◌∷◌, length};
-ghost use Rattle.beldi_script.specs.Cut.{unreturned, lines_of};
+ghost use Rattle.beldi_script.specs.LineCut.{unreturned, lines_of};
 
 use beldi_value::cut_at;
 

@@ -1,6 +1,6 @@
 // Laws of the lines of a script.
-ghost use Rattle.beldi_script.specs.Text.{LineIsReadAgain};
-ghost use Rattle.beldi_script.specs.Cut.{LinesAreCut};
+ghost use Rattle.beldi_script.specs.ScriptText.{LineIsReadAgain};
+ghost use Rattle.beldi_script.specs.LineCut.{LinesAreCut};
 ghost use Rattle.beldi_script.specs.Forms.{LinesHaveForms};
 
 /// A line that is written, within the limits of its form and under names that differ, is read as that line.

@@ -1,8 +1,8 @@
 //! The lines of a script: a script's text cut into lines, what a line says, and the text of a line.
 //! It stands on `beldi_value` (numbers, ids and values) and `beldi_check` (a deployment that was checked, whose functions a line
 //! can name).
-//! Its definitions: `specs/Cut` (a text cut into lines), `specs/Words` (the words of a line, and the lines of numbers),
-//! `specs/Line` (what a line says, or why it is refused), `specs/Forms` (the forms in which lines are written) and `specs/Text` (the
+//! Its definitions: `specs/LineCut` (a text cut into lines), `specs/ScriptWords` (the words of a line, and the lines of numbers),
+//! `specs/ScriptLine` (what a line says, or why it is refused), `specs/Forms` (the forms in which lines are written) and `specs/ScriptText` (the
 //! text of a line, and that it is read again).
 //!
 //! Proved:
@@ -17,7 +17,7 @@
 //! Files:
 //! - Code (`src/`): `cut` lines; `words` the words of a line; `reading`, `writing` what a line says, and its text; `line`;
 //!   `laws`.
-//! - Lemmas (`proofs/`): `Lines`, `Parted`, `Names`; `ReadAgain` a line that was written; `Formed` the
+//! - Lemmas (`proofs/`): `ScriptLines`, `Parted`, `Names`; `ReadAgain` a line that was written; `Formed` the
 //!   forms, both ways.
 #![tactic(auto)]
 

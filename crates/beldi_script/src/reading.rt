@@ -1,8 +1,8 @@
 // What a line of a script says.
 ghost use Rattle.std.specs.Prelude.{◌≡◌};
 ghost use Rattle.beldi_value.specs.IdAt.{id_at};
-ghost use Rattle.beldi_script.specs.Line.{formed, func_named, value_at, request_at, restart_at, called, said, line_at, Reads};
-ghost use Rattle.beldi_script.specs.Words.{alone};
+ghost use Rattle.beldi_script.specs.ScriptLine.{formed, func_named, value_at, request_at, restart_at, called, said, line_at, Reads};
+ghost use Rattle.beldi_script.specs.ScriptWords.{alone};
 
 use crate::line::{Line, ScriptErr};
 use crate::words::{is_blank, is_word, read_alone, read_counted, read_name, read_small};

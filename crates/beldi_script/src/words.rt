@@ -3,7 +3,7 @@ ghost use Rattle.std.specs.Prelude.{◌≡◌, ◌≤◌, option_map, option_cop
 ghost use Rattle.std.specs.List.{list_all};
 ghost use Rattle.beldi_value.specs.Number.{numeral_at};
 ghost use Rattle.beldi_tree.specs.Bindings.{is_name};
-ghost use Rattle.beldi_script.specs.Words.{is_space, is_blank as is_blank_line, is_comment, has_no_space, name_at, small_at, collector_at, count_at, times_at, budget_at, turn_at, gc_at, sweep_at, alone, numbered, counted};
+ghost use Rattle.beldi_script.specs.ScriptWords.{is_space, is_blank as is_blank_line, is_comment, has_no_space, name_at, small_at, collector_at, count_at, times_at, budget_at, turn_at, gc_at, sweep_at, alone, numbered, counted};
 
 use crate::line::Line;
 use beldi_value::{cut_at, read_numeral};

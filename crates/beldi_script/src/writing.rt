@@ -1,9 +1,9 @@
 // The text of a line.
 ghost use Rattle.std.specs.Prelude.{◌≡◌, ◌++◌, OnOk, OnErr, IfOk, codes, decimal, string_bytes};
 ghost use Rattle.beldi_value.specs.Json.{text_of};
-ghost use Rattle.beldi_value.specs.Text.{id_text};
+ghost use Rattle.beldi_value.specs.ValueText.{id_text};
 ghost use Rattle.beldi_value.specs.Value.{datum_of};
-ghost use Rattle.beldi_script.specs.Text.{line_text};
+ghost use Rattle.beldi_script.specs.ScriptText.{line_text};
 ghost use Rattle.beldi_tree.specs.Names.{func_text};
 
 use crate::line::Line;

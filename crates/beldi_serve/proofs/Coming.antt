@@ -5,16 +5,16 @@ use Rattle.std.proofs.Common.{Bool, Err, List, None, Ok, Result, Some, [], ap, a
 use Rattle.beldi_value.specs.{declared.value.Value.Value, Value.datum_of}
 use Rattle.beldi_tree.specs.declared.deployment.Deployment.{Deployment}
 use Rattle.beldi_row.specs.{declared.table.Table.Ghosts, Table.Rose, Table.Rows}
-use Rattle.beldi_step.proofs.Steps.{over_any_table, over_rows}
-use Rattle.beldi_step.specs.{declared.event.Event.Event, declared.event.Seen.Seen, Host.EventOn, Host.Stepped}
-use Rattle.beldi_host.specs.{declared.host.Host.Host, declared.survey.OpenErr.OpenErr, declared.survey.ReplySeen.ReplySeen, Host.core_of, Survey.Reads, Survey.is_unknown, Survey.reply_seen}
-use Rattle.beldi_outside.{proofs.Told.told_map, proofs.Told.told_then}
+use Rattle.beldi_step.proofs.AnyStep.{over_any_table, over_rows}
+use Rattle.beldi_step.specs.{declared.event.Event.Event, declared.event.EventReply.EventReply, HostStep.EventOn, HostStep.Stepped}
+use Rattle.beldi_host.specs.{declared.host.Host.Host, declared.survey.OpenErr.OpenErr, declared.survey.ReplyStatus.ReplyStatus, HostCore.core_of, Survey.Reads, Survey.is_unknown, Survey.reply_status}
+use Rattle.beldi_outside.{proofs.Observed.told_map, proofs.Observed.told_then}
 use Rattle.beldi_schedule.specs.{Settle.first_at, Settle.go_on, Settles.State}
 use Rattle.beldi_session.proofs.{Responses.told_tells, Went.steps_before, Went.steps_then}
-use Rattle.beldi_session.specs.{Response.Response, Response.Answered, Response.BrokeOff, Response.Reported, Response.ReplyIs, Response.Whole, Response.after_request, Response.goes_on, Response.patience, Script.Action, Script.Call, Script.Carry, Script.Settle, Script.TellReply, Session.Does, Session.IsStep, Session.Leaves, Session.Steps, Session.Unchanged, Session.WentBy, Session.sight, declared.session.Stop.Stop}
-use Rattle.beldi_gateway.specs.{declared.desk.CallSaid.CallSaid, declared.desk.TicketSaid.TicketSaid, declared.response.Response.Response as Reply, declared.response.Response.TheVariants.Call as Called, declared.response.Response.TheVariants.Ticket as Ticketed, Exchange.Question, Exchange.ask_call, Exchange.ask_ticket}
+use Rattle.beldi_session.specs.{HostResponse.Response, HostResponse.Answered, HostResponse.BrokeOff, HostResponse.Reported, HostResponse.ReplyIs, HostResponse.Whole, HostResponse.after_request, HostResponse.goes_on, HostResponse.patience, Script.Action, Script.Call, Script.Carry, Script.Settle, Script.TellReply, Session.Does, Session.IsStep, Session.Leaves, Session.Steps, Session.Unchanged, Session.WentBy, Session.sight, declared.session.Stop.Stop}
+use Rattle.beldi_gateway.specs.{declared.desk.CallReply.CallReply, declared.desk.TicketReply.TicketReply, declared.response.Response.Response as Reply, declared.response.Response.TheVariants.Call as Called, declared.response.Response.TheVariants.Ticket as Ticketed, Exchange.Question, Exchange.ask_call, Exchange.ask_ticket}
 use Rattle.beldi_serve.proofs.Leading.{leads_so}
-use Rattle.beldi_serve.specs.Desk.{AnswersTo, Asks, Comes, IsNoMemory, Passed, Says, Way, reply_said, request_said, said_by, state_of, ticket_said}
+use Rattle.beldi_serve.specs.Desk.{AnswersTo, Asks, Comes, IsNoMemory, Passed, Replies, HostRelation, reply_said, request_said, said_by, state_of, ticket_said}
 
 -- ---- one step after another
 module _ (d : Deployment) (room : ℕ) (s t : State) where
@@ -58,32 +58,32 @@ module _ (d : Deployment) (room : ℕ) (s t : State) where
   short_after ys fs more gs x steps short = (ys, record { more = more ++ gs; steps = steps_before (IsStep d room) gs ys fs more s t steps; said = inl short })
 
 -- an event was answered so, or was out of memory
-abbrev pub answered : Event → Result Seen AllocError → Response
+abbrev pub answered : Event → Result EventReply AllocError → Response
 answered e (Ok x) = Answered Whole e x
 answered e (Err w) = BrokeOff (Some e)
 
-abbrev pub Made : Event → Result Seen AllocError → Way
+abbrev pub Made : Event → Result EventReply AllocError → HostRelation
 Made e r d room s t = IsStep d room s t (answered e r)
 
-step_of : (d : Deployment) (room : ℕ) (s t : State) (e : Event) (r : Result Seen AllocError) → EventOn d room s.faults t.faults e s.core s.rows t.core t.rows r → s.faults ≤ t.faults → Made e r d room s t
+step_of : (d : Deployment) (room : ℕ) (s t : State) (e : Event) (r : Result EventReply AllocError) → EventOn d room s.faults t.faults e s.core s.rows t.core t.rows r → s.faults ≤ t.faults → Made e r d room s t
 step_of d room s t e (Ok x) h later = (h, later)
 step_of d room s t e (Err w) h later = (h, later)
 
 -- the reply of a ticket was read, or not
-abbrev pub reply_report : ℕ → Result ReplySeen OpenErr → Response
+abbrev pub reply_report : ℕ → Result ReplyStatus OpenErr → Response
 reply_report t (Ok x) = Reported (ReplyIs t (Some x))
 reply_report t (Err OpenErr.Failed) = Reported (ReplyIs t None)
 reply_report t (Err OpenErr.OutOfMemory) = BrokeOff None
 
-abbrev pub Looked : ℕ → Result ReplySeen OpenErr → Way
+abbrev pub Looked : ℕ → Result ReplyStatus OpenErr → HostRelation
 Looked t r d room s u = IsStep d room s u (reply_report t r)
 
 -- a settling was carried out
-abbrev pub Settled : {X : Type 0} → List Action → Result X Stop → Way
+abbrev pub Settled : {X : Type 0} → List Action → Result X Stop → HostRelation
 Settled fs r d room s t = (ys : List Response) × (more : List Action) × Steps (IsStep d room) ys fs more s t × IfOk r (λ x. more ≡ [])
 
 -- a question asks this
-asks_so : {q : Question} {x : Reply} (fs : List Action) → Asks q fs → (d : Deployment) (room : ℕ) (s t : State) → AnswersTo fs x d room s t → Says q x d room s t
+asks_so : {q : Question} {x : Reply} (fs : List Action) → Asks q fs → (d : Deployment) (room : ℕ) (s t : State) → AnswersTo fs x d room s t → Replies q x d room s t
 asks_so fs asks d room s t k = (k.0, record { actions = fs; asks = asks; answers = k.1 })
 
 abbrev pub settled_so : {X : Type 0} → X → Result X Stop
@@ -100,7 +100,7 @@ lost w = Err w
 
 -- ---- from one host to another
 module _ {T : Type 0} {G : Ghosts T} where
-  pub comes_map : {P Q : Way} {a b : Host T G} → ((d : Deployment) (room : ℕ) (s t : State) → P d room s t → Q d room s t) → Comes P a b → Comes Q a b
+  pub comes_map : {P Q : HostRelation} {a b : Host T G} → ((d : Deployment) (room : ℕ) (s t : State) → P d room s t → Q d room s t) → Comes P a b → Comes Q a b
   comes_map {P} {Q} {a} {b} f h = record {
     code = h.code;
     room = h.room;
@@ -109,7 +109,7 @@ module _ {T : Type 0} {G : Ghosts T} where
   }
 
   -- .. and on to a third
-  pub comes_then : {P Q R : Way} {a b c : Host T G} → ((d : Deployment) (room : ℕ) (s t u : State) → P d room s t → Q d room t u → R d room s u) → Comes P a b → Comes Q b c → Comes R a c
+  pub comes_then : {P Q R : HostRelation} {a b c : Host T G} → ((d : Deployment) (room : ℕ) (s t u : State) → P d room s t → Q d room t u → R d room s u) → Comes P a b → Comes Q b c → Comes R a c
   comes_then {P} {Q} {R} {a} {b} {c} f h k = record {
     code = k.code ∙ h.code;
     room = k.room ∙ h.room;
@@ -119,7 +119,7 @@ module _ {T : Type 0} {G : Ghosts T} where
         (λ m n o p q. f a.code (G.state a.table).room (state_of a m) (state_of b n) (state_of c o) p (subst (λ (z : Deployment). Q z (G.state a.table).room (state_of b n) (state_of c o)) h.code (subst (λ (z : ℕ). Q b.code z (state_of b n) (state_of c o)) h.room q))) h.went k.went;
   }
 
-  pub event_comes : (a b : Host T G) (e : Event) (r : Result Seen AllocError) → b.code ≡ a.code → Stepped a.code e (core_of a) (core_of b) (G.state a.table) (G.state b.table) r → Comes (Made e r) a b
+  pub event_comes : (a b : Host T G) (e : Event) (r : Result EventReply AllocError) → b.code ≡ a.code → Stepped a.code e (core_of a) (core_of b) (G.state a.table) (G.state b.table) r → Comes (Made e r) a b
   event_comes a b e r code h =
       let any = over_any_table a.code e (core_of a) (core_of b) (G.state a.table) (G.state b.table) r h in
       record {
@@ -131,21 +131,21 @@ module _ {T : Type 0} {G : Ghosts T} where
             (told_tells (G.state a.table).rows (G.state b.table).rows (λ m n. EventOn a.code (G.state a.table).room (G.state a.table).faults (G.state b.table).faults e (core_of a) m (core_of b) n r) (over_rows a.code e (core_of a) (core_of b) (G.state a.table) (G.state b.table) r h));
       }
 
-  pub reply_comes : (a b : Host T G) (t : ℕ) (r : Result ReplySeen OpenErr) → b.code ≡ a.code → core_of b ≡ core_of a → Reads (λ m x. x ≡ reply_seen (core_of a).newest t m) (G.state a.table) (G.state b.table) r
+  pub reply_comes : (a b : Host T G) (t : ℕ) (r : Result ReplyStatus OpenErr) → b.code ≡ a.code → core_of b ≡ core_of a → Reads (λ m x. x ≡ reply_status (core_of a).newest t m) (G.state a.table) (G.state b.table) r
       → ((e : OpenErr) → r ≡ Err e → is_unknown (core_of a).newest t ≡ false) → Comes (Looked t r) a b
   reply_comes a b t r code core h issued = record {
     code = code;
     room = h.room;
     later = h.later;
-    went = told_map {P = λ m n. (n ≡ m) × IfOk r (λ x. x ≡ reply_seen (core_of a).newest t m)} {Q = λ m n. IsStep a.code (G.state a.table).room (state_of a m) (state_of b n) (reply_report t r)} (G.state a.table).rows (G.state b.table).rows
+    went = told_map {P = λ m n. (n ≡ m) × IfOk r (λ x. x ≡ reply_status (core_of a).newest t m)} {Q = λ m n. IsStep a.code (G.state a.table).room (state_of a m) (state_of b n) (reply_report t r)} (G.state a.table).rows (G.state b.table).rows
         (λ m n p. by_read r m n p.0 p.1 h.failed issued)
-        (told_tells (G.state a.table).rows (G.state b.table).rows (λ m n. (n ≡ m) × IfOk r (λ x. x ≡ reply_seen (core_of a).newest t m)) h.rows);
+        (told_tells (G.state a.table).rows (G.state b.table).rows (λ m n. (n ≡ m) × IfOk r (λ x. x ≡ reply_status (core_of a).newest t m)) h.rows);
   }
     where
       same : (m n : Rows) → n ≡ m → Unchanged (state_of a m) (state_of b n)
       same m n is = record { core = core; rows = is; later = h.later }
 
-      by_read : (r : Result ReplySeen OpenErr) (m n : Rows) → n ≡ m → IfOk r (λ x. x ≡ reply_seen (core_of a).newest t m) → (IsErrOf r OpenErr.Failed → Rose (G.state a.table).faults (G.state b.table).faults)
+      by_read : (r : Result ReplyStatus OpenErr) (m n : Rows) → n ≡ m → IfOk r (λ x. x ≡ reply_status (core_of a).newest t m) → (IsErrOf r OpenErr.Failed → Rose (G.state a.table).faults (G.state b.table).faults)
           → ((e : OpenErr) → r ≡ Err e → is_unknown (core_of a).newest t ≡ false) → IsStep a.code (G.state a.table).room (state_of a m) (state_of b n) (reply_report t r)
       by_read (Ok x) m n is said failed issued = (same m n is, said)
       by_read (Err OpenErr.Failed) m n is said failed issued = (same m n is, (failed refl, issued OpenErr.Failed refl))
@@ -165,34 +165,34 @@ module _ {T : Type 0} {G : Ghosts T} where
       by_end (Err e) m n w = (w.2.responses, w.0, w.2.steps, tt)
 
   -- ---- a ticket's reply was looked at
-  pub look_told : (a b : Host T G) (t : ℕ) (seen : ReplySeen) → Comes (Looked t (Ok seen)) a b → Comes (AnswersTo (TellReply t ∷ []) (Called (reply_said (Some seen)))) a b
+  pub look_told : (a b : Host T G) (t : ℕ) (seen : ReplyStatus) → Comes (Looked t (Ok seen)) a b → Comes (AnswersTo (TellReply t ∷ []) (Called (reply_said (Some seen)))) a b
   look_told a b t seen = comes_map {P = Looked t (Ok seen)} {Q = AnswersTo (TellReply t ∷ []) (Called (reply_said (Some seen)))} {a = a} {b = b} (λ d room s u step. said_once d room s u (TellReply t) (Reported (ReplyIs t (Some seen))) (Called (reply_said (Some seen))) (refl, refl) step refl)
 
-  pub look_failed : (a b : Host T G) (t : ℕ) → Comes (Looked t (Err OpenErr.Failed)) a b → Comes (AnswersTo (TellReply t ∷ []) (Called CallSaid.Fault)) a b
-  look_failed a b t = comes_map {P = Looked t (Err OpenErr.Failed)} {Q = AnswersTo (TellReply t ∷ []) (Called CallSaid.Fault)} {a = a} {b = b} (λ d room s u step. said_once d room s u (TellReply t) (Reported (ReplyIs t None)) (Called CallSaid.Fault) (refl, refl) step refl)
+  pub look_failed : (a b : Host T G) (t : ℕ) → Comes (Looked t (Err OpenErr.Failed)) a b → Comes (AnswersTo (TellReply t ∷ []) (Called CallReply.Fault)) a b
+  look_failed a b t = comes_map {P = Looked t (Err OpenErr.Failed)} {Q = AnswersTo (TellReply t ∷ []) (Called CallReply.Fault)} {a = a} {b = b} (λ d room s u step. said_once d room s u (TellReply t) (Reported (ReplyIs t None)) (Called CallReply.Fault) (refl, refl) step refl)
 
-  pub look_short : (a b : Host T G) (t : ℕ) → Comes (Looked t (Err OpenErr.OutOfMemory)) a b → Comes (AnswersTo (TellReply t ∷ []) (Called CallSaid.NoMemory)) a b
-  look_short a b t = comes_map {P = Looked t (Err OpenErr.OutOfMemory)} {Q = AnswersTo (TellReply t ∷ []) (Called CallSaid.NoMemory)} {a = a} {b = b} (λ d room s u step. broke_once d room s u (TellReply t) (BrokeOff None) (Called CallSaid.NoMemory) (TellReply t ∷ []) refl step (inr refl))
+  pub look_short : (a b : Host T G) (t : ℕ) → Comes (Looked t (Err OpenErr.OutOfMemory)) a b → Comes (AnswersTo (TellReply t ∷ []) (Called CallReply.NoMemory)) a b
+  look_short a b t = comes_map {P = Looked t (Err OpenErr.OutOfMemory)} {Q = AnswersTo (TellReply t ∷ []) (Called CallReply.NoMemory)} {a = a} {b = b} (λ d room s u step. broke_once d room s u (TellReply t) (BrokeOff None) (Called CallReply.NoMemory) (TellReply t ∷ []) refl step (inr refl))
 
   -- ---- a ticket was asked for
-  pub ticket_told : (a b : Host T G) (x : Seen) → Comes (Made Event.Ticket (Ok x)) a b → Comes (Says ask_ticket (Ticketed (ticket_said x))) a b
-  ticket_told a b x = comes_map {P = Made Event.Ticket (Ok x)} {Q = Says ask_ticket (Ticketed (ticket_said x))} {a = a} {b = b} (λ d room s u step. asks_so (Carry Event.Ticket ∷ []) refl d room s u (said_once d room s u (Carry Event.Ticket) (Answered Whole Event.Ticket x) (Ticketed (ticket_said x)) (refl, refl) step refl))
+  pub ticket_told : (a b : Host T G) (x : EventReply) → Comes (Made Event.Ticket (Ok x)) a b → Comes (Replies ask_ticket (Ticketed (ticket_said x))) a b
+  ticket_told a b x = comes_map {P = Made Event.Ticket (Ok x)} {Q = Replies ask_ticket (Ticketed (ticket_said x))} {a = a} {b = b} (λ d room s u step. asks_so (Carry Event.Ticket ∷ []) refl d room s u (said_once d room s u (Carry Event.Ticket) (Answered Whole Event.Ticket x) (Ticketed (ticket_said x)) (refl, refl) step refl))
 
-  pub ticket_short : (a b : Host T G) (w : AllocError) → Comes (Made Event.Ticket (Err w)) a b → Comes (Says ask_ticket (Ticketed TicketSaid.NoMemory)) a b
-  ticket_short a b w = comes_map {P = Made Event.Ticket (Err w)} {Q = Says ask_ticket (Ticketed TicketSaid.NoMemory)} {a = a} {b = b}
-      (λ d room s u step. asks_so (Carry Event.Ticket ∷ []) refl d room s u (broke_once d room s u (Carry Event.Ticket) (BrokeOff (Some Event.Ticket)) (Ticketed TicketSaid.NoMemory) (Carry Event.Ticket ∷ []) (refl, refl) step (inl refl)))
+  pub ticket_short : (a b : Host T G) (w : AllocError) → Comes (Made Event.Ticket (Err w)) a b → Comes (Replies ask_ticket (Ticketed TicketReply.NoMemory)) a b
+  ticket_short a b w = comes_map {P = Made Event.Ticket (Err w)} {Q = Replies ask_ticket (Ticketed TicketReply.NoMemory)} {a = a} {b = b}
+      (λ d room s u step. asks_so (Carry Event.Ticket ∷ []) refl d room s u (broke_once d room s u (Carry Event.Ticket) (BrokeOff (Some Event.Ticket)) (Ticketed TicketReply.NoMemory) (Carry Event.Ticket ∷ []) (refl, refl) step (inl refl)))
 
   -- ---- a function was called
-  asks_call : (t f : ℕ) (v : Value) (x : Reply) (a b : Host T G) → Comes (AnswersTo (Call t f v ∷ []) x) a b → Comes (Says (ask_call t f (datum_of v)) x) a b
-  asks_call t f v x a b = comes_map {P = AnswersTo (Call t f v ∷ []) x} {Q = Says (ask_call t f (datum_of v)) x} {a = a} {b = b} (λ d room s u k. asks_so (Call t f v ∷ []) (v, refl, refl) d room s u k)
+  asks_call : (t f : ℕ) (v : Value) (x : Reply) (a b : Host T G) → Comes (AnswersTo (Call t f v ∷ []) x) a b → Comes (Replies (ask_call t f (datum_of v)) x) a b
+  asks_call t f v x a b = comes_map {P = AnswersTo (Call t f v ∷ []) x} {Q = Replies (ask_call t f (datum_of v)) x} {a = a} {b = b} (λ d room s u k. asks_so (Call t f v ∷ []) (v, refl, refl) d room s u k)
 
-  pub call_short : (a b : Host T G) (t f : ℕ) (v : Value) (w : AllocError) → Comes (Made (Event.Request t f v) (Err w)) a b → Comes (Says (ask_call t f (datum_of v)) (Called CallSaid.NoMemory)) a b
-  call_short a b t f v w h = asks_call t f v (Called CallSaid.NoMemory) a b (comes_map {P = Made (Event.Request t f v) (Err w)} {Q = AnswersTo (Call t f v ∷ []) (Called CallSaid.NoMemory)} {a = a} {b = b}
-      (λ d room s u step. broke_once d room s u (Call t f v) (BrokeOff (Some (Event.Request t f v))) (Called CallSaid.NoMemory) (Call t f v ∷ []) (refl, refl) step (inr refl)) h)
+  pub call_short : (a b : Host T G) (t f : ℕ) (v : Value) (w : AllocError) → Comes (Made (Event.Request t f v) (Err w)) a b → Comes (Replies (ask_call t f (datum_of v)) (Called CallReply.NoMemory)) a b
+  call_short a b t f v w h = asks_call t f v (Called CallReply.NoMemory) a b (comes_map {P = Made (Event.Request t f v) (Err w)} {Q = AnswersTo (Call t f v ∷ []) (Called CallReply.NoMemory)} {a = a} {b = b}
+      (λ d room s u step. broke_once d room s u (Call t f v) (BrokeOff (Some (Event.Request t f v))) (Called CallReply.NoMemory) (Call t f v ∷ []) (refl, refl) step (inr refl)) h)
 
   -- it goes on, or it does not
-  pub call_told : (a b c : Host T G) (t f : ℕ) (v : Value) (x : Seen) (said : CallSaid) → Comes (Made (Event.Request t f v) (Ok x)) a b
-      → (goes_on x ≡ true → Comes (AnswersTo (after_request t x) (Called said)) b c) → (goes_on x ≡ false → (c ≡ b) × (said ≡ request_said x)) → Comes (Says (ask_call t f (datum_of v)) (Called said)) a c
+  pub call_told : (a b c : Host T G) (t f : ℕ) (v : Value) (x : EventReply) (said : CallReply) → Comes (Made (Event.Request t f v) (Ok x)) a b
+      → (goes_on x ≡ true → Comes (AnswersTo (after_request t x) (Called said)) b c) → (goes_on x ≡ false → (c ≡ b) × (said ≡ request_said x)) → Comes (Replies (ask_call t f (datum_of v)) (Called said)) a c
   call_told a b c t f v x said h goes ends = asks_call t f v (Called said) a c (by_answer (goes_on x) refl)
     where
       by_answer : (z : Bool) → goes_on x ≡ z → Comes (AnswersTo (Call t f v ∷ []) (Called said)) a c
@@ -207,9 +207,9 @@ module _ {T : Type 0} {G : Ghosts T} where
   go_on_told a b c f t r x = comes_then {P = Settled (f ∷ []) (settled_so r)} {Q = AnswersTo (TellReply t ∷ []) x} {R = AnswersTo (f ∷ TellReply t ∷ []) x} {a = a} {b = b} {c = c}
       (λ d room s w u settled look. after_steps d room s u w settled.0 (f ∷ []) (TellReply t ∷ []) x (subst (λ z. Steps (IsStep d room) settled.0 (f ∷ []) z s w) settled.3 settled.2) look)
 
-  pub go_on_short : (X : Type 0) (a b : Host T G) (f : Action) (t : ℕ) (e : Stop) → Comes (Settled (f ∷ []) (stopped_so X e)) a b → Comes (AnswersTo (f ∷ TellReply t ∷ []) (Called CallSaid.NoMemory)) a b
-  go_on_short X a b f t e = comes_map {P = Settled (f ∷ []) (stopped_so X e)} {Q = AnswersTo (f ∷ TellReply t ∷ []) (Called CallSaid.NoMemory)} {a = a} {b = b}
-      (λ d room s u settled. short_after d room s u settled.0 (f ∷ []) settled.1 (TellReply t ∷ []) (Called CallSaid.NoMemory) settled.2 (inr refl))
+  pub go_on_short : (X : Type 0) (a b : Host T G) (f : Action) (t : ℕ) (e : Stop) → Comes (Settled (f ∷ []) (stopped_so X e)) a b → Comes (AnswersTo (f ∷ TellReply t ∷ []) (Called CallReply.NoMemory)) a b
+  go_on_short X a b f t e = comes_map {P = Settled (f ∷ []) (stopped_so X e)} {Q = AnswersTo (f ∷ TellReply t ∷ []) (Called CallReply.NoMemory)} {a = a} {b = b}
+      (λ d room s u settled. short_after d room s u settled.0 (f ∷ []) settled.1 (TellReply t ∷ []) (Called CallReply.NoMemory) settled.2 (inr refl))
 
   -- ---- turns were given, and what they tell is dropped
   pub turns_given : {X : Type 0} (a b : Host T G) (fs : List Action) (x : X) → Comes (Settled fs (settled_so x)) a b → Comes (Passed fs (none_lost tt)) a b
@@ -219,5 +219,5 @@ module _ {T : Type 0} {G : Ghosts T} where
   turns_short X a b fs e w = comes_map {P = Settled fs (stopped_so X e)} {Q = Passed fs (lost w)} {a = a} {b = b} (λ d room s u k. (k.0, leads_so (IsStep d room) k.0 fs k.1 s u k.2))
 
   -- ---- ticks passed
-  pub ticks_told : (a b : Host T G) (by : ℕ) (x : Seen) → Comes (Made (Event.Tick by) (Ok x)) a b → Comes (Passed (Carry (Event.Tick by) ∷ []) (none_lost tt)) a b
+  pub ticks_told : (a b : Host T G) (by : ℕ) (x : EventReply) → Comes (Made (Event.Tick by) (Ok x)) a b → Comes (Passed (Carry (Event.Tick by) ∷ []) (none_lost tt)) a b
   ticks_told a b by x = comes_map {P = Made (Event.Tick by) (Ok x)} {Q = Passed (Carry (Event.Tick by) ∷ []) (none_lost tt)} {a = a} {b = b} (λ d room s u step. (Answered Whole (Event.Tick by) x ∷ [], (u, [], step, ([], (refl, refl), refl), (refl, refl))))

@@ -1,7 +1,7 @@
 -- Responses that lead from a state of the host to another: those of the steps to some actions, and one run of them after another.
 use Rattle.std.proofs.Common.{List, [], ◌∷◌, ◌++◌, subst}
 use Rattle.beldi_schedule.specs.Settles.{State}
-use Rattle.beldi_session.specs.{Response.Response, Script.Action, Session.Leads, Session.Steps}
+use Rattle.beldi_session.specs.{HostResponse.Response, Script.Action, Session.Leads, Session.Steps}
 
 unfoldable pub leads_so : (P : State → State → Response → Type 0) (ys : List Response) (fs more : List Action) (s t : State) → Steps P ys fs more s t → Leads P ys s t
 leads_so P [] fs more s t x = x.0

@@ -5,12 +5,12 @@ use Rattle.beldi_tree.specs.declared.deployment.Deployment.{Deployment}
 use Rattle.beldi_check.specs.Rules.{number_of}
 use Rattle.beldi_row.specs.{declared.table.Table.Ghosts}
 use Rattle.beldi_host.specs.{declared.host.Host.Host}
-use Rattle.beldi_outside.{proofs.Told.told_map, proofs.Told.told_same, proofs.Told.told_then, specs.Connection.AcceptOn, specs.Connection.Connections, specs.Connection.closed, specs.Outside.Told, specs.declared.traits.Failed.Failed}
+use Rattle.beldi_outside.{proofs.Observed.told_map, proofs.Observed.told_same, proofs.Observed.told_then, specs.Connection.AcceptOn, specs.Connection.Connections, specs.Connection.closed, specs.Outside.Observed, specs.declared.traits.Failed.Failed}
 use Rattle.beldi_schedule.specs.Settles.{State}
-use Rattle.beldi_session.specs.{Response.Response, Session.IsStep, Session.Leads}
+use Rattle.beldi_session.specs.{HostResponse.Response, Session.IsStep, Session.Leads}
 use Rattle.beldi_gateway.specs.{declared.response.Refusal.Refusal, declared.response.Response.Response as Reply, declared.serve.Served.Served as Ended, declared.serve.Served.TheVariants.Status, declared.serve.Served.TheVariants.Silent, declared.serve.Served.TheVariants.Fault, Exchange.Exchanges, Exchange.Question, Serve.Answered, Serve.Broken, Serve.Serves, Serve.Whole}
-use Rattle.beldi_serve.specs.{Desk.Comes, Desk.Consults, Desk.Passed, Desk.Says, Desk.Way, Desk.state_of, declared.desk.HostDesk.HostDesk, declared.connections.ServeErr.ServeErr}
-use Rattle.beldi_serve.specs.Service.{ConnectsBy, Exchange, LineBy, Passes, Served, ServedAll, ServesBy, Sight, Ticks, World, ended_so, line_of, lines_from, pruning, sight, tick_to, world_at}
+use Rattle.beldi_serve.specs.{Desk.Comes, Desk.Consults, Desk.Passed, Desk.Replies, Desk.HostRelation, Desk.state_of, declared.desk.HostDesk.HostDesk, declared.connections.ServeErr.ServeErr}
+use Rattle.beldi_serve.specs.ServedConnections.{ConnectsBy, Exchange, LineBy, Passes, Served, ServedAll, ServesBy, Sight, Ticks, World, ended_so, line_of, lines_from, pruning, sight, tick_to, world_at}
 use Rattle.beldi_serve.proofs.Leading.{leads_so, leads_then}
 use Rattle.beldi_serve.proofs.Coming.{comes_map, comes_then, lost, none_lost}
 
@@ -32,12 +32,12 @@ all_told x = Ok x
 abbrev short_so : AllocError → Result Ended AllocError
 short_so w = Err w
 
-abbrev Led : Way
+abbrev Led : HostRelation
 Led d room s u = (ys : List Response) × Leads (IsStep d room) ys s u
 
 -- ---- one exchange, by the steps of the host
 module _ {T : Type 0} {G : Ghosts T} where
-  pub comes_same : {P : Way} (a b : Host T G) → b ≡ a → ((d : Deployment) (room : ℕ) (s : State) → P d room s s) → Comes P a b
+  pub comes_same : {P : HostRelation} (a b : Host T G) → b ≡ a → ((d : Deployment) (room : ℕ) (s : State) → P d room s s) → Comes P a b
   comes_same {P} a b same f = subst (Comes P a) (sym same) (record {
     code = refl;
     room = refl;
@@ -46,7 +46,7 @@ module _ {T : Type 0} {G : Ghosts T} where
   })
 
   -- .. where the deployment is known
-  comes_so : {P Q : Way} {a b : Host T G} (k : Deployment) → ((d : Deployment) (room : ℕ) (s t : State) → P d room s t → d ≡ k → Q d room s t) → a.code ≡ k → Comes P a b → Comes Q a b
+  comes_so : {P Q : HostRelation} {a b : Host T G} (k : Deployment) → ((d : Deployment) (room : ℕ) (s t : State) → P d room s t → d ≡ k → Q d room s t) → a.code ≡ k → Comes P a b → Comes Q a b
   comes_so {P} {Q} {a} {b} k f is h = record {
     code = h.code;
     room = h.room;
@@ -55,25 +55,25 @@ module _ {T : Type 0} {G : Ghosts T} where
   }
 
   abbrev Keeps : HostDesk T G → Question → Reply → HostDesk T G → Type 0
-  Keeps d q x e = Comes (Says q x) d.host e.host
+  Keeps d q x e = Comes (Replies q x) d.host e.host
 
   answered_comes : (comes : Result Question Refusal) (a b : HostDesk T G) (x : Reply) → Answered Keeps comes a x b → Comes (λ d room s t. (ys : List Response) × Leads (IsStep d room) ys s t × Answered (Consults d room ys) comes s x t) a.host b.host
   answered_comes (Err r) a b x h = comes_same a.host b.host (ap (λ (z : HostDesk T G). z.host) h.1) (λ d room s. ([], refl, (h.0, refl)))
-  answered_comes (Ok q) a b x h = comes_map {P = Says q x} {Q = λ d room s t. (ys : List Response) × Leads (IsStep d room) ys s t × Consults d room ys s q x t} {a = a.host} {b = b.host} (λ d room s t says. let k = says.1.answers in (says.0, leads_so (IsStep d room) says.0 says.1.actions k.more s t k.steps, says.1)) h
+  answered_comes (Ok q) a b x h = comes_map {P = Replies q x} {Q = λ d room s t. (ys : List Response) × Leads (IsStep d room) ys s t × Consults d room ys s q x t} {a = a.host} {b = b.host} (λ d room s t says. let k = says.1.answers in (says.0, leads_so (IsStep d room) says.0 says.1.actions k.more s t k.steps, says.1)) h
 
   module _ (a b : HostDesk T G) (old new : Option Connections) where
     abbrev funcs : List ℕ → Option ℕ
     funcs = number_of a.host.code.funcs
 
-    abbrev Exchanged : Result Ended AllocError → Way
+    abbrev Exchanged : Result Ended AllocError → HostRelation
     Exchanged r d room s t = (ys : List Response) × Leads (IsStep d room) ys s t × Serves (number_of d.funcs) (Consults d room ys) s t old new r
 
     -- time passed, and there was one exchange
-    abbrev Connecting : ℕ → Ended → Way
+    abbrev Connecting : ℕ → Ended → HostRelation
     Connecting moment x d room s u = (mid : State) × (Ticks moment (none_lost tt) d room s mid × Exchanged (ended_so x) d room mid u)
 
     -- .. and then the log collector had its turns
-    abbrev Connection : ℕ → Ended → Way
+    abbrev Connection : ℕ → Ended → HostRelation
     Connection moment x d room s u = (late : State) × (Connecting moment x d room s late × Passed pruning (none_lost tt) d room late u)
 
     whole_comes : (n : ℕ) → Whole funcs Keeps a b old new n → Comes (λ d room s t. (ys : List Response) × Leads (IsStep d room) ys s t × Whole (number_of d.funcs) (Consults d room ys) s t old new n) a.host b.host
@@ -113,7 +113,7 @@ module _ {T : Type 0} {G : Ghosts T} where
 
 -- ---- from one sight to another
 module _ {T : Type 0} {G : Ghosts T} {C : Type 0} where
-  pub passes_by : {P : Deployment → ℕ → World C → World C → Type 0} {Q : Way} {a b : Host T G} (l m : Option Connections) (c e : C)
+  pub passes_by : {P : Deployment → ℕ → World C → World C → Type 0} {Q : HostRelation} {a b : Host T G} (l m : Option Connections) (c e : C)
       → ((d : Deployment) (room : ℕ) (s t : State) → Q d room s t → P d room (record { state = s; link = l; clock = c }) (record { state = t; link = m; clock = e })) → Comes Q a b → Passes P (sight a l c) (sight b m e)
   passes_by {P} {Q} {a} {b} l m c e f h = record {
     code = h.code;
@@ -165,11 +165,11 @@ line_last n (y ∷ xs) x = ap (λ z. line_of n y.ended ++ z) (line_last (n + 1) 
 -- ---- a connection
 module _ {T : Type 0} {G : Ghosts T} {C : Type 0} (tells : C → ℕ → C → Type 0) where
   abbrev Serving : HostDesk T G → HostDesk T G → Option Connections → Option Connections → Result Ended AllocError → Type 0
-  Serving a b l1 l2 r = Serves (number_of a.host.code.funcs) (λ d q x e. Comes (Says q x) d.host e.host) a b l1 l2 r
+  Serving a b l1 l2 r = Serves (number_of a.host.code.funcs) (λ d q x e. Comes (Replies q x) d.host e.host) a b l1 l2 r
 
   -- time passed, there was one exchange, and then the log collector had its turns
-  pub connected : (h : Host T G) (a b : HostDesk T G) (f : Host T G) (l0 l1 l2 l3 : Option Connections) (c e : C) (moment : ℕ) (x : Ended) → Told l0 l1 (AcceptOn accepted) → tells c moment e → Comes (Ticks moment (none_lost tt)) h a.host
-      → Serving a b l1 l2 (ended_so x) → Told l2 l3 (λ s t. t ≡ closed s) → Comes (Passed pruning (none_lost tt)) b.host f → Passes (λ d room v w. ConnectsBy tells d room v w (connects x)) (sight h l0 c) (sight f l3 e)
+  pub connected : (h : Host T G) (a b : HostDesk T G) (f : Host T G) (l0 l1 l2 l3 : Option Connections) (c e : C) (moment : ℕ) (x : Ended) → Observed l0 l1 (AcceptOn accepted) → tells c moment e → Comes (Ticks moment (none_lost tt)) h a.host
+      → Serving a b l1 l2 (ended_so x) → Observed l2 l3 (λ s t. t ≡ closed s) → Comes (Passed pruning (none_lost tt)) b.host f → Passes (λ d room v w. ConnectsBy tells d room v w (connects x)) (sight h l0 c) (sight f l3 e)
   connected h a b f l0 l1 l2 l3 c e moment x opened told ticks serves closes turns =
       passes_by {P = λ d room v w. ConnectsBy tells d room v w (connects x)} {Q = Connection a b l1 l2 moment x} {a = h} {b = f} l0 l3 c e (λ d room s u k. let w = k.1.0 in (
         w.1.0.0 ++ (w.1.1.0 ++ k.1.1.0),

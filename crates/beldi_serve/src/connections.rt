@@ -2,7 +2,7 @@
 ghost use Rattle.std.specs.Prelude.{◌≡◌, ◌≤◌, ◌++◌, OnOk, Err};
 ghost use Rattle.beldi_outside.specs.Outside.{Rose};
 ghost use Rattle.beldi_serve.specs.Desk.{Comes};
-ghost use Rattle.beldi_serve.specs.Service.{ConnectsBy, Passes, Serving, Ticks, WroteLine, line_of, moment_of, sight};
+ghost use Rattle.beldi_serve.specs.ServedConnections.{ConnectsBy, Passes, Serving, Ticks, WroteLine, line_of, moment_of, sight};
 ghost use Rattle.beldi_serve.specs.declared.connections.ServeErr.TheVariants.{SinkFault, LinkRefused};
 
 use crate::desk::HostDesk;

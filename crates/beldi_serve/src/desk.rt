@@ -1,19 +1,19 @@
 // The desk over a host.
 ghost use Rattle.std.specs.Prelude.{◌≡◌, ◌∷◌, [], true, false, Some};
 ghost use Rattle.beldi_schedule.specs.Settle.{first_at, go_on};
-ghost use Rattle.beldi_session.specs.Response.{after_request, goes_on as goes_on_after, patience};
+ghost use Rattle.beldi_session.specs.HostResponse.{after_request, goes_on as goes_on_after, patience};
 ghost use Rattle.beldi_step.specs.declared.event.Event.TheVariants as event;
-ghost use Rattle.beldi_host.specs.Host.{core_of};
+ghost use Rattle.beldi_host.specs.HostCore.{core_of};
 ghost use Rattle.beldi_session.specs.Script.{Carry, Settle, TellReply};
 ghost use Rattle.beldi_gateway.specs.declared.response.Response.TheVariants.{Call as Called};
 ghost use Rattle.beldi_serve.specs.Desk.{AnswersTo, Comes, Passed, is_replied, reply_said, request_said, ticket_said};
-ghost use Rattle.beldi_serve.specs.Service.{pruning};
+ghost use Rattle.beldi_serve.specs.ServedConnections.{pruning};
 
-use beldi_gateway::{CallSaid, Desk, TicketSaid};
-use beldi_host::{Host, OpenErr, ReplySeen};
+use beldi_gateway::{CallReply, Desk, TicketReply};
+use beldi_host::{Host, OpenErr, ReplyStatus};
 use beldi_row::Table;
 use beldi_session::{Stop, settle, sweep};
-use beldi_step::{Event, Seen};
+use beldi_step::{Event, EventReply};
 use beldi_value::{Str, Value};
 use std::alloc::{AllocError, Global};
 
@@ -32,24 +32,24 @@ pub struct HostDesk<T: Table> {
 }
 
 // What is said of a ticket that was asked for.
-fn ticket_said(seen: &Seen) -> TicketSaid
+fn ticket_said(seen: &EventReply) -> TicketReply
     ensures { result ≡ ticket_said seen.now }
 {
     match seen {
-        Seen::Issued(ticket) => TicketSaid::Issued(*ticket),
-        Seen::NoTicket => TicketSaid::NoTicket,
-        Seen::Full { .. } => TicketSaid::Full,
-        Seen::Spent | Seen::Shut => TicketSaid::Spent,
-        _ => TicketSaid::Fault,
+        EventReply::Issued(ticket) => TicketReply::Issued(*ticket),
+        EventReply::NoTicket => TicketReply::NoTicket,
+        EventReply::Full { .. } => TicketReply::Full,
+        EventReply::Spent | EventReply::Shut => TicketReply::Spent,
+        _ => TicketReply::Fault,
     }
 }
 
 // What is said of a request that goes on no further.
-fn request_said(seen: Seen) -> CallSaid
+fn request_said(seen: EventReply) -> CallReply
     ensures { result ≡ request_said seen }
 {
     match seen {
-        Seen::Replied { ticket: _, outcome } => CallSaid::Reply(outcome),
+        EventReply::Replied { ticket: _, outcome } => CallReply::Reply(outcome),
         other => {
             let said = refusal_said(&other);
             drop(other);
@@ -59,49 +59,49 @@ fn request_said(seen: Seen) -> CallSaid
 }
 
 // What is said of a request that was not answered with an outcome.
-fn refusal_said(seen: &Seen) -> CallSaid
+fn refusal_said(seen: &EventReply) -> CallReply
     ensures { is_replied seen.now ≡ false → result ≡ request_said seen.now }
 {
     match seen {
-        Seen::Other { .. } => CallSaid::Other,
-        Seen::Gone(_) => CallSaid::Gone,
-        Seen::Unknown(_) => CallSaid::Unknown,
-        Seen::Crowded => CallSaid::Crowded,
-        Seen::Spent | Seen::Shut => CallSaid::Spent,
-        _ => CallSaid::Fault,
+        EventReply::Other { .. } => CallReply::Other,
+        EventReply::Gone(_) => CallReply::Gone,
+        EventReply::Unknown(_) => CallReply::Unknown,
+        EventReply::Crowded => CallReply::Crowded,
+        EventReply::Spent | EventReply::Shut => CallReply::Spent,
+        _ => CallReply::Fault,
     }
 }
 
 // What is said of a reply as it stands.
-fn reply_said(seen: ReplySeen) -> CallSaid
+fn reply_said(seen: ReplyStatus) -> CallReply
     ensures { result ≡ reply_said (Some seen) }
 {
     match seen {
-        ReplySeen::Unknown => CallSaid::Unknown,
-        ReplySeen::Gone => CallSaid::Gone,
-        ReplySeen::Waiting => CallSaid::Running,
-        ReplySeen::Reply(outcome) => CallSaid::Reply(outcome),
+        ReplyStatus::Unknown => CallReply::Unknown,
+        ReplyStatus::Gone => CallReply::Gone,
+        ReplyStatus::Waiting => CallReply::Running,
+        ReplyStatus::Reply(outcome) => CallReply::Reply(outcome),
     }
 }
 
 // The host goes on with what was requested.
-fn goes_on(seen: &Seen) -> bool
+fn goes_on(seen: &EventReply) -> bool
     ensures { result ≡ goes_on_after seen.now }
 {
     match seen {
-        Seen::Bound { .. } | Seen::Running(_) => true,
+        EventReply::Bound { .. } | EventReply::Running(_) => true,
         _ => false,
     }
 }
 
 // The reply of a ticket as its row has it.
-fn look<T: Table>(host: &mut Host<T>, ticket: u32) -> CallSaid
+fn look<T: Table>(host: &mut Host<T>, ticket: u32) -> CallReply
     ensures { Comes (AnswersTo (TellReply ticket ∷ []) (Called result)) host.old host.new }
 {
     match host.reply(ticket) {
         Ok(seen) => reply_said(seen),
-        Err(OpenErr::Failed) => CallSaid::Fault,
-        Err(OpenErr::OutOfMemory) => CallSaid::NoMemory,
+        Err(OpenErr::Failed) => CallReply::Fault,
+        Err(OpenErr::OutOfMemory) => CallReply::NoMemory,
     }
 }
 
@@ -163,7 +163,7 @@ impl<T: Table> HostDesk<T> {
     }
 
     // The host goes on as far as it may, and then the ticket's reply is looked at.
-    fn go_on(&mut self, ticket: u32) -> CallSaid
+    fn go_on(&mut self, ticket: u32) -> CallReply
         ensures { Comes (AnswersTo (Settle patience (go_on patience first_at) ∷ TellReply ticket ∷ []) (Called result)) self.old.host self.new.host }
     {
         let settled = settle(self.alloc, &mut self.host, &mut self.told, PATIENCE);
@@ -173,12 +173,12 @@ impl<T: Table> HostDesk<T> {
                 drop(settled);
                 look(&mut self.host, ticket)
             }
-            Err(_) => CallSaid::NoMemory,
+            Err(_) => CallReply::NoMemory,
         }
     }
 
     // What follows a request that was answered so.
-    fn follow(&mut self, ticket: u32, seen: Seen) -> CallSaid
+    fn follow(&mut self, ticket: u32, seen: EventReply) -> CallReply
         ensures goes { goes_on_after seen ≡ true → Comes (AnswersTo (after_request ticket seen) (Called result)) self.old.host self.new.host }
         ensures ends { goes_on_after seen ≡ false → (self.new.host ≡ self.old.host) × (result ≡ request_said seen) }
     {
@@ -193,35 +193,35 @@ impl<T: Table> HostDesk<T> {
 
 impl<T: Table> Desk for HostDesk<T> {
     ghost use Rattle.beldi_check.specs.Rules.{number_of};
-    ghost use Rattle.beldi_serve.specs.Desk.{Says};
+    ghost use Rattle.beldi_serve.specs.Desk.{Replies};
 
     ghost funcs = { λ d name. number_of d.host.code.funcs name };
 
-    ghost keeps = { λ d q x e. Comes (Says q x) d.host e.host };
+    ghost keeps = { λ d q x e. Comes (Replies q x) d.host e.host };
 
     fn func(&self, name: &[u8]) -> Option<u16> {
         self.host.code().func(name)
     }
 
-    fn ticket(&mut self) -> TicketSaid {
+    fn ticket(&mut self) -> TicketReply {
         match self.host.event(Event::Ticket) {
             Ok(seen) => {
                 let said = ticket_said(&seen);
                 drop(seen);
                 said
             }
-            Err(_) => TicketSaid::NoMemory,
+            Err(_) => TicketReply::NoMemory,
         }
     }
 
-    fn call(&mut self, ticket: u32, func: u16, args: Value) -> CallSaid {
+    fn call(&mut self, ticket: u32, func: u16, args: Value) -> CallReply {
         match self.host.event(Event::Request { ticket, func, args }) {
             Ok(seen) => self.follow(ticket, seen),
-            Err(_) => CallSaid::NoMemory,
+            Err(_) => CallReply::NoMemory,
         }
     }
 
-    fn reply(&mut self, ticket: u32) -> CallSaid {
+    fn reply(&mut self, ticket: u32) -> CallReply {
         look(&mut self.host, ticket)
     }
 }

@@ -1,6 +1,6 @@
-mod Calls
+mod SessionCalls
 mod Led
-mod Lines
+mod SessionLines
 mod Names
 mod Refusals
 pub mod Responses

@@ -1,10 +1,10 @@
 -- The responses of the host, and their text.
-use Rattle.beldi_session.proofs.Names.{Action, AllocError, Answered, BrokeOff, Does, DoesTo, Err, Event, EventOn, IfOk, IsCount, IsErrOf, IsReport, Leaves, List, None, Ok, OnOk, OpenErr, Option, OutOfMemory, PruneAnswered, PruneBroke, Pruned, Prunes, PrunesOn, Reads, Report, Reported, Result, Rows, Seen, Share, Sight, SinkFault, Some, Stepped, Stop, Tells, Told, WentBy, [], ap, append_assoc, by_text, over_any_table, over_rows, refl, report_text, response_text, row_count, state_at, tables_head, tells_map, told_map, unread_line, ℕ, ◌++◌, ◌∙◌, ◌∷◌, ◌≡◌}
+use Rattle.beldi_session.proofs.Names.{Action, AllocError, Answered, BrokeOff, Does, DoesTo, Err, Event, EventOn, IfOk, IsCount, IsErrOf, IsReport, Leaves, List, None, Ok, OnOk, OpenErr, Option, OutOfMemory, PruneAnswered, PruneBroke, Pruned, Prunes, PrunesOn, Reads, Report, Reported, Result, Rows, EventReply, Share, Sight, SinkFault, Some, Stepped, Stop, Tells, Observed, WentBy, [], ap, append_assoc, by_text, over_any_table, over_rows, refl, report_text, response_text, row_count, state_at, tables_head, tells_map, told_map, unread_line, ℕ, ◌++◌, ◌∙◌, ◌∷◌, ◌≡◌}
 use Rattle.beldi_step.proofs.Prunes.{over_any_table as prune_over_any_table, over_rows as prune_over_rows}
-use Rattle.beldi_session.proofs.{Went.broken, Went.by_one, Calls.Calm, Calls.made}
+use Rattle.beldi_session.proofs.{Went.broken, Went.by_one, SessionCalls.Calm, SessionCalls.made}
 
 -- what a table tells is told
-pub told_tells : (rows rows' : Option Rows) (P : Rows → Rows → Type 0) → Tells rows rows' P → Told rows rows' P
+pub told_tells : (rows rows' : Option Rows) (P : Rows → Rows → Type 0) → Tells rows rows' P → Observed rows rows' P
 told_tells None rows' P h = tt
 told_tells (Some m) None P h = h
 told_tells (Some m) (Some n) P h = h
@@ -12,7 +12,7 @@ told_tells (Some m) (Some n) P h = h
 abbrev OverRows : Sight → Sight → (Rows → Rows → Type 0) → Type 0
 OverRows a b P = Tells a.table.rows b.table.rows P
 
-abbrev EventFrom : Sight → Sight → Event → Result Seen AllocError → Rows → Rows → Type 0
+abbrev EventFrom : Sight → Sight → Event → Result EventReply AllocError → Rows → Rows → Type 0
 EventFrom a b e x m n = EventOn a.code a.table.room a.table.faults b.table.faults e a.core m b.core n x
 
 abbrev no_actions : List Action
@@ -48,14 +48,14 @@ module _ (a b : Sight) (calm : Calm a b) where
 
 -- an event is one step of the host
 module _ (a b : Sight) (held : b.held ≡ a.held) (faults : b.faults ≡ a.faults) (code : b.code ≡ a.code) (e : Event) (act : Action) (left : List Action) where
-  abbrev EventStep : Result Seen AllocError → Type 0
+  abbrev EventStep : Result EventReply AllocError → Type 0
   EventStep r = Stepped a.code e a.core b.core a.table b.table r
 
-  calm : (r : Result Seen AllocError) → EventStep r → Calm a b
+  calm : (r : Result EventReply AllocError) → EventStep r → Calm a b
   calm r h = let t = over_any_table a.code e a.core b.core a.table b.table r h in record { held = held; faults = faults; code = code; room = t.room; later = t.later }
 
   -- it was answered, and what is told of the answer appended
-  pub event_answered : {X : Type 0} (share : Share) (x : Seen) (front : List Action) (r : Result X Stop) → Leaves act a.core b.core (Answered share e x) front → EventStep (Ok x)
+  pub event_answered : {X : Type 0} (share : Share) (x : EventReply) (front : List Action) (r : Result X Stop) → Leaves act a.core b.core (Answered share e x) front → EventStep (Ok x)
       → OnOk r ((left ≡ front) × (b.waiting ≡ a.waiting ++ response_text a.code (Answered share e x))) → (IsErrOf r SinkFault → ⊥) → DoesTo (act ∷ []) left a b r
   event_answered share x front r is h text none =
       over a b (calm (Ok x) h) r act left (EventFrom a b e (Ok x))

@@ -1,10 +1,10 @@
 -- The text of an answer.
 use Rattle.std.specs.Prelude.{ℕ, Bool, true, false, List, [], ◌++◌, Option, Some, None, codes}
 use Rattle.std.specs.Fmt.{decimal}
-use Rattle.beldi_value.specs.{Json.text_of, Value.datum_of, Text.id_text, Text.outcome_text, Text.owner_text, declared.id.IntentId.IntentId, declared.outcome.Outcome.Outcome, declared.place.Owner.Owner}
+use Rattle.beldi_value.specs.{Json.text_of, Value.datum_of, ValueText.id_text, ValueText.outcome_text, ValueText.owner_text, declared.id.IntentId.IntentId, declared.outcome.Outcome.Outcome, declared.place.Owner.Owner}
 use Rattle.beldi_tree.specs.{declared.deployment.Deployment.Deployment, Names.func_text}
-use Rattle.beldi_book.specs.{Text.entry_text, declared.entry.Entry.Entry}
-use Rattle.beldi_step.specs.declared.event.{Pruned.Pruned, Seen.Seen}
+use Rattle.beldi_book.specs.{BookText.entry_text, declared.entry.Entry.Entry}
+use Rattle.beldi_step.specs.declared.event.{Pruned.Pruned, EventReply.EventReply}
 
 -- a word and a number, as a line
 abbrev pub numbered : List ℕ → ℕ → List ℕ
@@ -52,35 +52,35 @@ abbrev pub reply_part : Option (ℕ × Outcome) → List ℕ
 reply_part None = []
 reply_part (Some r) = outcome_line (codes "reply ") r.0 r.1
 
-abbrev pub answer_text : Deployment → Seen → List ℕ
-answer_text d (Seen.Issued n) = numbered (codes "ticket ") n
-answer_text d Seen.NoTicket = codes "no-ticket\n"
-answer_text d (Seen.Bound t r) = bound_line t r
-answer_text d (Seen.Running t) = numbered (codes "running ") t
-answer_text d (Seen.Replied t o) = outcome_line (codes "ended ") t o
-answer_text d (Seen.Other t f a) = codes "other " ++ (decimal t ++ (codes " " ++ (func_text d f ++ (codes " " ++ (text_of (datum_of a) ++ codes "\n")))))
-answer_text d (Seen.Gone t) = numbered (codes "gone ") t
-answer_text d (Seen.Unknown t) = numbered (codes "unknown ") t
-answer_text d (Seen.Acted e started over r) = codes "acted" ++ (entry_part d e ++ (run_part started ++ (over_part over ++ (codes "\n" ++ reply_part r))))
-answer_text d (Seen.Held o) = held_line o
-answer_text d (Seen.NotYet id) = waits_line id
-answer_text d (Seen.Full live room) = codes "full " ++ (decimal live ++ (codes " " ++ (decimal room ++ codes "\n")))
-answer_text d Seen.Worn = codes "worn\n"
-answer_text d Seen.Crowded = codes "crowded 1024\n"
-answer_text d Seen.Expired = codes "expired\n"
-answer_text d Seen.NoRun = codes "no-run\n"
-answer_text d Seen.RunOver = codes "run-over\n"
-answer_text d Seen.Dropped = codes "dropped\n"
-answer_text d Seen.Crashed = codes "crashed\n"
-answer_text d (Seen.Started r) = numbered (codes "run ") r
-answer_text d Seen.Passed = codes "passed\n"
-answer_text d (Seen.Launched r id) = launched_line r id
-answer_text d Seen.Round = codes "round\n"
-answer_text d (Seen.Now n) = numbered (codes "now ") n
-answer_text d Seen.ClockEnd = codes "clock-end\n"
-answer_text d Seen.Halted = codes "halted\n"
-answer_text d Seen.Shut = codes "shut\n"
-answer_text d Seen.Spent = codes "spent\n"
+abbrev pub answer_text : Deployment → EventReply → List ℕ
+answer_text d (EventReply.Issued n) = numbered (codes "ticket ") n
+answer_text d EventReply.NoTicket = codes "no-ticket\n"
+answer_text d (EventReply.Bound t r) = bound_line t r
+answer_text d (EventReply.Running t) = numbered (codes "running ") t
+answer_text d (EventReply.Replied t o) = outcome_line (codes "ended ") t o
+answer_text d (EventReply.Other t f a) = codes "other " ++ (decimal t ++ (codes " " ++ (func_text d f ++ (codes " " ++ (text_of (datum_of a) ++ codes "\n")))))
+answer_text d (EventReply.Gone t) = numbered (codes "gone ") t
+answer_text d (EventReply.Unknown t) = numbered (codes "unknown ") t
+answer_text d (EventReply.Acted e started over r) = codes "acted" ++ (entry_part d e ++ (run_part started ++ (over_part over ++ (codes "\n" ++ reply_part r))))
+answer_text d (EventReply.Held o) = held_line o
+answer_text d (EventReply.NotYet id) = waits_line id
+answer_text d (EventReply.Full live room) = codes "full " ++ (decimal live ++ (codes " " ++ (decimal room ++ codes "\n")))
+answer_text d EventReply.Worn = codes "worn\n"
+answer_text d EventReply.Crowded = codes "crowded 1024\n"
+answer_text d EventReply.Expired = codes "expired\n"
+answer_text d EventReply.NoRun = codes "no-run\n"
+answer_text d EventReply.RunOver = codes "run-over\n"
+answer_text d EventReply.Dropped = codes "dropped\n"
+answer_text d EventReply.Crashed = codes "crashed\n"
+answer_text d (EventReply.Started r) = numbered (codes "run ") r
+answer_text d EventReply.Passed = codes "passed\n"
+answer_text d (EventReply.Launched r id) = launched_line r id
+answer_text d EventReply.Round = codes "round\n"
+answer_text d (EventReply.Now n) = numbered (codes "now ") n
+answer_text d EventReply.ClockEnd = codes "clock-end\n"
+answer_text d EventReply.Halted = codes "halted\n"
+answer_text d EventReply.Shut = codes "shut\n"
+answer_text d EventReply.Spent = codes "spent\n"
 
 -- the answer to a turn of a log collector, as a line
 abbrev pub pruned_text : Pruned → List ℕ
@@ -95,6 +95,6 @@ pruned_text Pruned.Shut = codes "shut\n"
 pruned_text Pruned.Spent = codes "spent\n"
 
 -- of the answer to a turn inside a settling the reply alone is told
-abbrev pub reply_told : Seen → List ℕ
-reply_told (Seen.Acted e started over r) = reply_part r
+abbrev pub reply_told : EventReply → List ℕ
+reply_told (EventReply.Acted e started over r) = reply_part r
 reply_told x = []

@@ -1,7 +1,7 @@
 pub mod Answer
 pub mod Check
+pub mod HostResponse
 pub mod Refusal
-pub mod Response
 pub mod Script
 pub mod Session
 pub mod Settled

@@ -43,8 +43,8 @@ abbrev pub sweep_next : ℕ → ℕ → ℕ → Bool → Action
 sweep_next k budget n true = TellSwept (All (n + 1))
 sweep_next k budget n false = sweep_at k budget (n + 1)
 
-abbrev pub sweep_heard : ℕ → ℕ → ℕ → Pruned → Action
-sweep_heard k budget n x = sweep_next k budget n (ends_round x)
+abbrev pub on_sweep_reply : ℕ → ℕ → ℕ → Pruned → Action
+on_sweep_reply k budget n x = sweep_next k budget n (ends_round x)
 
 abbrev pub actions_of : Line → List Action
 actions_of Line.Ticket = Carry Event.Ticket ∷ []

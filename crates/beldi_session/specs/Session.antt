@@ -2,13 +2,13 @@
 use Rattle.std.specs.Prelude.{◌≡◌, ◌≤◌, ℕ, Bool, false, List, [], ◌∷◌, ◌++◌, Option, Some, None, Result, Ok, Err, IsErrOf}
 use Rattle.std.specs.declared.alloc.AllocError.{AllocError}
 use Rattle.beldi_tree.specs.declared.deployment.Deployment.{Deployment}
-use Rattle.beldi_book.specs.Text.{book_text}
+use Rattle.beldi_book.specs.BookText.{book_text}
 use Rattle.beldi_row.specs.{declared.table.Table.Ghosts, Table.Rows, Table.TableState, Table.Rose, Table.row_count}
-use Rattle.beldi_step.specs.{declared.event.Event.Event, Host.Core, Host.EventOn, Prunes.PrunesOn, Next.PassesNoOpen, Next.at_key, Next.next_run, Next.reset, Tables.tables_text}
-use Rattle.beldi_host.specs.{declared.host.Host.Host, Host.core_of, Survey.reply_seen, Survey.is_unknown}
-use Rattle.beldi_outside.specs.Outside.{Told, IsPrefixOf}
-use Rattle.beldi_session.specs.Response.{Report, ReplyIs, RowsAre, TablesAre, BookIs, SettledIs, SweptIs, LineRefused, ReplyAlone, Response, Answered, WentBack, WentOn, Reported, BrokeOff, PruneAnswered, PruneBroke, IsTo, AtFirst, responses_text}
-use Rattle.beldi_schedule.specs.{declared.machine.Next.Next, declared.machine.Next.TheVariants.Turn, declared.machine.Next.TheVariants.Collect, declared.machine.Next.TheVariants.Reset, declared.machine.Standing.Standing, declared.machine.Standing.TheVariants.Goes, Settle.begun, Settle.ic_heard, Settle.next_of, Settle.turn_heard, Settles.State}
+use Rattle.beldi_step.specs.{declared.event.Event.Event, HostStep.Core, HostStep.EventOn, Prunes.PrunesOn, Next.PassesNoOpen, Next.at_key, Next.next_run, Next.reset, Tables.tables_text}
+use Rattle.beldi_host.specs.{declared.host.Host.Host, HostCore.core_of, Survey.reply_status, Survey.is_unknown}
+use Rattle.beldi_outside.specs.Outside.{Observed, IsPrefixOf}
+use Rattle.beldi_session.specs.HostResponse.{Report, ReplyIs, RowsAre, TablesAre, BookIs, SettledIs, SweptIs, LineRefused, ReplyAlone, Response, Answered, WentBack, WentOn, Reported, BrokeOff, PruneAnswered, PruneBroke, IsTo, AtFirst, responses_text}
+use Rattle.beldi_schedule.specs.{declared.machine.Next.Next, declared.machine.Next.TheVariants.Turn, declared.machine.Next.TheVariants.Collect, declared.machine.Next.TheVariants.Reset, declared.machine.Standing.Standing, declared.machine.Standing.TheVariants.Working, Settle.begun, Settle.on_ic_reply, Settle.next_of, Settle.on_turn_reply, Settles.State}
 use Rattle.beldi_session.specs.{declared.session.Stop.Stop, declared.session.Stop.TheVariants.OutOfMemory, declared.session.Stop.TheVariants.SinkFault, Script.Action, Script.Settle, Script.sweep_next}
 
 -- ---- one step
@@ -21,7 +21,7 @@ pub record Unchanged (s t : State) : Type 0 where
 -- a report says what is to be read, or that the table failed where that is not known without a look at the rows
 abbrev pub IsReport : Deployment → State → State → Report → Type 0
 IsReport d s t (ReplyIs n None) = Rose s.faults t.faults × (is_unknown s.core.newest n ≡ false)
-IsReport d s t (ReplyIs n (Some x)) = x ≡ reply_seen s.core.newest n s.rows
+IsReport d s t (ReplyIs n (Some x)) = x ≡ reply_status s.core.newest n s.rows
 IsReport d s t (RowsAre n) = n ≡ row_count s.rows
 IsReport d s t (TablesAre None) = Rose s.faults t.faults
 IsReport d s t (TablesAre (Some lines)) = lines ≡ tables_text d s.rows
@@ -50,17 +50,17 @@ Leads Step (y ∷ ys) s t = (u : State) × Step s u y × Leads Step ys u t
 
 -- what a settling leaves, by what it does next: its core after that is c
 abbrev pub SettlingLeaves : ℕ → Core → Next → Response → List Action → Type 0
-SettlingLeaves budget c (Turn s i) (Answered ReplyAlone e x) left = (e ≡ Event.Turn i) × (left ≡ Settle budget (turn_heard budget s i x) ∷ [])
-SettlingLeaves budget c (Collect s) (Answered ReplyAlone e x) left = (e ≡ Event.Ic) × (left ≡ Settle budget (ic_heard budget (next_run c 0) s x) ∷ [])
-SettlingLeaves budget c (Reset s) WentBack left = left ≡ Settle budget (Goes (begun s)) ∷ []
-SettlingLeaves budget c (Collect s) (WentOn k) left = left ≡ Settle budget (Goes s) ∷ []
-SettlingLeaves budget c (Turn s i) (BrokeOff (Some e)) left = (e ≡ Event.Turn i) × (left ≡ Settle budget (Goes s) ∷ [])
-SettlingLeaves budget c (Collect s) (BrokeOff (Some e)) left = (e ≡ Event.Ic) × (left ≡ Settle budget (Goes s) ∷ [])
+SettlingLeaves budget c (Turn s i) (Answered ReplyAlone e x) left = (e ≡ Event.Turn i) × (left ≡ Settle budget (on_turn_reply budget s i x) ∷ [])
+SettlingLeaves budget c (Collect s) (Answered ReplyAlone e x) left = (e ≡ Event.Ic) × (left ≡ Settle budget (on_ic_reply budget (next_run c 0) s x) ∷ [])
+SettlingLeaves budget c (Reset s) WentBack left = left ≡ Settle budget (Working (begun s)) ∷ []
+SettlingLeaves budget c (Collect s) (WentOn k) left = left ≡ Settle budget (Working s) ∷ []
+SettlingLeaves budget c (Turn s i) (BrokeOff (Some e)) left = (e ≡ Event.Turn i) × (left ≡ Settle budget (Working s) ∷ [])
+SettlingLeaves budget c (Collect s) (BrokeOff (Some e)) left = (e ≡ Event.Ic) × (left ≡ Settle budget (Working s) ∷ [])
 SettlingLeaves budget c n y left = ⊥
 
 -- this is a response to the action, from the core c to the core z, and leaves these
 abbrev pub Leaves : Action → Core → Core → Response → List Action → Type 0
-Leaves (Settle budget (Goes s)) c z y left = SettlingLeaves budget z (next_of c s) y left
+Leaves (Settle budget (Working s)) c z y left = SettlingLeaves budget z (next_of c s) y left
 Leaves a c z y left = IsTo a y left
 
 -- a response to the first of some actions, and what is then left to do
@@ -87,7 +87,7 @@ WentBy d room actions left s t waited written waits (Err why) = (more : List Act
 -- ---- calls of the program
 -- a sink got this text, where it tells what it got
 abbrev pub Writes : Option (List ℕ) → Option (List ℕ) → List ℕ → Type 0
-Writes held held' text = Told held held' (λ h k. k ≡ h ++ text)
+Writes held held' text = Observed held held' (λ h k. k ≡ h ++ text)
 
 -- what waited was written, and the rest of it waits; after a fault a front of it was written
 abbrev pub LeftBy : {X E : Type 0} → List ℕ → List ℕ → List ℕ → Result X E → Type 0
@@ -127,7 +127,7 @@ state_at a m = record { core = a.core; rows = m; faults = a.table.faults }
 pub record DoesTo {X : Type 0} (actions left : List Action) (a b : Sight) (result : Result X Stop) : Type 0 where
   pub written : List ℕ
   pub sink : Writes a.held b.held written
-  pub went : Told a.table.rows b.table.rows (λ m n. WentBy a.code a.table.room actions left (state_at a m) (state_at b n) a.waiting written b.waiting result)
+  pub went : Observed a.table.rows b.table.rows (λ m n. WentBy a.code a.table.room actions left (state_at a m) (state_at b n) a.waiting written b.waiting result)
   pub code : b.code ≡ a.code
   pub room : b.table.room ≡ a.table.room
   pub later : a.table.faults ≤ b.table.faults

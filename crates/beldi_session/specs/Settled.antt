@@ -2,12 +2,12 @@
 use Rattle.std.specs.Prelude.{ℕ, List, ◌++◌, flat_map, codes}
 use Rattle.std.specs.Fmt.{decimal}
 use Rattle.beldi_tree.specs.declared.deployment.Deployment.{Deployment}
-use Rattle.beldi_step.specs.declared.event.Seen.{Seen}
+use Rattle.beldi_step.specs.declared.event.EventReply.{EventReply}
 use Rattle.beldi_schedule.specs.declared.machine.{Settled.Settled, Settled.TheVariants.All, Settled.TheVariants.Unsettled, Settled.TheVariants.Spent, Settled.TheVariants.Shut, Settled.TheVariants.Stuck}
 use Rattle.beldi_session.specs.{declared.sweeping.Swept.Swept, Answer.answer_text, Answer.numbered}
 
 -- a run that waits, and for what
-abbrev pub wait_text : Deployment → ℕ × Seen → List ℕ
+abbrev pub wait_text : Deployment → ℕ × EventReply → List ℕ
 wait_text d w = codes "run " ++ (decimal w.0 ++ (codes " " ++ answer_text d w.1))
 
 abbrev pub settled_text : Deployment → Settled → List ℕ

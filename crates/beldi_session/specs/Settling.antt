@@ -2,16 +2,16 @@
 use Rattle.std.specs.Prelude.{◌≡◌, ℕ, List, Ok}
 use Rattle.beldi_tree.specs.declared.deployment.Deployment.{Deployment}
 use Rattle.beldi_row.specs.{Key.RowKey, Table.Rows, Table.TableState, Table.Tells}
-use Rattle.beldi_step.specs.{declared.event.Event.Event, declared.event.Seen.Seen, Host.Core, Host.Stepped, Next.at_key, Next.next_run}
+use Rattle.beldi_step.specs.{declared.event.Event.Event, declared.event.EventReply.EventReply, HostStep.Core, HostStep.Stepped, Next.at_key, Next.next_run}
 use Rattle.beldi_host.specs.Survey.{PassesToldOpen}
-use Rattle.beldi_schedule.specs.{Settle.ic_heard, Settles.Settles, Settles.State, declared.machine.At.At, declared.machine.Settled.Settled, declared.machine.Standing.Standing}
+use Rattle.beldi_schedule.specs.{Settle.on_ic_reply, Settles.Settles, Settles.State, declared.machine.At.At, declared.machine.Settled.Settled, declared.machine.Standing.Standing}
 use Rattle.beldi_bound.specs.Ends.{Promises}
 use Rattle.beldi_book.specs.declared.entry.Entry.{Entry}
 use Rattle.beldi_joined.specs.Joined.{with_joined}
 
 -- an event was answered, and this followed
-pub record Heard (d : Deployment) (e : Event) (follows : Core → Seen → Standing) (c z : Core) (old new : TableState) (next : Standing) : Type 0 where
-  pub answer : Seen
+pub record WasAnswered (d : Deployment) (e : Event) (follows : Core → EventReply → Standing) (c z : Core) (old new : TableState) (next : Standing) : Type 0 where
+  pub answer : EventReply
   pub step : Stepped d e c z old new (Ok answer)
   pub follows_so : next ≡ follows z answer
 
@@ -22,7 +22,7 @@ state_with c t m = record { core = c; rows = m; faults = t.faults }
 pub record Collected (d : Deployment) (budget : ℕ) (at : At) (c z : Core) (old new : TableState) (next : Standing) : Type 0 where
   pub cursor : RowKey
   pub passes : PassesToldOpen old.rows c.cursor cursor
-  pub heard : Heard d Event.Ic (λ k x. ic_heard budget (next_run k 0) at x) (at_key cursor c) z old new next
+  pub answered : WasAnswered d Event.Ic (λ k x. on_ic_reply budget (next_run k 0) at x) (at_key cursor c) z old new next
 
 -- the events of a settling, one after another
 abbrev pub Led : Deployment → ℕ → Standing → Standing → Core → Core → TableState → TableState → Type 0

@@ -3,7 +3,7 @@ use Rattle.std.specs.Prelude.{◌≡◌, ℕ, ◌+◌, ◌-◌, ◌^◌, min, Li
 use Rattle.beldi_tree.specs.declared.deployment.Deployment.{Deployment}
 use Rattle.beldi_check.specs.Rules.{Offence, first_offence}
 use Rattle.std.specs.List.{list_all}
-use Rattle.beldi_script.specs.{Cut.lines_of, Line.line_at, Words.is_space, declared.line.Line.Line, declared.line.ScriptErr.ScriptErr}
+use Rattle.beldi_script.specs.{LineCut.lines_of, ScriptLine.line_at, ScriptWords.is_space, declared.line.Line.Line, declared.line.ScriptErr.ScriptErr}
 use Rattle.beldi_syntax.specs.{Deployments.parsed_at, declared.reading.Parsed.Parsed, declared.refusal.SyntaxErr.SyntaxErr, declared.refusal.What.What}
 use Rattle.beldi_session.specs.declared.{source.Accepted.Accepted, refusal.Cause.Cause, refusal.Refusal.Refusal, refusal.SourceErr.SourceErr, refusal.SourceErr.TheVariants.OutOfMemory, refusal.SourceErr.TheVariants.Refused}
 

@@ -2,7 +2,7 @@
 use Rattle.std.specs.Prelude.{◌≡◌, ◌-◌, ℕ, Bool, true, false, Ok}
 use Rattle.beldi_tree.specs.declared.deployment.Deployment.{Deployment}
 use Rattle.beldi_row.specs.Table.{TableState, Tells}
-use Rattle.beldi_step.specs.{Host.Core, Prunes.Prunes, declared.event.Pruned.Pruned}
+use Rattle.beldi_step.specs.{HostStep.Core, Prunes.Prunes, declared.event.Pruned.Pruned}
 use Rattle.beldi_tidy.specs.Sweeping.{IsUntroubled, Promises, Sweeps, Turns, ends_round}
 use Rattle.beldi_session.specs.{declared.sweeping.Swept.Swept, declared.sweeping.Swept.TheVariants.All, declared.sweeping.Swept.TheVariants.Unswept, Settling.state_with}
 
@@ -13,8 +13,8 @@ pub record Given (d : Deployment) (k : ℕ) (c b : Core) (old new : TableState) 
   pub over_so : over ≡ ends_round answer
 
 -- so many were, of which none ended it ..
-abbrev pub Goes : Deployment → ℕ → ℕ → Core → Core → TableState → TableState → Type 0
-Goes d k turns c b old new = Tells old.rows new.rows (λ m n. Turns d k turns (state_with c old m) (state_with b new n))
+abbrev pub GivesTurns : Deployment → ℕ → ℕ → Core → Core → TableState → TableState → Type 0
+GivesTurns d k turns c b old new = Tells old.rows new.rows (λ m n. Turns d k turns (state_with c old m) (state_with b new n))
 
 -- .. before the one that did, if one did
 abbrev pub is_over : Swept → Bool

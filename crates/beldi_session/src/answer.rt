@@ -5,66 +5,70 @@ ghost use Rattle.beldi_value.specs.Json.{text_of};
 ghost use Rattle.beldi_value.specs.Value.{datum_of};
 ghost use Rattle.beldi_tree.specs.Names.{func_text};
 ghost use Rattle.beldi_session.specs.Answer.{answer_text, numbered, bound_line, held_line, waits_line, launched_line, outcome_line, ticket_line, entry_part, run_part, reply_part, reply_told, over_part};
-ghost use Rattle.beldi_session.specs.Response.{reply_line};
+ghost use Rattle.beldi_session.specs.HostResponse.{reply_line};
 
 use beldi_book::Entry;
 use beldi_check::Checked;
-use beldi_host::ReplySeen;
-use beldi_step::Seen;
-use beldi_value::{Apart, IntentId, Outcome, Owner, Str, Value, or_drop};
+use beldi_host::ReplyStatus;
+use beldi_step::EventReply;
+use beldi_value::{Boxed, IntentId, Outcome, Owner, Str, Value, or_drop};
 use std::alloc::{AllocError, Global};
 
 /// Appends the line of an answer, and a line for the reply that it gives, if any. After an `Err` the text is as before.
 pub fn write_answer(
     alloc: Global,
     code: &Checked,
-    seen: &Seen,
+    seen: &EventReply,
     out: &mut Str,
 ) -> Result<(), AllocError>
     ensures ok { OnOk result (out.new ≡ out.old ++ answer_text code.now seen.now) }
     ensures err { OnErr result (out.new ≡ out.old) }
 {
     match seen {
-        Seen::Issued(ticket) => write_numbered(alloc, "ticket ", u64::from(*ticket), out),
-        Seen::NoTicket => out.push_text("no-ticket\n"),
-        Seen::Bound { ticket, run } => write_bound(alloc, *ticket, *run, out),
-        Seen::Running(ticket) => write_numbered(alloc, "running ", u64::from(*ticket), out),
-        Seen::Replied { ticket, outcome } => write_outcome(alloc, "ended ", *ticket, outcome, out),
-        Seen::Other { ticket, func, args } => write_other(alloc, code, *ticket, *func, args, out),
-        Seen::Gone(ticket) => write_numbered(alloc, "gone ", u64::from(*ticket), out),
-        Seen::Unknown(ticket) => write_numbered(alloc, "unknown ", u64::from(*ticket), out),
+        EventReply::Issued(ticket) => write_numbered(alloc, "ticket ", u64::from(*ticket), out),
+        EventReply::NoTicket => out.push_text("no-ticket\n"),
+        EventReply::Bound { ticket, run } => write_bound(alloc, *ticket, *run, out),
+        EventReply::Running(ticket) => write_numbered(alloc, "running ", u64::from(*ticket), out),
+        EventReply::Replied { ticket, outcome } => write_outcome(
+            alloc, "ended ", *ticket, outcome, out,
+        ),
+        EventReply::Other { ticket, func, args } => write_other(
+            alloc, code, *ticket, *func, args, out,
+        ),
+        EventReply::Gone(ticket) => write_numbered(alloc, "gone ", u64::from(*ticket), out),
+        EventReply::Unknown(ticket) => write_numbered(alloc, "unknown ", u64::from(*ticket), out),
         // most turns tell nothing more
-        Seen::Acted {
+        EventReply::Acted {
             entry: None,
             started: None,
             over,
             reply: None,
         } => out.push_text(if *over { "acted over\n" } else { "acted\n" }),
-        Seen::Acted {
+        EventReply::Acted {
             entry,
             started,
             over,
             reply,
         } => write_acted(alloc, code, entry, *started, *over, reply, out),
-        Seen::Held(owner) => write_held(alloc, owner.get(), out),
-        Seen::NotYet(id) => write_waits(alloc, id.get(), out),
-        Seen::Full { live, room } => write_full(alloc, *live, *room, out),
-        Seen::Worn => out.push_text("worn\n"),
-        Seen::Crowded => out.push_text("crowded 1024\n"),
-        Seen::Expired => out.push_text("expired\n"),
-        Seen::NoRun => out.push_text("no-run\n"),
-        Seen::RunOver => out.push_text("run-over\n"),
-        Seen::Dropped => out.push_text("dropped\n"),
-        Seen::Crashed => out.push_text("crashed\n"),
-        Seen::Started(run) => write_numbered(alloc, "run ", *run, out),
-        Seen::Passed => out.push_text("passed\n"),
-        Seen::Launched { run, id } => write_launched(alloc, *run, id, out),
-        Seen::Round => out.push_text("round\n"),
-        Seen::Now(moment) => write_numbered(alloc, "now ", *moment, out),
-        Seen::ClockEnd => out.push_text("clock-end\n"),
-        Seen::Halted => out.push_text("halted\n"),
-        Seen::Shut => out.push_text("shut\n"),
-        Seen::Spent => out.push_text("spent\n"),
+        EventReply::Held(owner) => write_held(alloc, owner.get(), out),
+        EventReply::NotYet(id) => write_waits(alloc, id.get(), out),
+        EventReply::Full { live, room } => write_full(alloc, *live, *room, out),
+        EventReply::Worn => out.push_text("worn\n"),
+        EventReply::Crowded => out.push_text("crowded 1024\n"),
+        EventReply::Expired => out.push_text("expired\n"),
+        EventReply::NoRun => out.push_text("no-run\n"),
+        EventReply::RunOver => out.push_text("run-over\n"),
+        EventReply::Dropped => out.push_text("dropped\n"),
+        EventReply::Crashed => out.push_text("crashed\n"),
+        EventReply::Started(run) => write_numbered(alloc, "run ", *run, out),
+        EventReply::Passed => out.push_text("passed\n"),
+        EventReply::Launched { run, id } => write_launched(alloc, *run, id, out),
+        EventReply::Round => out.push_text("round\n"),
+        EventReply::Now(moment) => write_numbered(alloc, "now ", *moment, out),
+        EventReply::ClockEnd => out.push_text("clock-end\n"),
+        EventReply::Halted => out.push_text("halted\n"),
+        EventReply::Shut => out.push_text("shut\n"),
+        EventReply::Spent => out.push_text("spent\n"),
     }
 }
 
@@ -145,7 +149,7 @@ fn write_other(
     args: &Value,
     out: &mut Str,
 ) -> Result<(), AllocError>
-    ensures ok { OnOk result (out.new ≡ out.old ++ answer_text code.now (Seen.Other ticket func args.now)) }
+    ensures ok { OnOk result (out.new ≡ out.old ++ answer_text code.now (EventReply.Other ticket func args.now)) }
     ensures err { OnErr result (out.new ≡ out.old) }
 {
     let mut line = Str::from_string(format!(in alloc; "other {ticket} ")?);
@@ -213,10 +217,10 @@ fn write_acted(
     entry: &Option<Entry>,
     started: Option<u64>,
     over: bool,
-    reply: &Option<(u32, Apart<Outcome>)>,
+    reply: &Option<(u32, Boxed<Outcome>)>,
     out: &mut Str,
 ) -> Result<(), AllocError>
-    ensures ok { OnOk result (out.new ≡ out.old ++ answer_text code.now (Seen.Acted entry.now started over reply.now)) }
+    ensures ok { OnOk result (out.new ≡ out.old ++ answer_text code.now (EventReply.Acted entry.now started over reply.now)) }
     ensures err { OnErr result (out.new ≡ out.old) }
 {
     let mut lines = Str::with_room(alloc, 64)?;
@@ -274,7 +278,7 @@ fn write_started(started: Option<u64>, out: &mut Str) -> Result<(), AllocError>
 
 fn write_reply(
     alloc: Global,
-    reply: &Option<(u32, Apart<Outcome>)>,
+    reply: &Option<(u32, Boxed<Outcome>)>,
     out: &mut Str,
 ) -> Result<(), AllocError>
     ensures { OnOk result (out.new ≡ out.old ++ reply_part reply.now) }
@@ -286,30 +290,30 @@ fn write_reply(
 }
 
 /// Appends the line of the reply that an answer gives, if any. Out of memory, a part of it may be there.
-pub fn write_reply_told(alloc: Global, seen: &Seen, out: &mut Str) -> Result<(), AllocError>
+pub fn write_reply_told(alloc: Global, seen: &EventReply, out: &mut Str) -> Result<(), AllocError>
     ensures { OnOk result (out.new ≡ out.old ++ reply_told seen.now) }
 {
     match seen {
-        Seen::Acted { reply, .. } => write_reply(alloc, reply, out),
+        EventReply::Acted { reply, .. } => write_reply(alloc, reply, out),
         _ => Ok(()),
     }
 }
 
 /// Appends the line of what a ticket's run gave. After an `Err` the text is as before.
-pub fn write_reply_seen(
+pub fn write_reply_status(
     alloc: Global,
     ticket: u32,
-    seen: &ReplySeen,
+    seen: &ReplyStatus,
     out: &mut Str,
 ) -> Result<(), AllocError>
     ensures ok { OnOk result (out.new ≡ out.old ++ reply_line ticket seen.now) }
     ensures err { OnErr result (out.new ≡ out.old) }
 {
     match seen {
-        ReplySeen::Unknown => write_no_reply(alloc, ticket, "unknown", out),
-        ReplySeen::Gone => write_no_reply(alloc, ticket, "gone", out),
-        ReplySeen::Waiting => write_no_reply(alloc, ticket, "waiting", out),
-        ReplySeen::Reply(outcome) => write_outcome(alloc, "reply ", ticket, outcome, out),
+        ReplyStatus::Unknown => write_no_reply(alloc, ticket, "unknown", out),
+        ReplyStatus::Gone => write_no_reply(alloc, ticket, "gone", out),
+        ReplyStatus::Waiting => write_no_reply(alloc, ticket, "waiting", out),
+        ReplyStatus::Reply(outcome) => write_outcome(alloc, "reply ", ticket, outcome, out),
     }
 }
 

@@ -1,7 +1,7 @@
 // The command `check`: a source is tested to its end, and nothing of it is carried out.
 ghost use Rattle.std.specs.Prelude.{◌≡◌, ◌≤◌, length, Ok, IfOk};
 ghost use Rattle.beldi_outside.specs.Outside.{max_source};
-ghost use Rattle.beldi_script.specs.Cut.{lines_of};
+ghost use Rattle.beldi_script.specs.LineCut.{lines_of};
 ghost use Rattle.beldi_session.specs.Check.{check_at, check_by, counted, tested_text, with_line};
 ghost use Rattle.beldi_session.specs.Source.{ReadsAs, numbered};
 

@@ -4,7 +4,7 @@
 //! (`beldi_outside`).
 //! Its definitions: `specs/Source` (what a source says: its refusal, or a deployment and numbered lines), `specs/Refusal`
 //! (the text of a refusal), `specs/Check` (what is said of a source that is tested), `specs/Script` (what a script has the program do, and
-//! a client: its actions), `specs/Answer`, `specs/Settled` and `specs/Response` (what is said of it, and the text), `specs/Session` (steps
+//! a client: its actions), `specs/Answer`, `specs/Settled` and `specs/HostResponse` (what is said of it, and the text), `specs/Session` (steps
 //! one after another, and what was written), `specs/Settling` (the events of a settling, and its promises) and `specs/Sweeps` (the turns of a
 //! sweep, and its promises).
 //!
@@ -16,8 +16,8 @@
 //! - An event that is out of memory is a response too, and leaves its action to do (`BrokeOff`): its step is that of the definition, in which
 //!   the act may have been made.
 //! - A turn of a log collector is a response of its own (`PruneAnswered`, or `PruneBroke` where memory was short). A line `gc` gives turns,
-//!   and a line `sweep` as many as end a round, that turn counted, or else its budget, and tells which (`sweep_at`, `sweep_heard`); of a
-//!   right host it keeps the promises of `beldi_tidy` (`promises`).
+//!   and a line `sweep` as many as end a round, that turn counted, or else its budget, and tells which (`sweep_at`, `on_sweep_reply`); of a
+//!   host with the invariant it keeps the promises of `beldi_tidy` (`promises`).
 //! - A line `settle` is carried out as just the events of the machine of `beldi_schedule` (`Leaves`), each a step of the host as those of other
 //!   lines, also where the host gives a run many turns at once; before a turn of the intent collector that is set past rows of no open
 //!   intent alone, where the table tells them (`WentOn`). It
@@ -30,9 +30,9 @@
 //!   script's lines, from a line to the host's calls; `settling` one line that is many events; `sweeping` turns of log collectors;
 //!   `check` a source that is tested;
 //!   `answer` the text of an answer; `output` text on its way.
-//! - Lemmas (`proofs/`): `Went` actions that were done, `Calls` calls one after another; `Responses` what the host answers;
+//! - Lemmas (`proofs/`): `Went` actions that were done, `SessionCalls` calls one after another; `Responses` what the host answers;
 //!   `SettleEvents` an event of a settling, `Strides` many turns at once, `Led` that they lead on, and its promises; `Sweeps` and
-//!   `SweepTurns` a sweep, turn by turn, and its promises; `Lines`, `Refusals`.
+//!   `SweepTurns` a sweep, turn by turn, and its promises; `SessionLines`, `Refusals`.
 #![tactic(auto)]
 
 mod answer;

@@ -1,14 +1,14 @@
 // A session: the lines of a script, carried out one after another.
 ghost use Rattle.std.specs.Prelude.{◌≡◌, ◌∷◌, ◌++◌, [], ℕ, List, Option, IfOk, OnOk, true};
-ghost use Rattle.beldi_script.specs.Cut.{lines_of};
+ghost use Rattle.beldi_script.specs.LineCut.{lines_of};
 ghost use Rattle.beldi_schedule.specs.Settle.{first_at, go_on};
 ghost use Rattle.beldi_session.specs.Script.{Carry, Settle, TellReply, CountRows, ListTables, ListBook, actions_of, actions_in, and_then, is_ok, is_whole, times, turn_of, sweep_at};
-ghost use Rattle.beldi_book.specs.Text.{book_text};
-ghost use Rattle.beldi_session.specs.Response.{BookIs, report_text};
+ghost use Rattle.beldi_book.specs.BookText.{book_text};
+ghost use Rattle.beldi_session.specs.HostResponse.{BookIs, report_text};
 ghost use Rattle.beldi_session.specs.Session.{Does, by_done, by_text, sight};
 ghost use Rattle.beldi_session.specs.Source.{numbered, said_at};
 
-use crate::answer::{write_answer, write_numbered, write_reply_seen};
+use crate::answer::{write_answer, write_numbered, write_reply_status};
 use crate::output::{flush, flush_if_long};
 use crate::refusal::{SourceErr, write_refusal};
 use crate::settling::settle;
@@ -129,7 +129,7 @@ fn tell_reply<T: Table>(
 {
     match host.reply(ticket) {
         Ok(seen) => {
-            let told = appended(write_reply_seen(alloc, ticket, &seen, out));
+            let told = appended(write_reply_status(alloc, ticket, &seen, out));
             drop(seen);
             told
         }

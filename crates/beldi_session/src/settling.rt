@@ -1,21 +1,21 @@
 // Settling: each live run is given turns until all that are left wait, and an intent that has no run is given one.
 ghost use Rattle.std.specs.Prelude.{◌≡◌, ◌<◌, ◌≤◌, ◌+◌, ◌++◌, ◌∷◌, [], true, ℕ, List, Option, IfOk, IfSome, OnOk, flat_map};
-ghost use Rattle.beldi_host.specs.Host.{core_of};
-ghost use Rattle.beldi_host.specs.Stride.{Strides};
-ghost use Rattle.beldi_step.specs.Host.{most_events};
-ghost use Rattle.beldi_host.specs.Right.{IsWhole};
+ghost use Rattle.beldi_host.specs.HostCore.{core_of};
+ghost use Rattle.beldi_host.specs.HostStride.{Strides};
+ghost use Rattle.beldi_step.specs.HostStep.{most_events};
+ghost use Rattle.beldi_host.specs.HostInvariant.{IsWhole};
 ghost use Rattle.beldi_step.specs.declared.event.Event.TheVariants as event;
-ghost use Rattle.beldi_schedule.specs.Settle.{HasTurns, WasTaken, counted, first_at, go_on, next_of, restless, turn_heard, turns_in};
+ghost use Rattle.beldi_schedule.specs.Settle.{HasTurns, WasTaken, counted, first_at, go_on, next_of, restless, on_turn_reply, turns_in};
 ghost use Rattle.beldi_schedule.specs.declared.machine.At.{At};
 ghost use Rattle.beldi_schedule.specs.declared.machine.Next.TheVariants.{Turn, Collect};
-ghost use Rattle.beldi_schedule.specs.declared.machine.Standing.TheVariants.{Goes, Over};
+ghost use Rattle.beldi_schedule.specs.declared.machine.Standing.TheVariants.{Working, Over};
 ghost use Rattle.beldi_upkeep.specs.Checked.{StartsAreOfIt};
 ghost use Rattle.beldi_book.specs.declared.entry.Entry.{Entry};
 ghost use Rattle.beldi_joined.specs.Joined.{IsWholeAfter, joined};
 ghost use Rattle.beldi_session.specs.Script.{Action, Settle};
 ghost use Rattle.beldi_session.specs.Answer.{reply_told};
 ghost use Rattle.beldi_session.specs.Session.{Does, DoesTo, left_by, sight};
-ghost use Rattle.beldi_session.specs.Settling.{Collected, Heard, KeepsPromises, KeepsPromisesAfter, Led};
+ghost use Rattle.beldi_session.specs.Settling.{Collected, WasAnswered, KeepsPromises, KeepsPromisesAfter, Led};
 ghost use Rattle.beldi_session.specs.Settled.{settled_text, wait_text};
 
 use crate::answer::{write_answer, write_numbered, write_reply_told};
@@ -26,10 +26,10 @@ use beldi_host::Host;
 use beldi_joined::settlings_after_sessions_are_as_promised;
 use beldi_row::Table;
 use beldi_schedule::{
-    At, Next, Settled, Standing, Waits, begun, first_at, go_on, ic_heard, strode, turn_heard,
+    At, Next, Settled, Standing, Waits, begun, first_at, go_on, on_ic_reply, on_turn_reply, strode,
     unparked,
 };
-use beldi_step::{Event, Seen};
+use beldi_step::{Event, EventReply};
 use beldi_value::Str;
 use std::alloc::{AllocError, Global};
 use std::mem::forget;
@@ -63,12 +63,12 @@ fn next_of<T: Table>(host: &Host<T>, at: At) -> Next
 }
 
 // Whether a turn was made of which there is no more to tell: it is counted, and adds no text.
-fn is_plain(seen: &Seen) -> bool
-    ensures { (budget : ℕ) (at : At) (run : ℕ) → result ≡ true → (turn_heard budget at run seen.now ≡ counted budget at) × (reply_told seen.now ≡ []) }
+fn is_plain(seen: &EventReply) -> bool
+    ensures { (budget : ℕ) (at : At) (run : ℕ) → result ≡ true → (on_turn_reply budget at run seen.now ≡ counted budget at) × (reply_told seen.now ≡ []) }
 {
     matches!(
         seen,
-        Seen::Acted {
+        EventReply::Acted {
             entry: None,
             reply: None,
             ..
@@ -87,10 +87,10 @@ fn give_turn<T: Table>(
     run: u64,
 ) -> Result<Standing, Stop>
     requires { at.turns < budget }
-    ensures does { (s : At) (held : Option (List ℕ)) (faults : ℕ) → next_of (core_of host.old) s ≡ Turn at run → DoesTo (Settle budget (Goes s) ∷ []) (left_by budget result) (sight host.old out.old held faults) (sight host.new out.new held faults) result }
+    ensures does { (s : At) (held : Option (List ℕ)) (faults : ℕ) → next_of (core_of host.old) s ≡ Turn at run → DoesTo (Settle budget (Working s) ∷ []) (left_by budget result) (sight host.old out.old held faults) (sight host.new out.new held faults) result }
     ensures turns { IfOk result (λ next. HasTurns budget next) }
     ensures taken { IfOk result (λ next. WasTaken (core_of host.old) (core_of host.new) next) }
-    ensures heard { IfOk result (λ next. Heard host.old.code (event.Turn run) (λ c x. turn_heard budget at run x) (core_of host.old) (core_of host.new) (T.state host.old.table) (T.state host.new.table) next) }
+    ensures heard { IfOk result (λ next. WasAnswered host.old.code (event.Turn run) (λ c x. on_turn_reply budget at run x) (core_of host.old) (core_of host.new) (T.state host.old.table) (T.state host.new.table) next) }
 {
     match host.event(Event::Turn(run)) {
         Ok(seen) => {
@@ -100,7 +100,7 @@ fn give_turn<T: Table>(
                 return Ok(strode(budget, at, 1));
             }
             match write_reply_told(alloc, &seen, out) {
-                Ok(()) => match turn_heard(budget, at, run, seen) {
+                Ok(()) => match on_turn_reply(budget, at, run, seen) {
                     Ok(next) => Ok(next),
                     Err(_) => Err(Stop::OutOfMemory),
                 },
@@ -125,10 +125,10 @@ fn give_turns<T: Table>(
     at_last: bool,
 ) -> Result<Standing, Stop>
     requires { at.turns < budget }
-    ensures does { (s : At) (held : Option (List ℕ)) (faults : ℕ) → next_of (core_of host.old) s ≡ Turn at run → DoesTo (Settle budget (Goes s) ∷ []) (left_by budget result) (sight host.old out.old held faults) (sight host.new out.new held faults) result }
+    ensures does { (s : At) (held : Option (List ℕ)) (faults : ℕ) → next_of (core_of host.old) s ≡ Turn at run → DoesTo (Settle budget (Working s) ∷ []) (left_by budget result) (sight host.old out.old held faults) (sight host.new out.new held faults) result }
     ensures turns { IfOk result (λ next. HasTurns budget next) }
     ensures taken { IfOk result (λ next. WasTaken (core_of host.old) (core_of host.new) next) }
-    ensures led { (s : At) → next_of (core_of host.old) s ≡ Turn at run → IfOk result (λ next. Led host.old.code budget (Goes s) next (core_of host.old) (core_of host.new) (T.state host.old.table) (T.state host.new.table)) }
+    ensures led { (s : At) → next_of (core_of host.old) s ≡ Turn at run → IfOk result (λ next. Led host.old.code budget (Working s) next (core_of host.old) (core_of host.new) (T.state host.old.table) (T.state host.new.table)) }
 {
     match stride(host, run, budget - at.turns, at_last) {
         0 => give_turn(alloc, host, out, budget, at, run),
@@ -155,7 +155,7 @@ fn stride<T: Table>(host: &mut Host<T>, run: u64, most: u64, at_last: bool) -> u
 // Sets the intent collector past rows that are of no open intent, and gives it a turn.
 fn collect<T: Table>(host: &mut Host<T>, budget: u64, at: At) -> Result<Standing, Stop>
     requires { at.turns < budget }
-    ensures does { (s : At) (text : List ℕ) (held : Option (List ℕ)) (faults : ℕ) → next_of (core_of host.old) s ≡ Collect at → DoesTo (Settle budget (Goes s) ∷ []) (left_by budget result) (sight host.old text held faults) (sight host.new text held faults) result }
+    ensures does { (s : At) (text : List ℕ) (held : Option (List ℕ)) (faults : ℕ) → next_of (core_of host.old) s ≡ Collect at → DoesTo (Settle budget (Working s) ∷ []) (left_by budget result) (sight host.old text held faults) (sight host.new text held faults) result }
     ensures turns { IfOk result (λ next. HasTurns budget next) }
     ensures taken { IfOk result (λ next. WasTaken (core_of host.old) (core_of host.new) next) }
     ensures collected { IfOk result (λ next. Collected host.old.code budget at (core_of host.old) (core_of host.new) (T.state host.old.table) (T.state host.new.table) next) }
@@ -163,7 +163,7 @@ fn collect<T: Table>(host: &mut Host<T>, budget: u64, at: At) -> Result<Standing
     host.ic_skip();
     match host.event(Event::Ic) {
         Ok(seen) => {
-            let next = ic_heard(budget, at, &seen, host.next_run(0));
+            let next = on_ic_reply(budget, at, &seen, host.next_run(0));
             drop(seen);
             Ok(next)
         }
@@ -181,10 +181,10 @@ fn advance<T: Table>(
     at_last: bool,
 ) -> Result<Standing, Stop>
     requires { at.turns < budget }
-    ensures does { (held : Option (List ℕ)) (faults : ℕ) → DoesTo (Settle budget (Goes at) ∷ []) (left_by budget result) (sight host.old out.old held faults) (sight host.new out.new held faults) result }
+    ensures does { (held : Option (List ℕ)) (faults : ℕ) → DoesTo (Settle budget (Working at) ∷ []) (left_by budget result) (sight host.old out.old held faults) (sight host.new out.new held faults) result }
     ensures turns { IfOk result (λ next. HasTurns budget next) }
     ensures taken { IfOk result (λ next. WasTaken (core_of host.old) (core_of host.new) next) }
-    ensures led { IfOk result (λ next. Led host.old.code budget (Goes at) next (core_of host.old) (core_of host.new) (T.state host.old.table) (T.state host.new.table)) }
+    ensures led { IfOk result (λ next. Led host.old.code budget (Working at) next (core_of host.old) (core_of host.new) (T.state host.old.table) (T.state host.new.table)) }
 {
     match next_of(host, at) {
         Next::Turn(at, run) => give_turns(alloc, host, out, budget, at, run, at_last),
@@ -199,7 +199,7 @@ fn advance<T: Table>(
 // Whether a settling that had counted so many turns has counted more than one since, as where a run went over many rows at once.
 fn counted_more(turns: u64, next: &Standing) -> bool {
     match next {
-        Standing::Goes(at) => at.turns.saturating_sub(turns) > 1,
+        Standing::Working(at) => at.turns.saturating_sub(turns) > 1,
         Standing::Over(_) => false,
     }
 }
@@ -254,10 +254,10 @@ fn tell_settled<T: Table>(
     appended(write_settled(alloc, host.code(), settled, out))
 }
 
-/// Gives turns until all live runs wait or are over, at most the budget, and appends the lines of replies and of how it ended. Of a right
-/// host of whose rows no log collector changed one, and whose book starts functions of its deployment alone, it keeps its promises: its turns are at most
+/// Gives turns until all live runs wait or are over, at most the budget, and appends the lines of replies and of how it ended. Of a host
+/// with the invariant, of whose rows no log collector changed one and whose book starts functions of its deployment alone, it keeps its promises: its turns are at most
 /// the work, it is settled only where all have ended, and stuck only with a cause, and with a budget above the work what can end ends. So it
-/// does of one that is right behind the book of sessions that left its rows, by their book and its own.
+/// does of one that has the invariant behind the book of sessions that left its rows, by their book and its own.
 pub fn settle<T: Table>(
     alloc: Global,
     host: &mut Host<T>,
@@ -275,7 +275,7 @@ pub fn settle<T: Table>(
     let mut at_last = false;
     loop {
         match standing {
-            Standing::Goes(at) => {
+            Standing::Working(at) => {
                 let turns = at.turns;
                 match advance(alloc, host, out, budget, at, at_last) {
                     Ok(next) => {

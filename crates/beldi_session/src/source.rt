@@ -1,8 +1,8 @@
 // What a source says: a deployment and the lines of a script, or why it is refused.
 ghost use Rattle.std.specs.Prelude.{◌≡◌, drop};
 ghost use Rattle.std.specs.List.{list_all};
-ghost use Rattle.beldi_script.specs.Cut.{lines_of};
-ghost use Rattle.beldi_script.specs.Words.{is_space};
+ghost use Rattle.beldi_script.specs.LineCut.{lines_of};
+ghost use Rattle.beldi_script.specs.ScriptWords.{is_space};
 ghost use Rattle.beldi_session.specs.Source.{ReadsAs, accepted, accepted_of, first_line, numbered, refusal_at, refusal_in, said_at, source_at};
 ghost use Rattle.beldi_session.specs.declared.refusal.SourceErr.TheVariants.{Refused};
 

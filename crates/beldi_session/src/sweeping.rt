@@ -1,7 +1,7 @@
 // Turns of a log collector, alone and in a sweep, which gives turns up to the end of a round.
 ghost use Rattle.std.specs.Prelude.{◌≡◌, ◌++◌, ◌∷◌, [], ℕ, List, Option, IfOk, OnOk};
-ghost use Rattle.beldi_host.specs.Host.{core_of};
-ghost use Rattle.beldi_host.specs.Right.{IsRight};
+ghost use Rattle.beldi_host.specs.HostCore.{core_of};
+ghost use Rattle.beldi_host.specs.HostInvariant.{HasInvariant};
 ghost use Rattle.beldi_tidy.specs.Sweeping.{ends_round};
 ghost use Rattle.beldi_session.specs.Answer.{pruned_text};
 ghost use Rattle.beldi_session.specs.Script.{Prune, Sweep, TellSwept, sweep_at};
@@ -106,7 +106,7 @@ fn end<T: Table>(alloc: Global, host: &Host<T>, out: &mut Str, swept: Swept) -> 
     }
 }
 
-/// Gives a log collector turns up to the end of its round, at most the budget, and appends how it ended. Of a right host it keeps its
+/// Gives a log collector turns up to the end of its round, at most the budget, and appends how it ended. Of a host with the invariant it keeps its
 /// promises, where nothing keeps a turn from the rows: it ends with the turn after at most eleven for each row and one for each row of its
 /// item, and what is left of a row that its collector has begun. Once all intents are idle, one that begins before all rows leaves
 /// trimmed rows; and of trimmed ones, of which each that is adrift is so for more than a life, tidy ones.
@@ -118,7 +118,7 @@ pub fn sweep<T: Table>(
     budget: u64,
 ) -> Result<Swept, Stop>
     ensures does { (held : Option (List ℕ)) (faults : ℕ) → Does (sweep_at number budget 0 ∷ []) (sight host.old out.old held faults) (sight host.new out.new held faults) result }
-    ensures promises { IsRight host.old → IfOk result (λ x. KeepsSweepPromises host.old.code number (core_of host.old) (core_of host.new) (T.state host.old.table) (T.state host.new.table) x) }
+    ensures promises { HasInvariant host.old → IfOk result (λ x. KeepsSweepPromises host.old.code number (core_of host.old) (core_of host.new) (T.state host.old.table) (T.state host.new.table) x) }
 {
     sweeps_are_as_promised();
     host.keeps_rules();

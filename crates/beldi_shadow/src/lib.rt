@@ -4,7 +4,7 @@
 //! they say is so of the shadow).
 //!
 //! Proved:
-//! - The walks ask, go and say as the definitions do, whatever they are told (`Walk` of `beldi_walk`); unless a walk goes on, it
+//! - The walks ask, go and say as the definitions do, whatever they are told (`Walk` of `beldi_query`); unless a walk goes on, it
 //!   stands where it stood.
 //! - Laws: where the shadow's rows are linked, nobody owns it, and a walk sees what it has to where it stands, a turn of a write leaves all rows but its own as they are, and the shadow
 //!   but for its own operation's effect, of which a place has one, however many walks there are for it; `Noted` tells the
@@ -20,4 +20,4 @@ mod laws;
 mod shadow;
 
 pub use laws::{a_shadow_is_a_logged_cell, a_shadow_reads_its_own};
-pub use shadow::{ShadowRead, ShadowSays, ShadowWrite};
+pub use shadow::{ShadowOutput, ShadowRead, ShadowWrite};

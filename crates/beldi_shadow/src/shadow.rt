@@ -2,15 +2,15 @@
 ghost use Rattle.std.specs.Prelude.{◌≡◌, IfOk};
 ghost use Rattle.beldi_shadow.specs.Shadow.{first_read, first_write, read_so as read_so_of, write_so as write_so_of};
 
-use beldi_daal::{CellOp, Item, ReadSays, ReadWalk, WriteSays, WriteWalk};
+use beldi_daal::{CellOp, Item, ReadOutput, ReadWalk, WriteOutput, WriteWalk};
+use beldi_query::{Query, QueryReplyRef, Walk};
 use beldi_row::{Note, copy_tx};
-use beldi_value::{Apart, Owner, Place, Str, TxId, Value, or_drop};
-use beldi_walk::{Heard, Query, Walk};
+use beldi_value::{Boxed, Owner, Place, Str, TxId, Value, or_drop};
 use std::alloc::{AllocError, Global};
 
 /// What a turn of a walk over a shadow says.
 #[derive(Drop)]
-pub enum ShadowSays {
+pub enum ShadowOutput {
     /// The walk goes on.
     Going,
     /// The shadow has this value; none where the transaction has no shadow of the item.
@@ -40,32 +40,36 @@ impl ShadowRead {
 }
 
 impl Walk for ShadowRead {
-    ghost use Rattle.beldi_shadow.specs.Shadow.{read_asks, read_next, read_says};
+    ghost use Rattle.beldi_shadow.specs.Shadow.{read_asks, read_next, read_output};
 
-    type Says = ShadowSays;
+    type Output = ShadowOutput;
 
     ghost asks = { read_asks };
 
     ghost next = { read_next };
 
-    ghost says = { read_says };
+    ghost output = { read_output };
 
-    fn ask(&self, alloc: Global) -> Result<Apart<Query>, AllocError> {
+    fn ask(&self, alloc: Global) -> Result<Boxed<Query>, AllocError> {
         self.walk.ask(alloc)
     }
 
-    fn told(&mut self, alloc: Global, heard: Heard<'_>) -> Result<ShadowSays, AllocError> {
-        Ok(read_so(self.walk.told(alloc, heard)?))
+    fn resume(
+        &mut self,
+        alloc: Global,
+        heard: QueryReplyRef<'_>,
+    ) -> Result<ShadowOutput, AllocError> {
+        Ok(read_so(self.walk.resume(alloc, heard)?))
     }
 }
 
 // Nobody owns a shadow.
-fn read_so(says: ReadSays) -> ShadowSays
-    ensures { result ≡ read_so_of says }
+fn read_so(output: ReadOutput) -> ShadowOutput
+    ensures { result ≡ read_so_of output }
 {
-    match says {
-        ReadSays::Got(value) => ShadowSays::Got(value),
-        ReadSays::Going | ReadSays::Held(_) => ShadowSays::Going,
+    match output {
+        ReadOutput::Got(value) => ShadowOutput::Got(value),
+        ReadOutput::Going | ReadOutput::Held(_) => ShadowOutput::Going,
     }
 }
 
@@ -98,31 +102,35 @@ impl ShadowWrite {
 }
 
 impl Walk for ShadowWrite {
-    ghost use Rattle.beldi_shadow.specs.Shadow.{write_asks, write_next, write_says};
+    ghost use Rattle.beldi_shadow.specs.Shadow.{write_asks, write_next, write_output};
 
-    type Says = ShadowSays;
+    type Output = ShadowOutput;
 
     ghost asks = { write_asks };
 
     ghost next = { write_next };
 
-    ghost says = { write_says };
+    ghost output = { write_output };
 
-    fn ask(&self, alloc: Global) -> Result<Apart<Query>, AllocError> {
+    fn ask(&self, alloc: Global) -> Result<Boxed<Query>, AllocError> {
         self.walk.ask(alloc)
     }
 
-    fn told(&mut self, alloc: Global, heard: Heard<'_>) -> Result<ShadowSays, AllocError> {
-        Ok(write_so(self.walk.told(alloc, heard)?))
+    fn resume(
+        &mut self,
+        alloc: Global,
+        heard: QueryReplyRef<'_>,
+    ) -> Result<ShadowOutput, AllocError> {
+        Ok(write_so(self.walk.resume(alloc, heard)?))
     }
 }
 
-fn write_so(says: WriteSays) -> ShadowSays
-    ensures { result ≡ write_so_of says }
+fn write_so(output: WriteOutput) -> ShadowOutput
+    ensures { result ≡ write_so_of output }
 {
-    match says {
-        WriteSays::Done { note, first: _ } => ShadowSays::Noted(note),
-        WriteSays::Going | WriteSays::NotOwner | WriteSays::Held(_) => ShadowSays::Going,
-        WriteSays::Worn => ShadowSays::Worn,
+    match output {
+        WriteOutput::Done { note, first: _ } => ShadowOutput::Noted(note),
+        WriteOutput::Going | WriteOutput::NotOwner | WriteOutput::Held(_) => ShadowOutput::Going,
+        WriteOutput::Worn => ShadowOutput::Worn,
     }
 }

@@ -8,7 +8,7 @@ use Rattle.beldi_chain.specs.{Chain.Chain, Chain.content, Content.Content, Conte
 use Rattle.beldi_links.specs.Links.{At, Fits, FitsAt, FitsNext, IsPassed, LeadsTo, LinkedFrom, Linked, Passed, ReadsAt, SeesAt, Steps, before, behind, own}
 use Rattle.beldi_links.proofs.{Meets.next_is_read, Meets.passed_by, Meets.rows_below, Ways.content_is, Ways.few, Ways.none_next, Ways.one_cell, Ways.one_step, Ways.same_or, Ways.then_way}
 use Rattle.beldi_splice.specs.Splice.{AreGone, ArePassable, IsCellOf, IsMoored, IsPassable, IsThreaded, LeadsPast, LessChain, LessRow}
-use Rattle.beldi_splice.specs.Laws.{ContentsAreAlike, FirstLeadsToLast, IsAlike, LinkedAreSo, MoreAreGone, NobodyGoneNoneLess, ReadsGoFurther, UnfollowedAreAlike, WalksGoFurther}
+use Rattle.beldi_splice.specs.SpliceLaws.{ContentsAreAlike, FirstLeadsToLast, IsAlike, LinkedAreSo, MoreAreGone, NobodyGoneNoneLess, ReadsGoFurther, UnfollowedAreAlike, WalksGoFurther}
 
 pub strictly : (n y : ℕ) → n ≤ y → (n ≡ y → ⊥) → n < y
 strictly n y most off = by_order (nat_lt n y) refl
@@ -59,7 +59,7 @@ pub last_alike : (gone : IntentId → Bool) (g f : Chain) (l : Linked f) → Les
 last_alike gone g f l less = unfollowed_alike gone g f l less l.last l.tail l.there l.ends ∙ l.there
 
 -- ---- a row that leads on is one of a kept row that does
-pub record Goes (gone : IntentId → Bool) (f : Chain) (n y : ℕ) (c : Cell) : Type 0 where
+pub record LeadsOnKept (gone : IntentId → Bool) (f : Chain) (n y : ℕ) (c : Cell) : Type 0 where
   pub kept : Cell
   pub there : f n ≡ Some (Row.Cell kept)
   pub log : c.log ≡ kept.log
@@ -68,14 +68,14 @@ pub record Goes (gone : IntentId → Bool) (f : Chain) (n y : ℕ) (c : Cell) : 
   pub most : after ≤ y
   pub between : ArePassable gone f n y
 
-pub goes : (gone : IntentId → Bool) (g f : Chain) → LessChain gone g f → (n y : ℕ) (c : Cell) → g n ≡ Some (Row.Cell c) → c.next ≡ Some y → Goes gone f n y c
-goes gone g f less n y c is next = by_row (f n) refl (subst (λ z. LessRow gone f n z (f n)) is (less n))
+pub leads_on_kept : (gone : IntentId → Bool) (g f : Chain) → LessChain gone g f → (n y : ℕ) (c : Cell) → g n ≡ Some (Row.Cell c) → c.next ≡ Some y → LeadsOnKept gone f n y c
+leads_on_kept gone g f less n y c is next = by_row (f n) refl (subst (λ z. LessRow gone f n z (f n)) is (less n))
   where
-    by_next : (k : Cell) (o : Option ℕ) → f n ≡ Some (Row.Cell k) → c.log ≡ k.log → k.next ≡ o → LeadsPast gone f n (Some y) o → Goes gone f n y c
+    by_next : (k : Cell) (o : Option ℕ) → f n ≡ Some (Row.Cell k) → c.log ≡ k.log → k.next ≡ o → LeadsPast gone f n (Some y) o → LeadsOnKept gone f n y c
     by_next k None there log at h = absurd h
     by_next k (Some a) there log at h = record { kept = k; there = there; log = log; after = a; next = at; most = h.0; between = h.1 }
 
-    by_row : (r : Option Row) → f n ≡ r → LessRow gone f n (Some (Row.Cell c)) r → Goes gone f n y c
+    by_row : (r : Option Row) → f n ≡ r → LessRow gone f n (Some (Row.Cell c)) r → LeadsOnKept gone f n y c
     by_row (Some (Row.Cell k)) there h = by_next k k.next there h.log refl (subst (λ z. LeadsPast gone f n z k.next) next h.next)
     by_row None there h = absurd h
     by_row (Some r) there h = absurd h
@@ -87,7 +87,7 @@ module _ (f : Chain) (l : Linked f) where
   before_last n k a is next = by_rest (l.rest n k is)
     where
       by_way : (js : List ℕ) → Steps f n js l.last → n < l.last
-      by_way [] way = absurd (none_next k a (ap (λ (z : Cell). z.next) (one_cell k l.tail (sym is ∙ ap f way ∙ l.there)) ∙ l.ends) next)
+      by_way [] path = absurd (none_next k a (ap (λ (z : Cell). z.next) (one_cell k l.tail (sym is ∙ ap f path ∙ l.there)) ∙ l.ends) next)
       by_way (j ∷ js) (d, at, to, more, all) = let m = few f j js l.last all in omega (arith, m, more)
 
       by_rest : (n ≡ l.last + 1) ⊎ (LeadsTo f 0 n × LeadsTo f n l.last) → n < l.last
@@ -102,7 +102,7 @@ module _ (f : Chain) (l : Linked f) where
       by_next (Some a) at some = before_last z p.cell a p.there at
 
   -- the row that one leads to is no later than the last
-  pub no_later : (gone : IntentId → Bool) (n y : ℕ) (c : Cell) → Goes gone f n y c → (n < y) × (y ≤ l.last)
+  pub no_later : (gone : IntentId → Bool) (n y : ℕ) (c : Cell) → LeadsOnKept gone f n y c → (n < y) × (y ≤ l.last)
   no_later gone n zero c h = let one = l.numbers n h.kept h.after h.there h.next in let most = h.most in absurd (omega (arith, one, most))
   no_later gone n (suc y) c h =
       let one = l.numbers n h.kept h.after h.there h.next in
@@ -118,7 +118,7 @@ module _ (f : Chain) (l : Linked f) where
   has_next n low = by_row (f n) refl (rows_below f l l.last n (Row.Cell l.tail) l.there (omega (arith, low))) (l.fits n)
     where
       no_way : (k : Cell) → f n ≡ Some (Row.Cell k) → k.next ≡ None → (js : List ℕ) → Steps f n js l.last → ⊥
-      no_way k is none [] way = let w : n ≡ l.last = way in omega (arith, w, low)
+      no_way k is none [] path = let w : n ≡ l.last = path in omega (arith, w, low)
       no_way k is none (j ∷ js) (d, at, to, more, all) = none_next k j none (ap (λ (z : Cell). z.next) (one_cell k d (sym is ∙ at)) ∙ to)
 
       no_end : (k : Cell) → f n ≡ Some (Row.Cell k) → k.next ≡ None → (n ≡ l.last + 1) ⊎ (LeadsTo f 0 n × LeadsTo f n l.last) → ⊥
@@ -146,7 +146,7 @@ none_of gone p alive ns all = by_note (note_at ns p) refl
 module _ (gone : IntentId → Bool) (g f : Chain) (l : Linked f) (less : LessChain gone g f) (threaded : IsThreaded g) where
   -- a row that the first one leads to leads on, where it is not the last
   goes_on : (n : ℕ) → n < l.last → LeadsTo g 0 n → (c : Cell) × (y : ℕ) × (g n ≡ Some (Row.Cell c)) × (c.next ≡ Some y)
-  goes_on n low way = let k = has_next f l n low in by_row (g n) refl (threaded.there n way) (subst (λ z. LessRow gone f n (g n) z) k.2 (less n))
+  goes_on n low path = let k = has_next f l n low in by_row (g n) refl (threaded.there n path) (subst (λ z. LessRow gone f n (g n) z) k.2 (less n))
     where
       by_next : (c : Cell) (o p : Option ℕ) → g n ≡ Some (Row.Cell c) → c.next ≡ o → is_some p ≡ true → LeadsPast gone f n o p → (c : Cell) × (y : ℕ) × (g n ≡ Some (Row.Cell c)) × (c.next ≡ Some y)
       by_next c (Some y) p is at some h = (c, y, is, at)
@@ -159,16 +159,16 @@ module _ (gone : IntentId → Bool) (g f : Chain) (l : Linked f) (less : LessCha
       by_row (Some r) is moored h = absurd moored
 
   on_way : (fuel n : ℕ) → l.last ≤ n + fuel → n ≤ l.last → LeadsTo g 0 n → LeadsTo g n l.last
-  on_way zero n enough most way = ([], omega (arith, enough, most))
-  on_way (suc fuel) n enough most way = same_or n l.last
+  on_way zero n enough most path = ([], omega (arith, enough, most))
+  on_way (suc fuel) n enough most path = same_or n l.last
       (λ at. ([], at))
       (λ off.
       let apart = eqb-false n l.last off in
-      let s = goes_on n (strictly n l.last most apart) way in
-      let h = goes gone g f less n s.1 s.0 s.2 s.3 in
+      let s = goes_on n (strictly n l.last most apart) path in
+      let h = leads_on_kept gone g f less n s.1 s.0 s.2 s.3 in
       let later = no_later f l gone n s.1 s.0 h in
       let step = one_step g n s.0 s.1 s.2 s.3 later.0 in
-      then_way g n s.1 l.last step (on_way fuel s.1 (let rise = later.0 in omega (arith, enough, rise)) later.1 (then_way g 0 n s.1 way step)))
+      then_way g n s.1 l.last step (on_way fuel s.1 (let rise = later.0 in omega (arith, enough, rise)) later.1 (then_way g 0 n s.1 path step)))
 
   pub to_last : LeadsTo g 0 l.last
   to_last = on_way l.last 0 (omega arith) (omega arith) ([], refl)
@@ -182,7 +182,7 @@ module _ (gone : IntentId → Bool) (g f : Chain) (l : Linked f) (less : LessCha
 
     past_one : (fuel : ℕ) → Past fuel → (a y : ℕ) → y ≤ a + suc fuel → a < y → ((z : ℕ) → a ≤ z → z < y → IsPassable gone z (f z)) → (ks : List ℕ) → Steps f a ks l.last
         → (js : List ℕ) × Steps f y js l.last × (note_at (before f a ks ++ es) p ≡ note_at (before f y js ++ es) p)
-    past_one fuel further a y enough low all [] way = let w : a ≡ l.last = way in let ahead = passable_before f l gone a (all a (omega arith) low) in absurd (omega (arith, w, ahead))
+    past_one fuel further a y enough low all [] path = let w : a ≡ l.last = path in let ahead = passable_before f l gone a (all a (omega arith) low) in absurd (omega (arith, w, ahead))
     past_one fuel further a y enough low all (b ∷ ks) (d, at, to, more, rest) =
         let q = all a (omega arith) low in
         let one = l.numbers a d b at to in
@@ -190,22 +190,22 @@ module _ (gone : IntentId → Bool) (g f : Chain) (l : Linked f) (less : LessCha
         (h.0, h.1, ap (λ z. note_at z p) (append_assoc (log_of (f a)) (before f b ks) es) ∙ passed_by (log_of (f a)) (before f b ks ++ es) p (ap (λ z. note_at (log_of z) p) q.there ∙ none_of gone p alive q.cell.log q.entries) ∙ h.2)
 
     past : (fuel : ℕ) → Past fuel
-    past zero a y enough most all ks way = let same : a ≡ y = omega (arith, enough, most) in (ks, subst (λ z. Steps f z ks l.last) same way, ap (λ z. note_at (before f z ks ++ es) p) same)
-    past (suc fuel) a y enough most all ks way = same_or a y
-        (λ same. (ks, subst (λ z. Steps f z ks l.last) same way, ap (λ z. note_at (before f z ks ++ es) p) same))
-        (λ off. let apart = eqb-false a y off in past_one fuel (past fuel) a y enough (strictly a y most apart) all ks way)
+    past zero a y enough most all ks path = let same : a ≡ y = omega (arith, enough, most) in (ks, subst (λ z. Steps f z ks l.last) same path, ap (λ z. note_at (before f z ks ++ es) p) same)
+    past (suc fuel) a y enough most all ks path = same_or a y
+        (λ same. (ks, subst (λ z. Steps f z ks l.last) same path, ap (λ z. note_at (before f z ks ++ es) p) same))
+        (λ off. let apart = eqb-false a y off in past_one fuel (past fuel) a y enough (strictly a y most apart) all ks path)
 
     then_alike : (xs vs us : List (Place × Note)) → note_at vs p ≡ note_at us p → note_at (xs ++ vs) p ≡ note_at (xs ++ us) p
     then_alike [] vs us h = h
     then_alike (x ∷ xs) vs us h = ap (λ z. if place_eq x.0 p then Some x.1 else z) (then_alike xs vs us h)
 
     notes_alike : (n : ℕ) (js ks : List ℕ) → Steps g n js l.last → Steps f n ks l.last → note_at (before g n js ++ es) p ≡ note_at (before f n ks ++ es) p
-    notes_alike n [] [] way kept = refl
-    notes_alike n [] (k ∷ ks) way (d, at, to, more, rest) = let w : n ≡ l.last = way in let m = few f k ks l.last rest in absurd (omega (arith, w, m, more))
-    notes_alike n (y ∷ js) ks (c, is, next, rise, way) kept = by_kept (notes_alike y js) ks kept
+    notes_alike n [] [] path kept = refl
+    notes_alike n [] (k ∷ ks) path (d, at, to, more, rest) = let w : n ≡ l.last = path in let m = few f k ks l.last rest in absurd (omega (arith, w, m, more))
+    notes_alike n (y ∷ js) ks (c, is, next, rise, path) kept = by_kept (notes_alike y js) ks kept
       where
-        h : Goes gone f n y c
-        h = goes gone g f less n y c is next
+        h : LeadsOnKept gone f n y c
+        h = leads_on_kept gone g f less n y c is next
 
         by_kept : ((ks : List ℕ) → Steps g y js l.last → Steps f y ks l.last → note_at (before g y js ++ es) p ≡ note_at (before f y ks ++ es) p) → (ks : List ℕ) → Steps f n ks l.last → note_at (before g n (y ∷ js) ++ es) p ≡ note_at (before f n ks ++ es) p
         by_kept later [] kept = let w : n ≡ l.last = kept in let low = (no_later f l gone n y c h).1 in absurd (omega (arith, w, low, rise))
@@ -214,20 +214,20 @@ module _ (gone : IntentId → Bool) (g f : Chain) (l : Linked f) (less : LessCha
             let further = past y k y (omega arith) (omega (arith, one, rise)) (λ z above below. h.between z (omega (arith, above, one)) below) ks rest in
             ap (λ z. note_at z p) (append_assoc (log_of (g n)) (before g y js) es)
             ∙ ap (λ z. note_at (z ++ (before g y js ++ es)) p) (ap log_of is ∙ h.log ∙ ap log_of (sym h.there))
-            ∙ then_alike (log_of (f n)) (before g y js ++ es) (before f k ks ++ es) (later further.0 way further.1 ∙ sym further.2)
+            ∙ then_alike (log_of (f n)) (before g y js ++ es) (before f k ks ++ es) (later further.0 path further.1 ∙ sym further.2)
             ∙ sym (ap (λ z. note_at z p) (append_assoc (log_of (f n)) (before f k ks) es))
 
   is_content : content g ≡ behind (before g 0 to_last.0) (own l.tail)
   is_content = content_is g to_last.0 l.last l.tail to_last.1 (last_alike gone g f l less) l.ends l.few
 
-  was_content : content f ≡ behind (before f 0 l.way.0) (own l.tail)
-  was_content = content_is f l.way.0 l.last l.tail l.way.1 l.there l.ends l.few
+  was_content : content f ≡ behind (before f 0 l.path.0) (own l.tail)
+  was_content = content_is f l.path.0 l.last l.tail l.path.1 l.there l.ends l.few
 
   pub alike : IsAlike gone g f
   alike = record {
     value = ap (λ (z : Content). z.value) is_content ∙ sym (ap (λ (z : Content). z.value) was_content);
     owner = ap (λ (z : Content). z.owner) is_content ∙ sym (ap (λ (z : Content). z.owner) was_content);
-    notes = λ p alive. ap (λ (z : Content). note_at z.notes p) is_content ∙ notes_alike p alive l.tail.log 0 to_last.0 l.way.0 to_last.1 l.way.1 ∙ sym (ap (λ (z : Content). note_at z.notes p) was_content);
+    notes = λ p alive. ap (λ (z : Content). note_at z.notes p) is_content ∙ notes_alike p alive l.tail.log 0 to_last.0 l.path.0 to_last.1 l.path.1 ∙ sym (ap (λ (z : Content). note_at z.notes p) was_content);
   }
 
 pub first_leads_to_last : FirstLeadsToLast
@@ -283,8 +283,8 @@ more_are_gone gone more g f all less n = row_more gone more all f n (g n) (f n) 
 
 -- ---- walks that are led past rows
 module _ (gone : IntentId → Bool) (g f : Chain) (l : Linked f) (less : LessChain gone g f) (r y : ℕ) (c : Cell) (is : g r ≡ Some (Row.Cell c)) (next : c.next ≡ Some y) where
-  led : Goes gone f r y c
-  led = goes gone g f less r y c is next
+  led : LeadsOnKept gone f r y c
+  led = leads_on_kept gone g f less r y c is next
 
   -- the row before the one that it comes to leads there
   before_it : (z : ℕ) → y ≡ suc z → ReadsAt f y
@@ -350,12 +350,12 @@ module _ (gone : IntentId → Bool) (f : Chain) (l : Linked f) where
       by_row (Some r) at fits = absurd (subst FitsAt at fits)
 
   up_to_last : (a : ℕ) (ks : List ℕ) (n : ℕ) → a ≤ l.last → Steps f a ks n → n ≤ l.last
-  up_to_last a [] n most way = let w : a ≡ n = way in omega (arith, w, most)
-  up_to_last a (k ∷ ks) n most (c, is, next, less, way) = let one = l.numbers a c k is next in let low = before_last f l a c k is next in up_to_last k ks n (omega (arith, one, low)) way
+  up_to_last a [] n most path = let w : a ≡ n = path in omega (arith, w, most)
+  up_to_last a (k ∷ ks) n most (c, is, next, less, path) = let one = l.numbers a c k is next in let low = before_last f l a c k is next in up_to_last k ks n (omega (arith, one, low)) path
 
   linked_threads : IsThreaded f
   linked_threads = record {
-    there = λ n way. by_row n (f n) refl (rows_below f l l.last n (Row.Cell l.tail) l.there (up_to_last 0 way.0 n (omega arith) way.1));
+    there = λ n path. by_row n (f n) refl (rows_below f l l.last n (Row.Cell l.tail) l.there (up_to_last 0 path.0 n (omega arith) path.1));
     leads = λ n c is next unmarked. elim (l.rest n c is) [
       | inl e ↦ absurd (not_followed c.next (l.spare c (ap f (sym e) ∙ is)).next next)
       | inr w ↦ w.0

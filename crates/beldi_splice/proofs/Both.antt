@@ -7,7 +7,7 @@ use Rattle.beldi_chain.specs.Chain.{Chain, next_of}
 use Rattle.beldi_links.specs.Links.{Fits, FitsAt, Frozen, IsLinked, LeadsTo, Linked, LinkedFrom, SetTo, Steps}
 use Rattle.beldi_links.proofs.{Meets.rows_below, Ways.few, Ways.none_next, Ways.one_cell, Ways.one_step, Ways.same_or, Ways.then_way}
 use Rattle.beldi_splice.specs.Splice.{IsMoored, IsPassable, IsSafeTo, IsThreaded, LeadsPast, LessChain, LessRow, MayFollow}
-use Rattle.beldi_splice.specs.Laws.{ActsKeepRowsSo, Keeps}
+use Rattle.beldi_splice.specs.SpliceLaws.{ActsKeepRowsSo, Keeps}
 use Rattle.beldi_splice.proofs.{Alike.before_last, Alike.fits_at, Alike.no_row, Alike.not_followed, Alike.to_last, Alike.unfollowed_alike, Leading.IsEnd, Leading.LeadsAs, Leading.ends_as, Leading.leads, Leading.moored_safe, Leading.safe_as, Leading.unset}
 
 -- ---- a row that both have alike, and that none follows, or that none has, is set
@@ -83,12 +83,12 @@ module _ (gone : IntentId → Bool) (g f h e : Chain) (r : ℕ) (u : Cell) (s : 
     set_keeps less threaded = record {
       less = less_then next_here less;
       threads = λ first. record {
-        there = λ n way. moored_then n (threaded.there n (leads h g back 0 n way));
+        there = λ n path. moored_then n (threaded.there n (leads h g back 0 n path));
         leads = λ n c is next unmarked. same_or n r
             (λ at. absurd (not_followed c.next (ap (λ (z : Cell). z.next) (one_cell c u (sym is ∙ ap h at ∙ s.there.here)) ∙ last) next))
             (λ off. leads g h forth 0 n (threaded.leads n c (sym (s.there.others n off) ∙ is) next unmarked));
       };
-      safe = λ life deadline a safe. safe_as g h life deadline a (λ n way. leads h g back a n way) (λ n way. safe_then life deadline n) safe;
+      safe = λ life deadline a safe. safe_as g h life deadline a (λ n path. leads h g back a n path) (λ n path. safe_then life deadline n) safe;
       follows = λ life deadline a may. same_or a r (λ at. inl (ap next_of (ap h at ∙ s.there.here) ∙ last)) (λ off. follows_other life deadline a off may);
     }
 
@@ -102,10 +102,10 @@ module _ (gone : IntentId → Bool) (g f h e : Chain) (r : ℕ) (u : Cell) (s : 
 
     -- what is led to was so, or is the row that follows
     back_or : (a : ℕ) (ks : List ℕ) (n : ℕ) → Steps h a ks n → LeadsTo g a n ⊎ (n ≡ r + 1)
-    back_or a [] n way = inl ([], way)
-    back_or a (k ∷ ks) n (c, is, to, less, way) = same_or a r
-        (λ at. inr (by_end ks (subst (λ z. Steps h z ks n) (same_after c (ap h (sym at) ∙ is) to) way)))
-        (λ off. elim (back_or k ks n way) [
+    back_or a [] n path = inl ([], path)
+    back_or a (k ∷ ks) n (c, is, to, less, path) = same_or a r
+        (λ at. inr (by_end ks (subst (λ z. Steps h z ks n) (same_after c (ap h (sym at) ∙ is) to) path)))
+        (λ off. elim (back_or k ks n path) [
           | inl led ↦ inl (then_way g a k n (one_step g a c k (sym (s.there.others a off) ∙ is) to less) led)
           | inr e ↦ inr e
         ])
@@ -114,7 +114,7 @@ module _ (gone : IntentId → Bool) (g f h e : Chain) (r : ℕ) (u : Cell) (s : 
         same_after c is to = let cell : c ≡ u = one_cell c u (sym is ∙ s.there.here) in let one : Some k ≡ Some (r + 1) = sym to ∙ ap (λ (z : Cell). z.next) cell ∙ next in cc
 
         by_end : (ks : List ℕ) → Steps h (r + 1) ks n → n ≡ r + 1
-        by_end [] way = sym way
+        by_end [] path = sym path
         by_end (j ∷ js) (d, at, to, more, all) = absurd (none_next t j ends (ap (λ (z : Cell). z.next) (one_cell t d (sym after_then ∙ at)) ∙ to))
 
     safe_after : (life deadline : ℕ) → IsSafeTo life deadline (h (r + 1))
@@ -124,7 +124,7 @@ module _ (gone : IntentId → Bool) (g f h e : Chain) (r : ℕ) (u : Cell) (s : 
     link_keeps led less threaded = record {
       less = less_then (subst (λ z. LeadsPast gone e r z z) (sym next) (omega arith, λ z low high. absurd (omega (arith, low, high)))) less;
       threads = λ first. record {
-        there = λ n way. elim (back_or 0 way.0 n way.1) [
+        there = λ n path. elim (back_or 0 path.0 n path.1) [
           | inl was ↦ moored_then n (threaded.there n was)
           | inr e ↦ subst (λ z. IsMoored (h z)) (sym e) (subst IsMoored (sym after_then) moored)
         ];
@@ -132,7 +132,7 @@ module _ (gone : IntentId → Bool) (g f h e : Chain) (r : ℕ) (u : Cell) (s : 
             (λ at. subst (LeadsTo h 0) (sym at) (leads g h forth 0 r led))
             (λ off. leads g h forth 0 n (threaded.leads n c (sym (s.there.others n off) ∙ is) some unmarked));
       };
-      safe = λ life deadline a safe later n way. elim (back_or a way.0 n way.1) [
+      safe = λ life deadline a safe later n path. elim (back_or a path.0 n path.1) [
         | inl was ↦ safe_then life deadline n (safe later n was)
         | inr e ↦ subst (λ z. IsSafeTo life deadline (h z)) (sym e) (safe_after life deadline)
       ];
@@ -144,18 +144,18 @@ first_made : (gone : IntentId → Bool) (g f h e : Chain) (u : Cell) → BothSet
 first_made gone g f h e u s last none were = record {
   less = less_then gone g f h e 0 u s (next_here gone g f h e 0 u s last) (λ n. subst (λ z. LessRow gone f n z (f n)) (sym (none n)) (subst (LessRow gone f n None) (sym (were n)) tt));
   threads = λ first. record {
-    there = λ n way. by_way way.0 n way.1;
+    there = λ n path. by_way path.0 n path.1;
     leads = λ n c is next unmarked. same_or n 0
         (λ at. ([], sym at))
         (λ off. let clash = sym (none n) ∙ sym (s.there.others n off) ∙ is in cc);
   };
-  safe = λ life deadline a safe later n way. absurd (subst (IsSafeTo life deadline) (none a) (safe later a ([], refl)));
+  safe = λ life deadline a safe later n path. absurd (subst (IsSafeTo life deadline) (none a) (safe later a ([], refl)));
   follows = λ life deadline a may. inl (same_or {P = next_of (h a) ≡ None} a 0 (λ at. ap next_of (ap h at ∙ s.there.here) ∙ last) (λ off. ap next_of (s.there.others a off ∙ none a)));
 }
   where
     by_way : (ks : List ℕ) (n : ℕ) → Steps h 0 ks n → IsMoored (h n)
-    by_way [] n way = subst (λ z. IsMoored (h z)) way (subst IsMoored (sym s.there.here) s.moored)
-    by_way (k ∷ ks) n (c, is, to, less, way) = absurd (none_next u k last (ap (λ (z : Cell). z.next) (one_cell u c (sym s.there.here ∙ is)) ∙ to))
+    by_way [] n path = subst (λ z. IsMoored (h z)) path (subst IsMoored (sym s.there.here) s.moored)
+    by_way (k ∷ ks) n (c, is, to, less, path) = absurd (none_next u k last (ap (λ (z : Cell). z.next) (one_cell u c (sym s.there.here ∙ is)) ∙ to))
 
 -- ---- whatever is set
 -- nothing changed
@@ -190,7 +190,7 @@ there_linked f linked n x is = by_first (f 0) refl linked
 -- a row that is there past one that none follows is to follow the last
 module _ (f : Chain) (l : Linked f) (r : ℕ) (c : Cell) (x : Row) (there : f r ≡ Some (Row.Cell c)) (none : c.next ≡ None) (after : f (r + 1) ≡ Some x) where
   no_way : (js : List ℕ) → Steps f r js l.last → r ≡ l.last
-  no_way [] way = way
+  no_way [] path = path
   no_way (j ∷ js) (d, at, to, more, all) = absurd (none_next c j none (ap (λ (z : Cell). z.next) (one_cell c d (sym there ∙ at)) ∙ to))
 
   not_spare : r ≡ l.last + 1 → (x : Option Row) → f (r + 1) ≡ x → is_some x ≡ true → ⊥

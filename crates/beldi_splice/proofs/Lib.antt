@@ -3,4 +3,4 @@ pub mod Both
 pub mod Leading
 pub mod Onward
 pub mod Pruned
-pub mod Whole
+pub mod SpliceWhole

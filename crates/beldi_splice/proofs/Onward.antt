@@ -13,11 +13,11 @@ use Rattle.beldi_splice.proofs.{Alike.before_last, Alike.has_next, Both.there_li
 -- ---- who follows the way
 -- a row that is there leads where its next does
 after_first : (g : Chain) (at k n : ℕ) (c : Cell) → g at ≡ Some (Row.Cell c) → c.next ≡ Some k → (at ≡ n → ⊥) → (ks : List ℕ) → Steps g at ks n → LeadsTo g k n
-after_first g at k n c is to apart [] way = absurd (apart way)
-after_first g at k n c is to apart (j ∷ js) (d, there, next, rise, way) =
+after_first g at k n c is to apart [] path = absurd (apart path)
+after_first g at k n c is to apart (j ∷ js) (d, there, next, rise, path) =
     let cell : c ≡ d = one_cell c d (sym is ∙ there) in
     let one : Some k ≡ Some j = sym to ∙ ap (λ (z : Cell). z.next) cell ∙ next in
-    (js, subst (λ z. Steps g z js n) (number j k (sym one)) way)
+    (js, subst (λ z. Steps g z js n) (number j k (sym one)) path)
   where
     number : (a b : ℕ) → ◌≡◌ {A = Option ℕ} (Some a) (Some b) → a ≡ b
     number a b e = cc
@@ -30,21 +30,21 @@ ways_begin g x led = inl led
 
 pub ways_go_on : WaysGoOn
 ways_go_on g x at k c is to low on led = elim (on led) [
-  | inl way ↦ inl (after_first g at k x c is to (λ same. omega (arith, same, low)) way.0 way.1)
-  | inr off ↦ inr (record { to = off.to; below = off.below; way = after_first g at k off.to c is to (not_absent g at off.to c is off.none) off.way.0 off.way.1; none = off.none })
+  | inl path ↦ inl (after_first g at k x c is to (λ same. omega (arith, same, low)) path.0 path.1)
+  | inr off ↦ inr (record { to = off.to; below = off.below; path = after_first g at k off.to c is to (not_absent g at off.to c is off.none) off.path.0 off.path.1; none = off.none })
 ]
 
 pub ways_end : WaysEnd
 ways_end g x at c is past low on led = elim (on led) [
-  | inl way ↦ no_way x (λ same. omega (arith, same, low)) (omega arith) way.0 way.1
-  | inr off ↦ no_way off.to (not_absent g at off.to c is off.none) (let below = off.below in omega (arith, below)) off.way.0 off.way.1
+  | inl path ↦ no_way x (λ same. omega (arith, same, low)) (omega arith) path.0 path.1
+  | inr off ↦ no_way off.to (not_absent g at off.to c is off.none) (let below = off.below in omega (arith, below)) off.path.0 off.path.1
 ]
   where
     no_way : (n : ℕ) → (at ≡ n → ⊥) → n ≤ x → (ks : List ℕ) → Steps g at ks n → ⊥
-    no_way n apart most [] way = apart way
-    no_way n apart most (j ∷ js) (d, there, next, rise, way) =
+    no_way n apart most [] path = apart path
+    no_way n apart most (j ∷ js) (d, there, next, rise, path) =
         let high = past j (ap (λ (z : Cell). z.next) (one_cell c d (sym is ∙ there)) ∙ next) in
-        let far = few g j js n way in
+        let far = few g j js n path in
         omega (arith, high, far, most)
 
 -- ---- a row that stays as it is
@@ -112,8 +112,8 @@ module _ (gone : IntentId → Bool) (g f h : Chain) (linked : IsLinked f) (less 
       by_row (Some r) at less = absurd less
 
   back_steps : (a : ℕ) (ks : List ℕ) (n : ℕ) → n ≤ x → Steps h a ks n → Steps g a ks n
-  back_steps a [] n most way = way
-  back_steps a (k ∷ ks) n most (d, is, next, rise, way) = let far = few h k ks n way in (d, was_so a (omega (arith, far, rise, most)) d is, next, rise, back_steps k ks n most way)
+  back_steps a [] n most path = path
+  back_steps a (k ∷ ks) n most (d, is, next, rise, path) = let far = few h k ks n path in (d, was_so a (omega (arith, far, rise, most)) d is, next, rise, back_steps k ks n most path)
 
   back : LeadsTo h 0 x → LeadsTo g 0 x
   back led = (led.0, back_steps 0 led.0 x (omega arith) led.1)
@@ -135,8 +135,8 @@ module _ (gone : IntentId → Bool) (g f h : Chain) (linked : IsLinked f) (less 
     row = stays (g x) refl followed;
     back = back;
     ways = λ at on led. elim (on (back led)) [
-      | inl way ↦ inl (forth at x way)
-      | inr off ↦ inr (record { to = off.to; below = off.below; way = forth at off.to off.way; none = stay off.to off.none (rows_below f l x off.to row there (let low = off.below in omega (arith, low))) })
+      | inl path ↦ inl (forth at x path)
+      | inr off ↦ inr (record { to = off.to; below = off.below; path = forth at off.to off.path; none = stay off.to off.none (rows_below f l x off.to row there (let low = off.below in omega (arith, low))) })
     ];
   }
 
@@ -157,8 +157,8 @@ marks_lead_on g h r c d is s keeps x followed = record {
   }));
   back = leads h g back 0 x;
   ways = λ at on led. elim (on (leads h g back 0 x led)) [
-    | inl way ↦ inl (leads g h forth at x way)
-    | inr off ↦ inr (record { to = off.to; below = off.below; way = leads g h forth at off.to off.way; none = still_absent g h r c (Some (Row.Cell d)) is s off.to off.none })
+    | inl path ↦ inl (leads g h forth at x path)
+    | inr off ↦ inr (record { to = off.to; below = off.below; path = leads g h forth at off.to off.path; none = still_absent g h r c (Some (Row.Cell d)) is s off.to off.none })
   ];
 }
   where
@@ -174,8 +174,8 @@ skips_lead_on g h r z y c d o s threaded x followed = record {
   row = row_or g h r v s x followed (λ at. subst (λ q. RowStays q v) (sym o.here) (record { log = refl; next = refl; marked = λ m. let clash = sym m ∙ o.unmarked in cc }));
   back = back;
   ways = λ at on led. elim (on (back led)) [
-    | inl way ↦ inl (around g h r z y c d o s at way.0 x (λ same. unled_then g h r z y c d o s (threaded.leads r c o.here (ap is_some o.next) o.unmarked) (subst (LeadsTo h 0) same led)) way.1)
-    | inr off ↦ inr (record { to = off.to; below = off.below; way = around g h r z y c d o s at off.way.0 off.to (λ same. not_absent g z off.to d o.there off.none (sym same)) off.way.1; none = still_absent g h r c v o.here s off.to off.none })
+    | inl path ↦ inl (around g h r z y c d o s at path.0 x (λ same. unled_then g h r z y c d o s (threaded.leads r c o.here (ap is_some o.next) o.unmarked) (subst (LeadsTo h 0) same led)) path.1)
+    | inr off ↦ inr (record { to = off.to; below = off.below; path = around g h r z y c d o s at off.path.0 off.to (λ same. not_absent g z off.to d o.there off.none (sym same)) off.path.1; none = still_absent g h r c v o.here s off.to off.none })
   ];
 }
   where
@@ -197,10 +197,10 @@ module _ (g h : Chain) (z since : ℕ) (c : Cell) (is : g z ≡ Some (Row.Cell c
 
   -- a way goes on, or ends where it was
   cut : (a : ℕ) (ks : List ℕ) (n : ℕ) → Steps g a ks n → LeadsTo h a n ⊎ ((z ≤ n) × LeadsTo h a z)
-  cut a [] n way = inl ([], way)
-  cut a (k ∷ ks) n (d, there, next, rise, way) = same_or a z
-      (λ at. inr (let far = few g k ks n way in omega (arith, far, rise, at), ([], at)))
-      (λ off. let step = one_step h a d k (s.others a off ∙ there) next rise in elim (cut k ks n way) [
+  cut a [] n path = inl ([], path)
+  cut a (k ∷ ks) n (d, there, next, rise, path) = same_or a z
+      (λ at. inr (let far = few g k ks n path in omega (arith, far, rise, at), ([], at)))
+      (λ off. let step = one_step h a d k (s.others a off ∙ there) next rise in elim (cut k ks n path) [
         | inl w ↦ inl (then_way h a k n step w)
         | inr w ↦ inr (w.0, then_way h a k z step w.1)
       ])
@@ -228,13 +228,13 @@ module _ (g h : Chain) (z since : ℕ) (c : Cell) (is : g z ≡ Some (Row.Cell c
       row = row_or g h z None s x followed (λ at. subst (λ q. RowStays q None) (sym is) tt);
       back = came_back;
       ways = λ at on led. elim (on (came_back led)) [
-        | inl way ↦ elim (cut at way.0 x way.1) [
+        | inl path ↦ elim (cut at path.0 x path.1) [
           | inl w ↦ inl w
-          | inr w ↦ inr (record { to = z; below = low led w.0; way = w.1; none = s.here })
+          | inr w ↦ inr (record { to = z; below = low led w.0; path = w.1; none = s.here })
         ]
-        | inr off ↦ elim (cut at off.way.0 off.to off.way.1) [
-          | inl w ↦ inr (record { to = off.to; below = off.below; way = w; none = absent off.to off.none })
-          | inr w ↦ inr (record { to = z; below = (let one = w.0 in let below = off.below in omega (arith, one, below)); way = w.1; none = s.here })
+        | inr off ↦ elim (cut at off.path.0 off.to off.path.1) [
+          | inl w ↦ inr (record { to = off.to; below = off.below; path = w; none = absent off.to off.none })
+          | inr w ↦ inr (record { to = z; below = (let one = w.0 in let below = off.below in omega (arith, one, below)); path = w.1; none = s.here })
         ]
       ];
     }

@@ -8,7 +8,7 @@ use Rattle.beldi_links.specs.Links.{LeadsTo, SetTo, Steps}
 use Rattle.beldi_links.proofs.Meets.{between}
 use Rattle.beldi_links.proofs.Ways.{few, none_next, one_cell, one_step, same_or, then_way}
 use Rattle.beldi_splice.specs.Splice.{IsCellOf, IsMoored, IsPassable, IsSafeFrom, IsSafeTo, IsThreaded, LeadsPast, LessChain, LessRow, MayFollow}
-use Rattle.beldi_splice.specs.Laws.{DanglesKeep, DropsKeep, Keeps, LeadsOver, MarksKeep, SkippedAreUnled, SkipsKeep}
+use Rattle.beldi_splice.specs.SpliceLaws.{DanglesKeep, DropsKeep, Keeps, LeadsOver, MarksKeep, SkippedAreUnled, SkipsKeep}
 use Rattle.beldi_splice.proofs.{Alike.strictly, Both.at_other, Leading.LeadsAs, Leading.leads, Leading.next_as, Leading.safe_as, Leading.unset}
 
 -- ---- the row of a kept cell
@@ -42,15 +42,15 @@ module _ (g h : Chain) (r : ℕ) (c d : Cell) (is : g r ≡ Some (Row.Cell c)) (
   -- .. and is marked: what is not led to need not be moored
   threads : d.marked ≡ true → (LeadsTo g 0 r → d.dangled ≡ None) → IsThreaded g → IsThreaded h
   threads marked moored threaded = record {
-    there = λ n way. let was = leads h g back 0 n way in at_other IsMoored g h r (Some (Row.Cell d)) s n (λ at. moored (subst (LeadsTo g 0) at was)) (threaded.there n was);
+    there = λ n path. let was = leads h g back 0 n path in at_other IsMoored g h r (Some (Row.Cell d)) s n (λ at. moored (subst (LeadsTo g 0) at was)) (threaded.there n was);
     leads = λ n e there next unmarked. same_or n r
         (λ at. let clash = sym marked ∙ ap (λ (z : Cell). z.marked) (one_cell d e (sym s.here ∙ ap h (sym at) ∙ there)) ∙ unmarked in cc)
         (λ off. leads g h forth 0 n (threaded.leads n e (sym (s.others n off) ∙ there) next unmarked));
   }
 
   stays_safe : (life deadline a : ℕ) → (IsSafeTo life deadline (Some (Row.Cell c)) → IsSafeTo life deadline (Some (Row.Cell d))) → IsSafeFrom life deadline g a → IsSafeFrom life deadline h a
-  stays_safe life deadline a here safe = safe_as g h life deadline a (λ n way. leads h g back a n way)
-      (λ n way was. safe_other life deadline here n was) safe
+  stays_safe life deadline a here safe = safe_as g h life deadline a (λ n path. leads h g back a n path)
+      (λ n path was. safe_other life deadline here n was) safe
     where
       safe_other : (life deadline : ℕ) → (IsSafeTo life deadline (Some (Row.Cell c)) → IsSafeTo life deadline (Some (Row.Cell d))) → (n : ℕ) → IsSafeTo life deadline (g n) → IsSafeTo life deadline (h n)
       safe_other life deadline here n was = at_other (IsSafeTo life deadline) g h r (Some (Row.Cell d)) s n (λ at. here (subst (IsSafeTo life deadline) (ap g at ∙ is) was)) was
@@ -97,10 +97,10 @@ module _ (gone : IntentId → Bool) (g f h : Chain) (x since : ℕ) (c : Cell) (
 
   -- what the first row leads to it leads to still
   led_on : (a : ℕ) → LeadsTo g 0 a → (ks : List ℕ) (n : ℕ) → Steps g a ks n → LeadsTo h a n
-  led_on a led [] n way = ([], way)
-  led_on a led (k ∷ ks) n (d, there, next, rise, way) = same_or a x
+  led_on a led [] n path = ([], path)
+  led_on a led (k ∷ ks) n (d, there, next, rise, path) = same_or a x
       (λ at. absurd (unled (subst (LeadsTo g 0) at led)))
-      (λ off. then_way h a k n (one_step h a d k (s.others a off ∙ there) next rise) (led_on k (then_way g 0 a k led (one_step g a d k there next rise)) ks n way))
+      (λ off. then_way h a k n (one_step h a d k (s.others a off ∙ there) next rise) (led_on k (then_way g 0 a k led (one_step g a d k there next rise)) ks n path))
 
   passable : IsPassable gone x (f x)
   passable = let k = is_of gone g f less x c is in subst (IsPassable gone x) (sym k.there) (k.less.marked (k.less.adrift (ap is_some adrift)))
@@ -116,7 +116,7 @@ module _ (gone : IntentId → Bool) (g f h : Chain) (x since : ℕ) (c : Cell) (
 
   pub drop_threaded : IsThreaded h
   drop_threaded = record {
-    there = λ n way. let was = leads h g went_back 0 n way in at_other IsMoored g h x None s n (λ at. absurd (unled (subst (LeadsTo g 0) at was))) (threaded.there n was);
+    there = λ n path. let was = leads h g went_back 0 n path in at_other IsMoored g h x None s n (λ at. absurd (unled (subst (LeadsTo g 0) at was))) (threaded.there n was);
     leads = λ n d there next unmarked. same_or n x
         (λ at. let clash = sym s.here ∙ ap h (sym at) ∙ there in cc)
         (λ off. let was = threaded.leads n d (sym (s.others n off) ∙ there) next unmarked in led_on 0 ([], refl) was.0 n was.1);
@@ -130,7 +130,7 @@ module _ (gone : IntentId → Bool) (g f h : Chain) (x since : ℕ) (c : Cell) (
   followed_on life now deadline r old alive (inr safe) = inr (not_late life now deadline (r + 1) old alive safe)
 
   pub drop_safe : (life now deadline r : ℕ) → since + life < now → now ≤ deadline → (IsSafeFrom life deadline g r → IsSafeFrom life deadline h r) × (MayFollow life deadline g r → MayFollow life deadline h r)
-  drop_safe life now deadline r old alive = (λ safe. safe_as g h life deadline r (λ n way. leads h g went_back r n way) (λ n way. not_late life now deadline n old alive) safe, followed_on life now deadline r old alive)
+  drop_safe life now deadline r old alive = (λ safe. safe_as g h life deadline r (λ n path. leads h g went_back r n path) (λ n path. not_late life now deadline n old alive) safe, followed_on life now deadline r old alive)
 
 pub drops_keep : DropsKeep
 drops_keep gone g f h x since c is adrift s less threaded =
@@ -162,35 +162,35 @@ module _ (g h : Chain) (r x y : ℕ) (c d : Cell) (o : LeadsOver g r x y c d) (s
 
   -- rows before it lead as they did
   up_to : (a : ℕ) (ks : List ℕ) (n : ℕ) → n ≤ r → Steps g a ks n → LeadsTo h a n
-  up_to a [] n most way = ([], way)
-  up_to a (k ∷ ks) n most (e, is, to, rise, way) = let far = few g k ks n way in same_or a r
+  up_to a [] n most path = ([], path)
+  up_to a (k ∷ ks) n most (e, is, to, rise, path) = let far = few g k ks n path in same_or a r
       (λ at. absurd (omega (arith, far, rise, most, at)))
-      (λ off. then_way h a k n (one_step h a e k (s.others a off ∙ is) to rise) (up_to k ks n most way))
+      (λ off. then_way h a k n (one_step h a e k (s.others a off ∙ is) to rise) (up_to k ks n most path))
 
   -- .. and so does each way to another row than the one that is led past
   pub around : (a : ℕ) (ks : List ℕ) (n : ℕ) → (n ≡ x → ⊥) → Steps g a ks n → LeadsTo h a n
-  around a [] n off way = ([], way)
-  around a (k ∷ []) n off (e, is, to, rise, way) = same_or a r
-      (λ at. absurd (off (sym way ∙ same_next e k (ap g (sym at) ∙ is) to)))
-      (λ ne. then_way h a k n (one_step h a e k (s.others a ne ∙ is) to rise) ([], way))
-  around a (k ∷ j ∷ js) n off (e, is, to, rise, (e2, is2, to2, rise2, way)) = same_or a r
+  around a [] n off path = ([], path)
+  around a (k ∷ []) n off (e, is, to, rise, path) = same_or a r
+      (λ at. absurd (off (sym path ∙ same_next e k (ap g (sym at) ∙ is) to)))
+      (λ ne. then_way h a k n (one_step h a e k (s.others a ne ∙ is) to rise) ([], path))
+  around a (k ∷ j ∷ js) n off (e, is, to, rise, (e2, is2, to2, rise2, path)) = same_or a r
       (λ at. let past : k ≡ x = same_next e k (ap g (sym at) ∙ is) to in
       let one : j ≡ y = same_after e2 j (ap g (sym past) ∙ is2) to2 in
-      subst (λ z. LeadsTo h z n) (sym at) (then_way h r y n step_then (subst (λ z. LeadsTo h z n) one (around j js n off way))))
-      (λ ne. then_way h a k n (one_step h a e k (s.others a ne ∙ is) to rise) (around k (j ∷ js) n off (e2, is2, to2, rise2, way)))
+      subst (λ z. LeadsTo h z n) (sym at) (then_way h r y n step_then (subst (λ z. LeadsTo h z n) one (around j js n off path))))
+      (λ ne. then_way h a k n (one_step h a e k (s.others a ne ∙ is) to rise) (around k (j ∷ js) n off (e2, is2, to2, rise2, path)))
 
   no_way : (ks : List ℕ) → Steps h r ks x → ⊥
-  no_way [] way = let w : r ≡ x = way in let rise = o.rises in omega (arith, w, rise)
-  no_way (k ∷ ks) (e, is, to, rise, way) =
+  no_way [] path = let w : r ≡ x = path in let rise = o.rises in omega (arith, w, rise)
+  no_way (k ∷ ks) (e, is, to, rise, path) =
       let cell : e ≡ record c { next = Some y } = one_cell e (record c { next = Some y }) (sym is ∙ s.here) in
       let one : Some k ≡ Some y = sym to ∙ ap (λ (z : Cell). z.next) cell in
       let same : k ≡ y = cc in
-      let far = few h k ks x way in
+      let far = few h k ks x path in
       let past = o.further in
       omega (arith, far, same, past)
 
   pub unled_then : LeadsTo g 0 r → LeadsTo h 0 x → ⊥
-  unled_then led way = let here = up_to 0 led.0 r (omega arith) led.1 in let on = between h 0 here.0 r way.0 x here.1 way.1 o.rises in no_way on.0 on.1
+  unled_then led path = let here = up_to 0 led.0 r (omega arith) led.1 in let on = between h 0 here.0 r path.0 x here.1 path.1 o.rises in no_way on.0 on.1
 
   module _ (gone : IntentId → Bool) (f : Chain) (less : LessChain gone g f) (threaded : IsThreaded g) where
     past_x : IsPassable gone x (f x)
@@ -229,14 +229,14 @@ module _ (g h : Chain) (r x y : ℕ) (c d : Cell) (o : LeadsOver g r x y c d) (s
     skip_keeps = record {
       less = skip_less;
       threads = λ first. record {
-        there = λ n way. let was = leads h g skip_back 0 n way in at_other IsMoored g h r (Some (Row.Cell (record c { next = Some y }))) s n (λ at. subst IsMoored (ap g at ∙ o.here) (threaded.there n was)) (threaded.there n was);
+        there = λ n path. let was = leads h g skip_back 0 n path in at_other IsMoored g h r (Some (Row.Cell (record c { next = Some y }))) s n (λ at. subst IsMoored (ap g at ∙ o.here) (threaded.there n was)) (threaded.there n was);
         leads = λ n e is next unmarked. same_or n r
             (λ at. let led = threaded.leads r c o.here (ap is_some o.next) o.unmarked in subst (LeadsTo h 0) (sym at) (up_to 0 led.0 r (omega arith) led.1))
             (λ off. let was : g n ≡ Some (Row.Cell e) = sym (s.others n off) ∙ is in let led = threaded.leads n e was next unmarked in
             around 0 led.0 n (λ at. let clash = sym o.marked ∙ ap (λ (z : Cell). z.marked) (one_cell d e (sym o.there ∙ ap g (sym at) ∙ was)) ∙ unmarked in cc) led.1);
       };
-      safe = λ life deadline a safe. safe_as g h life deadline a (λ n way. leads h g skip_back a n way)
-          (λ n way was. safe_still life deadline n was) safe;
+      safe = λ life deadline a safe. safe_as g h life deadline a (λ n path. leads h g skip_back a n path)
+          (λ n path was. safe_still life deadline n was) safe;
       follows = followed_still;
     }
       where
@@ -251,4 +251,4 @@ pub skips_keep : SkipsKeep
 skips_keep gone g f h r x y c d o s less threaded = skip_keeps g h r x y c d o s gone f less threaded
 
 pub skipped_are_unled : SkippedAreUnled
-skipped_are_unled g h r x y c d o s led way = unled_then g h r x y c d o s led way
+skipped_are_unled g h r x y c d o s led path = unled_then g h r x y c d o s led path

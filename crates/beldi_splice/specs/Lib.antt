@@ -1,3 +1,3 @@
-pub mod Laws
 pub mod Onward
 pub mod Splice
+pub mod SpliceLaws

@@ -4,14 +4,14 @@ use Rattle.beldi_value.specs.declared.id.IntentId.{IntentId}
 use Rattle.beldi_row.specs.declared.row.{Cell.Cell, Row.Row}
 use Rattle.beldi_chain.specs.Chain.{Chain}
 use Rattle.beldi_links.specs.Links.{Frozen, IsLinked, LeadsTo, SetTo}
-use Rattle.beldi_splice.specs.{Laws.LeadsOver, Splice.IsThreaded, Splice.LessChain}
+use Rattle.beldi_splice.specs.{SpliceLaws.LeadsOver, Splice.IsThreaded, Splice.LessChain}
 
 -- ---- the way to a row
 -- a row leads to one that is absent, below another
 pub record LeadsOff (g : Chain) (at x : ℕ) : Type 0 where
   pub to : ℕ
   pub below : to < x
-  pub way : LeadsTo g at to
+  pub path : LeadsTo g at to
   pub none : g to ≡ None
 
 -- where the first row leads to another, this one does, as far as rows are there

@@ -1,5 +1,5 @@
 // The laws of rows that log collectors leave of an item.
-ghost use Rattle.beldi_splice.specs.Laws.{ActsKeepRowsSo, ContentsAreAlike, DanglesKeep, DropsKeep, FirstLeadsToLast, LinkedAreSo, MarksKeep, MoreAreGone, NextIsSafe, NobodyGoneNoneLess, ReadsGoFurther, SkippedAreUnled, SkipsKeep, UnfollowedAreAlike, WalksGoFurther};
+ghost use Rattle.beldi_splice.specs.SpliceLaws.{ActsKeepRowsSo, ContentsAreAlike, DanglesKeep, DropsKeep, FirstLeadsToLast, LinkedAreSo, MarksKeep, MoreAreGone, NextIsSafe, NobodyGoneNoneLess, ReadsGoFurther, SkippedAreUnled, SkipsKeep, UnfollowedAreAlike, WalksGoFurther};
 ghost use Rattle.beldi_splice.specs.Onward.{ActsLeadOn, DropsLeadOn, MarksLeadOn, SkipsLeadOn, WaysBegin, WaysEnd, WaysGoOn};
 
 /// A kept row that none follows is there, as it was kept.

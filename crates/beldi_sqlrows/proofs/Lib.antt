@@ -1,2 +1,2 @@
-mod Late
-mod Rows
+mod LateFailure
+mod StoredRows

@@ -6,7 +6,7 @@ use Rattle.std.proofs.Common.{refl, sym, ap, ◌∙◌}
 use mathlib.Core.HLevel.{Σ_prop_path}
 use Rattle.beldi_row.specs.{Key.RowKey, KeyOrder.key_exact, KeyOrder.key_total, Table.Rows, declared.row.Row.Row}
 use Rattle.beldi_bytes.{specs.KeyBytes.key_bytes, specs.RowBytes.row_bytes, proofs.RowExact.rows_are_one}
-use Rattle.beldi_blobs.specs.Entries.{Entries}
+use Rattle.beldi_blobs.specs.BlobEntries.{Entries}
 
 -- each row's bytes are at the bytes of its key, and none are at those of a key without a row
 abbrev pub Holds : Rows → Entries → Type 0

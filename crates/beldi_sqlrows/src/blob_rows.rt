@@ -3,7 +3,7 @@ ghost use Rattle.std.specs.Prelude.{◌≡◌, IfOk, Some, None, option_map};
 ghost use Rattle.std.specs.FinMap as map;
 ghost use Rattle.beldi_bytes.specs.KeyBytes.{key_bytes};
 ghost use Rattle.beldi_bytes.specs.RowBytes.{row_bytes};
-ghost use Rattle.beldi_blobs.specs.Calls.{pair_of};
+ghost use Rattle.beldi_blobs.specs.BlobCalls.{pair_of};
 ghost use Rattle.beldi_sqlrows.specs.Held.{Held, held_prop, rows_told, bytes_of};
 
 use beldi_blobs::{BlobErr, Blobs, Entry};

@@ -1,6 +1,6 @@
 //! Stores of rows over a map from bytes to bytes: `BlobRows`, over any `Blobs`, and `MemoryRows`, over a database in memory. It
 //! stands on `beldi_sqltable`, `beldi_bytes` and `beldi_blobs`. Its definitions: `specs/Held` (the rows that the entries of a map
-//! hold), `specs/Late` (a store that is opened late).
+//! hold), `specs/LateFailure` (a store that is opened late).
 //!
 //! Proved:
 //! - `BlobRows` keeps the contract of `RowStore`. Where its map tells its entries, it tells the rows that they hold: each row's
@@ -12,7 +12,7 @@
 //!
 //! Files:
 //! - Code (`src/`): `blob_rows`, `memory_rows`.
-//! - Lemmas (`proofs/`): `Rows` rows in bytes, through the calls of a map; `Late` a store that is not open yet.
+//! - Lemmas (`proofs/`): `StoredRows` rows in bytes, through the calls of a map; `LateFailure` a store that is not open yet.
 #![tactic(auto)]
 
 mod blob_rows;

@@ -1,7 +1,7 @@
 // The rows of a database in memory.
 ghost use Rattle.std.specs.Prelude.{◌≡◌, None, Some, IfOk};
 ghost use Rattle.std.specs.FinMap as map;
-ghost use Rattle.beldi_sqlrows.specs.Late.{late_rows};
+ghost use Rattle.beldi_sqlrows.specs.LateFailure.{late_rows};
 
 use crate::blob_rows::{BlobRows, refusal};
 use beldi_blobs::MemoryBlobs;

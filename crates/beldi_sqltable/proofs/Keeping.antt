@@ -6,7 +6,7 @@ use Rattle.std.proofs.lemmas.Cmp.{eq_by_cmp_equiv}
 use Rattle.std.proofs.Common.{◌≡◌, ℕ, ◌+◌, ◌-◌, ◌<◌, Bool, true, false, not, ◌&&◌, ◌||◌, cond, Option, Some, None, Ok, is_some, IsTrue, refl, subst, ap, sym, ◌∙◌, if◌then◌else◌}
 use Rattle.beldi_row.{specs.Key.RowKey, specs.Key.key_cmp, specs.KeyOrder.key_exact, specs.KeyOrder.key_total, specs.Table.Rows, specs.Table.is_open, specs.declared.row.Row.Row, specs.declared.table.TableErr.TableErr, proofs.Gets.got}
 use Rattle.beldi_table.specs.Opened.{opened, Sets}
-use Rattle.beldi_sqltable.specs.{Kept.Lists, Kept.Keeps, Kept.Stood, Store.written, Store.without}
+use Rattle.beldi_sqltable.specs.{StoreCounts.Lists, StoreCounts.Keeps, StoreCounts.Stood, Store.written, Store.without}
 
 -- ---- the keys, through two changes of one key
 turned : (k q : RowKey) → is_eq (key_cmp q k) ≡ is_at (key_cmp k) q

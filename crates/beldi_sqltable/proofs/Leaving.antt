@@ -3,15 +3,15 @@ use Rattle.std.specs.FinMap as map
 use Rattle.std.specs.Prelude.{IfSome}
 use Rattle.std.proofs.Common.{◌≡◌, ℕ, Bool, true, false, not, ◌&&◌, Option, None, Some, Ok, slice_get, refl, subst, ap, sym, ◌∙◌, if◌then◌else◌, nat_lt, is_some}
 use Rattle.beldi_value.specs.declared.{value.Value.Value, outcome.Outcome.Outcome, place.Place.Place, place.Owner.Owner}
-use Rattle.beldi_row.{specs.Key.RowKey, specs.KeyOrder.key_total, specs.KeyOrder.key_exact, specs.Table.Rows, specs.Table.Tells, specs.declared.row.Row.Row, specs.declared.row.Body.Body, specs.declared.row.IntentRow.IntentRow, specs.declared.row.InvokeRow.InvokeRow, specs.declared.row.Cell.Cell, specs.declared.notes.Note.Note, specs.declared.act.Act.Act, specs.declared.act.Change.Change, specs.declared.table.TableErr.TableErr, proofs.Rows.same_set}
-use Rattle.beldi_row.specs.Act.{Tell, drops, bound, did, tested, died, held, packed, marked, mark_by, skip_by, skip_to, dangle_by, dangle_at, leads_from, Changes, on, on_intent, on_invoke, on_cell, said_by, intent_tell, cell_tell, other_tell, ended_tell, held_tell, noted_tell, bind_to, end_with, stamp_with, call_back_to, register_to, held_or, next_or, noted_or, owned_or, waits_for, owns, at_tail, other_owner, if_room, is_full, entered, cond_to, given_or}
+use Rattle.beldi_row.{specs.Key.RowKey, specs.KeyOrder.key_total, specs.KeyOrder.key_exact, specs.Table.Rows, specs.Table.Tells, specs.declared.row.Row.Row, specs.declared.row.Body.Body, specs.declared.row.IntentRow.IntentRow, specs.declared.row.InvokeRow.InvokeRow, specs.declared.row.Cell.Cell, specs.declared.notes.Note.Note, specs.declared.act.Act.Act, specs.declared.act.Change.Change, specs.declared.table.TableErr.TableErr, proofs.TableRows.same_set}
+use Rattle.beldi_row.specs.Act.{ActReply, drops, bound, did, tested, died, held, packed, marked, mark_by, skip_by, skip_to, dangle_by, dangle_at, leads_from, Changes, on, on_intent, on_invoke, on_cell, change_reply, intent_reply, cell_reply, other_reply, ended_reply, held_reply, noted_reply, bind_to, end_with, stamp_with, call_back_to, register_to, held_or, next_or, noted_or, owned_or, waits_for, owns, at_tail, other_owner, if_room, is_full, entered, cond_to, given_or}
 use Rattle.beldi_row.specs.Log.{note_at, note_of}
 use Rattle.beldi_row.specs.declared.notes.Note.TheVariants.{Wrote, Got, Died, Freed}
 use Rattle.beldi_value.specs.{Id.age_of, Passes.passes}
-use Rattle.beldi_sqltable.{specs.Kept.leaves, specs.Kept.links, specs.Store.settled, specs.RowTable.ChangedOn, proofs.Carrying.changed, proofs.Carrying.told_changed}
+use Rattle.beldi_sqltable.{specs.StoreCounts.leaves, specs.StoreCounts.links, specs.Store.settled, specs.RowTable.ChangedOn, proofs.Carrying.changed, proofs.Carrying.told_changed}
 
 -- what says that a row was changed
-abbrev sets : Tell → Bool
+abbrev sets : ActReply → Bool
 sets bound = true
 sets did = true
 sets (tested b) = true
@@ -20,31 +20,31 @@ sets (marked n) = true
 sets t = false
 
 -- ---- a change that leaves the row says nothing else
-of_intent : (f : IntentRow → Tell) (r : Option Row) → ((i : IntentRow) → sets (f i) ≡ false) → sets (intent_tell f r) ≡ false
+of_intent : (f : IntentRow → ActReply) (r : Option Row) → ((i : IntentRow) → sets (f i) ≡ false) → sets (intent_reply f r) ≡ false
 of_intent f (Some (Row.Intent i)) h = h i
 of_intent f r h = refl
 
-of_cell : (f : Cell → Tell) (r : Option Row) → ((c : Cell) → sets (f c) ≡ false) → sets (cell_tell f r) ≡ false
+of_cell : (f : Cell → ActReply) (r : Option Row) → ((c : Cell) → sets (f c) ≡ false) → sets (cell_reply f r) ≡ false
 of_cell f (Some (Row.Cell c)) h = h c
 of_cell f r h = refl
 
-of_other : (b : Option Body) → sets (other_tell b) ≡ false
+of_other : (b : Option Body) → sets (other_reply b) ≡ false
 of_other None = refl
 of_other (Some b) = refl
 
-of_ended : (o : Option Outcome) → sets (ended_tell o) ≡ false
+of_ended : (o : Option Outcome) → sets (ended_reply o) ≡ false
 of_ended None = refl
 of_ended (Some o) = refl
 
-of_held : (o : Option Owner) → sets (held_tell o) ≡ false
+of_held : (o : Option Owner) → sets (held_reply o) ≡ false
 of_held None = refl
 of_held (Some o) = refl
 
-of_noted : (n : Option Note) → sets (noted_tell n) ≡ false
+of_noted : (n : Option Note) → sets (noted_reply n) ≡ false
 of_noted None = refl
 of_noted (Some n) = refl
 
-says_none : (c : Change) (r : Option Row) → leaves c ≡ true → sets (said_by c r) ≡ false
+says_none : (c : Change) (r : Option Row) → leaves c ≡ true → sets (change_reply c r) ≡ false
 says_none Change.Bound r h = cc
 says_none Change.Did r h = cc
 says_none (Change.Tested b) r h = cc
@@ -52,28 +52,28 @@ says_none Change.Died r h = cc
 says_none (Change.Marked n) r h = cc
 says_none Change.Row None h = refl
 says_none Change.Row (Some r) h = refl
-says_none Change.Other r h = of_intent (λ i. other_tell i.body) r (λ i. of_other i.body)
-says_none Change.Ended r h = of_intent (λ i. ended_tell i.outcome) r (λ i. of_ended i.outcome)
+says_none Change.Other r h = of_intent (λ i. other_reply i.body) r (λ i. of_other i.body)
+says_none Change.Ended r h = of_intent (λ i. ended_reply i.outcome) r (λ i. of_ended i.outcome)
 says_none Change.Kept (Some (Row.ReadLog v)) h = refl
 says_none Change.Kept r h = refl
-says_none (Change.Noted n) r h = of_cell (λ c. noted_tell (note_of (slice_get c.log n))) r (λ c. of_noted (note_of (slice_get c.log n)))
-says_none Change.Held r h = of_cell (λ c. held_tell c.owner) r (λ c. of_held c.owner)
+says_none (Change.Noted n) r h = of_cell (λ c. noted_reply (note_of (slice_get c.log n))) r (λ c. of_noted (note_of (slice_get c.log n)))
+says_none Change.Held r h = of_cell (λ c. held_reply c.owner) r (λ c. of_held c.owner)
 says_none Change.Packed r h = of_cell (λ c. packed c.value c.owner) r (λ c. refl)
 says_none c r h = refl
 
 -- ---- what does not say that it changed a row leaves it
-abbrev Leaves : {A : Type 0} → A → A × Tell → Type 0
+abbrev Leaves : {A : Type 0} → A → A × ActReply → Type 0
 Leaves x r = sets r.1 ≡ false → r.0 ≡ x
 
-in_intent : (f : IntentRow → IntentRow × Tell) (t : Tell) (r : Row) → ((i : IntentRow) → Leaves i (f i)) → Leaves r (on_intent f t r)
+in_intent : (f : IntentRow → IntentRow × ActReply) (t : ActReply) (r : Row) → ((i : IntentRow) → Leaves i (f i)) → Leaves r (on_intent f t r)
 in_intent f t (Row.Intent i) h = λ q. ap Row.Intent (h i q)
 in_intent f t r h = λ q. refl
 
-in_invoke : (f : InvokeRow → InvokeRow × Tell) (t : Tell) (r : Row) → ((i : InvokeRow) → Leaves i (f i)) → Leaves r (on_invoke f t r)
+in_invoke : (f : InvokeRow → InvokeRow × ActReply) (t : ActReply) (r : Row) → ((i : InvokeRow) → Leaves i (f i)) → Leaves r (on_invoke f t r)
 in_invoke f t (Row.Invoke i) h = λ q. ap Row.Invoke (h i q)
 in_invoke f t r h = λ q. refl
 
-in_cell : (f : Cell → Cell × Tell) (t : Tell) (r : Row) → ((c : Cell) → Leaves c (f c)) → Leaves r (on_cell f t r)
+in_cell : (f : Cell → Cell × ActReply) (t : ActReply) (r : Row) → ((c : Cell) → Leaves c (f c)) → Leaves r (on_cell f t r)
 in_cell f t (Row.Cell c) h = λ q. ap Row.Cell (h c q)
 in_cell f t r h = λ q. refl
 
@@ -97,33 +97,33 @@ registers : (i : InvokeRow) (b : Bool) → Leaves i (register_to i b)
 registers i false = λ q. cc
 registers i true = λ q. refl
 
-if_held : (c : Cell) (o : Option Owner) (r : Cell × Tell) → Leaves c r → Leaves c (held_or c o r)
+if_held : (c : Cell) (o : Option Owner) (r : Cell × ActReply) → Leaves c r → Leaves c (held_or c o r)
 if_held c None r h = h
 if_held c (Some o) r h = λ q. refl
 
-if_next : (c : Cell) (n : Option ℕ) (r : Cell × Tell) → Leaves c r → Leaves c (next_or c n r)
+if_next : (c : Cell) (n : Option ℕ) (r : Cell × ActReply) → Leaves c r → Leaves c (next_or c n r)
 if_next c None r h = h
 if_next c (Some n) r h = λ q. refl
 
-if_noted : (c : Cell) (n : Option Note) (r : Cell × Tell) → Leaves c r → Leaves c (noted_or c n r)
+if_noted : (c : Cell) (n : Option Note) (r : Cell × ActReply) → Leaves c r → Leaves c (noted_or c n r)
 if_noted c None r h = h
 if_noted c (Some n) r h = λ q. refl
 
-in_tail : (p : Place) (c : Cell) (r : Cell × Tell) → Leaves c r → Leaves c (at_tail p c r)
+in_tail : (p : Place) (c : Cell) (r : Cell × ActReply) → Leaves c r → Leaves c (at_tail p c r)
 in_tail p c r h = if_noted c (note_at c.log p) (next_or c c.next r) (if_next c c.next r h)
 
-unless : (b : Bool) (c : Cell) (t : Tell) (r : Cell × Tell) → Leaves c r → Leaves c (if b then (c, t) else r)
+unless : (b : Bool) (c : Cell) (t : ActReply) (r : Cell × ActReply) → Leaves c r → Leaves c (if b then (c, t) else r)
 unless true c t r h = λ q. refl
 unless false c t r h = h
 
-if_fits : (c : Cell) (r : Cell × Tell) → Leaves c r → Leaves c (if_room c r)
+if_fits : (c : Cell) (r : Cell × ActReply) → Leaves c r → Leaves c (if_room c r)
 if_fits c r h = unless (is_full c) c (packed c.value c.owner) r h
 
-if_owned_by : (p : Place) (w : Owner) (c : Cell) (o : Option Owner) (r : Cell × Tell) → Leaves c r → Leaves c (owned_or p w c o r)
+if_owned_by : (p : Place) (w : Owner) (c : Cell) (o : Option Owner) (r : Cell × ActReply) → Leaves c r → Leaves c (owned_or p w c o r)
 if_owned_by p w c None r h = h
 if_owned_by p w c (Some o) r h = unless (waits_for w o) c (held o) _ (if_fits c (entered p (Died (age_of o)) c.value c.owner c, died (age_of o)) (λ q. cc))
 
-if_own : (b : Bool) (c : Cell) (t : Tell) (r : Cell × Tell) → Leaves c r → Leaves c (if b then r else (c, t))
+if_own : (b : Bool) (c : Cell) (t : ActReply) (r : Cell × ActReply) → Leaves c r → Leaves c (if b then r else (c, t))
 if_own true c t r h = h
 if_own false c t r h = λ q. refl
 

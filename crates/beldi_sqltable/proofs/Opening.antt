@@ -5,7 +5,7 @@ use Rattle.std.specs.FinMap as map
 use Rattle.std.proofs.Common.{◌≡◌, ℕ, Bool, true, false, List, [], ◌∷◌, Option, Some, None, IsTrue, refl, subst, ap, sym, ◌∙◌}
 use Rattle.beldi_row.specs.{Key.RowKey, Key.key_cmp, KeyOrder.key_total, Table.Rows, Table.is_open, Table.NoneOpen, Table.NoneOpenTo, declared.row.Row.Row}
 use Rattle.beldi_table.specs.Opened.{opened}
-use Rattle.beldi_sqltable.specs.Kept.{Lists, Keeps}
+use Rattle.beldi_sqltable.specs.StoreCounts.{Lists, Keeps}
 
 none_at : (m : Rows) (s : BTreeSet RowKey) (q : RowKey) (r : Row) → Lists s m → contains key_cmp s q ≡ false → map.get m q ≡ Some r → is_open q.kind r ≡ false
 none_at m s q r h none here = ap (opened q) (sym here) ∙ sym (h q) ∙ none

@@ -1,3 +1,3 @@
-pub mod Kept
+pub mod StoreCounts
 pub mod RowTable
 pub mod Store

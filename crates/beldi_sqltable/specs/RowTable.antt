@@ -2,8 +2,8 @@
 use Rattle.std.specs.Prelude.{◌≡◌, ℕ, ◌<◌, Option, None, Result, Ok, Err, IsTrue}
 use Rattle.std.specs.Option.{option_map}
 use Rattle.std.specs.FinMap as map
-use Rattle.beldi_row.specs.{Act.said_by, Key.RowKey, Table.Rows, Table.TableState, Table.Tells, Table.Refused, Table.after_act, Table.tell_act, Table.adds, declared.row.Row.Row, declared.act.Act.Act, declared.act.Change.Change, declared.table.TableErr.TableErr}
-use Rattle.beldi_sqltable.specs.{Kept.Blames, declared.store.RowStore.Ghosts, declared.row_table.RowTable.RowTable}
+use Rattle.beldi_row.specs.{Act.change_reply, Key.RowKey, Table.Rows, Table.TableState, Table.Tells, Table.Refused, Table.after_act, Table.act_reply, Table.adds, declared.row.Row.Row, declared.act.Act.Act, declared.act.Change.Change, declared.table.TableErr.TableErr}
+use Rattle.beldi_sqltable.specs.{StoreCounts.Blames, declared.store.RowStore.Ghosts, declared.row_table.RowTable.RowTable}
 
 -- its rows are those of its store. It counts no calls
 abbrev pub table_state : {R : Type 0} {G : Ghosts R} → RowTable R G → TableState
@@ -15,7 +15,7 @@ row_in found = option_map (λ e. e.1) found
 
 -- what a change leaves of the rows, and what is said of it, where the row is then this one
 abbrev pub ChangedOn : Act → ℕ → RowKey → ℕ → Option Row → Result Change TableErr → Rows → Rows → Type 0
-ChangedOn a now k room r (Ok c) m n = (n ≡ after_act a now k m) × (said_by c r ≡ tell_act a now k m) × (IsTrue (adds a now k m) → map.len m < room)
+ChangedOn a now k room r (Ok c) m n = (n ≡ after_act a now k m) × (change_reply c r ≡ act_reply a now k m) × (IsTrue (adds a now k m) → map.len m < room)
 ChangedOn a now k room r (Err e) m n = Refused a now k room m n e
 
 -- an act was carried out, and its row was found

@@ -1,7 +1,7 @@
 // The calls of a store, whose failures are counted.
 ghost use Rattle.std.specs.Prelude.{◌≡◌, ◌≤◌};
 ghost use Rattle.beldi_row.specs.Table.{IsNotFull};
-ghost use Rattle.beldi_sqltable.specs.Kept.{Blames, told_as, faults_of};
+ghost use Rattle.beldi_sqltable.specs.StoreCounts.{Blames, told_as, faults_of};
 ghost use Rattle.beldi_sqltable.specs.Store.{Reads, Steps, without, written};
 
 use crate::store::{RowStore, StoreErr};

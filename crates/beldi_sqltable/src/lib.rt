@@ -1,5 +1,5 @@
 //! A table over a store of rows: `RowTable`, over any `RowStore`. It stands on `beldi_row` and `beldi_table`. Its definitions:
-//! `specs/Store` (what a store does), `specs/Kept` (what the table keeps beside the rows, and how failures are counted),
+//! `specs/Store` (what a store does), `specs/StoreCounts` (what the table keeps beside the rows, and how failures are counted),
 //! `specs/RowTable` (the table as contracts see it, and what an act leaves).
 //!
 //! Proved:

@@ -5,15 +5,15 @@ ghost use Rattle.std.proofs.Props.{props};
 ghost use Rattle.std.specs.FinMap as map;
 ghost use Rattle.beldi_row.specs.Act.{drops};
 ghost use Rattle.beldi_row.specs.Table.{IsNotFull, entry_of};
-ghost use Rattle.beldi_sqltable.specs.Kept.{Keeps, Stood, Blames, leaves, links};
+ghost use Rattle.beldi_sqltable.specs.StoreCounts.{Keeps, Stood, Blames, leaves, links};
 ghost use Rattle.beldi_sqltable.specs.Store.{Stepped, without, written, settled};
 
 use crate::calls::{open_store, read_row, remove_row, row_after, write_row};
 use crate::store::RowStore;
 use crate::survey::{Survey, survey_rows};
 use beldi_row::{
-    Act, Change, Opens, Row, RowKey, Said, Table, TableErr, apply, drops, made, missing, removes,
-    tell,
+    Act, ActReplyRef, Change, Opens, Row, RowKey, Table, TableErr, apply, drops, made, missing,
+    removes, tell,
 };
 use beldi_table::{forget_if, is_open, note_if, room_in};
 use std::alloc::Global;
@@ -447,7 +447,7 @@ impl<R: RowStore> Table for RowTable<R> {
         }
     }
 
-    fn act(&mut self, key: RowKey, act: Act, now: u64) -> Result<Said<'_>, TableErr> {
+    fn act(&mut self, key: RowKey, act: Act, now: u64) -> Result<ActReplyRef<'_>, TableErr> {
         let change = self.carry_out(key, act, now)?;
         Ok(tell(self.found_row(), change))
     }

@@ -1,7 +1,7 @@
 // All rows of a store, gone over once.
 ghost use Rattle.std.specs.Prelude.{◌≡◌};
 ghost use Rattle.beldi_row.specs.Table.{IsNotFull};
-ghost use Rattle.beldi_sqltable.specs.Kept.{Blames};
+ghost use Rattle.beldi_sqltable.specs.StoreCounts.{Blames};
 
 use crate::calls::row_after;
 use crate::store::RowStore;

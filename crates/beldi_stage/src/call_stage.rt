@@ -1,23 +1,23 @@
 // The stages of calls, and of the return of what was called: what they ask, and what they say of what they were told.
 ghost use Rattle.std.specs.Prelude.{◌≡◌, true, IfOk, IfErr};
 ghost use Rattle.beldi_value.specs.Id.{child_of, has_callees};
-ghost use Rattle.beldi_walk.specs.Query.{told_of};
+ghost use Rattle.beldi_query.specs.Query.{query_reply_of};
 ghost use Rattle.beldi_invokelog.specs.InvokeLog.{back_of};
 ghost use Rattle.beldi_intent.specs.Intent.{is_did as is_did_of};
 ghost use Rattle.beldi_lang.specs.declared.effect.Effect.TheVariants as effects;
-ghost use Rattle.beldi_step.specs.Run.{mark_of, is_waited as is_waited_of, is_inherited as is_inherited_of, step_mark as step_mark_of, close_asks, call_here_says, async_here_asks, async_here_says, tell_asks, back_to_asks, back_says, close_says, callee_body as callee_body_of};
+ghost use Rattle.beldi_step.specs.Run.{mark_of, is_waited as is_waited_of, is_inherited as is_inherited_of, step_mark as step_mark_of, close_asks, call_here_output, async_here_asks, async_here_output, notify_asks, back_to_asks, back_output, close_output, callee_body as callee_body_of};
 
 use crate::stage::{look, mark_if, place_of};
 use beldi_call::{
-    AsyncAt, AsyncSays, CallAt, CallPlace, CallSays, async_query, async_told, call_told,
+    AsyncAt, AsyncOutput, CallAt, CallOutput, CallPlace, async_query, async_told, call_told,
 };
 use beldi_intent::{end_told, intent_key};
 use beldi_invokelog::{Back, back_told, invoke_key, registered_query};
 use beldi_lang::{Answer, Effect};
+use beldi_query::{Query, QueryReplyRef};
 use beldi_row::{Act, Body};
-use beldi_step::{Mark, RunTx, Says, Stage, Wait};
-use beldi_value::{Apart, Caller, IntentId, Outcome, TxId, Value, or_drop};
-use beldi_walk::{Heard, Query};
+use beldi_step::{Mark, RunTx, Stage, StageOutput, Wait};
+use beldi_value::{Boxed, Caller, IntentId, Outcome, TxId, Value, or_drop};
 use std::alloc::{AllocError, Global};
 
 fn is_waited(caller: &Option<Caller>) -> bool
@@ -70,7 +70,7 @@ pub fn callee_body(
         func,
         args,
         tx,
-        from: Some(from),
+        parent: Some(from),
     })
 }
 
@@ -82,7 +82,7 @@ pub(crate) fn async_here(
     step: u32,
     effect: &Effect,
     at: AsyncAt,
-) -> Result<Apart<Query>, AllocError>
+) -> Result<Boxed<Query>, AllocError>
     ensures { IfOk result (λ q. q ≡ async_here_asks id.now func step effect.now at) }
 {
     match effect {
@@ -100,7 +100,7 @@ fn async_to(
     callee: u16,
     args: &Value,
     at: AsyncAt,
-) -> Result<Apart<Query>, AllocError>
+) -> Result<Boxed<Query>, AllocError>
     ensures { IfOk result (λ q. q ≡ async_here_asks id.now func step (effects.Async callee args.now) at) }
 {
     if !id.has_callees() {
@@ -115,13 +115,13 @@ fn async_to(
 }
 
 // Asks for the call to be marked as registered.
-pub(crate) fn tell_query(
+pub(crate) fn notify_query(
     alloc: Global,
     id: &IntentId,
     func: u16,
     caller: &Option<Caller>,
-) -> Result<Apart<Query>, AllocError>
-    ensures { IfOk result (λ q. q ≡ tell_asks id.now func caller.now) }
+) -> Result<Boxed<Query>, AllocError>
+    ensures { IfOk result (λ q. q ≡ notify_asks id.now func caller.now) }
 {
     match caller {
         Some(caller) => registered_query(alloc, caller.func, caller.place.copy(alloc)?),
@@ -136,7 +136,7 @@ pub(crate) fn back_query(
     func: u16,
     caller: &Option<Caller>,
     effect: &Effect,
-) -> Result<Apart<Query>, AllocError>
+) -> Result<Boxed<Query>, AllocError>
     ensures { IfOk result (λ q. q ≡ back_to_asks id.now func caller.now effect.now) }
 {
     match (caller, effect) {
@@ -156,7 +156,7 @@ pub(crate) fn close_query(
     func: u16,
     tx: &Option<RunTx>,
     effect: &Effect,
-) -> Result<Apart<Query>, AllocError>
+) -> Result<Boxed<Query>, AllocError>
     ensures { IfOk result (λ q. q ≡ close_asks id.now func tx.now effect.now) }
 {
     let Effect::Return(outcome) = effect else {
@@ -169,11 +169,11 @@ pub(crate) fn close_query(
 }
 
 // A call that is out of memory made nothing either.
-fn callee_at(alloc: Global, id: &IntentId, step: u32) -> Result<Apart<IntentId>, AllocError>
+fn callee_at(alloc: Global, id: &IntentId, step: u32) -> Result<Boxed<IntentId>, AllocError>
     requires { has_callees id.now ≡ true }
     ensures { IfOk result (λ i. i ≡ child_of id.now step) }
 {
-    Apart::new(alloc, id.child(alloc, step)?)
+    Boxed::new(alloc, id.child(alloc, step)?)
 }
 
 pub(crate) fn hear_call(
@@ -183,25 +183,25 @@ pub(crate) fn hear_call(
     step: u32,
     effect: &Effect,
     at: CallAt,
-    heard: Heard<'_>,
-) -> Result<Says, Option<Mark>>
-    ensures ok { IfOk result (λ s. s ≡ call_here_says id.now tx.now step effect.now at (told_of heard.entry)) }
-    ensures err { IfErr result (λ e. e ≡ mark_of (call_here_says id.now tx.now step effect.now at (told_of heard.entry))) }
+    heard: QueryReplyRef<'_>,
+) -> Result<StageOutput, Option<Mark>>
+    ensures ok { IfOk result (λ s. s ≡ call_here_output id.now tx.now step effect.now at (query_reply_of heard.entry)) }
+    ensures err { IfErr result (λ e. e ≡ mark_of (call_here_output id.now tx.now step effect.now at (query_reply_of heard.entry))) }
 {
     let Effect::Call { func, args: _ } = effect else {
-        return Ok(Says::Ends(None, None));
+        return Ok(StageOutput::Ends(None, None));
     };
     if !id.has_callees() {
-        return Ok(Says::Ends(None, None));
+        return Ok(StageOutput::Ends(None, None));
     }
     match call_told(alloc, *func, at, heard) {
         Err(_) => Err(None),
-        Ok(CallSays::Opened { first }) => Ok(Says::Opens(step_mark(tx, first))),
-        Ok(CallSays::NotYet) => match callee_at(alloc, id, step) {
-            Ok(callee) => Ok(Says::Waits(Wait::Result(callee))),
+        Ok(CallOutput::Opened { first }) => Ok(StageOutput::Opens(step_mark(tx, first))),
+        Ok(CallOutput::NotYet) => match callee_at(alloc, id, step) {
+            Ok(callee) => Ok(StageOutput::Waits(Wait::Result(callee))),
             Err(_) => Err(None),
         },
-        Ok(CallSays::Done(outcome)) => Ok(Says::Answers(Answer::of_callee(outcome), None)),
+        Ok(CallOutput::Done(outcome)) => Ok(StageOutput::Answers(Answer::of_callee(outcome), None)),
     }
 }
 
@@ -210,46 +210,46 @@ pub(crate) fn hear_async(
     id: &IntentId,
     effect: &Effect,
     at: AsyncAt,
-    heard: Heard<'_>,
-) -> Result<Says, Option<Mark>>
-    ensures ok { IfOk result (λ s. s ≡ async_here_says id.now effect.now at (told_of heard.entry)) }
-    ensures err { IfErr result (λ e. e ≡ mark_of (async_here_says id.now effect.now at (told_of heard.entry))) }
+    heard: QueryReplyRef<'_>,
+) -> Result<StageOutput, Option<Mark>>
+    ensures ok { IfOk result (λ s. s ≡ async_here_output id.now effect.now at (query_reply_of heard.entry)) }
+    ensures err { IfErr result (λ e. e ≡ mark_of (async_here_output id.now effect.now at (query_reply_of heard.entry))) }
 {
     let Effect::Async { func, args: _ } = effect else {
-        return Ok(Says::Ends(None, None));
+        return Ok(StageOutput::Ends(None, None));
     };
     if !id.has_callees() {
-        return Ok(Says::Ends(None, None));
+        return Ok(StageOutput::Ends(None, None));
     }
     match async_told(alloc, *func, at, heard) {
         Err(_) => Err(None),
-        Ok(AsyncSays::Opened { first }) => Ok(Says::On(
+        Ok(AsyncOutput::Opened { first }) => Ok(StageOutput::On(
             Stage::Async(AsyncAt::Register),
             mark_if(first, Mark::Step),
         )),
-        Ok(AsyncSays::Going) => Ok(Says::On(Stage::Async(AsyncAt::Note), None)),
-        Ok(AsyncSays::Done) => match at {
-            AsyncAt::Note => Ok(Says::Starts(Answer::Done)),
-            AsyncAt::Open | AsyncAt::Register => Ok(Says::Answers(Answer::Done, None)),
+        Ok(AsyncOutput::Going) => Ok(StageOutput::On(Stage::Async(AsyncAt::Note), None)),
+        Ok(AsyncOutput::Done) => match at {
+            AsyncAt::Note => Ok(StageOutput::Starts(Answer::Done)),
+            AsyncAt::Open | AsyncAt::Register => Ok(StageOutput::Answers(Answer::Done, None)),
         },
     }
 }
 
 // The return of what was called in a transaction makes no entry.
-pub(crate) fn hear_back(tx: &Option<RunTx>, heard: Heard<'_>) -> Says
-    ensures { result ≡ back_says tx.now (back_of (told_of heard.entry)) }
+pub(crate) fn hear_back(tx: &Option<RunTx>, heard: QueryReplyRef<'_>) -> StageOutput
+    ensures { result ≡ back_output tx.now (back_of (query_reply_of heard.entry)) }
 {
     match back_told(heard) {
-        Back::Set => Says::On(Stage::Close, mark_if(!is_inherited(tx), Mark::Step)),
-        Back::AlreadySet | Back::Absent => Says::On(Stage::Close, None),
+        Back::Set => StageOutput::On(Stage::Close, mark_if(!is_inherited(tx), Mark::Step)),
+        Back::AlreadySet | Back::Absent => StageOutput::On(Stage::Close, None),
     }
 }
 
 // The end of what its caller waits for makes no step.
-fn reply_of(alloc: Global, outcome: &Outcome) -> Result<Apart<Outcome>, AllocError>
+fn reply_of(alloc: Global, outcome: &Outcome) -> Result<Boxed<Outcome>, AllocError>
     ensures { IfOk result (λ o. o ≡ outcome.now) }
 {
-    Apart::new(alloc, outcome.copy(alloc)?)
+    Boxed::new(alloc, outcome.copy(alloc)?)
 }
 
 pub(crate) fn hear_close(
@@ -257,25 +257,25 @@ pub(crate) fn hear_close(
     id: &IntentId,
     caller: &Option<Caller>,
     effect: &Effect,
-    heard: Heard<'_>,
-) -> Result<Says, Option<Mark>>
-    ensures ok { IfOk result (λ s. s ≡ close_says id.now caller.now effect.now (is_did_of (told_of heard.entry))) }
-    ensures err { IfErr result (λ e. e ≡ mark_of (close_says id.now caller.now effect.now (is_did_of (told_of heard.entry)))) }
+    heard: QueryReplyRef<'_>,
+) -> Result<StageOutput, Option<Mark>>
+    ensures ok { IfOk result (λ s. s ≡ close_output id.now caller.now effect.now (is_did_of (query_reply_of heard.entry))) }
+    ensures err { IfErr result (λ e. e ≡ mark_of (close_output id.now caller.now effect.now (is_did_of (query_reply_of heard.entry)))) }
 {
     if !end_told(&heard) {
-        return Ok(Says::Ends(None, None));
+        return Ok(StageOutput::Ends(None, None));
     }
     match effect {
         Effect::Return(outcome) => {
             let mark = mark_if(!is_waited(caller), Mark::Step);
             if !id.is_root() {
-                return Ok(Says::Ends(mark, None));
+                return Ok(StageOutput::Ends(mark, None));
             }
             match reply_of(alloc, outcome) {
-                Ok(outcome) => Ok(Says::Ends(mark, Some(outcome))),
+                Ok(outcome) => Ok(StageOutput::Ends(mark, Some(outcome))),
                 Err(_) => Err(mark),
             }
         }
-        _ => Ok(Says::Ends(None, None)),
+        _ => Ok(StageOutput::Ends(None, None)),
     }
 }

@@ -3,24 +3,24 @@ ghost use Rattle.std.specs.Prelude.{◌≡◌, ℕ, false, if◌then◌else◌, 
 ghost use Rattle.beldi_value.specs.Id.{has_callees};
 ghost use Rattle.beldi_value.specs.declared.value.Value.{Value};
 ghost use Rattle.beldi_value.specs.declared.place.Owner.TheVariants as owners;
-ghost use Rattle.beldi_walk.specs.Query.{told_of};
+ghost use Rattle.beldi_query.specs.Query.{query_reply_of};
 ghost use Rattle.beldi_row.specs.Key.{at_row};
 ghost use Rattle.beldi_row.specs.declared.act.Act.TheVariants as acts;
-ghost use Rattle.beldi_walk.specs.declared.query.Query.TheVariants as queries;
+ghost use Rattle.beldi_query.specs.declared.query.Query.TheVariants as queries;
 ghost use Rattle.beldi_call.specs.Call.{call_asks};
 ghost use Rattle.beldi_daal.specs.Cell.{read_goes, cell_key as cell_key_of};
 ghost use Rattle.beldi_daal.specs.declared.cell.CellOp.TheVariants as ops;
 ghost use Rattle.beldi_readlog.specs.ReadLog.{given_of, kept_of, log_key as log_key_of};
 ghost use Rattle.beldi_intent.specs.Intent.{look_asks};
 ghost use Rattle.beldi_step.specs.declared.run.Stage.TheVariants as stages;
-ghost use Rattle.beldi_step.specs.declared.run.Says.TheVariants as says;
+ghost use Rattle.beldi_step.specs.declared.run.StageOutput.TheVariants as says;
 ghost use Rattle.beldi_step.specs.declared.run.Wait.TheVariants as waits;
 ghost use Rattle.beldi_call.specs.declared.call.CallAt.TheVariants as calls;
 ghost use Rattle.beldi_call.specs.declared.async_call.AsyncAt.TheVariants as asyncs;
-ghost use Rattle.beldi_step.specs.Run.{stage_asks, put_asks, stage_says, mark_of, at_stage, left_of, first_stage as first_stage_of, first_of as first_stage_in, first_outside, first_end as first_end_of, end_mark as end_mark_of, last_stage as last_stage_of, note_done as note_done_of, answer_noted as answer_noted_of, cell_op, done_says, mark_if as mark_if_of, ask_says, walk_says, keep_says, put_says, place_of as place_at};
+ghost use Rattle.beldi_step.specs.Run.{stage_asks, put_asks, stage_output, mark_of, at_stage, left_of, first_stage as first_stage_of, first_of as first_stage_in, first_outside, first_end as first_end_of, end_mark as end_mark_of, last_stage as last_stage_of, note_done as note_done_of, answer_noted as answer_noted_of, cell_op, done_output, mark_if as mark_if_of, ask_output, walk_output, keep_output, put_output, place_of as place_at};
 
 use crate::call_stage::{
-    async_here, back_query, close_query, hear_async, hear_back, hear_call, hear_close, tell_query,
+    async_here, back_query, close_query, hear_async, hear_back, hear_call, hear_close, notify_query,
 };
 use crate::tx_stage::{decide_here, end_here, hear_decide, hear_end, hear_tx, tx_here};
 use beldi_call::{AsyncAt, CallAt, call_query};
@@ -29,12 +29,12 @@ use beldi_daal::{
 };
 use beldi_intent::intent_key;
 use beldi_lang::{Answer, Effect};
+use beldi_query::{Query, QueryReplyRef};
 use beldi_readlog::{given_told, kept_told, log_key};
-use beldi_row::{Act, Note, Said};
-use beldi_step::{Begun, Mark, RunTx, Says, Stage, Wait};
+use beldi_row::{Act, ActReplyRef, Note};
+use beldi_step::{Begun, Mark, RunTx, Stage, StageOutput, Wait};
 use beldi_txn::TxAt;
-use beldi_value::{Apart, Caller, Cause, IntentId, Owner, Place, Rel, Str, Value, or_drop};
-use beldi_walk::{Heard, Query};
+use beldi_value::{Boxed, Caller, Cause, IntentId, Owner, Place, Rel, Str, Value, or_drop};
 use std::alloc::{AllocError, Global};
 use std::mem::replace;
 
@@ -49,7 +49,7 @@ pub fn place_of(alloc: Global, id: &IntentId, step: u32) -> Result<Place, AllocE
 }
 
 /// Asks for a look at the row of an intent whose function has this number.
-pub fn look(alloc: Global, id: &IntentId, func: u16) -> Result<Apart<Query>, AllocError>
+pub fn look(alloc: Global, id: &IntentId, func: u16) -> Result<Boxed<Query>, AllocError>
     ensures { IfOk result (λ q. q ≡ look_asks id.now func) }
 {
     Query::look(alloc, intent_key(id.copy(alloc)?, func))
@@ -109,7 +109,7 @@ fn put_here(
     step: u32,
     effect: &Effect,
     at: &WriteAt,
-) -> Result<Apart<Query>, AllocError>
+) -> Result<Boxed<Query>, AllocError>
     ensures { IfOk result (λ q. q ≡ put_asks id.now func step at.now (cell_op effect.now)) }
 {
     match effect {
@@ -147,7 +147,7 @@ fn put_query(
     key: &Str,
     op: CellOp,
     at: &WriteAt,
-) -> Result<Apart<Query>, AllocError>
+) -> Result<Boxed<Query>, AllocError>
     ensures { IfOk result (λ q. q ≡ put_asks id.now func step at.now (Some (record { table = table; key = key.now; op = op }))) }
 {
     let row = or_drop!(cell_key(alloc, func, table, key, 0); op);
@@ -157,7 +157,7 @@ fn put_query(
 }
 
 // A read asks for the value that was kept for it.
-fn ask_query(alloc: Global, id: &IntentId, func: u16, step: u32) -> Result<Apart<Query>, AllocError>
+fn ask_query(alloc: Global, id: &IntentId, func: u16, step: u32) -> Result<Boxed<Query>, AllocError>
     ensures { IfOk result (λ q. q ≡ queries.Act (log_key_of func (place_at id.now step)) acts.Look) }
 {
     Query::look(alloc, log_key(func, place_of(alloc, id, step)?))
@@ -170,7 +170,7 @@ fn keep_query(
     func: u16,
     step: u32,
     value: &Value,
-) -> Result<Apart<Query>, AllocError>
+) -> Result<Boxed<Query>, AllocError>
     ensures { IfOk result (λ q. q ≡ queries.Act (log_key_of func (place_at id.now step)) (acts.PutRead value.now)) }
 {
     let place = place_of(alloc, id, step)?;
@@ -185,7 +185,7 @@ fn item_query(
     table: u16,
     key: &Str,
     row: u32,
-) -> Result<Apart<Query>, AllocError>
+) -> Result<Boxed<Query>, AllocError>
     ensures { IfOk result (λ q. q ≡ queries.Act (at_row (cell_key_of func table key.now) row) acts.Look) }
 {
     Query::look(alloc, cell_key(alloc, func, table, key, row)?)
@@ -198,7 +198,7 @@ fn call_here(
     step: u32,
     callee: u16,
     at: CallAt,
-) -> Result<Apart<Query>, AllocError>
+) -> Result<Boxed<Query>, AllocError>
     ensures { IfOk result (λ q. q ≡ call_asks func (place_at id.now step) callee at) }
 {
     call_query(alloc, func, place_of(alloc, id, step)?, callee, at)
@@ -211,13 +211,13 @@ pub fn stage_query(
     id: &IntentId,
     func: u16,
     begun: &Begun,
-) -> Result<Apart<Query>, AllocError>
+) -> Result<Boxed<Query>, AllocError>
     ensures { IfOk result (λ q. q ≡ stage_asks id.now func begun.now.caller begun.now.tx begun.now.machine.steps begun.now.machine.effect begun.now.stage) }
 {
     let step = begun.machine.steps();
     match (&begun.stage, begun.machine.wants()) {
         (Stage::Ask, _) => ask_query(alloc, id, func, step),
-        (Stage::Keep { value, seen: _ }, _) => keep_query(alloc, id, func, step, value),
+        (Stage::Keep { value, version: _ }, _) => keep_query(alloc, id, func, step, value),
         (Stage::Walk(row), Effect::Read { table, key }) => {
             item_query(alloc, func, *table, key, *row)
         }
@@ -237,7 +237,7 @@ pub fn stage_query(
             call_here(alloc, id, func, step, *callee, *at)
         }
         (Stage::Async(at), effect) => async_here(alloc, id, func, step, effect, *at),
-        (Stage::Tell, _) => tell_query(alloc, id, func, &begun.caller),
+        (Stage::Notify, _) => notify_query(alloc, id, func, &begun.caller),
         (Stage::Back, effect) => back_query(alloc, id, func, &begun.caller, effect),
         (Stage::Close, effect) => close_query(alloc, id, func, &begun.tx, effect),
         _ => look(alloc, id, func),
@@ -250,12 +250,12 @@ pub(crate) fn mark_if(made: bool, mark: Mark) -> Option<Mark>
     if made { Some(mark) } else { None }
 }
 
-fn write_done(effect: &Effect, note: &Note, first: bool) -> Says
-    ensures { result ≡ done_says first (answer_noted_of effect.now note.now) }
+fn write_done(effect: &Effect, note: &Note, first: bool) -> StageOutput
+    ensures { result ≡ done_output first (answer_noted_of effect.now note.now) }
 {
     match answer_noted(effect, note) {
-        Some(answer) => Says::Answers(answer, mark_if(first, Mark::Step)),
-        None => Says::Ends(None, None),
+        Some(answer) => StageOutput::Answers(answer, mark_if(first, Mark::Step)),
+        None => StageOutput::Ends(None, None),
     }
 }
 
@@ -267,10 +267,10 @@ pub fn hear(
     func: u16,
     begun: &mut Begun,
     changes: u64,
-    heard: Heard<'_>,
-) -> Result<Says, Option<Mark>>
-    ensures ok { IfOk result (λ s. s ≡ stage_says id.now func begun.old.caller begun.old.tx changes begun.old.machine.steps begun.old.machine.effect begun.old.stage (told_of heard.entry)) }
-    ensures err { IfErr result (λ e. e ≡ mark_of (stage_says id.now func begun.old.caller begun.old.tx changes begun.old.machine.steps begun.old.machine.effect begun.old.stage (told_of heard.entry))) }
+    heard: QueryReplyRef<'_>,
+) -> Result<StageOutput, Option<Mark>>
+    ensures ok { IfOk result (λ s. s ≡ stage_output id.now func begun.old.caller begun.old.tx changes begun.old.machine.steps begun.old.machine.effect begun.old.stage (query_reply_of heard.entry)) }
+    ensures err { IfErr result (λ e. e ≡ mark_of (stage_output id.now func begun.old.caller begun.old.tx changes begun.old.machine.steps begun.old.machine.effect begun.old.stage (query_reply_of heard.entry))) }
     ensures left { begun.new ≡ at_stage begun.old (left_of begun.old.stage result) }
 {
     let effect = begun.machine.wants();
@@ -278,7 +278,7 @@ pub fn hear(
     match &begun.stage {
         Stage::Ask => hear_ask(alloc, heard),
         Stage::Walk(_) => hear_walk(alloc, id, changes, heard),
-        Stage::Keep { value, seen } => hear_keep(alloc, value, *seen, heard),
+        Stage::Keep { value, version } => hear_keep(alloc, value, *version, heard),
         Stage::Write(at) => hear_write(alloc, effect, at, heard),
         Stage::Tx(at) => hear_tx(alloc, id, step, effect, at, &begun.tx, heard),
         Stage::Decide(_) => {
@@ -298,19 +298,19 @@ pub fn hear(
         Stage::Call(at) => hear_call(alloc, id, &begun.tx, step, effect, *at, heard),
         Stage::Async(at) => hear_async(alloc, id, effect, *at, heard),
         Stage::Back => Ok(hear_back(&begun.tx, heard)),
-        Stage::Tell => Ok(Says::On(Stage::Close, None)),
+        Stage::Notify => Ok(StageOutput::On(Stage::Close, None)),
         Stage::Close => hear_close(alloc, id, &begun.caller, effect, heard),
     }
 }
 
-fn hear_ask(alloc: Global, heard: Heard<'_>) -> Result<Says, Option<Mark>>
-    ensures ok { IfOk result (λ s. s ≡ ask_says (given_of (told_of heard.entry))) }
+fn hear_ask(alloc: Global, heard: QueryReplyRef<'_>) -> Result<StageOutput, Option<Mark>>
+    ensures ok { IfOk result (λ s. s ≡ ask_output (given_of (query_reply_of heard.entry))) }
     ensures err { IfErr result (λ e. e ≡ None) }
 {
     match given_told(alloc, heard) {
         Err(_) => Err(None),
-        Ok(None) => Ok(Says::On(Stage::Walk(0), None)),
-        Ok(Some(value)) => Ok(Says::Answers(Answer::Value(value), None)),
+        Ok(None) => Ok(StageOutput::On(Stage::Walk(0), None)),
+        Ok(Some(value)) => Ok(StageOutput::Answers(Answer::Value(value), None)),
     }
 }
 
@@ -318,9 +318,9 @@ fn hear_walk(
     alloc: Global,
     id: &IntentId,
     changes: u64,
-    heard: Heard<'_>,
-) -> Result<Says, Option<Mark>>
-    ensures ok { IfOk result (λ s. s ≡ walk_says changes (read_goes (Some (owners.Intent id.now)) (told_of heard.entry))) }
+    heard: QueryReplyRef<'_>,
+) -> Result<StageOutput, Option<Mark>>
+    ensures ok { IfOk result (λ s. s ≡ walk_output changes (read_goes (Some (owners.Intent id.now)) (query_reply_of heard.entry))) }
     ensures err { IfErr result (λ e. e ≡ None) }
 {
     let who = match id.copy(alloc) {
@@ -331,12 +331,12 @@ fn hear_walk(
     drop(who);
     match told {
         Err(_) => Err(None),
-        Ok(ReadGoes::On(row)) => Ok(Says::On(Stage::Walk(row), None)),
-        Ok(ReadGoes::Stays) => Ok(Says::Stays),
-        Ok(ReadGoes::Got(value)) => Ok(Says::On(
+        Ok(ReadGoes::On(row)) => Ok(StageOutput::On(Stage::Walk(row), None)),
+        Ok(ReadGoes::Stays) => Ok(StageOutput::Stays),
+        Ok(ReadGoes::Got(value)) => Ok(StageOutput::On(
             Stage::Keep {
                 value: value.unwrap_or(Value::Null),
-                seen: changes,
+                version: changes,
             },
             None,
         )),
@@ -347,37 +347,37 @@ fn hear_walk(
 fn hear_keep(
     alloc: Global,
     value: &Value,
-    seen: u64,
-    heard: Heard<'_>,
-) -> Result<Says, Option<Mark>>
-    ensures ok { IfOk result (λ s. s ≡ keep_says seen (kept_of value.now (told_of heard.entry))) }
-    ensures err { IfErr result (λ e. e ≡ mark_of (keep_says seen (kept_of value.now (told_of heard.entry)))) }
+    version: u64,
+    heard: QueryReplyRef<'_>,
+) -> Result<StageOutput, Option<Mark>>
+    ensures ok { IfOk result (λ s. s ≡ keep_output version (kept_of value.now (query_reply_of heard.entry))) }
+    ensures err { IfErr result (λ e. e ≡ mark_of (keep_output version (kept_of value.now (query_reply_of heard.entry)))) }
 {
     let added = is_added(&heard);
     match kept_told(alloc, value, heard) {
-        Err(_) => Err(mark_if(added, Mark::Read(seen))),
-        Ok(kept) => Ok(Says::Answers(
+        Err(_) => Err(mark_if(added, Mark::Read(version))),
+        Ok(kept) => Ok(StageOutput::Answers(
             Answer::Value(kept.value),
-            mark_if(kept.added, Mark::Read(seen)),
+            mark_if(kept.added, Mark::Read(version)),
         )),
     }
 }
 
 // The run waits for this owner.
-fn held(alloc: Global, owner: Owner) -> Result<Says, Option<Mark>>
+fn held(alloc: Global, owner: Owner) -> Result<StageOutput, Option<Mark>>
     ensures ok { IfOk result (λ s. s ≡ says.Waits (waits.Held owner)) }
     ensures err { IfErr result (λ e. e ≡ None) }
 {
-    match Apart::new(alloc, owner) {
-        Ok(owner) => Ok(Says::Waits(Wait::Held(owner))),
+    match Boxed::new(alloc, owner) {
+        Ok(owner) => Ok(StageOutput::Waits(Wait::Held(owner))),
         Err(_) => Err(None),
     }
 }
 
-fn is_added(heard: &Heard<'_>) -> bool
-    ensures { (v : Value) → result ≡ (kept_of v (told_of heard.entry.now)).added }
+fn is_added(heard: &QueryReplyRef<'_>) -> bool
+    ensures { (v : Value) → result ≡ (kept_of v (query_reply_of heard.entry.now)).added }
 {
-    matches!(heard, Heard::Said(Said::Added))
+    matches!(heard, QueryReplyRef::Act(ActReplyRef::Added))
 }
 
 // An act that lends made nothing, so it is out of memory only where there is no mark.
@@ -385,22 +385,22 @@ fn hear_write(
     alloc: Global,
     effect: &Effect,
     at: &WriteAt,
-    heard: Heard<'_>,
-) -> Result<Says, Option<Mark>>
-    ensures ok { IfOk result (λ s. s ≡ put_says effect.now at.now (note_done_of effect.now) (told_of heard.entry)) }
-    ensures err { IfErr result (λ e. e ≡ mark_of (put_says effect.now at.now (note_done_of effect.now) (told_of heard.entry))) }
+    heard: QueryReplyRef<'_>,
+) -> Result<StageOutput, Option<Mark>>
+    ensures ok { IfOk result (λ s. s ≡ put_output effect.now at.now (note_done_of effect.now) (query_reply_of heard.entry)) }
+    ensures err { IfErr result (λ e. e ≡ mark_of (put_output effect.now at.now (note_done_of effect.now) (query_reply_of heard.entry))) }
 {
     let Some(done) = note_done(effect) else {
-        return Ok(Says::Ends(None, None));
+        return Ok(StageOutput::Ends(None, None));
     };
     match write_told(alloc, done, at, heard) {
         Err(_) => Err(None),
-        Ok(WriteGoes::On(at)) => Ok(Says::On(Stage::Write(at), None)),
-        Ok(WriteGoes::Stays) => Ok(Says::Stays),
+        Ok(WriteGoes::On(at)) => Ok(StageOutput::On(Stage::Write(at), None)),
+        Ok(WriteGoes::Stays) => Ok(StageOutput::Stays),
         Ok(WriteGoes::Done { note, first }) => Ok(write_done(effect, &note, first)),
-        Ok(WriteGoes::NotOwner) => Ok(Says::Ends(None, None)),
+        Ok(WriteGoes::NotOwner) => Ok(StageOutput::Ends(None, None)),
         Ok(WriteGoes::Held(owner)) => held(alloc, owner),
-        Ok(WriteGoes::Worn) => Ok(Says::Waits(Wait::Worn)),
+        Ok(WriteGoes::Worn) => Ok(StageOutput::Waits(Wait::Worn)),
     }
 }
 
@@ -450,15 +450,15 @@ fn end_mark(
     ensures { IfOk result (λ m. m ≡ end_mark_of id.now step cause.now commit) }
 {
     if commit {
-        return Ok(Mark::Tx);
+        return Ok(Mark::CommittedTx);
     }
     match cause {
         Some(cause) => {
             let Cause { place, holder } = cause.copy(alloc)?;
-            Ok(Mark::Try { place, holder })
+            Ok(Mark::AbortedTx { place, holder })
         }
-        None => Ok(Mark::Try {
-            place: Apart::new(alloc, place_of(alloc, id, step)?)?,
+        None => Ok(Mark::AbortedTx {
+            place: Boxed::new(alloc, place_of(alloc, id, step)?)?,
             holder: None,
         }),
     }
@@ -490,7 +490,7 @@ fn last_stage(caller: &Option<Caller>) -> Stage
     if caller.waits {
         return Stage::Back;
     }
-    Stage::Tell
+    Stage::Notify
 }
 
 /// Where an effect begins; none where it is not carried out, and the run is over.

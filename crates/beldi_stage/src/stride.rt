@@ -4,7 +4,7 @@ ghost use Rattle.beldi_daal.specs.Cell.{cell_key as cell_key_of};
 ghost use Rattle.beldi_txn.specs.Tx.{item_of};
 ghost use Rattle.beldi_txn.specs.End.{free_place as freed_at, visited_by};
 ghost use Rattle.beldi_step.specs.Run.{cell_op, place_of as place_at, own_tx as own_tx_of};
-ghost use Rattle.beldi_step.specs.Stride.{along, past_first, read_walking, put_walking, item_walking, tx_walking, end_walking, stage_walking, write_to, tx_to, end_to, stage_to};
+ghost use Rattle.beldi_step.specs.RunStride.{along, past_first, read_walking, put_walking, item_walking, tx_walking, end_walking, stage_walking, write_to, tx_to, end_to, stage_to};
 
 use crate::stage::place_of;
 use crate::tx_stage::own_tx;
@@ -12,7 +12,7 @@ use beldi_daal::{WriteAt, cell_key};
 use beldi_lang::Effect;
 use beldi_lock::LockAt;
 use beldi_step::{Begun, OpenTx, RunTx, Stage, Walking};
-use beldi_txn::{EndAt, TxAt, Visit, Way, free_place};
+use beldi_txn::{CallPath, EndAt, EndState, TxAt, free_place};
 use beldi_value::{IntentId, Str, TxId, or_drop};
 use std::alloc::{AllocError, Global};
 
@@ -183,7 +183,7 @@ fn end_walk(
     func: u16,
     step: u32,
     effect: &Effect,
-    visit: &Visit,
+    visit: &EndState,
     tx: &Option<RunTx>,
 ) -> Result<Option<Walking>, AllocError>
     ensures { IfOk result (λ w. w ≡ past_first (end_walking id.now func step effect.now visit.now tx.now)) }
@@ -206,18 +206,18 @@ fn free_walk(
     func: u16,
     step: u32,
     tx: &OpenTx,
-    visit: &Visit,
+    visit: &EndState,
     table: u16,
     key: &Str,
     row: u32,
 ) -> Result<Option<Walking>, AllocError>
-    ensures { IfOk result (λ w. w ≡ past_first (along (cell_key_of (visited_by (own_tx_of id.now func tx.now) visit.now.way).1 table key.now) row (Some (freed_at (own_tx_of id.now func tx.now) step visit.now.way)))) }
+    ensures { IfOk result (λ w. w ≡ past_first (along (cell_key_of (visited_by (own_tx_of id.now func tx.now) visit.now.path).1 table key.now) row (Some (freed_at (own_tx_of id.now func tx.now) step visit.now.path)))) }
 {
     if row == 0 {
         return Ok(None);
     }
     let who = own_tx(alloc, id, func, tx)?;
-    let walk = give_at(alloc, &who, step, &visit.way, table, key, row);
+    let walk = give_at(alloc, &who, step, &visit.path, table, key, row);
     drop(who);
     walk
 }
@@ -227,15 +227,15 @@ fn give_at(
     alloc: Global,
     tx: &TxId,
     end: u32,
-    way: &Way,
+    path: &CallPath,
     table: u16,
     key: &Str,
     row: u32,
 ) -> Result<Option<Walking>, AllocError>
-    ensures { IfOk result (λ w. w ≡ along (cell_key_of (visited_by tx.now way.now).1 table key.now) row (Some (freed_at tx.now end way.now))) }
+    ensures { IfOk result (λ w. w ≡ along (cell_key_of (visited_by tx.now path.now).1 table key.now) row (Some (freed_at tx.now end path.now))) }
 {
-    let key = cell_key(alloc, way.func(tx), table, key, row)?;
-    let place = Some(or_drop!(free_place(alloc, tx, end, way); key));
+    let key = cell_key(alloc, path.func(tx), table, key, row)?;
+    let place = Some(or_drop!(free_place(alloc, tx, end, path); key));
     Ok(Some(Walking { key, place }))
 }
 

@@ -1,25 +1,26 @@
 // The stages of an operation inside a transaction, and of its end: what they ask, and what they say of what they were told.
 ghost use Rattle.std.specs.Prelude.{◌≡◌, ℕ, None, Ok, IfOk, IfErr};
-ghost use Rattle.beldi_walk.specs.Query.{told_of};
+ghost use Rattle.beldi_query.specs.Query.{query_reply_of};
 ghost use Rattle.beldi_txn.specs.Tx.{tx_asks, tx_goes};
-ghost use Rattle.beldi_txn.specs.End.{end_goes, decide_goes, first_visit, moved};
+ghost use Rattle.beldi_txn.specs.End.{end_goes, decide_goes, first_visit, end_after};
 ghost use Rattle.beldi_value.specs.declared.id.IntentId.{IntentId};
 ghost use Rattle.beldi_txn.specs.declared.end.EndGoes.TheVariants as ends;
-ghost use Rattle.beldi_txn.specs.declared.end.Visit.{Visit};
+ghost use Rattle.beldi_txn.specs.declared.end.EndState.{EndState};
 ghost use Rattle.beldi_step.specs.declared.run.Mark.{Mark};
 ghost use Rattle.beldi_step.specs.declared.run.Stage.TheVariants as stages;
-ghost use Rattle.beldi_step.specs.declared.run.Says.TheVariants as says;
-ghost use Rattle.beldi_step.specs.Run.{mark_of, place_of as place_at, own_tx as own_tx_of, tx_at as tx_at_of, tx_here_asks, end_here_asks, put_answer as put_answer_of, tx_says as tx_says_of, tx_here_says, visit_says as visit_says_of, decided_says, decide_here_says, end_here_says, end_left};
+ghost use Rattle.beldi_step.specs.declared.run.StageOutput.TheVariants as says;
+ghost use Rattle.beldi_step.specs.Run.{mark_of, place_of as place_at, own_tx as own_tx_of, tx_at as tx_at_of, tx_here_asks, end_here_asks, put_answer as put_answer_of, tx_output as tx_output_of, tx_here_output, visit_output as visit_output_of, decided_output, decide_here_output, end_here_output, end_left};
 
 use crate::stage::{look, mark_if, place_of};
 use beldi_lang::{Answer, Effect};
+use beldi_query::{Query, QueryReplyRef};
 use beldi_row::copy_tx;
-use beldi_step::{Mark, OpenTx, RunTx, Says, Stage, Wait};
+use beldi_step::{Mark, OpenTx, RunTx, Stage, StageOutput, Wait};
 use beldi_txn::{
-    EndGoes, TxAt, TxGoes, Visit, decide_query, decide_told, end_query, end_told, tx_query, tx_told,
+    EndGoes, EndState, TxAt, TxGoes, decide_query, decide_told, end_query, end_told, tx_query,
+    tx_told,
 };
-use beldi_value::{Apart, IntentId, TxId, or_drop};
-use beldi_walk::{Heard, Query};
+use beldi_value::{Boxed, IntentId, TxId, or_drop};
 use std::alloc::{AllocError, Global};
 use std::mem::replace;
 
@@ -64,7 +65,7 @@ pub(crate) fn tx_here(
     effect: &Effect,
     at: &TxAt,
     tx: &Option<RunTx>,
-) -> Result<Apart<Query>, AllocError>
+) -> Result<Boxed<Query>, AllocError>
     ensures { IfOk result (λ q. q ≡ tx_here_asks id.now func step effect.now at.now tx.now) }
 {
     match tx {
@@ -88,7 +89,7 @@ fn tx_ask(
     effect: &Effect,
     at: &TxAt,
     who: &TxId,
-) -> Result<Apart<Query>, AllocError>
+) -> Result<Boxed<Query>, AllocError>
     ensures { IfOk result (λ q. q ≡ tx_asks func (place_at id.now step) who.now effect.now at.now) }
 {
     let place = place_of(alloc, id, step)?;
@@ -102,7 +103,7 @@ pub(crate) fn decide_here(
     func: u16,
     effect: &Effect,
     tx: &Option<RunTx>,
-) -> Result<Apart<Query>, AllocError>
+) -> Result<Boxed<Query>, AllocError>
     ensures { (step : ℕ) → IfOk result (λ q. q ≡ end_here_asks id.now func step effect.now first_visit tx.now) }
 {
     match (effect, tx) {
@@ -120,9 +121,9 @@ pub(crate) fn end_here(
     func: u16,
     step: u32,
     effect: &Effect,
-    visit: &Visit,
+    visit: &EndState,
     tx: &Option<RunTx>,
-) -> Result<Apart<Query>, AllocError>
+) -> Result<Boxed<Query>, AllocError>
     ensures { IfOk result (λ q. q ≡ end_here_asks id.now func step effect.now visit.now tx.now) }
 {
     match (effect, tx) {
@@ -142,13 +143,13 @@ pub(crate) fn hear_tx(
     effect: &Effect,
     at: &TxAt,
     tx: &Option<RunTx>,
-    heard: Heard<'_>,
-) -> Result<Says, Option<Mark>>
-    ensures ok { IfOk result (λ s. s ≡ tx_here_says id.now step effect.now at.now tx.now (told_of heard.entry)) }
-    ensures err { IfErr result (λ e. e ≡ mark_of (tx_here_says id.now step effect.now at.now tx.now (told_of heard.entry))) }
+    heard: QueryReplyRef<'_>,
+) -> Result<StageOutput, Option<Mark>>
+    ensures ok { IfOk result (λ s. s ≡ tx_here_output id.now step effect.now at.now tx.now (query_reply_of heard.entry)) }
+    ensures err { IfErr result (λ e. e ≡ mark_of (tx_here_output id.now step effect.now at.now tx.now (query_reply_of heard.entry))) }
 {
     let Some(tx) = tx else {
-        return Ok(Says::Ends(None, None));
+        return Ok(StageOutput::Ends(None, None));
     };
     match tx_turn(alloc, id, step, tx.begin(), effect, at, heard) {
         Ok(says) => Ok(says),
@@ -163,9 +164,9 @@ fn tx_turn(
     begin: u32,
     effect: &Effect,
     at: &TxAt,
-    heard: Heard<'_>,
-) -> Result<Says, AllocError>
-    ensures { IfOk result (λ s. s ≡ tx_says_of at.now (tx_goes (place_at id.now step) begin effect.now at.now (told_of heard.entry))) }
+    heard: QueryReplyRef<'_>,
+) -> Result<StageOutput, AllocError>
+    ensures { IfOk result (λ s. s ≡ tx_output_of at.now (tx_goes (place_at id.now step) begin effect.now at.now (query_reply_of heard.entry))) }
 {
     let place = place_of(alloc, id, step)?;
     let goes = tx_told(alloc, &place, begin, effect, at, heard);
@@ -173,28 +174,28 @@ fn tx_turn(
     tx_says(alloc, at, goes?)
 }
 
-fn tx_says(alloc: Global, at: &TxAt, goes: TxGoes) -> Result<Says, AllocError>
-    ensures { IfOk result (λ s. s ≡ tx_says_of at.now goes) }
+fn tx_says(alloc: Global, at: &TxAt, goes: TxGoes) -> Result<StageOutput, AllocError>
+    ensures { IfOk result (λ s. s ≡ tx_output_of at.now goes) }
 {
     match goes {
-        TxGoes::On(at) => Ok(Says::On(Stage::Tx(at), None)),
-        TxGoes::Stays => Ok(Says::Stays),
+        TxGoes::On(at) => Ok(StageOutput::On(Stage::Tx(at), None)),
+        TxGoes::Stays => Ok(StageOutput::Stays),
         TxGoes::Put => put_answer(alloc, at),
-        TxGoes::Died(cause) => Ok(Says::Answers(Answer::Aborted(cause), None)),
-        TxGoes::Held(owner) => Ok(Says::Waits(Wait::Held(Apart::new(alloc, owner)?))),
-        TxGoes::Worn => Ok(Says::Waits(Wait::Worn)),
-        TxGoes::Value(value) => Ok(Says::Answers(Answer::Value(value), None)),
-        TxGoes::Done => Ok(Says::Answers(Answer::Done, None)),
+        TxGoes::Died(cause) => Ok(StageOutput::Answers(Answer::Aborted(cause), None)),
+        TxGoes::Held(owner) => Ok(StageOutput::Waits(Wait::Held(Boxed::new(alloc, owner)?))),
+        TxGoes::Worn => Ok(StageOutput::Waits(Wait::Worn)),
+        TxGoes::Value(value) => Ok(StageOutput::Answers(Answer::Value(value), None)),
+        TxGoes::Done => Ok(StageOutput::Answers(Answer::Done, None)),
     }
 }
 
 // The value that was kept, as the answer.
-fn put_answer(alloc: Global, at: &TxAt) -> Result<Says, AllocError>
+fn put_answer(alloc: Global, at: &TxAt) -> Result<StageOutput, AllocError>
     ensures { IfOk result (λ s. s ≡ put_answer_of at.now) }
 {
     match at {
-        TxAt::Keep(value) => Ok(Says::Answers(Answer::Value(value.copy(alloc)?), None)),
-        _ => Ok(Says::Stays),
+        TxAt::Keep(value) => Ok(StageOutput::Answers(Answer::Value(value.copy(alloc)?), None)),
+        _ => Ok(StageOutput::Stays),
     }
 }
 
@@ -204,10 +205,10 @@ pub(crate) fn hear_decide(
     tx: &Option<RunTx>,
     effect: &Effect,
     stage: Stage,
-    heard: Heard<'_>,
-) -> Result<Says, Option<Mark>>
-    ensures ok { (id : IntentId) (func step : ℕ) (m : Mark) → stage ≡ stages.Decide m → IfOk result (λ s. s ≡ decide_here_says id func step effect.now m tx.now (told_of heard.entry)) }
-    ensures err { (id : IntentId) (func step : ℕ) (m : Mark) → stage ≡ stages.Decide m → IfErr result (λ e. e ≡ mark_of (decide_here_says id func step effect.now m tx.now (told_of heard.entry))) }
+    heard: QueryReplyRef<'_>,
+) -> Result<StageOutput, Option<Mark>>
+    ensures ok { (id : IntentId) (func step : ℕ) (m : Mark) → stage ≡ stages.Decide m → IfOk result (λ s. s ≡ decide_here_output id func step effect.now m tx.now (query_reply_of heard.entry)) }
+    ensures err { (id : IntentId) (func step : ℕ) (m : Mark) → stage ≡ stages.Decide m → IfErr result (λ e. e ≡ mark_of (decide_here_output id func step effect.now m tx.now (query_reply_of heard.entry))) }
 {
     match (effect, tx, stage) {
         (Effect::End { commit }, Some(RunTx::Own(_)), Stage::Decide(mark)) => {
@@ -215,34 +216,39 @@ pub(crate) fn hear_decide(
         }
         (_, _, stage) => {
             drop(stage);
-            Ok(Says::Ends(None, None))
+            Ok(StageOutput::Ends(None, None))
         }
     }
 }
 
-fn decide(alloc: Global, commit: bool, mark: Mark, heard: Heard<'_>) -> Result<Says, Option<Mark>>
-    ensures ok { IfOk result (λ s. s ≡ decided_says commit mark (decide_goes commit (told_of heard.entry))) }
-    ensures err { IfErr result (λ e. e ≡ mark_of (decided_says commit mark (decide_goes commit (told_of heard.entry)))) }
+fn decide(
+    alloc: Global,
+    commit: bool,
+    mark: Mark,
+    heard: QueryReplyRef<'_>,
+) -> Result<StageOutput, Option<Mark>>
+    ensures ok { IfOk result (λ s. s ≡ decided_output commit mark (decide_goes commit (query_reply_of heard.entry))) }
+    ensures err { IfErr result (λ e. e ≡ mark_of (decided_output commit mark (decide_goes commit (query_reply_of heard.entry)))) }
 {
     match decide_told(commit, heard) {
         EndGoes::Decided { first } => match decided(alloc, commit, first) {
-            Ok(visit) => Ok(Says::On(Stage::End(visit), mark_if(first, mark))),
+            Ok(visit) => Ok(StageOutput::On(Stage::End(visit), mark_if(first, mark))),
             Err(_) => Err(mark_if(first, mark)),
         },
         goes => {
             drop(goes);
-            Ok(Says::On(Stage::Decide(mark), None))
+            Ok(StageOutput::On(Stage::Decide(mark), None))
         }
     }
 }
 
 // The visit that follows the decision.
-fn decided(alloc: Global, commit: bool, first: bool) -> Result<Apart<Visit>, AllocError>
-    ensures { IfOk result (λ v. v ≡ moved commit first_visit (ends.Decided first)) }
+fn decided(alloc: Global, commit: bool, first: bool) -> Result<Boxed<EndState>, AllocError>
+    ensures { IfOk result (λ v. v ≡ end_after commit first_visit (ends.Decided first)) }
 {
-    let mut visit = Visit::first(alloc);
+    let mut visit = EndState::first(alloc);
     drop(visit.go(commit, EndGoes::Decided { first }));
-    Apart::new(alloc, visit)
+    Boxed::new(alloc, visit)
 }
 
 // What the visits of an end say of what they were told. Where it goes on, its visit is moved.
@@ -254,15 +260,15 @@ pub(crate) fn hear_end(
     tx: &Option<RunTx>,
     effect: &Effect,
     stage: &mut Stage,
-    heard: Heard<'_>,
-) -> Result<Says, Option<Mark>>
-    ensures ok { (v : Visit) → stage.old ≡ stages.End v → IfOk result (λ s. s ≡ end_here_says id.now func step effect.now v tx.now (told_of heard.entry)) }
-    ensures err { (v : Visit) → IfErr result (λ e. e ≡ mark_of (end_here_says id.now func step effect.now v tx.now (told_of heard.entry))) }
-    ensures left { (v : Visit) → stage.old ≡ stages.End v → stage.new ≡ end_left v result }
+    heard: QueryReplyRef<'_>,
+) -> Result<StageOutput, Option<Mark>>
+    ensures ok { (v : EndState) → stage.old ≡ stages.End v → IfOk result (λ s. s ≡ end_here_output id.now func step effect.now v tx.now (query_reply_of heard.entry)) }
+    ensures err { (v : EndState) → IfErr result (λ e. e ≡ mark_of (end_here_output id.now func step effect.now v tx.now (query_reply_of heard.entry))) }
+    ensures left { (v : EndState) → stage.old ≡ stages.End v → stage.new ≡ end_left v result }
 {
     let (Effect::End { commit }, Some(RunTx::Own(tx)), Stage::End(visit)) = (effect, tx, &*stage)
     else {
-        return Ok(Says::Ends(None, None));
+        return Ok(StageOutput::Ends(None, None));
     };
     match hear_visit(alloc, id, func, tx, step, *commit, visit.get(), heard) {
         Ok(goes) => Ok(visited(*commit, stage, goes)),
@@ -277,10 +283,10 @@ fn hear_visit(
     tx: &OpenTx,
     step: u32,
     commit: bool,
-    visit: &Visit,
-    heard: Heard<'_>,
+    visit: &EndState,
+    heard: QueryReplyRef<'_>,
 ) -> Result<EndGoes, AllocError>
-    ensures { IfOk result (λ g. g ≡ end_goes (own_tx_of id.now func tx.now) step commit visit.now.way visit.now.at (told_of heard.entry)) }
+    ensures { IfOk result (λ g. g ≡ end_goes (own_tx_of id.now func tx.now) step commit visit.now.path visit.now.at (query_reply_of heard.entry)) }
 {
     let who = own_tx(alloc, id, func, tx)?;
     let goes = end_told(alloc, &who, step, commit, visit, heard);
@@ -288,31 +294,31 @@ fn hear_visit(
     goes
 }
 
-fn visited(commit: bool, stage: &mut Stage, goes: EndGoes) -> Says
-    ensures says { (v : Visit) → stage.old ≡ stages.End v → result ≡ visit_says_of commit v goes }
-    ensures left { (v : Visit) → stage.old ≡ stages.End v → stage.new ≡ end_left v (Ok result) }
+fn visited(commit: bool, stage: &mut Stage, goes: EndGoes) -> StageOutput
+    ensures output { (v : EndState) → stage.old ≡ stages.End v → result ≡ visit_output_of commit v goes }
+    ensures left { (v : EndState) → stage.old ≡ stages.End v → stage.new ≡ end_left v (Ok result) }
 {
     match goes {
-        EndGoes::Done => Says::Answers(Answer::Done, None),
-        EndGoes::Worn => Says::Waits(Wait::Worn),
+        EndGoes::Done => StageOutput::Answers(Answer::Done, None),
+        EndGoes::Worn => StageOutput::Waits(Wait::Worn),
         goes => go_on(commit, replace(stage, Stage::Close), goes),
     }
 }
 
 // The visit goes on.
-fn go_on(commit: bool, stage: Stage, goes: EndGoes) -> Says
-    ensures { (v : Visit) → stage ≡ stages.End v → result ≡ says.On (stages.End (moved commit v goes)) None }
+fn go_on(commit: bool, stage: Stage, goes: EndGoes) -> StageOutput
+    ensures { (v : EndState) → stage ≡ stages.End v → result ≡ says.On (stages.End (end_after commit v goes)) None }
 {
     match stage {
         Stage::End(visit) => {
             let mut visit = visit;
             drop(visit.get_mut().go(commit, goes));
-            Says::On(Stage::End(visit), None)
+            StageOutput::On(Stage::End(visit), None)
         }
         stage => {
             drop(stage);
             drop(goes);
-            Says::Ends(None, None)
+            StageOutput::Ends(None, None)
         }
     }
 }

@@ -3,7 +3,7 @@ use Rattle.std.proofs.Common.{◌≡◌, ℕ, refl, ap}
 use Rattle.beldi_daal.specs.declared.cell.WriteAt.{WriteAt}
 use Rattle.beldi_lock.specs.declared.lock.LockAt.{LockAt}
 use Rattle.beldi_txn.specs.declared.{end.EndAt.EndAt, tx.TxAt.TxAt}
-use Rattle.beldi_step.specs.Stride.{end_to, lock_to, run_to, stage_to, tx_to, write_to}
+use Rattle.beldi_step.specs.RunStride.{end_to, lock_to, run_to, stage_to, tx_to, write_to}
 use Rattle.beldi_step.specs.declared.run.{RunAt.RunAt, Stage.Stage}
 
 write_twice : (a b : ℕ) (w : WriteAt) → write_to b (write_to a w) ≡ write_to b w

@@ -7,16 +7,16 @@ use Rattle.beldi_value.specs.{Id.has_callees, declared.place.Caller.Caller}
 use Rattle.beldi_tree.specs.declared.{deployment.Deployment.Deployment, deployment.Func.Func}
 use Rattle.beldi_tree.specs.Names.{func_at}
 use Rattle.beldi_lang.specs.{declared.effect.Effect.Effect, declared.machine.Machine.Machine, Machine.begun as machine_begun}
-use Rattle.beldi_book.specs.Order.{count_changes}
+use Rattle.beldi_book.specs.LinearOrder.{count_changes}
 use Rattle.beldi_row.specs.declared.row.Body.{Body}
-use Rattle.beldi_walk.specs.{declared.query.Query.Query, Query.Told}
+use Rattle.beldi_query.specs.{declared.query.Query.Query, Query.QueryReply}
 use Rattle.beldi_intent.specs.Intent.{body_told}
-use Rattle.beldi_step.specs.Host.{Core, counted, first_core, last_of}
-use Rattle.beldi_step.specs.Run.{at_once, begin_in, body_registered, callee_at, callee_by, callee_run, first_stage, goes_from, goes_to, run_told, stage_says, takes, told_at, turned_by, within}
-use Rattle.beldi_step.specs.declared.{event.Event.Event, run.Begun.Begun, run.Mark.Mark, run.Run.Run, run.RunAt.RunAt, run.RunAt.TheVariants.Looks, run.RunAt.TheVariants.Registers, run.RunAt.TheVariants.Begins, run.RunTx.RunTx, run.Says.Says, run.Stage.Stage}
-use Rattle.beldi_step.specs.Deadlines.{AreSoon, CalledRunsHaveTheirCallersDeadline, KeepsSoon, NoRunIsPastALife, Reached, RunsKeepTheirDeadline, after_step, at_first, deadline_given, turning}
-use Rattle.beldi_step.proofs.Runs.{Adds, All, Leaves, adds_by, either, same_some}
-use Rattle.beldi_step.proofs.Runs as runs
+use Rattle.beldi_step.specs.HostStep.{Core, counted, first_core, last_of}
+use Rattle.beldi_step.specs.Run.{local_steps, begin_in, body_registered, callee_at, callee_by, callee_run, first_stage, goes_from, goes_to, run_told, stage_output, takes, told_at, turned_by, inherited_tx}
+use Rattle.beldi_step.specs.declared.{event.Event.Event, run.Begun.Begun, run.Mark.Mark, run.Run.Run, run.RunAt.RunAt, run.RunAt.TheVariants.Looks, run.RunAt.TheVariants.Registers, run.RunAt.TheVariants.Begins, run.RunTx.RunTx, run.StageOutput.StageOutput, run.Stage.Stage}
+use Rattle.beldi_step.specs.RunDeadlines.{AreSoon, CalledRunsHaveTheirCallersDeadline, KeepsSoon, NoRunIsPastALife, Reached, RunsKeepTheirDeadline, after_step, at_first, deadline_given, turning}
+use Rattle.beldi_step.proofs.StepRuns.{Adds, All, Leaves, adds_by, either, same_some}
+use Rattle.beldi_step.proofs.StepRuns as runs
 
 -- ---- no run has the deadline of a run
 none : (r k : Run) → None ≡ Some k → k.deadline ≡ r.deadline
@@ -34,26 +34,26 @@ from r s c m None = none r
 from r s c m (Some w) = itself r _ refl
 
 to : (d : Deployment) (r : Run) (s : Machine × Option RunTx) (c : Option Caller) (m : Option Mark) → HasDeadlineOf r (goes_to d r s c m).next
-to d r s c m = let z = at_once d r.id s in from r z c m (first_stage r.id c z.1 z.0.steps z.0.effect)
+to d r s c m = let z = local_steps d r.id s in from r z c m (first_stage r.id c z.1 z.0.steps z.0.effect)
 
-says : (d : Deployment) (r : Run) (g : Begun) (x : Says) → HasDeadlineOf r (turned_by d r g x).next
-says d r g (Says.On s m) = itself r _ refl
-says d r g Says.Stays = itself r _ refl
-says d r g (Says.Opens m) = itself r _ refl
-says d r g (Says.Waits w) = itself r _ refl
-says d r g (Says.Starts a) = to d r (takes d g.machine g.tx a) g.caller None
-says d r g (Says.Answers a m) = to d r (takes d g.machine g.tx a) g.caller m
-says d r g (Says.Ends m o) = none r
+output : (d : Deployment) (r : Run) (g : Begun) (x : StageOutput) → HasDeadlineOf r (turned_by d r g x).next
+output d r g (StageOutput.On s m) = itself r _ refl
+output d r g StageOutput.Stays = itself r _ refl
+output d r g (StageOutput.Opens m) = itself r _ refl
+output d r g (StageOutput.Waits w) = itself r _ refl
+output d r g (StageOutput.Starts a) = to d r (takes d g.machine g.tx a) g.caller None
+output d r g (StageOutput.Answers a m) = to d r (takes d g.machine g.tx a) g.caller m
+output d r g (StageOutput.Ends m o) = none r
 
 begins : (d : Deployment) (r : Run) (f : Option Func) (b : Option Body) → HasDeadlineOf r (begin_in d r f b).next
 begins d r f None = none r
 begins d r None (Some b) = none r
-begins d r (Some f) (Some b) = to d r (machine_begun d r.func b.args (is_some b.tx), within b.tx) b.from None
+begins d r (Some f) (Some b) = to d r (machine_begun d r.func b.args (is_some b.tx), inherited_tx b.tx) b.parent None
 
-told : (d : Deployment) (changes : ℕ) (r : Run) (at : RunAt) (t : Told) → HasDeadlineOf r (told_at d changes r at t).next
+told : (d : Deployment) (changes : ℕ) (r : Run) (at : RunAt) (t : QueryReply) → HasDeadlineOf r (told_at d changes r at t).next
 told d changes r Looks t = begins d r (func_at d r.func) (body_told r.func t)
 told d changes r (Registers b) t = begins d r (func_at d r.func) (body_registered r.func b t)
-told d changes r (Begins g) t = says d r g (stage_says r.id r.func g.caller g.tx changes g.machine.steps g.machine.effect g.stage t)
+told d changes r (Begins g) t = output d r g (stage_output r.id r.func g.caller g.tx changes g.machine.steps g.machine.effect g.stage t)
 
 called : (r : Run) (step f : ℕ) (at : RunAt) → HasDeadlineOf r (callee_run r step f at)
 called r step f at = either (HasDeadlineOf r) (has_callees r.id) _ _ (λ t. itself r _ refl) (λ t. none r)
@@ -68,11 +68,11 @@ callee r (Begins g) = by_effect r g.tx g.machine.steps g.machine.effect
 callee r at = none r
 
 -- what is so of each run with the deadline of a run, is so of what its turn leaves
-pub turn_leaves : (P : ℕ → Run → Type 0) (T : Query → Told → Type 0) (d : Deployment) (changes i next : ℕ) (r : Run) (t : Told) → ((k : Run) → k.deadline ≡ r.deadline → P i k × P next k) → Leaves P T i next r (run_told d changes r t)
+pub turn_leaves : (P : ℕ → Run → Type 0) (T : Query → QueryReply → Type 0) (d : Deployment) (changes i next : ℕ) (r : Run) (t : QueryReply) → ((k : Run) → k.deadline ≡ r.deadline → P i k × P next k) → Leaves P T i next r (run_told d changes r t)
 turn_leaves P T d changes i next r t same = record { goes = λ k is. (same k (told d changes r r.at t k is)).0; calls = λ starts k is. (same k (callee r r.at k is)).1 }
 
 -- ---- over any table
-abbrev Any : Query → Told → Type 0
+abbrev Any : Query → QueryReply → Type 0
 Any q t = Unit {0}
 
 module _ (d : Deployment) (c : Core) where
@@ -109,7 +109,7 @@ module _ (d : Deployment) (c : Core) where
   abbrev pub IsSoon : ℕ → Run → Type 0
   IsSoon n k = k.deadline ≤ last_of c.now d.life
 
-  pub soon_turn : (T : Query → Told → Type 0) → AreSoon d c → (i : ℕ) (r : Run) → map.get c.runs i ≡ Some r → (t : Told) → Leaves IsSoon T i (c.last_run + 1) r (run_told d (count_changes c.book) r t)
+  pub soon_turn : (T : Query → QueryReply → Type 0) → AreSoon d c → (i : ℕ) (r : Run) → map.get c.runs i ≡ Some r → (t : QueryReply) → Leaves IsSoon T i (c.last_run + 1) r (run_told d (count_changes c.book) r t)
   soon_turn T soon i r live t = let few = soon i r live in turn_leaves IsSoon T d (count_changes c.book) i (c.last_run + 1) r t (λ k same. (omega (arith, few, same), omega (arith, few, same)))
 
   soon_adds : AreSoon d c → (e : Event) → Adds IsSoon Any d e (counted c)

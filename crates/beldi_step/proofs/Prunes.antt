@@ -3,12 +3,12 @@ use Rattle.std.specs.declared.alloc.AllocError.{AllocError}
 use Rattle.std.proofs.Common.{◌≡◌, ◌≤◌, ℕ, Option, Some, None, Result, Ok, Err, refl, ap, sym, ◌∙◌, subst, inl, arith}
 use Rattle.beldi_tree.specs.declared.deployment.Deployment.{Deployment}
 use Rattle.beldi_row.{specs.Table.HasCause, specs.Table.Rows, specs.Table.TableState, specs.Table.Tells, specs.declared.table.TableErr.TableErr, proofs.Tells.tells_map}
-use Rattle.beldi_walk.{specs.Query.Told, specs.Walk.Heeds, proofs.Queries.same_rows}
-use Rattle.beldi_prune.{specs.Collectors.collector_at, specs.Laws.TurnedOn, proofs.Tables.tables_turned}
-use Rattle.beldi_step.specs.{Host.Core, Prunes.IsPruned, Prunes.PrunesBy, Prunes.PrunesOnBy, Prunes.PruningsOverAnyTable, Prunes.PruningsOverRows, Prunes.bar_of, Prunes.taken, declared.event.Pruned.Pruned}
+use Rattle.beldi_query.{specs.Query.QueryReply, specs.Walk.Heeds, proofs.Queries.same_rows}
+use Rattle.beldi_prune.{specs.Collectors.collector_at, specs.PruneLaws.TurnedOn, proofs.Tables.tables_turned}
+use Rattle.beldi_step.specs.{HostStep.Core, Prunes.IsPruned, Prunes.PrunesBy, Prunes.PrunesOnBy, Prunes.PruningsOverAnyTable, Prunes.PruningsOverRows, Prunes.bar_of, Prunes.taken, declared.event.Pruned.Pruned}
 
 -- where a walk heeds what its query came to, its error has a cause
-heeds : {W X : Type 0} (f : Told → W) (g : Told → X) (w x : W) (old new : ℕ) (s : Result X TableErr) (t : Result Told TableErr) → Heeds f g w x s t → HasCause old new t → HasCause old new s
+heeds : {W X : Type 0} (f : QueryReply → W) (g : QueryReply → X) (w x : W) (old new : ℕ) (s : Result X TableErr) (t : Result QueryReply TableErr) → Heeds f g w x s t → HasCause old new t → HasCause old new s
 heeds f g w x old new (Ok s) t h c = record { later = c.later; failed = λ is. let clash = is in cc }
 heeds f g w x old new (Err e) (Ok t) h c = record { later = c.later; failed = λ is. let clash = ap (λ z. Err z) (sym h.1) ∙ is in cc }
 heeds f g w x old new (Err e) (Err v) h c = record { later = c.later; failed = λ is. let out : e ≡ TableErr.Failed = cc in c.failed (ap (λ z. Err z) (sym h.1 ∙ out)) }

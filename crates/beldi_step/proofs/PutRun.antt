@@ -3,7 +3,7 @@ use Rattle.std.specs.{FinMap.FinMap, FinMap.nat_cmp-IsAntisymmetric, FinMap.get-
 use Rattle.std.specs.FinMap as map
 use Rattle.std.proofs.lemmas.Cmp.{tied_itself}
 use Rattle.std.proofs.Common.{◌≡◌, ℕ, Bool, true, false, cond, Option, None, Some, refl, ap, sym, ◌∙◌}
-use Rattle.beldi_step.specs.{Host.put_run, declared.run.Run.Run}
+use Rattle.beldi_step.specs.{HostStep.put_run, declared.run.Run.Run}
 
 pub put_got : (m : FinMap nat_cmp Run) (i : ℕ) (o : Option Run) (j : ℕ) → map.get (put_run m i o) j ≡ cond (is_eq (nat_cmp j i)) o (map.get m j)
 put_got m i None j = get-remove nat_cmp_total m i j

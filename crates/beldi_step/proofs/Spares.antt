@@ -4,15 +4,15 @@ use Rattle.std.proofs.Common.{◌≡◌, ℕ, Bool, true, false, nat_lt, Option,
 use Rattle.beldi_value.specs.declared.{id.IntentId.IntentId, place.Caller.Caller}
 use Rattle.beldi_lang.specs.declared.effect.Effect.{Effect}
 use Rattle.beldi_tree.specs.declared.deployment.Deployment.{Deployment}
-use Rattle.beldi_walk.specs.Query.{may_remove}
-use Rattle.beldi_step.proofs.Runs.{either, of_plan}
-use Rattle.beldi_step.specs.Host.{Core, Plan, asks, at_once, counted, crash_plan, in_time, last_moment, no_run, plan, plan_of, reads_all, request_plan, run_plan, is_crowded}
+use Rattle.beldi_query.specs.Query.{may_remove}
+use Rattle.beldi_step.proofs.StepRuns.{either, of_plan}
+use Rattle.beldi_step.specs.HostStep.{Core, Plan, asks, immediate, counted, crash_plan, in_time, last_moment, no_run, plan, plan_of, reads_all, request_plan, run_plan, is_crowded}
 use Rattle.beldi_step.specs.{declared.event.Event.Event, declared.run.Run.Run, declared.run.RunAt.RunAt, declared.run.RunTx.RunTx, declared.run.Stage.Stage, Run.asks_at, Run.run_asks, Run.stage_asks}
 
 pub stage_spares : (id : IntentId) (func : ℕ) (c : Option Caller) (o : Option RunTx) (step : ℕ) (e : Effect) (w : Stage) → may_remove (stage_asks id func c o step e w) ≡ false
 stage_spares id func c o step e Stage.Ask = refl
 stage_spares id func c o step e (Stage.Walk r) = grind arith
-stage_spares id func c o step e (Stage.Keep v seen) = refl
+stage_spares id func c o step e (Stage.Keep v version) = refl
 stage_spares id func c o step e (Stage.Write at) = grind arith
 stage_spares id func c o step e (Stage.Tx at) = grind arith
 stage_spares id func c o step e (Stage.Decide m) = grind arith
@@ -20,7 +20,7 @@ stage_spares id func c o step e (Stage.End v) = grind arith
 stage_spares id func c o step e (Stage.Call at) = grind arith
 stage_spares id func c o step e (Stage.Async at) = grind arith
 stage_spares id func c o step e Stage.Back = grind arith
-stage_spares id func c o step e Stage.Tell = grind arith
+stage_spares id func c o step e Stage.Notify = grind arith
 stage_spares id func c o step e Stage.Close = grind arith
 
 pub run_spares : (r : Run) → may_remove (run_asks r) ≡ false

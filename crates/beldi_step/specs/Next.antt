@@ -4,7 +4,7 @@ use Rattle.std.specs.Prelude.{◌≡◌, ℕ, nat_lt, false, List, [], ◌∷◌
 use Rattle.std.specs.FinMap as map
 use Rattle.std.specs.declared.cmp.Ordering.TheVariants.{Less}
 use Rattle.beldi_row.specs.{Key.RowKey, Key.key_cmp, Key.least_key, declared.row.Row.Row, Table.Rows, Table.is_open}
-use Rattle.beldi_step.specs.Host.{Core}
+use Rattle.beldi_step.specs.HostStep.{Core}
 use Rattle.beldi_step.specs.declared.run.Run.{Run}
 
 -- the first of these runs, which are in order, past a number

@@ -3,23 +3,23 @@ use Rattle.std.specs.Prelude.{◌≡◌, ◌≤◌, ◌⊎◌, ℕ, nat_lt, if�
 use Rattle.std.specs.declared.alloc.AllocError.{AllocError}
 use Rattle.beldi_tree.specs.declared.deployment.Deployment.{Deployment}
 use Rattle.beldi_row.specs.{declared.table.TableErr.TableErr, Table.Rows, Table.TableState, Table.Tells, Table.HasCause, Table.AtMostOne}
-use Rattle.beldi_walk.specs.Walk.{Turned}
-use Rattle.beldi_prune.specs.{Collectors.collector_at, Collectors.first_collectors, Collectors.set_collector, Laws.TurnedOn, Prune.anew, Prune.prune_asks, Prune.prune_next, Prune.prune_says}
-use Rattle.beldi_prune.specs.declared.{collector.LogCollector.LogCollector, collector.GcSays.GcSays}
-use Rattle.beldi_step.specs.Host.{Core, EventOn, counted, most_events}
-use Rattle.beldi_step.specs.declared.event.{Event.Event, Pruned.Pruned, Seen.Seen}
+use Rattle.beldi_query.specs.Walk.{Turned}
+use Rattle.beldi_prune.specs.{Collectors.collector_at, Collectors.first_collectors, Collectors.set_collector, PruneLaws.TurnedOn, Prune.anew, Prune.prune_asks, Prune.prune_next, Prune.prune_output}
+use Rattle.beldi_prune.specs.declared.{collector.LogCollector.LogCollector, collector.GcOutput.GcOutput}
+use Rattle.beldi_step.specs.HostStep.{Core, EventOn, counted, most_events}
+use Rattle.beldi_step.specs.declared.event.{Event.Event, Pruned.Pruned, EventReply.EventReply}
 
 -- ---- what it is answered
-abbrev pub says_pruned : GcSays → Pruned
-says_pruned GcSays.Going = Pruned.Going
-says_pruned GcSays.Marked = Pruned.Marked
-says_pruned GcSays.Skipped = Pruned.Skipped
-says_pruned GcSays.Dangled = Pruned.Dangled
-says_pruned GcSays.Removed = Pruned.Removed
-says_pruned GcSays.Round = Pruned.Round
+abbrev pub output_pruned : GcOutput → Pruned
+output_pruned GcOutput.Going = Pruned.Going
+output_pruned GcOutput.Marked = Pruned.Marked
+output_pruned GcOutput.Skipped = Pruned.Skipped
+output_pruned GcOutput.Dangled = Pruned.Dangled
+output_pruned GcOutput.Removed = Pruned.Removed
+output_pruned GcOutput.Round = Pruned.Round
 
-abbrev pub pruned_by : Result GcSays TableErr → Result Pruned AllocError
-pruned_by (Ok s) = Ok (says_pruned s)
+abbrev pub pruned_by : Result GcOutput TableErr → Result Pruned AllocError
+pruned_by (Ok s) = Ok (output_pruned s)
 pruned_by (Err TableErr.OutOfMemory) = Err (record {})
 pruned_by (Err TableErr.Failed) = Ok Pruned.Dropped
 pruned_by (Err (TableErr.Full live room)) = Ok Pruned.Dropped
@@ -40,8 +40,8 @@ bar_of c = if nat_lt c.taken most_events then (if c.shut then Some Pruned.Shut e
 -- one witness says what the collector came to, and one where it stands then
 abbrev pub PrunesBy : Option Pruned → Deployment → ℕ → Core → Core → TableState → TableState → Result Pruned AllocError → Type 0
 PrunesBy (Some y) d k c z old new r = (z ≡ c) × (r ≡ Ok y) × (new ≡ old)
-PrunesBy None d k c z old new r = let w = collector_at c.collectors k in (s : Result GcSays TableErr) × (x : LogCollector)
-    × Turned (prune_asks d.life w) c.now (prune_next c.newest d.life c.now w) (prune_says w) (anew w) x old new s × (z ≡ with_collector c k x) × (r ≡ pruned_by s)
+PrunesBy None d k c z old new r = let w = collector_at c.collectors k in (s : Result GcOutput TableErr) × (x : LogCollector)
+    × Turned (prune_asks d.life w) c.now (prune_next c.newest d.life c.now w) (prune_output w) (anew w) x old new s × (z ≡ with_collector c k x) × (r ≡ pruned_by s)
 
 -- what a call that makes a turn of the collector of this number does
 abbrev pub Prunes : Deployment → ℕ → Core → Core → TableState → TableState → Result Pruned AllocError → Type 0
@@ -50,7 +50,7 @@ Prunes d k c z old new r = PrunesBy (bar_of c) d k (taken c) z old new r
 -- .. and over rows that are told: from the core c and the rows m it leaves z and n. The table's count of failures was `old` before, and is `new` now.
 abbrev pub PrunesOnBy : Option Pruned → Deployment → ℕ → ℕ → ℕ → Core → Rows → Core → Rows → Result Pruned AllocError → Type 0
 PrunesOnBy (Some y) d old new k c m z n r = (z ≡ c) × (r ≡ Ok y) × (n ≡ m) × (new ≡ old)
-PrunesOnBy None d old new k c m z n r = (s : Result GcSays TableErr) × (x : LogCollector)
+PrunesOnBy None d old new k c m z n r = (s : Result GcOutput TableErr) × (x : LogCollector)
     × TurnedOn c.newest d.life c.now (collector_at c.collectors k) x m n s × (z ≡ with_collector c k x) × (r ≡ pruned_by s) × HasCause old new s
 
 abbrev pub PrunesOn : Deployment → ℕ → ℕ → ℕ → Core → Rows → Core → Rows → Result Pruned AllocError → Type 0
@@ -71,4 +71,4 @@ PruningsOverAnyTable = (d : Deployment) (k : ℕ) (c b : Core) (old new : TableS
 
 -- an event leaves the collectors where they stand; after a halt they stand before all rows
 abbrev pub CollectorsStay : Type 0
-CollectorsStay = (d : Deployment) (room old new : ℕ) (e : Event) (c b : Core) (m n : Rows) (r : Result Seen AllocError) → EventOn d room old new e c m b n r → (b.collectors ≡ c.collectors) ⊎ (b.collectors ≡ first_collectors)
+CollectorsStay = (d : Deployment) (room old new : ℕ) (e : Event) (c b : Core) (m n : Rows) (r : Result EventReply AllocError) → EventOn d room old new e c m b n r → (b.collectors ≡ c.collectors) ⊎ (b.collectors ≡ first_collectors)

@@ -4,18 +4,18 @@ use Rattle.beldi_value.specs.{Id.has_callees, Id.has_no_hops, Id.child_of, decla
 use Rattle.beldi_tree.specs.{declared.deployment.Deployment.Deployment, declared.deployment.Func.Func, Bindings.or_null, Names.func_at}
 use Rattle.beldi_lang.specs.{declared.effect.Effect.Effect, declared.effect.Answer.Answer, Callee.answer_of, declared.machine.Machine.Machine, Machine.begun as machine_begun, Machine.resumed}
 use Rattle.beldi_row.specs.{declared.act.Act.TheVariants.Look, declared.act.Act.TheVariants.PutRead, Key.at_row, declared.row.Body.Body, Act.added, declared.notes.Note.Note, declared.notes.Note.TheVariants.Wrote, declared.notes.Note.TheVariants.Cond, declared.notes.Note.TheVariants.Got, declared.notes.Note.TheVariants.Died, declared.notes.Note.TheVariants.Freed}
-use Rattle.beldi_walk.specs.{declared.query.Query.Query, declared.query.Query.TheVariants.Act, Query.Told, Query.said}
+use Rattle.beldi_query.specs.{declared.query.Query.Query, declared.query.Query.TheVariants.Act, Query.QueryReply, Query.replied}
 use Rattle.beldi_daal.specs.{declared.cell.WriteAt.WriteAt, declared.cell.WriteAt.TheVariants.Try, declared.cell.WriteGoes.WriteGoes, declared.cell.ReadGoes.ReadGoes, declared.cell.CellOp.CellOp, Cell.cell_key, Cell.done_note, Cell.write_asks, Cell.write_goes, Cell.read_goes}
 use Rattle.beldi_readlog.specs.{declared.read_log.Kept.Kept, ReadLog.log_key, ReadLog.given_of, ReadLog.kept_of}
 use Rattle.beldi_invokelog.specs.InvokeLog.{back_asks, registered_asks, back_of}
 use Rattle.beldi_invokelog.specs.declared.invoke_log.Back as told
 use Rattle.beldi_invokelog.specs.declared.invoke_log.Back.TheVariants as back
 use Rattle.beldi_intent.specs.Intent.{look_asks, register_asks, end_asks, is_did, body_in, body_told}
-use Rattle.beldi_txn.specs.{declared.tx.TxAt.TxAt, declared.tx.TxGoes.TxGoes, declared.end.EndGoes.EndGoes, declared.end.Visit.Visit, Tx.tx_first, Tx.tx_asks, Tx.tx_goes, End.first_visit, End.visit_asks, End.end_goes, End.moved}
-use Rattle.beldi_call.specs.{declared.call.CallAt.CallAt, declared.call.CallSays.CallSays, declared.call.CallSays.TheVariants.Opened, declared.call.CallSays.TheVariants.NotYet, declared.call.CallSays.TheVariants.Done, Call.call_asks, Call.call_says, declared.async_call.AsyncAt.AsyncAt, declared.async_call.AsyncSays.AsyncSays, Async.async_asks, Async.async_says}
-use Rattle.beldi_step.specs.declared.run.Stage.TheVariants.{Ask, Walk, Keep, Write, Tx, Decide, End, Call, Async, Back, Tell, Close}
-use Rattle.beldi_step.specs.declared.run.Says.TheVariants.{On, Stays, Opens, Starts, Waits, Answers, Ends}
-use Rattle.beldi_step.specs.{declared.run.Mark.Mark, declared.run.Wait.Wait, declared.run.Run.Run, declared.run.RunAt.RunAt, declared.run.RunAt.TheVariants.Looks, declared.run.RunAt.TheVariants.Registers, declared.run.RunAt.TheVariants.Begins, declared.run.Begun.Begun, declared.run.OpenTx.OpenTx, declared.run.RunTx.RunTx, declared.run.RunTx.TheVariants.Own, declared.run.RunTx.TheVariants.Inherited, declared.run.TurnSays.TurnSays, declared.run.Stage.Stage, declared.run.Says.Says, Noted.noted_answer}
+use Rattle.beldi_txn.specs.{declared.tx.TxAt.TxAt, declared.tx.TxGoes.TxGoes, declared.end.EndGoes.EndGoes, declared.end.EndState.EndState, Tx.tx_first, Tx.tx_asks, Tx.tx_goes, End.first_visit, End.visit_asks, End.end_goes, End.end_after}
+use Rattle.beldi_call.specs.{declared.call.CallAt.CallAt, declared.call.CallOutput.CallOutput, declared.call.CallOutput.TheVariants.Opened, declared.call.CallOutput.TheVariants.NotYet, declared.call.CallOutput.TheVariants.Done, Call.call_asks, Call.call_output, declared.async_call.AsyncAt.AsyncAt, declared.async_call.AsyncOutput.AsyncOutput, Async.async_asks, Async.async_output}
+use Rattle.beldi_step.specs.declared.run.Stage.TheVariants.{Ask, Walk, Keep, Write, Tx, Decide, End, Call, Async, Back, Notify, Close}
+use Rattle.beldi_step.specs.declared.run.StageOutput.TheVariants.{On, Stays, Opens, Starts, Waits, Answers, Ends}
+use Rattle.beldi_step.specs.{declared.run.Mark.Mark, declared.run.Wait.Wait, declared.run.Run.Run, declared.run.RunAt.RunAt, declared.run.RunAt.TheVariants.Looks, declared.run.RunAt.TheVariants.Registers, declared.run.RunAt.TheVariants.Begins, declared.run.Begun.Begun, declared.run.OpenTx.OpenTx, declared.run.RunTx.RunTx, declared.run.RunTx.TheVariants.Own, declared.run.RunTx.TheVariants.Inherited, declared.run.TurnOutput.TurnOutput, declared.run.Stage.Stage, declared.run.StageOutput.StageOutput, Noted.noted_answer}
 
 -- the place of a run's effect at a step
 abbrev pub place_of : IntentId → ℕ → Place
@@ -41,9 +41,9 @@ begin_of (Own o) = o.begin
 begin_of (Inherited x) = x.begin
 
 -- the transaction of a body: what is called in one is in it throughout
-abbrev pub within : Option TxId → Option RunTx
-within None = None
-within (Some x) = Some (Inherited x)
+abbrev pub inherited_tx : Option TxId → Option RunTx
+inherited_tx None = None
+inherited_tx (Some x) = Some (Inherited x)
 
 abbrev pub is_inherited : Option RunTx → Bool
 is_inherited None = false
@@ -63,21 +63,21 @@ open_after step e a o = with_cause a o
 
 -- the mark of a transaction that leaves nothing, by the cause of what was aborted in it; where a fault ends it nothing was, and its
 -- place is that of the end
-abbrev pub try_mark : IntentId → ℕ → Option Cause → Mark
-try_mark id step (Some c) = Mark.Try c.place c.holder
-try_mark id step None = Mark.Try (place_of id step) None
+abbrev pub abort_mark : IntentId → ℕ → Option Cause → Mark
+abort_mark id step (Some c) = Mark.AbortedTx c.place c.holder
+abort_mark id step None = Mark.AbortedTx (place_of id step) None
 
 -- the mark of the decision
 abbrev pub end_mark : IntentId → ℕ → Option Cause → Bool → Mark
-end_mark id step c true = Mark.Tx
-end_mark id step c false = try_mark id step c
+end_mark id step c true = Mark.CommittedTx
+end_mark id step c false = abort_mark id step c
 
 -- ---- what takes no turn
 -- the answer that takes no turn: of a Begin, and of an Abort
-abbrev pub answer_at_once : IntentId → ℕ → Effect → Option Answer
-answer_at_once id step Effect.Begin = Some Answer.Done
-answer_at_once id step Effect.Abort = Some (Answer.Aborted (record { place = place_of id step; holder = None }))
-answer_at_once id step e = None
+abbrev pub local_answer : IntentId → ℕ → Effect → Option Answer
+local_answer id step Effect.Begin = Some Answer.Done
+local_answer id step Effect.Abort = Some (Answer.Aborted (record { place = place_of id step; holder = None }))
+local_answer id step e = None
 
 -- a machine and the transaction that it is in, after an answer
 abbrev pub takes : Deployment → Machine → Option RunTx → Answer → Machine × Option RunTx
@@ -91,12 +91,12 @@ abbrev pub takes_if : Deployment → Machine → Option RunTx → Option Answer 
 takes_if d m o None = (m, o)
 takes_if d m o (Some a) = takes d m o a
 
-abbrev pub once : Deployment → IntentId → Machine × Option RunTx → Machine × Option RunTx
-once d id s = takes_if d s.0 s.1 (answer_at_once id s.0.steps s.0.effect)
+abbrev pub local_step : Deployment → IntentId → Machine × Option RunTx → Machine × Option RunTx
+local_step d id s = takes_if d s.0 s.1 (local_answer id s.0.steps s.0.effect)
 
 -- after a Begin comes no Begin, and after an Abort neither: so twice is enough
-abbrev pub at_once : Deployment → IntentId → Machine × Option RunTx → Machine × Option RunTx
-at_once d id s = once d id (once d id s)
+abbrev pub local_steps : Deployment → IntentId → Machine × Option RunTx → Machine × Option RunTx
+local_steps d id s = local_step d id (local_step d id s)
 
 -- ---- an operation on an item
 -- the operation of an effect, and its item
@@ -144,7 +144,7 @@ is_waited (Some c) = c.waits
 -- it is registered
 abbrev pub last_stage : Option Caller → Stage
 last_stage None = Close
-last_stage (Some c) = if c.waits then Back else Tell
+last_stage (Some c) = if c.waits then Back else Notify
 
 -- an operation on an item begins so outside a transaction; inside, with its lock or with what was kept for it
 abbrev pub first_of : Stage → Effect → Option RunTx → Stage
@@ -191,12 +191,12 @@ tx_here_asks id func step e at (Some o) = tx_asks func (place_of id step) (tx_of
 tx_here_asks id func step e at None = look_asks id func
 
 -- the end of a transaction
-abbrev pub end_by_asks : IntentId → ℕ → ℕ → Bool → Visit → Option RunTx → Query
-end_by_asks id func step commit v (Some (Own o)) = visit_asks (own_tx id func o) step commit v.way v.after v.item v.value v.at
+abbrev pub end_by_asks : IntentId → ℕ → ℕ → Bool → EndState → Option RunTx → Query
+end_by_asks id func step commit v (Some (Own o)) = visit_asks (own_tx id func o) step commit v.path v.after v.item v.value v.at
 end_by_asks id func step commit v (Some (Inherited x)) = look_asks id func
 end_by_asks id func step commit v None = look_asks id func
 
-abbrev pub end_here_asks : IntentId → ℕ → ℕ → Effect → Visit → Option RunTx → Query
+abbrev pub end_here_asks : IntentId → ℕ → ℕ → Effect → EndState → Option RunTx → Query
 end_here_asks id func step (Effect.End commit) v o = end_by_asks id func step commit v o
 end_here_asks id func step e v o = look_asks id func
 
@@ -206,15 +206,15 @@ call_here_asks id func step e at = look_asks id func
 
 -- the body of what is called, in this transaction, if any
 abbrev pub callee_body : IntentId → ℕ → ℕ → ℕ → Value → Option TxId → Bool → Body
-callee_body id func step f a x waits = record { func = f; args = a; tx = x; from = Some (record { place = place_of id step; func = func; waits = waits }) }
+callee_body id func step f a x waits = record { func = f; args = a; tx = x; parent = Some (record { place = place_of id step; func = func; waits = waits }) }
 
 abbrev pub async_here_asks : IntentId → ℕ → ℕ → Effect → AsyncAt → Query
 async_here_asks id func step (Effect.Async f a) at = if has_callees id then async_asks func (place_of id step) (callee_body id func step f a None false) at else look_asks id func
 async_here_asks id func step e at = look_asks id func
 
-abbrev pub tell_asks : IntentId → ℕ → Option Caller → Query
-tell_asks id func None = look_asks id func
-tell_asks id func (Some c) = registered_asks c.func c.place
+abbrev pub notify_asks : IntentId → ℕ → Option Caller → Query
+notify_asks id func None = look_asks id func
+notify_asks id func (Some c) = registered_asks c.func c.place
 
 abbrev pub back_to_asks : IntentId → ℕ → Option Caller → Effect → Query
 back_to_asks id func (Some c) (Effect.Return o) = back_asks c.func c.place o
@@ -228,7 +228,7 @@ close_asks id func o e = look_asks id func
 abbrev pub stage_asks : IntentId → ℕ → Option Caller → Option RunTx → ℕ → Effect → Stage → Query
 stage_asks id func c o step e Ask = Act (log_key func (place_of id step)) Look
 stage_asks id func c o step e (Walk row) = walk_asks id func row e
-stage_asks id func c o step e (Keep v seen) = Act (log_key func (place_of id step)) (PutRead v)
+stage_asks id func c o step e (Keep v version) = Act (log_key func (place_of id step)) (PutRead v)
 stage_asks id func c o step e (Write at) = put_asks id func step at (cell_op e)
 stage_asks id func c o step e (Tx at) = tx_here_asks id func step e at o
 stage_asks id func c o step e (Decide m) = end_here_asks id func step e first_visit o
@@ -236,7 +236,7 @@ stage_asks id func c o step e (End v) = end_here_asks id func step e v o
 stage_asks id func c o step e (Call at) = call_here_asks id func step e at
 stage_asks id func c o step e (Async at) = async_here_asks id func step e at
 stage_asks id func c o step e Back = back_to_asks id func c e
-stage_asks id func c o step e Tell = tell_asks id func c
+stage_asks id func c o step e Notify = notify_asks id func c
 stage_asks id func c o step e Close = close_asks id func o e
 
 abbrev pub asks_at : Run → RunAt → Query
@@ -259,114 +259,114 @@ step_mark None first = mark_if first Mark.Step
 step_mark (Some o) first = None
 
 -- what was given to a read before is its answer
-abbrev pub ask_says : Option Value → Says
-ask_says None = On (Walk 0) None
-ask_says (Some v) = Answers (Answer.Value v) None
+abbrev pub ask_output : Option Value → StageOutput
+ask_output None = On (Walk 0) None
+ask_output (Some v) = Answers (Answer.Value v) None
 
 -- what a read found, when so many changes had been made. An item without a row is null.
-abbrev pub walk_says : ℕ → ReadGoes → Says
-walk_says changes (ReadGoes.On row) = On (Walk row) None
-walk_says changes ReadGoes.Stays = Stays
-walk_says changes (ReadGoes.Got v) = On (Keep (or_null v) changes) None
-walk_says changes (ReadGoes.Held o) = Waits (Wait.Held o)
+abbrev pub walk_output : ℕ → ReadGoes → StageOutput
+walk_output changes (ReadGoes.On row) = On (Walk row) None
+walk_output changes ReadGoes.Stays = Stays
+walk_output changes (ReadGoes.Got v) = On (Keep (or_null v) changes) None
+walk_output changes (ReadGoes.Held o) = Waits (Wait.Held o)
 
 -- what is kept for a read is its answer, whoever kept it
-abbrev pub keep_says : ℕ → Kept → Says
-keep_says seen k = Answers (Answer.Value k.value) (mark_if k.added (Mark.Read seen))
+abbrev pub keep_output : ℕ → Kept → StageOutput
+keep_output version k = Answers (Answer.Value k.value) (mark_if k.added (Mark.Read version))
 
 -- an operation whose place has its note was made; a note of another kind, which no session leaves there, ends the run
-abbrev pub done_says : Bool → Option Answer → Says
-done_says first (Some a) = Answers a (mark_if first Mark.Step)
-done_says first None = Ends None None
+abbrev pub done_output : Bool → Option Answer → StageOutput
+done_output first (Some a) = Answers a (mark_if first Mark.Step)
+done_output first None = Ends None None
 
 -- a run that is to give back what it does not own is over; no session comes to that
-abbrev pub write_says : Effect → WriteGoes → Says
-write_says e (WriteGoes.On at) = On (Write at) None
-write_says e WriteGoes.Stays = Stays
-write_says e (WriteGoes.Done n first) = done_says first (answer_noted e n)
-write_says e WriteGoes.NotOwner = Ends None None
-write_says e (WriteGoes.Held w) = Waits (Wait.Held w)
-write_says e WriteGoes.Worn = Waits Wait.Worn
+abbrev pub write_output : Effect → WriteGoes → StageOutput
+write_output e (WriteGoes.On at) = On (Write at) None
+write_output e WriteGoes.Stays = Stays
+write_output e (WriteGoes.Done n first) = done_output first (answer_noted e n)
+write_output e WriteGoes.NotOwner = Ends None None
+write_output e (WriteGoes.Held w) = Waits (Wait.Held w)
+write_output e WriteGoes.Worn = Waits Wait.Worn
 
-abbrev pub put_says : Effect → WriteAt → Option Note → Told → Says
-put_says e at None t = Ends None None
-put_says e at (Some n) t = write_says e (write_goes n at t)
+abbrev pub put_output : Effect → WriteAt → Option Note → QueryReply → StageOutput
+put_output e at None t = Ends None None
+put_output e at (Some n) t = write_output e (write_goes n at t)
 
 -- what happens inside a transaction makes no entry. A value that was kept now is the answer.
-abbrev pub put_answer : TxAt → Says
+abbrev pub put_answer : TxAt → StageOutput
 put_answer (TxAt.Keep v) = Answers (Answer.Value v) None
 put_answer a = Stays
 
-abbrev pub tx_says : TxAt → TxGoes → Says
-tx_says a (TxGoes.On b) = On (Tx b) None
-tx_says a TxGoes.Stays = Stays
-tx_says a TxGoes.Put = put_answer a
-tx_says a (TxGoes.Died c) = Answers (Answer.Aborted c) None
-tx_says a (TxGoes.Held o) = Waits (Wait.Held o)
-tx_says a TxGoes.Worn = Waits Wait.Worn
-tx_says a (TxGoes.Value v) = Answers (Answer.Value v) None
-tx_says a TxGoes.Done = Answers Answer.Done None
+abbrev pub tx_output : TxAt → TxGoes → StageOutput
+tx_output a (TxGoes.On b) = On (Tx b) None
+tx_output a TxGoes.Stays = Stays
+tx_output a TxGoes.Put = put_answer a
+tx_output a (TxGoes.Died c) = Answers (Answer.Aborted c) None
+tx_output a (TxGoes.Held o) = Waits (Wait.Held o)
+tx_output a TxGoes.Worn = Waits Wait.Worn
+tx_output a (TxGoes.Value v) = Answers (Answer.Value v) None
+tx_output a TxGoes.Done = Answers Answer.Done None
 
-abbrev pub tx_here_says : IntentId → ℕ → Effect → TxAt → Option RunTx → Told → Says
-tx_here_says id step e a (Some o) t = tx_says a (tx_goes (place_of id step) (begin_of o) e a t)
-tx_here_says id step e a None t = Ends None None
+abbrev pub tx_here_output : IntentId → ℕ → Effect → TxAt → Option RunTx → QueryReply → StageOutput
+tx_here_output id step e a (Some o) t = tx_output a (tx_goes (place_of id step) (begin_of o) e a t)
+tx_here_output id step e a None t = Ends None None
 
 -- the decision has its mark where this act put it
-abbrev pub decided_says : Bool → Mark → EndGoes → Says
-decided_says commit m (EndGoes.Decided first) = On (End (moved commit first_visit (EndGoes.Decided first))) (mark_if first m)
-decided_says commit m g = On (Decide m) None
+abbrev pub decided_output : Bool → Mark → EndGoes → StageOutput
+decided_output commit m (EndGoes.Decided first) = On (End (end_after commit first_visit (EndGoes.Decided first))) (mark_if first m)
+decided_output commit m g = On (Decide m) None
 
 -- the end is answered when all items were given back
-abbrev pub visit_says : Bool → Visit → EndGoes → Says
-visit_says commit v EndGoes.Done = Answers Answer.Done None
-visit_says commit v EndGoes.Worn = Waits Wait.Worn
-visit_says commit v g = On (End (moved commit v g)) None
+abbrev pub visit_output : Bool → EndState → EndGoes → StageOutput
+visit_output commit v EndGoes.Done = Answers Answer.Done None
+visit_output commit v EndGoes.Worn = Waits Wait.Worn
+visit_output commit v g = On (End (end_after commit v g)) None
 
-abbrev pub decide_by_says : IntentId → ℕ → ℕ → Bool → Mark → Option RunTx → Told → Says
-decide_by_says id func step commit m (Some (Own o)) t = decided_says commit m (end_goes (own_tx id func o) step commit first_visit.way first_visit.at t)
-decide_by_says id func step commit m (Some (Inherited x)) t = Ends None None
-decide_by_says id func step commit m None t = Ends None None
+abbrev pub decide_by_output : IntentId → ℕ → ℕ → Bool → Mark → Option RunTx → QueryReply → StageOutput
+decide_by_output id func step commit m (Some (Own o)) t = decided_output commit m (end_goes (own_tx id func o) step commit first_visit.path first_visit.at t)
+decide_by_output id func step commit m (Some (Inherited x)) t = Ends None None
+decide_by_output id func step commit m None t = Ends None None
 
-abbrev pub end_by_says : IntentId → ℕ → ℕ → Bool → Visit → Option RunTx → Told → Says
-end_by_says id func step commit v (Some (Own o)) t = visit_says commit v (end_goes (own_tx id func o) step commit v.way v.at t)
-end_by_says id func step commit v (Some (Inherited x)) t = Ends None None
-end_by_says id func step commit v None t = Ends None None
+abbrev pub end_by_output : IntentId → ℕ → ℕ → Bool → EndState → Option RunTx → QueryReply → StageOutput
+end_by_output id func step commit v (Some (Own o)) t = visit_output commit v (end_goes (own_tx id func o) step commit v.path v.at t)
+end_by_output id func step commit v (Some (Inherited x)) t = Ends None None
+end_by_output id func step commit v None t = Ends None None
 
-abbrev pub decide_here_says : IntentId → ℕ → ℕ → Effect → Mark → Option RunTx → Told → Says
-decide_here_says id func step (Effect.End commit) m o t = decide_by_says id func step commit m o t
-decide_here_says id func step e m o t = Ends None None
+abbrev pub decide_here_output : IntentId → ℕ → ℕ → Effect → Mark → Option RunTx → QueryReply → StageOutput
+decide_here_output id func step (Effect.End commit) m o t = decide_by_output id func step commit m o t
+decide_here_output id func step e m o t = Ends None None
 
-abbrev pub end_here_says : IntentId → ℕ → ℕ → Effect → Visit → Option RunTx → Told → Says
-end_here_says id func step (Effect.End commit) v o t = end_by_says id func step commit v o t
-end_here_says id func step e v o t = Ends None None
+abbrev pub end_here_output : IntentId → ℕ → ℕ → Effect → EndState → Option RunTx → QueryReply → StageOutput
+end_here_output id func step (Effect.End commit) v o t = end_by_output id func step commit v o t
+end_here_output id func step e v o t = Ends None None
 
 -- how the callee ended is the answer to the call; where it has not, the run has opened the call, or waits
-abbrev pub call_answer : IntentId → Option RunTx → ℕ → CallSays → Says
+abbrev pub call_answer : IntentId → Option RunTx → ℕ → CallOutput → StageOutput
 call_answer id o step (Opened first) = Opens (step_mark o first)
 call_answer id o step NotYet = Waits (Wait.Result (child_of id step))
 call_answer id o step (Done x) = Answers (answer_of x) None
 
-abbrev pub call_here_says : IntentId → Option RunTx → ℕ → Effect → CallAt → Told → Says
-call_here_says id o step (Effect.Call f a) at t = if has_callees id then call_answer id o step (call_says f at t) else Ends None None
-call_here_says id o step e at t = Ends None None
+abbrev pub call_here_output : IntentId → Option RunTx → ℕ → Effect → CallAt → QueryReply → StageOutput
+call_here_output id o step (Effect.Call f a) at t = if has_callees id then call_answer id o step (call_output f at t) else Ends None None
+call_here_output id o step e at t = Ends None None
 
 -- a call that nobody waits for makes its step as it is opened; once it is registered, a run of the callee may start
-abbrev pub async_answer : AsyncAt → AsyncSays → Says
-async_answer at (AsyncSays.Opened first) = On (Async AsyncAt.Register) (mark_if first Mark.Step)
-async_answer at AsyncSays.Going = On (Async AsyncAt.Note) None
-async_answer AsyncAt.Note AsyncSays.Done = Starts Answer.Done
-async_answer at AsyncSays.Done = Answers Answer.Done None
+abbrev pub async_answer : AsyncAt → AsyncOutput → StageOutput
+async_answer at (AsyncOutput.Opened first) = On (Async AsyncAt.Register) (mark_if first Mark.Step)
+async_answer at AsyncOutput.Going = On (Async AsyncAt.Note) None
+async_answer AsyncAt.Note AsyncOutput.Done = Starts Answer.Done
+async_answer at AsyncOutput.Done = Answers Answer.Done None
 
-abbrev pub async_here_says : IntentId → Effect → AsyncAt → Told → Says
-async_here_says id (Effect.Async f a) at t = if has_callees id then async_answer at (async_says f at t) else Ends None None
-async_here_says id e at t = Ends None None
+abbrev pub async_here_output : IntentId → Effect → AsyncAt → QueryReply → StageOutput
+async_here_output id (Effect.Async f a) at t = if has_callees id then async_answer at (async_output f at t) else Ends None None
+async_here_output id e at t = Ends None None
 
 -- the outcome was given back, and the step that gave it was made once, which has no entry where the instance was called in a
 -- transaction; then the instance is ended
-abbrev pub back_says : Option RunTx → told.Back → Says
-back_says o back.Set = On Close (mark_if (not (is_inherited o)) Mark.Step)
-back_says o back.AlreadySet = On Close None
-back_says o back.Absent = On Close None
+abbrev pub back_output : Option RunTx → told.Back → StageOutput
+back_output o back.Set = On Close (mark_if (not (is_inherited o)) Mark.Step)
+back_output o back.AlreadySet = On Close None
+back_output o back.Absent = On Close None
 
 -- the first end of a root gives its reply
 abbrev pub reply_if : Bool → Outcome → Option Outcome
@@ -374,26 +374,26 @@ reply_if true o = Some o
 reply_if false o = None
 
 -- the end of what its caller waits for makes no step: its outcome was given back
-abbrev pub close_says : IntentId → Option Caller → Effect → Bool → Says
-close_says id c (Effect.Return o) true = Ends (mark_if (not (is_waited c)) Mark.Step) (reply_if (has_no_hops id.hops) o)
-close_says id c e b = Ends None None
+abbrev pub close_output : IntentId → Option Caller → Effect → Bool → StageOutput
+close_output id c (Effect.Return o) true = Ends (mark_if (not (is_waited c)) Mark.Step) (reply_if (has_no_hops id.hops) o)
+close_output id c e b = Ends None None
 
 -- `changes` is how many changes had been made
-abbrev pub stage_says : IntentId → ℕ → Option Caller → Option RunTx → ℕ → ℕ → Effect → Stage → Told → Says
-stage_says id func c o changes step e Ask t = ask_says (given_of t)
-stage_says id func c o changes step e (Walk row) t = walk_says changes (read_goes (Some (Owner.Intent id)) t)
-stage_says id func c o changes step e (Keep v seen) t = keep_says seen (kept_of v t)
-stage_says id func c o changes step e (Write at) t = put_says e at (note_done e) t
-stage_says id func c o changes step e (Tx at) t = tx_here_says id step e at o t
-stage_says id func c o changes step e (Decide m) t = decide_here_says id func step e m o t
-stage_says id func c o changes step e (End v) t = end_here_says id func step e v o t
-stage_says id func c o changes step e (Call at) t = call_here_says id o step e at t
-stage_says id func c o changes step e (Async at) t = async_here_says id e at t
-stage_says id func c o changes step e Back t = back_says o (back_of t)
-stage_says id func c o changes step e Tell t = On Close None
-stage_says id func c o changes step e Close t = close_says id c e (is_did t)
+abbrev pub stage_output : IntentId → ℕ → Option Caller → Option RunTx → ℕ → ℕ → Effect → Stage → QueryReply → StageOutput
+stage_output id func c o changes step e Ask t = ask_output (given_of t)
+stage_output id func c o changes step e (Walk row) t = walk_output changes (read_goes (Some (Owner.Intent id)) t)
+stage_output id func c o changes step e (Keep v version) t = keep_output version (kept_of v t)
+stage_output id func c o changes step e (Write at) t = put_output e at (note_done e) t
+stage_output id func c o changes step e (Tx at) t = tx_here_output id step e at o t
+stage_output id func c o changes step e (Decide m) t = decide_here_output id func step e m o t
+stage_output id func c o changes step e (End v) t = end_here_output id func step e v o t
+stage_output id func c o changes step e (Call at) t = call_here_output id o step e at t
+stage_output id func c o changes step e (Async at) t = async_here_output id e at t
+stage_output id func c o changes step e Back t = back_output o (back_of t)
+stage_output id func c o changes step e Notify t = On Close None
+stage_output id func c o changes step e Close t = close_output id c e (is_did t)
 
-abbrev pub mark_of : Says → Option Mark
+abbrev pub mark_of : StageOutput → Option Mark
 mark_of (On s m) = m
 mark_of Stays = None
 mark_of (Opens m) = m
@@ -413,8 +413,8 @@ pub record Turned : Type 0 where
   pub reply : Option Outcome
 
 -- what is said of it
-abbrev pub says_of : Turned → TurnSays
-says_of t = record { mark = t.mark; over = is_none t.next; starts = t.starts; wait = t.wait; reply = t.reply }
+abbrev pub output_of : Turned → TurnOutput
+output_of t = record { mark = t.mark; over = is_none t.next; starts = t.starts; wait = t.wait; reply = t.reply }
 
 abbrev pub over : Option Mark → Turned
 over m = record { next = None; mark = m; starts = false; wait = None; reply = None }
@@ -432,12 +432,12 @@ stands_at r s c m = goes_from r s c m (first_stage r.id c s.1 s.0.steps s.0.effe
 
 -- .. past what takes no turn
 abbrev pub goes_to : Deployment → Run → Machine × Option RunTx → Option Caller → Option Mark → Turned
-goes_to d r s c m = stands_at r (at_once d r.id s) c m
+goes_to d r s c m = stands_at r (local_steps d r.id s) c m
 
 abbrev pub at_stage : Begun → Stage → Begun
 at_stage g s = record { machine = g.machine; caller = g.caller; tx = g.tx; stage = s }
 
-abbrev pub turned_by : Deployment → Run → Begun → Says → Turned
+abbrev pub turned_by : Deployment → Run → Begun → StageOutput → Turned
 turned_by d r g (On s m) = goes r (at_stage g s) m
 turned_by d r g Stays = goes r g None
 turned_by d r g (Opens m) = record { next = Some (record r { at = Begins (at_stage g (Call CallAt.Look)) }); mark = m; starts = true; wait = None; reply = None }
@@ -450,19 +450,19 @@ turned_by d r g (Ends m o) = record { next = None; mark = m; starts = false; wai
 abbrev pub begin_in : Deployment → Run → Option Func → Option Body → Turned
 begin_in d r func None = over None
 begin_in d r None (Some b) = over None
-begin_in d r (Some func) (Some b) = goes_to d r (machine_begun d r.func b.args (is_some b.tx), within b.tx) b.from None
+begin_in d r (Some func) (Some b) = goes_to d r (machine_begun d r.func b.args (is_some b.tx), inherited_tx b.tx) b.parent None
 
 -- the body of a run, by what it was told: that of its row, or the one that it registered now
-abbrev pub body_registered : ℕ → Body → Told → Option Body
-body_registered func b (said added) = body_in func (Some b)
+abbrev pub body_registered : ℕ → Body → QueryReply → Option Body
+body_registered func b (replied added) = body_in func (Some b)
 body_registered func b t = body_told func t
 
-abbrev pub told_at : Deployment → ℕ → Run → RunAt → Told → Turned
+abbrev pub told_at : Deployment → ℕ → Run → RunAt → QueryReply → Turned
 told_at d changes r Looks t = begin_in d r (func_at d r.func) (body_told r.func t)
 told_at d changes r (Registers b) t = begin_in d r (func_at d r.func) (body_registered r.func b t)
-told_at d changes r (Begins g) t = turned_by d r g (stage_says r.id r.func g.caller g.tx changes g.machine.steps g.machine.effect g.stage t)
+told_at d changes r (Begins g) t = turned_by d r g (stage_output r.id r.func g.caller g.tx changes g.machine.steps g.machine.effect g.stage t)
 
-abbrev pub run_told : Deployment → ℕ → Run → Told → Turned
+abbrev pub run_told : Deployment → ℕ → Run → QueryReply → Turned
 run_told d changes r t = told_at d changes r r.at t
 
 -- ---- a run of what is called: it has the caller's deadline. One that is waited for registers its body, where the callee has no row
@@ -493,29 +493,29 @@ abbrev pub body_added : ℕ → RunAt → Option Body
 body_added func (Registers b) = body_in func (Some b)
 body_added func at = None
 
-abbrev pub body_found : ℕ → RunAt → Told → Option Body
-body_found func at (said added) = body_added func at
+abbrev pub body_found : ℕ → RunAt → QueryReply → Option Body
+body_found func at (replied added) = body_added func at
 body_found func at t = body_told func t
 
 -- what is said where no more is to say than the mark, and whether the run is over
-abbrev pub plain_says : Option Mark → Bool → TurnSays
-plain_says m b = record { mark = m; over = b; starts = false; wait = None; reply = None }
+abbrev pub plain_output : Option Mark → Bool → TurnOutput
+plain_output m b = record { mark = m; over = b; starts = false; wait = None; reply = None }
 
 -- the stage that is left by the end of a transaction, as what its stage has is moved: that of its visits, where they go on
-abbrev pub end_left : Visit → Result Says (Option Mark) → Stage
+abbrev pub end_left : EndState → Result StageOutput (Option Mark) → Stage
 end_left v (Ok (On s m)) = Close
 end_left v x = End v
 
-abbrev pub left_of : Stage → Result Says (Option Mark) → Stage
+abbrev pub left_of : Stage → Result StageOutput (Option Mark) → Stage
 left_of (Decide m) x = Close
 left_of (End v) x = end_left v x
 left_of s x = s
 
 -- an answer, with the run as it is after it
-abbrev pub followed : Run → TurnSays → Turned
+abbrev pub followed : Run → TurnOutput → Turned
 followed s x = record { next = going s x.over; mark = x.mark; starts = x.starts; wait = x.wait; reply = x.reply }
 
 -- the run turned so; out of memory the mark is told
-abbrev pub Turns : Run → Result TurnSays (Option Mark) → Turned → Type 0
+abbrev pub Turns : Run → Result TurnOutput (Option Mark) → Turned → Type 0
 Turns s (Ok x) t = followed s x ≡ t
 Turns s (Err e) t = e ≡ t.mark

@@ -4,11 +4,11 @@ use Rattle.std.specs.FinMap as map
 use Rattle.std.specs.declared.alloc.AllocError.{AllocError}
 use Rattle.beldi_tree.specs.declared.deployment.Deployment.{Deployment}
 use Rattle.beldi_row.specs.Table.{Rose, TableState, Tells}
-use Rattle.beldi_step.specs.{declared.event.Event.Event, declared.event.Event.TheVariants.Halt, declared.event.Seen.Seen, declared.event.Seen.TheVariants.Dropped, declared.event.Seen.TheVariants.Halted, declared.event.Seen.TheVariants.Shut, Deadlines.Reached, Host.Core, Host.Stepped, Host.counted, Host.first_core, Host.is_halt, Host.most_events, Host.newest_of}
+use Rattle.beldi_step.specs.{declared.event.Event.Event, declared.event.Event.TheVariants.Halt, declared.event.EventReply.EventReply, declared.event.EventReply.TheVariants.Dropped, declared.event.EventReply.TheVariants.Halted, declared.event.EventReply.TheVariants.Shut, RunDeadlines.Reached, HostStep.Core, HostStep.Stepped, HostStep.counted, HostStep.first_core, HostStep.is_halt, HostStep.most_events, HostStep.newest_of}
 
 -- a host that is shut answers so to all but a halt: it makes no call, and counts the event
 abbrev pub ShutAnswersShut : Type 0
-ShutAnswersShut = (d : Deployment) (e : Event) (c b : Core) (old new : TableState) (r : Result Seen AllocError) → Stepped d e c b old new r
+ShutAnswersShut = (d : Deployment) (e : Event) (c b : Core) (old new : TableState) (r : Result EventReply AllocError) → Stepped d e c b old new r
     → c.taken < most_events → c.shut ≡ true → is_halt e ≡ false → (r ≡ Ok Shut) × (b ≡ counted c) × (new ≡ old)
 
 -- .. and no other one answers so
@@ -17,17 +17,17 @@ OnlyShutAnswersShut = (d : Deployment) (e : Event) (c b : Core) (old new : Table
 
 -- a host comes to be shut by a halt that is dropped, since the table failed
 abbrev pub ShutsAtAFailedHalt : Type 0
-ShutsAtAFailedHalt = (d : Deployment) (e : Event) (c b : Core) (old new : TableState) (r : Result Seen AllocError) → Stepped d e c b old new r
+ShutsAtAFailedHalt = (d : Deployment) (e : Event) (c b : Core) (old new : TableState) (r : Result EventReply AllocError) → Stepped d e c b old new r
     → c.shut ≡ false → b.shut ≡ true → (is_halt e ≡ true) × (r ≡ Ok Dropped) × Rose old.faults new.faults
 
 -- .. and is so until a halt is answered as halted
 abbrev pub StaysShut : Type 0
-StaysShut = (d : Deployment) (e : Event) (c b : Core) (old new : TableState) (r : Result Seen AllocError) → Stepped d e c b old new r
+StaysShut = (d : Deployment) (e : Event) (c b : Core) (old new : TableState) (r : Result EventReply AllocError) → Stepped d e c b old new r
     → c.shut ≡ true → b.shut ≡ false → (is_halt e ≡ true) × (r ≡ Ok Halted)
 
 -- after a halt no run is live, whatever it met
 abbrev pub HaltsEndRuns : Type 0
-HaltsEndRuns = (d : Deployment) (c b : Core) (old new : TableState) (r : Result Seen AllocError) → Stepped d Halt c b old new r → c.taken < most_events → b.runs ≡ map.empty
+HaltsEndRuns = (d : Deployment) (c b : Core) (old new : TableState) (r : Result EventReply AllocError) → Stepped d Halt c b old new r → c.taken < most_events → b.runs ≡ map.empty
 
 -- .. so none is while a host is shut that began without runs
 abbrev pub ShutHasNoRuns : Type 0

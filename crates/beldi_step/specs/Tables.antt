@@ -3,7 +3,7 @@ use Rattle.std.specs.Prelude.{ℕ, zero, Bool, false, List, [], Option, Some, fl
 use Rattle.std.specs.FinMap as map
 use Rattle.beldi_value.specs.declared.{place.Owner.Owner, place.Owner.TheVariants.Tx, place.TxId.TxId, value.Value.Value}
 use Rattle.beldi_tree.specs.declared.deployment.Deployment.{Deployment}
-use Rattle.beldi_book.specs.Text.{item_text}
+use Rattle.beldi_book.specs.BookText.{item_text}
 use Rattle.beldi_row.specs.{Key.RowKey, Key.head_key, declared.key.Kind.Kind, declared.key.Kind.TheVariants.Data, declared.row.Row.Row, declared.row.Row.TheVariants.Cell, declared.row.Row.TheVariants.ReadLog, Table.Rows}
 use Rattle.beldi_chain.specs.Chain.{chain, tail}
 use Rattle.beldi_daal.specs.Cell.{shadow_key}

@@ -1,6 +1,6 @@
 // Events and turns of log collectors, and how they are answered.
 use beldi_book::Entry;
-use beldi_value::{Apart, IntentId, Outcome, Owner, Value};
+use beldi_value::{Boxed, IntentId, Outcome, Owner, Value};
 
 /// What may happen to a host.
 #[derive(Drop)]
@@ -27,7 +27,7 @@ pub enum Event {
 
 /// The answers to events.
 #[derive(Drop)]
-pub enum Seen {
+pub enum EventReply {
     /// The ticket was issued.
     Issued(u32),
     /// The newest ticket is 4,294,967,295.
@@ -60,13 +60,13 @@ pub enum Seen {
         entry: Option<Entry>,
         started: Option<u64>,
         over: bool,
-        reply: Option<(u32, Apart<Outcome>)>,
+        reply: Option<(u32, Boxed<Outcome>)>,
     },
     /// This owner has the lock of the item that the run is at: the run waits, and all is as before.
-    Held(Apart<Owner>),
+    Held(Boxed<Owner>),
     /// The call that the run is at has no result, and a run of its callee, which has this id, is live: the run waits, and
     /// all is as before.
-    NotYet(Apart<IntentId>),
+    NotYet(Boxed<IntentId>),
     /// The table has no room for the row that the act would add: it has `live` rows, which are at least `room`.
     Full {
         live: u32,

@@ -1,12 +1,12 @@
 // What one step of the host says over rows that are told, over any table, of failures, of deadlines, and of halts; what runs say that were
 // called in a transaction; and that a walk goes on from row to row.
-ghost use Rattle.beldi_step.specs.Deadlines.{CalledRunsHaveTheirCallersDeadline, KeepsSoon, NoRunIsPastALife, RunsKeepTheirDeadline};
+ghost use Rattle.beldi_step.specs.RunDeadlines.{CalledRunsHaveTheirCallersDeadline, KeepsSoon, NoRunIsPastALife, RunsKeepTheirDeadline};
 ghost use Rattle.beldi_step.specs.Failures.{FailuresMakeNothing};
-ghost use Rattle.beldi_step.specs.Inside.{StaysInherited, BeginsInside, MakesNoEntry};
-ghost use Rattle.beldi_step.specs.Laws.{StepsOverRows, StepsOverAnyTable, ExpiresPastDeadline};
+ghost use Rattle.beldi_step.specs.CalledInside.{StaysInherited, BeginsInside, MakesNoEntry};
+ghost use Rattle.beldi_step.specs.StepLaws.{StepsOverRows, StepsOverAnyTable, ExpiresPastDeadline};
 ghost use Rattle.beldi_step.specs.Prunes.{CollectorsStay, PruningsOverAnyTable, PruningsOverRows};
 ghost use Rattle.beldi_step.specs.Shut.{HaltsAsOpened, HaltsEndRuns, OnlyShutAnswersShut, ShutAnswersShut, ShutHasNoRuns, ShutsAtAFailedHalt, StaysShut};
-ghost use Rattle.beldi_step.specs.Stride.{WalksOn};
+ghost use Rattle.beldi_step.specs.RunStride.{WalksOn};
 
 /// Over rows that are told, a step is a relation between the host and the rows before and after.
 pub fn a_step_over_rows()

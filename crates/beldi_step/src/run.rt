@@ -6,9 +6,9 @@ use beldi_call::{AsyncAt, CallAt};
 use beldi_daal::WriteAt;
 use beldi_lang::{Answer, Machine};
 use beldi_row::{Body, RowKey};
-use beldi_txn::{TxAt, Visit};
+use beldi_txn::{EndState, TxAt};
 use beldi_value::{
-    Apart, Caller, Cause, IntentId, Outcome, Owner, Place, TxId, Value, copy_holder, or_drop,
+    Boxed, Caller, Cause, IntentId, Outcome, Owner, Place, TxId, Value, copy_holder, or_drop,
 };
 use std::alloc::{AllocError, Global};
 
@@ -77,8 +77,8 @@ pub enum Stage {
     Ask,
     /// A read looks at this row of its item.
     Walk(u32),
-    /// A read keeps the value that was found when `seen` changes had been made.
-    Keep { value: Value, seen: u64 },
+    /// A read keeps the value that was found when `version` changes had been made.
+    Keep { value: Value, version: u64 },
     /// An operation on an item stands here.
     Write(WriteAt),
     /// An operation inside a transaction stands here.
@@ -86,7 +86,7 @@ pub enum Stage {
     /// The end of a transaction is to be decided, which leaves this mark.
     Decide(Mark),
     /// The end of a transaction that was decided stands here.
-    End(Apart<Visit>),
+    End(Boxed<EndState>),
     /// A call stands here.
     Call(CallAt),
     /// A call that nobody waits for stands here.
@@ -94,7 +94,7 @@ pub enum Stage {
     /// The outcome is to be given back to the caller that waits for it.
     Back,
     /// The caller, which does not wait, is to be told that its callee is registered.
-    Tell,
+    Notify,
     /// The instance is to be ended with its outcome.
     Close,
 }
@@ -107,11 +107,11 @@ pub enum Mark {
     /// A step was made.
     Step,
     /// A transaction was committed.
-    Tx,
+    CommittedTx,
     /// A transaction was aborted: at this place, by its body, by a fault, or where it met an item of the holder.
-    Try {
-        place: Apart<Place>,
-        holder: Option<Apart<IntentId>>,
+    AbortedTx {
+        place: Boxed<Place>,
+        holder: Option<Boxed<IntentId>>,
     },
 }
 
@@ -121,13 +121,13 @@ impl Mark {
         ensures { IfOk result (λ m. m ≡ self.now) }
     {
         match self {
-            Mark::Read(seen) => Ok(Mark::Read(*seen)),
+            Mark::Read(version) => Ok(Mark::Read(*version)),
             Mark::Step => Ok(Mark::Step),
-            Mark::Tx => Ok(Mark::Tx),
-            Mark::Try { place, holder } => {
-                let place = Apart::new(alloc, place.get().copy(alloc)?)?;
+            Mark::CommittedTx => Ok(Mark::CommittedTx),
+            Mark::AbortedTx { place, holder } => {
+                let place = Boxed::new(alloc, place.get().copy(alloc)?)?;
                 let holder = or_drop!(copy_holder(alloc, holder); place);
-                Ok(Mark::Try { place, holder })
+                Ok(Mark::AbortedTx { place, holder })
             }
         }
     }
@@ -137,16 +137,16 @@ impl Mark {
 #[derive(Drop)]
 pub enum Wait {
     /// Another owner has the item.
-    Held(Apart<Owner>),
+    Held(Boxed<Owner>),
     /// The call has no result yet; its callee has this id.
-    Result(Apart<IntentId>),
+    Result(Boxed<IntentId>),
     /// No row can follow the last one of an item, which is full.
     Worn,
 }
 
 /// What a stage says of what it was told.
 #[derive(Drop)]
-pub enum Says {
+pub enum StageOutput {
     /// The effect goes on from here.
     On(Stage, Option<Mark>),
     /// The effect goes on from where it stands.
@@ -160,18 +160,18 @@ pub enum Says {
     /// The effect has this answer.
     Answers(Answer, Option<Mark>),
     /// The run is over; its act ended the root with this outcome, if any.
-    Ends(Option<Mark>, Option<Apart<Outcome>>),
+    Ends(Option<Mark>, Option<Boxed<Outcome>>),
 }
 
 /// What a turn did: the mark of its act, whether the run is over, whether a run of what it calls may start, why it
 /// stands, and the outcome of the root that it ended first.
 #[derive(Drop)]
-pub struct TurnSays {
+pub struct TurnOutput {
     pub mark: Option<Mark>,
     pub over: bool,
     pub starts: bool,
     pub wait: Option<Wait>,
-    pub reply: Option<Apart<Outcome>>,
+    pub reply: Option<Boxed<Outcome>>,
 }
 
 /// The row of an item that a run's walk looks at next, and the place whose entry it looks for there; None where it reads.

@@ -6,7 +6,7 @@ use Rattle.std.proofs.Common.{◌≡◌, ℕ, suc, ◌+◌, ◌<◌, ◌≤◌, 
 use Rattle.beldi_row.specs.{declared.key.Kind.Kind, Key.RowKey, Key.at_row, Key.key_cmp, Key.kind_at, Key.row_of, Table.Rows}
 use Rattle.beldi_row.proofs.{Gets.key_self, Keys.key_twice}
 use Rattle.beldi_chain.specs.Chain.{is_row_of}
-use Rattle.beldi_prune.specs.Laws.{is_behind}
+use Rattle.beldi_prune.specs.PruneLaws.{is_behind}
 use Rattle.beldi_sweep.specs.Rounds.{rows_beside}
 use Rattle.beldi_sweep.proofs.Sums.{sum_falls, sum_less}
 

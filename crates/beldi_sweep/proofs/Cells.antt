@@ -9,15 +9,15 @@ use Rattle.beldi_row.specs.{Act.is_past, declared.key.Kind.Kind, declared.notes.
 use Rattle.beldi_chain.specs.Chain.{Chain, chain}
 use Rattle.beldi_links.specs.Links.{LeadsTo}
 use Rattle.beldi_links.proofs.Ways.{one_step, same_or}
-use Rattle.beldi_splice.specs.{Laws.LeadsOver, Splice.IsMoored}
+use Rattle.beldi_splice.specs.{SpliceLaws.LeadsOver, Splice.IsMoored}
 use Rattle.beldi_splice.proofs.Alike.{strictly}
 use Rattle.beldi_intent.specs.Intent.{intent_key}
-use Rattle.beldi_prune.specs.{Entries.HasEntryOf, Entries.IsOf, Entries.intents_from, Entries.intents_of, Entries.is_other, Laws.IsOldAt, Prune.begins, Prune.past, Prune.to_prove, Prune.todo_of, Unlink.adrift_todo, Unlink.cell_todo, Unlink.item_todo, Unlink.linked_todo, Unlink.next_todo}
+use Rattle.beldi_prune.specs.{CellEntries.HasEntryOf, CellEntries.IsOf, CellEntries.intents_from, CellEntries.intents_of, CellEntries.is_other, PruneLaws.IsOldAt, Prune.begins, Prune.past, Prune.to_prove, Prune.todo_of, Unlink.adrift_todo, Unlink.cell_todo, Unlink.item_todo, Unlink.linked_todo, Unlink.next_todo}
 use Rattle.beldi_prune.specs.declared.found.Todo.{Todo, TheVariants.Pass, TheVariants.DropAdrift, TheVariants.LeadPast, TheVariants.Prove}
 use Rattle.beldi_prune.specs.declared.collector.CollectorAt.TheVariants.{ToMark, ToLead, ToSkip, ToDangle, ToDropCell}
-use Rattle.beldi_sweep.specs.{Done.IsDone, Done.IsReady, Done.IsTidying, Rows.IsSound, Rows.IsTrim, Sweep.Sweep}
+use Rattle.beldi_sweep.specs.{Done.IsDone, Done.IsReady, Done.IsTidying, SweptRows.IsSound, SweptRows.IsTrim, Sweep.Sweep}
 use Rattle.beldi_sweep.proofs.Going.{Comes, Turns, stays, sweep, turn_then}
-use Rattle.beldi_sweep.proofs.{Passing.done, Passing.done_gone, Passing.done_passed, Places.none_between, Places.there as is_there, Places.up_to}
+use Rattle.beldi_sweep.proofs.{Passing.done, Passing.done_gone, Passing.done_passed, SweptPlaces.none_between, SweptPlaces.there as is_there, SweptPlaces.up_to}
 use Rattle.beldi_sweep.proofs.CellsSound.{drop_sound, not_led, set_sound, skip_sound}
 use Rattle.beldi_sweep.proofs.CellsKept.{Kept, both_kept, cell_below, cell_key, first_kept, none_changed, row, set_in_chain, set_kept, sound_kept, trim_or}
 use Rattle.beldi_sweep.proofs.CellsTurned.{dangles, drops, leads_past, leads_there, marks, proves, skips, stands}
@@ -60,7 +60,7 @@ module _ (newest life now : ℕ) (cursor : RowKey) (home t : ℕ) (q : List ℕ)
   -- it comes past the row, and then that is adrift
   record Led (m : Rows) (s : Sweep) : Type 0 where
     rows : Rows
-    way : Comes newest life now s (passed rows)
+    path : Comes newest life now s (passed rows)
     kept : Kept home t q n m rows
     sound : IsSound (chain_in rows)
     cell : Cell
@@ -70,7 +70,7 @@ module _ (newest life now : ℕ) (cursor : RowKey) (home t : ℕ) (q : List ℕ)
   led_then : (m o : Rows) (s u : Sweep) → Turns newest life now s u → Kept home t q n m o → Led o u → Led m s
   led_then m o s u turn kept led = record {
     rows = led.rows;
-    way = turn_then newest life now s u (passed led.rows) turn led.way;
+    path = turn_then newest life now s u (passed led.rows) turn led.path;
     kept = both_kept home t q n m o led.rows kept led.kept;
     sound = led.sound;
     cell = led.cell;
@@ -100,7 +100,7 @@ module _ (newest life now : ℕ) (cursor : RowKey) (home t : ℕ) (q : List ℕ)
       let s = set_in_chain home t q m n v in
       record {
         rows = p;
-        way = turn_then newest life now (stands newest life now cursor (ToDangle (at n)) m) (passed p) (passed p) (dangles newest life now cursor m (at n) c l.there l.so l.fresh) (stays newest life now (passed p));
+        path = turn_then newest life now (stands newest life now cursor (ToDangle (at n)) m) (passed p) (passed p) (dangles newest life now cursor m (at n) c l.there l.so l.fresh) (stays newest life now (passed p));
         kept = set_kept home t q n m v;
         sound = set_sound (chain_in m) (chain_in p) n c d l.sound later l.there (ap is_some l.next) s refl refl l.so (λ led. absurd (not_led (chain_in m) n later f.cell y f.there f.next past led));
         cell = d;
@@ -141,7 +141,7 @@ module _ (newest life now : ℕ) (cursor : RowKey) (home t : ℕ) (q : List ℕ)
       let p : Rows = set_row m (at n) v in
       let s = set_in_chain home t q m n v in
       let linked : IsLinked p d to true = record {
-        sound = set_sound (chain_in m) (chain_in p) n c d l.sound later l.there (ap is_some l.next) s refl refl refl (λ way. l.fresh);
+        sound = set_sound (chain_in m) (chain_in p) n c d l.sound later l.there (ap is_some l.next) s refl refl refl (λ path. l.fresh);
         there = s.here;
         next = l.next;
         so = refl;
@@ -157,7 +157,7 @@ module _ (newest life now : ℕ) (cursor : RowKey) (home t : ℕ) (q : List ℕ)
       let on = marked m c to l y f far in
       record {
         rows = on.rows;
-        way = proves newest life now cursor m (at n) (intents_of c.log) (λ i of. old i (has_entry None c.log i of)) (passed on.rows) on.way;
+        path = proves newest life now cursor m (at n) (intents_of c.log) (λ i of. old i (has_entry None c.log i of)) (passed on.rows) on.path;
         kept = on.kept;
         sound = on.sound;
         cell = on.cell;
@@ -176,10 +176,10 @@ module _ (newest life now : ℕ) (cursor : RowKey) (home t : ℕ) (q : List ℕ)
     module _ (followed : is_some c.next ≡ true) where
       -- a row between is none: it would be trimmed, so the last, and then none has a next
       not_between : (y : ℕ) → 0 < y → y < n → LeadsTo (chain_in m) 0 y → (d : Cell) → map.get m (at y) ≡ Some (Row.Cell d) → d.dangled ≡ None → ⊥
-      not_between y rise short way d is moored = elim (ready.trimmed (at y) (Row.Cell d) is) [
+      not_between y rise short path d is moored = elim (ready.trimmed (at y) (Row.Cell d) is) [
         | inl after ↦ none-some (Row.Cell d) (sym (none_between cursor m (at n, Row.Cell c) next (at y) after (cell_below home t q y n short)) ∙ is)
         | inr (inl first) ↦ omega (arith, first, rise)
-        | inr (inr (inl last)) ↦ let past = sound.ends y d way is last n c there followed in omega (arith, past, short)
+        | inr (inr (inl last)) ↦ let past = sound.ends y d path is last n c there followed in omega (arith, past, short)
         | inr (inr (inr adrift)) ↦ let clash = sym adrift ∙ ap is_some moored in cc
       ]
 
@@ -191,9 +191,9 @@ module _ (newest life now : ℕ) (cursor : RowKey) (home t : ℕ) (q : List ℕ)
       leads_far_to : (d : Cell) → map.get m (at 0) ≡ Some (Row.Cell d) → (y : ℕ) → d.next ≡ Some y → LeadsFar
       leads_far_to d is y to =
           let rise = sound.rises 0 y d is to in
-          let way = one_step (chain_in m) 0 d y is to rise in
+          let path = one_step (chain_in m) 0 d y is to rise in
           by_cases (nat_lt y n)
-          (λ e. let cell = moored_cell (map.get m (at y)) ((sound.threads (ap is_some is)).there y way) in absurd (not_between y rise (ltb-true y n e) way cell.0 cell.1 cell.2))
+          (λ e. let cell = moored_cell (map.get m (at y)) ((sound.threads (ap is_some is)).there y path) in absurd (not_between y rise (ltb-true y n e) path cell.0 cell.1 cell.2))
           (λ e. record { to = y; leads = record { cell = d; there = is; next = to }; far = ltb-false y n e })
 
       leads_far : LeadsFar
@@ -216,15 +216,15 @@ module _ (newest life now : ℕ) (cursor : RowKey) (home t : ℕ) (q : List ℕ)
     removed is old adrift =
         let p : Rows = set_row m (at n) None in
         let turn = drops newest life now cursor m (at n) c there old in
-        let way = turn_then newest life now (stands newest life now cursor (ToDropCell (at n)) m) (passed p) (passed p) turn (stays newest life now (passed p)) in
-        done_gone newest life now cursor m (at n, Row.Cell c) next ready DropAdrift (todo_is ∙ is) way
+        let path = turn_then newest life now (stands newest life now cursor (ToDropCell (at n)) m) (passed p) (passed p) turn (stays newest life now (passed p)) in
+        done_gone newest life now cursor m (at n, Row.Cell c) next ready DropAdrift (todo_is ∙ is) path
         (sound_kept home t q n m p (set_kept home t q n m None) ready.sound (drop_sound (chain_in m) (chain_in p) n c sound later there adrift (set_in_chain home t q m n None)))
 
     -- its chain is led past it
     led_past : (todo : Todo) → cell_todo life now c c.next ≡ todo → (to : ℕ) → c.next ≡ Some to → c.dangled ≡ None → Led m (sweep (begins cursor (at n) todo) m) → IsDone newest life now cursor (at n) m
     led_past todo is to followed fresh on =
         let trim : (r : Row) → map.get on.rows (at n) ≡ Some r → IsTrim newest (Kind.Data t q n) r = λ r at. subst (IsTrim newest (Kind.Data t q n)) (same_Some (Row.Cell on.cell) r (sym on.there ∙ at)) (inr (inr on.adrift)) in
-        done newest life now cursor m (at n, Row.Cell c) next ready todo (todo_is ∙ is) on.rows on.way (sound_kept home t q n m on.rows on.kept ready.sound on.sound)
+        done newest life now cursor m (at n, Row.Cell c) next ready todo (todo_is ∙ is) on.rows on.path (sound_kept home t q n m on.rows on.kept ready.sound on.sound)
         (up_to cursor m (at n, Row.Cell c) next (λ l r. IsTrim newest l.kind r) ready.trimmed on.rows (trim_or home t q n m on.rows on.kept newest trim) trim)
         (λ tidy. absurd (not_trim (tidy.trimmed (at n) (Row.Cell c) there)))
       where

@@ -10,8 +10,8 @@ use Rattle.beldi_row.proofs.{Gets.got, Gets.key_same, Gets.key_self}
 use Rattle.beldi_chain.specs.Chain.{ChangedAlone, IsHead, chain}
 use Rattle.beldi_chain.proofs.Heads.{chain_other, item_head}
 use Rattle.beldi_links.specs.Links.{SetTo}
-use Rattle.beldi_prune.specs.{Laws.is_left}
-use Rattle.beldi_sweep.specs.{Rows.AreSound, Rows.IsSound, Rows.IsTrim}
+use Rattle.beldi_prune.specs.{PruneLaws.is_left}
+use Rattle.beldi_sweep.specs.{SweptRows.AreSound, SweptRows.IsSound, SweptRows.IsTrim}
 
 -- ---- keys
 pub apart_by : (l k : RowKey) → (l ≡ k → ⊥) → is_eq (key_cmp l k) ≡ false

@@ -5,9 +5,9 @@ use Rattle.beldi_row.specs.{declared.row.Cell.Cell, declared.row.Row.Row, Log.mo
 use Rattle.beldi_chain.specs.Chain.{Chain}
 use Rattle.beldi_links.specs.Links.{LeadsTo, SetTo, Steps}
 use Rattle.beldi_links.proofs.Ways.{one_cell, one_step, same_or, then_way}
-use Rattle.beldi_splice.specs.{Laws.LeadsOver, Splice.IsMoored, Splice.IsThreaded}
+use Rattle.beldi_splice.specs.{SpliceLaws.LeadsOver, Splice.IsMoored, Splice.IsThreaded}
 use Rattle.beldi_splice.proofs.{Both.at_other, Leading.LeadsAs, Leading.leads, Leading.next_as, Leading.unset, Onward.ways_begin, Onward.ways_end, Pruned.around, Pruned.skip_back}
-use Rattle.beldi_sweep.specs.Rows.{IsSound}
+use Rattle.beldi_sweep.specs.SweptRows.{IsSound}
 
 not_first : (n : ℕ) → 0 < n → (0 == n) ≡ false
 not_first n later = ne_eqb 0 n (λ same. omega (arith, same, later))
@@ -42,7 +42,7 @@ module _ (g h : Chain) (n : ℕ) (c d : Cell) (sound : IsSound g) (later : 0 < n
 
   threads_stay : IsThreaded g → IsThreaded h
   threads_stay threaded = record {
-    there = λ x way. let led = leads h g back 0 x way in at_other IsMoored g h n (Some (Row.Cell d)) s x (λ at. moored (subst (LeadsTo g 0) at led)) (threaded.there x led);
+    there = λ x path. let led = leads h g back 0 x path in at_other IsMoored g h n (Some (Row.Cell d)) s x (λ at. moored (subst (LeadsTo g 0) at led)) (threaded.there x led);
     leads = λ x e is to unmarked. same_or x n
         (λ at. let clash = sym marked ∙ ap (λ (z : Cell). z.marked) (sym (set_is x e is at)) ∙ unmarked in cc)
         (λ off. leads g h forth 0 x (threaded.leads x e (sym (s.others x off) ∙ is) to unmarked));
@@ -63,7 +63,7 @@ module _ (g h : Chain) (n : ℕ) (c d : Cell) (sound : IsSound g) (later : 0 < n
         (λ at. let same = set_is x e is at in (ap (λ (z : Cell). z.marked) same ∙ marked, ap (λ (z : Cell). is_some z.next) same ∙ ap is_some next ∙ followed))
         (λ off. sound.adrift x e (sym (s.others x off) ∙ is) some);
     threads = λ some. threads_stay (sound.threads (ap is_some (sym first_stays) ∙ some));
-    ends = λ x e way is none y f at some. let w = was x e is in let v = was y f at in sound.ends x w.0 (leads h g back 0 x way) w.1 (sym w.2 ∙ none) y v.0 v.1 (ap is_some (sym v.2) ∙ some);
+    ends = λ x e path is none y f at some. let w = was x e is in let v = was y f at in sound.ends x w.0 (leads h g back 0 x path) w.1 (sym w.2 ∙ none) y v.0 v.1 (ap is_some (sym v.2) ∙ some);
   }
 
 -- ---- a row that is led past by the first
@@ -96,7 +96,7 @@ module _ (g h : Chain) (n to : ℕ) (c d : Cell) (sound : IsSound g) (o : LeadsO
 
   skip_threads : IsThreaded g → IsThreaded h
   skip_threads threaded = record {
-    there = λ x way. at_other IsMoored g h 0 (Some (Row.Cell set_first)) s x (λ at. first_was.1) (threaded.there x (leads h g (skip_back g h 0 n to c d o s) 0 x way));
+    there = λ x path. at_other IsMoored g h 0 (Some (Row.Cell set_first)) s x (λ at. first_was.1) (threaded.there x (leads h g (skip_back g h 0 n to c d o s) 0 x path));
     leads = λ x e is next unmarked. same_or x 0
         (λ at. ([], sym at))
         (λ off. let there : g x ≡ Some (Row.Cell e) = sym (s.others x off) ∙ is in
@@ -116,7 +116,7 @@ module _ (g h : Chain) (n to : ℕ) (c d : Cell) (sound : IsSound g) (o : LeadsO
         (λ at. let clash = sym some ∙ ap is_some (ap (λ (z : Cell). z.dangled) (first_is x e is at) ∙ first_was.1) in cc)
         (λ off. sound.adrift x e (sym (s.others x off) ∙ is) some);
     threads = λ some. skip_threads (sound.threads (ap is_some o.here));
-    ends = λ x e way is none y f at some. let v = was_followed y f at some in sound.ends x e (leads h g (skip_back g h 0 n to c d o s) 0 x way) (was_last x e is none) none y v.0 v.1 v.2;
+    ends = λ x e path is none y f at some. let v = was_followed y f at some in sound.ends x e (leads h g (skip_back g h 0 n to c d o s) 0 x path) (was_last x e is none) none y v.0 v.1 v.2;
   }
 
 -- ---- a row that is adrift goes
@@ -138,14 +138,14 @@ module _ (g h : Chain) (n : ℕ) (c : Cell) (sound : IsSound g) (later : 0 < n) 
 
     -- what the first row leads to it leads to still
     led_on : (a : ℕ) → LeadsTo g 0 a → (ks : List ℕ) (x : ℕ) → Steps g a ks x → LeadsTo h a x
-    led_on a led [] x way = ([], way)
-    led_on a led (k ∷ ks) x (e, is, next, rise, way) = same_or a n
+    led_on a led [] x path = ([], path)
+    led_on a led (k ∷ ks) x (e, is, next, rise, path) = same_or a n
         (λ at. absurd (unled (subst (LeadsTo g 0) at led)))
-        (λ off. then_way h a k x (one_step h a e k (s.others a off ∙ is) next rise) (led_on k (then_way g 0 a k led (one_step g a e k is next rise)) ks x way))
+        (λ off. then_way h a k x (one_step h a e k (s.others a off ∙ is) next rise) (led_on k (then_way g 0 a k led (one_step g a e k is next rise)) ks x path))
 
     drop_threads : IsThreaded h
     drop_threads = record {
-      there = λ x way. let led = leads h g drop_back 0 x way in at_other IsMoored g h n None s x (λ at. absurd (unled (subst (LeadsTo g 0) at led))) (threaded.there x led);
+      there = λ x path. let led = leads h g drop_back 0 x path in at_other IsMoored g h n None s x (λ at. absurd (unled (subst (LeadsTo g 0) at led))) (threaded.there x led);
       leads = λ x e is next unmarked. let led = threaded.leads x e (went x (Row.Cell e) is) next unmarked in led_on 0 ([], refl) led.0 x led.1;
     }
 
@@ -157,5 +157,5 @@ module _ (g h : Chain) (n : ℕ) (c : Cell) (sound : IsSound g) (later : 0 < n) 
     rises = λ x k e is next. sound.rises x k e (went x (Row.Cell e) is) next;
     adrift = λ x e is some. sound.adrift x e (went x (Row.Cell e) is) some;
     threads = λ some. drop_threads (sound.threads (ap is_some (sym first_same) ∙ some));
-    ends = λ x e way is none y f at some. sound.ends x e (leads h g drop_back 0 x way) (went x (Row.Cell e) is) none y f (went y (Row.Cell f) at) some;
+    ends = λ x e path is none y f at some. sound.ends x e (leads h g drop_back 0 x path) (went x (Row.Cell e) is) none y f (went y (Row.Cell f) at) some;
   }

@@ -2,9 +2,9 @@
 use Rattle.std.specs.FinMap as map
 use Rattle.std.proofs.Common.{◌≡◌, ◌⊎◌, inl, inr, ℕ, zero, suc, ◌≤◌, Bool, true, false, refl, subst, arith}
 use Rattle.beldi_row.specs.Table.{Rows}
-use Rattle.beldi_prune.specs.{Laws.IsRight, Laws.rows_turned, Laws.turned}
+use Rattle.beldi_prune.specs.{PruneLaws.HasCollectorInvariant, PruneLaws.rows_turned, PruneLaws.turned}
 use Rattle.beldi_prune.specs.declared.collector.LogCollector.{LogCollector}
-use Rattle.beldi_prune.proofs.Right.{stay_right}
+use Rattle.beldi_prune.proofs.CollectorInvariant.{stay_invariant}
 use Rattle.beldi_sweep.specs.{Rounds.AreOrdered, Rounds.RoundsEnd, Sweep.EndsAt, Sweep.Sweep, Sweep.after_turn, Sweep.is_last_turn}
 use Rattle.beldi_sweep.proofs.{Going.sweep, Old.row_left, Old.was_there, Ordered.ordered_stay, Spending.AreOf, Spending.few_to_go, Spending.pays, Spending.turns_to_go}
 
@@ -16,10 +16,10 @@ module _ (newest life now : ℕ) where
     ends : EndsAt newest life now turns s left
 
   ends_now : (most : ℕ) (s : Sweep) → is_last_turn life now s ≡ true → Ends most s
-  ends_now most s last = record { turns = 0; few = omega arith; left = after_turn newest life now s; ends = record { before = s; way = refl; last = last; done = refl } }
+  ends_now most s last = record { turns = 0; few = omega arith; left = after_turn newest life now s; ends = record { before = s; path = refl; last = last; done = refl } }
 
   ends_later : (most : ℕ) (s : Sweep) → is_last_turn life now s ≡ false → Ends most (after_turn newest life now s) → Ends (suc most) s
-  ends_later most s on e = let few = e.few in record { turns = suc e.turns; few = omega (arith, few); left = e.left; ends = record { before = e.ends.before; way = (on, e.ends.way); last = e.ends.last; done = e.ends.done } }
+  ends_later most s on e = let few = e.few in record { turns = suc e.turns; few = omega (arith, few); left = e.left; ends = record { before = e.ends.before; path = (on, e.ends.path); last = e.ends.last; done = e.ends.done } }
 
   -- a turn makes no row
   of_turned : (first : Rows) (w : LogCollector) (m : Rows) → AreOf first m → AreOf first (rows_turned life now w m)
@@ -33,13 +33,13 @@ module _ (newest life now : ℕ) where
     ends_by false on (inr less) zero few go = absurd (omega (arith, few, less))
     ends_by false on (inr less) (suc rest) few go = ends_later rest (sweep w m) on (go rest refl (omega (arith, few, less)))
 
-  ends : (first : Rows) (most : ℕ) (w : LogCollector) (m : Rows) → IsRight newest w → AreOrdered m → AreOf first m → turns_to_go first w ≤ most → Ends most (sweep w m)
+  ends : (first : Rows) (most : ℕ) (w : LogCollector) (m : Rows) → HasCollectorInvariant newest w → AreOrdered m → AreOf first m → turns_to_go first w ≤ most → Ends most (sweep w m)
   ends first zero w m right ordered of few =
       ends_by first w m (is_last_turn life now (sweep w m)) refl (pays newest life now first m of ordered w right) zero few (λ rest same less. absurd (omega (arith, same)))
   ends first (suc most) w m right ordered of few =
       ends_by first w m (is_last_turn life now (sweep w m)) refl (pays newest life now first m of ordered w right) (suc most) few
       (λ rest same less. let is : most ≡ rest = omega (arith, same) in subst (λ z. Ends z (after_turn newest life now (sweep w m))) is
-      (ends first most (turned newest life now w m) (rows_turned life now w m) (stay_right.2 newest life now w m right) (ordered_stay life now w m ordered) (of_turned first w m of) (omega (arith, less, is))))
+      (ends first most (turned newest life now w m) (rows_turned life now w m) (stay_invariant.2 newest life now w m right) (ordered_stay life now w m ordered) (of_turned first w m of) (omega (arith, less, is))))
 
 pub rounds_end : RoundsEnd
 rounds_end newest life now w m right ordered =

@@ -22,10 +22,10 @@ module _ (newest life now : ℕ) where
   stays s = record { turns = 0; goes = refl }
 
   pub turn_first : (n : ℕ) (s u t : Sweep) → Turns newest life now s u → GoesTo newest life now n u t → GoesTo newest life now (suc n) s t
-  turn_first n s u t turn way = (turn.goes_on, subst (λ z. GoesTo newest life now n z t) (sym turn.leads) way)
+  turn_first n s u t turn path = (turn.goes_on, subst (λ z. GoesTo newest life now n z t) (sym turn.leads) path)
 
   pub turn_then : (s u t : Sweep) → Turns newest life now s u → Comes newest life now u t → Comes newest life now s t
-  turn_then s u t turn way = record { turns = suc way.turns; goes = turn_first way.turns s u t turn way.goes }
+  turn_then s u t turn path = record { turns = suc path.turns; goes = turn_first path.turns s u t turn path.goes }
 
   pub joined : (a b : ℕ) (s u t : Sweep) → GoesTo newest life now a s u → GoesTo newest life now b u t → GoesTo newest life now (a + b) s t
   joined zero b s u t first more = let same : b ≡ 0 + b = omega arith in subst (λ n. GoesTo newest life now n s t) same (subst (λ x. GoesTo newest life now b x t) first more)
@@ -43,15 +43,15 @@ module _ (newest life now : ℕ) where
 
   -- so many turns that lead on are the first of those that lead to the end
   pub left : (n turns : ℕ) (s u t : Sweep) → GoesTo newest life now n s u → EndsAt newest life now turns s t → Left n turns u t
-  left zero turns s u t way e = record { rest = turns; all = omega arith; ends = subst (λ x. EndsAt newest life now turns x t) (sym way) e }
-  left (suc n) zero s u t way e = absurd (clash s e.before e.way way.0 e.last)
-  left (suc n) (suc turns) s u t way e =
-      let rest : EndsAt newest life now turns (after_turn newest life now s) t = record { before = e.before; way = e.way.1; last = e.last; done = e.done } in
-      let l = left n turns (after_turn newest life now s) u t way.1 rest in
+  left zero turns s u t path e = record { rest = turns; all = omega arith; ends = subst (λ x. EndsAt newest life now turns x t) (sym path) e }
+  left (suc n) zero s u t path e = absurd (clash s e.before e.path path.0 e.last)
+  left (suc n) (suc turns) s u t path e =
+      let rest : EndsAt newest life now turns (after_turn newest life now s) t = record { before = e.before; path = e.path.1; last = e.last; done = e.done } in
+      let l = left n turns (after_turn newest life now s) u t path.1 rest in
       let all = l.all in
       record { rest = l.rest; all = omega (arith, all); ends = l.ends }
 
   -- where the next turn ends the round, that is the end
   pub ended : (turns : ℕ) (s t : Sweep) → is_last_turn life now s ≡ true → EndsAt newest life now turns s t → t ≡ after_turn newest life now s
-  ended zero s t last e = e.done ∙ ap (after_turn newest life now) e.way
-  ended (suc turns) s t last e = absurd (clash s s refl e.way.0 last)
+  ended zero s t last e = e.done ∙ ap (after_turn newest life now) e.path
+  ended (suc turns) s t last e = absurd (clash s s refl e.path.0 last)

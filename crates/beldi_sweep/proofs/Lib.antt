@@ -11,6 +11,6 @@ pub mod Moments
 pub mod Old
 pub mod Ordered
 pub mod Passing
-pub mod Places
 pub mod Spending
 pub mod Sums
+pub mod SweptPlaces

@@ -6,16 +6,16 @@ use Rattle.std.proofs.lemmas.Bool.{false_from_ne_true}
 use Rattle.std.proofs.Common.{◌≡◌, inl, ℕ, zero, suc, ◌<◌, Bool, true, false, cond, List, Option, None, Some, refl, ap, ap₂, sym, ◌∙◌, subst, arith}
 use Rattle.beldi_value.specs.declared.id.IntentId.{IntentId}
 use Rattle.beldi_row.specs.declared.act.Act.TheVariants.{DropIntent, DropRow}
-use Rattle.beldi_row.specs.{Act.Tell, Act.act, Act.did, Act.is_left_row, Act.is_old_row, Act.removed_tell, Act.stays_unless, Key.RowKey, Key.at_row, Key.key_cmp, Key.kind_at, Key.rank_of, Table.Rows, Table.next_row, Table.set_row, declared.key.Kind.Kind, declared.row.Cell.Cell, declared.row.Row.Row}
+use Rattle.beldi_row.specs.{Act.ActReply, Act.act, Act.did, Act.is_left_row, Act.is_old_row, Act.removed_reply, Act.stays_unless, Key.RowKey, Key.at_row, Key.key_cmp, Key.kind_at, Key.rank_of, Table.Rows, Table.next_row, Table.set_row, declared.key.Kind.Kind, declared.row.Cell.Cell, declared.row.Row.Row}
 use Rattle.beldi_row.proofs.{Gets.got, Gets.key_same, Unchanged.looked}
 use Rattle.beldi_chain.specs.Chain.{chain}
-use Rattle.beldi_walk.specs.Query.{said}
-use Rattle.beldi_prune.specs.{Laws.IsOldAt, Laws.is_left, Prune.is_newest, Prune.past, Prune.says_if, Prune.stand, Prune.stand_if, Prune.todo_of, Seat.belongs_to, Seat.seat, Seat.seat_if, Unlink.is_did}
-use Rattle.beldi_prune.specs.declared.collector.{GcSays.TheVariants.Removed, CollectorAt.TheVariants.ToDrop, CollectorAt.TheVariants.ToDropIntent, CollectorAt.TheVariants.ToLook}
+use Rattle.beldi_query.specs.Query.{replied}
+use Rattle.beldi_prune.specs.{PruneLaws.IsOldAt, PruneLaws.is_left, Prune.is_newest, Prune.past, Prune.output_if, Prune.stand, Prune.stand_if, Prune.todo_of, Seat.belongs_to, Seat.seat, Seat.seat_if, Unlink.is_did}
+use Rattle.beldi_prune.specs.declared.collector.{GcOutput.TheVariants.Removed, CollectorAt.TheVariants.ToDrop, CollectorAt.TheVariants.ToDropIntent, CollectorAt.TheVariants.ToLook}
 use Rattle.beldi_prune.specs.declared.found.Todo.TheVariants.{DropIt, LookAt, Pass}
-use Rattle.beldi_sweep.specs.{Done.IsDone, Done.IsReady, Rows.AreSound, Rows.IsSound, Rows.IsTrim, Sweep.Sweep, Sweep.is_round}
+use Rattle.beldi_sweep.specs.{Done.IsDone, Done.IsReady, SweptRows.AreSound, SweptRows.IsSound, SweptRows.IsTrim, Sweep.Sweep, Sweep.is_round}
 use Rattle.beldi_sweep.proofs.Going.{Turns, stays, sweep, turn_then}
-use Rattle.beldi_sweep.proofs.{CellsKept.intent_rank, CellsKept.left_rank, CellsTurned.old_recyclable, Passing.IsFree, Passing.done_gone, Passing.done_passed, Places.gone_less, Places.there}
+use Rattle.beldi_sweep.proofs.{CellsKept.intent_rank, CellsKept.left_rank, CellsTurned.old_recyclable, Passing.IsFree, Passing.done_gone, Passing.done_passed, SweptPlaces.gone_less, SweptPlaces.there}
 
 -- ---- rows of items stay as another key's row goes
 module _ (m : Rows) (k : RowKey) (other : rank_of k.kind ≡ 3 → ⊥) where
@@ -38,13 +38,13 @@ module _ (newest life now : ℕ) (c k : RowKey) (m : Rows) where
   -- a row that is there and may go goes
   intent_goes : (r : Row) → map.get m k ≡ Some r → is_old_row life now r ≡ true → Turns newest life now (sweep (stand c (ToDropIntent k)) m) (sweep (past k) (set_row m k None))
   intent_goes r is old =
-      let told : ◌≡◌ {A = Option Row × Tell} (act (DropIntent life) now (map.get m k)) (None, did) = ap (act (DropIntent life) now) is ∙ ap (λ b. stays_unless b (r, removed_tell b)) old in
-      record { goes_on = ap (λ (o : Option Row × Tell). is_round (says_if Removed (is_did (said o.1)))) told; leads = ap (λ (o : Option Row × Tell). sweep (past k) (set_row m k o.0)) told }
+      let told : ◌≡◌ {A = Option Row × ActReply} (act (DropIntent life) now (map.get m k)) (None, did) = ap (act (DropIntent life) now) is ∙ ap (λ b. stays_unless b (r, removed_reply b)) old in
+      record { goes_on = ap (λ (o : Option Row × ActReply). is_round (output_if Removed (is_did (replied o.1)))) told; leads = ap (λ (o : Option Row × ActReply). sweep (past k) (set_row m k o.0)) told }
 
   left_goes : (r : Row) → map.get m k ≡ Some r → is_left_row r ≡ true → Turns newest life now (sweep (stand c (ToDrop k)) m) (sweep (past k) (set_row m k None))
   left_goes r is left =
-      let told : ◌≡◌ {A = Option Row × Tell} (act DropRow now (map.get m k)) (None, did) = ap (act DropRow now) is ∙ ap (λ b. stays_unless b (r, removed_tell b)) left in
-      record { goes_on = ap (λ (o : Option Row × Tell). is_round (says_if Removed (is_did (said o.1)))) told; leads = ap (λ (o : Option Row × Tell). sweep (past k) (set_row m k o.0)) told }
+      let told : ◌≡◌ {A = Option Row × ActReply} (act DropRow now (map.get m k)) (None, did) = ap (act DropRow now) is ∙ ap (λ b. stays_unless b (r, removed_reply b)) left in
+      record { goes_on = ap (λ (o : Option Row × ActReply). is_round (output_if Removed (is_did (replied o.1)))) told; leads = ap (λ (o : Option Row × ActReply). sweep (past k) (set_row m k o.0)) told }
 
   -- a look finds the intent old
   looks : IsOldAt life now (map.get m (seat k)) → Turns newest life now (sweep (stand c (ToLook k)) m) (sweep (stand c (ToDrop k)) m)
@@ -80,8 +80,8 @@ module _ (newest life now : ℕ) (c : RowKey) (m : Rows) (e : RowKey × Row) (ne
   left_by i left belongs todo =
       let old = subst (λ o. IsOldAt life now (map.get m (seat_if e.0 o))) (sym belongs) (ready.old.left e.0 i (ap is_some is_there) left belongs) in
       let goes = turn_then newest life now (sweep (stand c (ToDrop e.0)) m) gone gone (left_goes newest life now c e.0 m e.1 is_there (ready.sound.left e.0 e.1 left is_there)) (stays newest life now gone) in
-      let way = turn_then newest life now (sweep (stand c (ToLook e.0)) m) (sweep (stand c (ToDrop e.0)) m) gone (looks newest life now c e.0 m old) goes in
-      done_gone newest life now c m e next ready LookAt todo way (sound_gone m e.0 (left_rank e.0.kind left) ready.sound)
+      let path = turn_then newest life now (sweep (stand c (ToLook e.0)) m) (sweep (stand c (ToDrop e.0)) m) gone (looks newest life now c e.0 m old) goes in
+      done_gone newest life now c m e next ready LookAt todo path (sound_gone m e.0 (left_rank e.0.kind left) ready.sound)
 
   first_by : (t : ℕ) (q : List ℕ) → e.0.kind ≡ Kind.Data t q 0 → IsDone newest life now c e.0 m
   first_by t q kind =

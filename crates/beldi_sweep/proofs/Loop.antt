@@ -5,14 +5,14 @@ use Rattle.std.proofs.lemmas.Cmp.{ranked}
 use Rattle.std.proofs.Common.{◌≡◌, ◌⊎◌, inl, inr, ℕ, zero, suc, ◌<◌, true, Option, None, Some, Ordering, Less, Equal, Greater, nat_cmp, refl, ap, sym, ◌∙◌, subst, arith}
 use Rattle.beldi_row.specs.{Key.RowKey, Key.key_cmp, Key.least_key, Table.IsNext, Table.Rows, Table.next_row, declared.key.Kind.Kind, declared.row.Cell.Cell, declared.row.Row.Row}
 use Rattle.beldi_row.proofs.Least.{next_row_least}
-use Rattle.beldi_walk.specs.Query.{found}
-use Rattle.beldi_prune.specs.Prune.{before_says, past}
-use Rattle.beldi_sweep.specs.{Done.IsReady, Done.IsTidying, Laws.begin, Rows.AllIsOld, Rows.AreLongAdrift, Rows.AreSound, Rows.AreTidy, Rows.AreTrimmed, Rows.IsTrim, Sweep.EndsAt, Sweep.GoesTo, Sweep.Sweep, Sweep.is_last_turn, Sweep.is_round}
+use Rattle.beldi_query.specs.Query.{found}
+use Rattle.beldi_prune.specs.Prune.{before_output, past}
+use Rattle.beldi_sweep.specs.{Done.IsReady, Done.IsTidying, SweepLaws.begin, SweptRows.AllIsOld, SweptRows.AreLongAdrift, SweptRows.AreSound, SweptRows.AreTidy, SweptRows.AreTrimmed, SweptRows.IsTrim, Sweep.EndsAt, Sweep.GoesTo, Sweep.Sweep, Sweep.is_last_turn, Sweep.is_round}
 use Rattle.beldi_sweep.proofs.{Going.ended, Going.left, Going.sweep, Logs.CellsAreDone, Logs.rows_done}
 
 -- where no row follows the cursor, the next turn ends the round
 last : (life now : ℕ) (c : RowKey) (m : Rows) → next_row m c ≡ None → is_last_turn life now (sweep (past c) m) ≡ true
-last life now c m none = ap (λ o. is_round (before_says (found o))) none
+last life now c m none = ap (λ o. is_round (before_output (found o))) none
 
 -- .. and what lies past it is absent
 none_past : (c : RowKey) (m : Rows) → next_row m c ≡ None → (q : RowKey) (r : Row) → map.get m q ≡ Some r → key_cmp c q ≡ Less → ⊥
@@ -22,19 +22,19 @@ none_past c m none q r there far =
 
 module _ (newest life now : ℕ) (P : RowKey → Rows → Type 0) where
   -- it goes from a row to past the next, where the same is so
-  pub record Goes (c k : RowKey) (m : Rows) : Type 0 where
+  pub record GoesPast (c k : RowKey) (m : Rows) : Type 0 where
     pub turns : ℕ
     pub rows : Rows
-    pub way : GoesTo newest life now (suc turns) (sweep (past c) m) (sweep (past k) rows)
+    pub path : GoesTo newest life now (suc turns) (sweep (past c) m) (sweep (past k) rows)
     pub so : P k rows
 
-  module _ (step : (c : RowKey) (m : Rows) (e : RowKey × Row) → P c m → next_row m c ≡ Some e → Goes c e.0 m) (Q : Rows → Type 0) (end : (c : RowKey) (m : Rows) → P c m → next_row m c ≡ None → Q m) (t : Sweep) where
+  module _ (step : (c : RowKey) (m : Rows) (e : RowKey × Row) → P c m → next_row m c ≡ Some e → GoesPast c e.0 m) (Q : Rows → Type 0) (end : (c : RowKey) (m : Rows) → P c m → next_row m c ≡ None → Q m) (t : Sweep) where
     by_next : (turns : ℕ) (c : RowKey) (m : Rows) → P c m → EndsAt newest life now turns (sweep (past c) m) t → ((rest : ℕ) (k : RowKey) (n : Rows) → rest < turns → P k n → EndsAt newest life now rest (sweep (past k) n) t → Q t.rows)
         → (o : Option (RowKey × Row)) → next_row m c ≡ o → Q t.rows
     by_next turns c m so e go None next = subst (λ (x : Sweep). Q x.rows) (sym (ended newest life now turns (sweep (past c) m) t (last life now c m next) e)) (end c m so next)
     by_next turns c m so e go (Some x) next =
         let s = step c m x so next in
-        let l = left newest life now (suc s.turns) turns (sweep (past c) m) (sweep (past x.0) s.rows) t s.way e in
+        let l = left newest life now (suc s.turns) turns (sweep (past c) m) (sweep (past x.0) s.rows) t s.path e in
         let all = l.all in
         go l.rest x.0 s.rows (omega (arith, all)) s.so l.ends
 
@@ -83,8 +83,8 @@ module _ (newest life now : ℕ) (cells : CellsAreDone newest life now) where
       by (inl far) = absurd (none_past c m none k (Row.Cell x) is far)
       by (inr free) = free
 
-  trims_step : (c : RowKey) (m : Rows) (e : RowKey × Row) → IsReady newest life now c m → next_row m c ≡ Some e → Goes newest life now (IsReady newest life now) c e.0 m
-  trims_step c m e ready next = let d = rows_done newest life now cells c m e ready next in record { turns = d.turns; rows = d.rows; way = d.goes; so = d.ready }
+  trims_step : (c : RowKey) (m : Rows) (e : RowKey × Row) → IsReady newest life now c m → next_row m c ≡ Some e → GoesPast newest life now (IsReady newest life now) c e.0 m
+  trims_step c m e ready next = let d = rows_done newest life now cells c m e ready next in record { turns = d.turns; rows = d.rows; path = d.goes; so = d.ready }
 
   pub trims : (turns : ℕ) (m : Rows) (t : Sweep) → AllIsOld newest life now m → AreSound m → EndsAt newest life now turns (begin m) t → AreTrimmed newest t.rows
   trims turns m t old sound e = to_end newest life now (IsReady newest life now) trims_step (AreTrimmed newest) trimmed_by t (suc turns) turns (omega arith) least_key m (ready_first m old sound) e
@@ -92,8 +92,8 @@ module _ (newest life now : ℕ) (cells : CellsAreDone newest life now) where
   abbrev Tidying : RowKey → Rows → Type 0
   Tidying c m = IsReady newest life now c m × IsTidying newest life now c m
 
-  tidies_step : (c : RowKey) (m : Rows) (e : RowKey × Row) → Tidying c m → next_row m c ≡ Some e → Goes newest life now Tidying c e.0 m
-  tidies_step c m e so next = let d = rows_done newest life now cells c m e so.0 next in record { turns = d.turns; rows = d.rows; way = d.goes; so = (d.ready, d.tidying so.1) }
+  tidies_step : (c : RowKey) (m : Rows) (e : RowKey × Row) → Tidying c m → next_row m c ≡ Some e → GoesPast newest life now Tidying c e.0 m
+  tidies_step c m e so next = let d = rows_done newest life now cells c m e so.0 next in record { turns = d.turns; rows = d.rows; path = d.goes; so = (d.ready, d.tidying so.1) }
 
   pub tidies : (turns : ℕ) (m : Rows) (t : Sweep) → AllIsOld newest life now m → AreSound m → AreTrimmed newest m → AreLongAdrift life now m → EndsAt newest life now turns (begin m) t → AreTidy newest t.rows
   tidies turns m t old sound trimmed long e =

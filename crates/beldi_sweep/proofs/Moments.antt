@@ -5,10 +5,10 @@ use Rattle.std.proofs.Common.{◌≡◌, ℕ, zero, suc, ◌+◌, ◌<◌, ◌�
 use Rattle.beldi_row.specs.{Act.is_past, Key.RowKey, Key.at_row, Key.key_cmp, Table.Rows, Table.set_row, declared.row.Cell.Cell, declared.row.Row.Row}
 use Rattle.beldi_row.proofs.Gets.{got}
 use Rattle.beldi_links.proofs.Ways.{one_cell}
-use Rattle.beldi_prune.specs.{Laws.SaidOf, Laws.rows_turned, Laws.told, Prune.prune_says}
-use Rattle.beldi_prune.specs.declared.collector.{LogCollector.LogCollector, GcSays.GcSays, GcSays.TheVariants.Going, GcSays.TheVariants.Marked, GcSays.TheVariants.Skipped, GcSays.TheVariants.Dangled, GcSays.TheVariants.Removed, GcSays.TheVariants.Round}
-use Rattle.beldi_prune.proofs.Said.{say_what_they_did}
-use Rattle.beldi_sweep.specs.{Rows.AreAdriftBy, Rows.AreLongAdrift, Sweep.GoesTo, Sweep.Sweep, Sweep.after_turn}
+use Rattle.beldi_prune.specs.{PruneLaws.IsOutputOf, PruneLaws.rows_turned, PruneLaws.told, Prune.prune_output}
+use Rattle.beldi_prune.specs.declared.collector.{LogCollector.LogCollector, GcOutput.GcOutput, GcOutput.TheVariants.Going, GcOutput.TheVariants.Marked, GcOutput.TheVariants.Skipped, GcOutput.TheVariants.Dangled, GcOutput.TheVariants.Removed, GcOutput.TheVariants.Round}
+use Rattle.beldi_prune.proofs.PruneOutput.{say_what_they_did}
+use Rattle.beldi_sweep.specs.{SweptRows.AreAdriftBy, SweptRows.AreLongAdrift, Sweep.GoesTo, Sweep.Sweep, Sweep.after_turn}
 
 module _ (now : ℕ) (m : Rows) (by : AreAdriftBy now m) where
   -- a cell that is set has a moment that it had, or this one
@@ -26,7 +26,7 @@ module _ (now : ℕ) (m : Rows) (by : AreAdriftBy now m) where
       by_key true same = cc
       by_key false same = by k c since same at
 
-  by_said : (life : ℕ) (w : LogCollector) (n : Rows) (s : GcSays) → SaidOf life now w m n s → AreAdriftBy now n
+  by_said : (life : ℕ) (w : LogCollector) (n : Rows) (s : GcOutput) → IsOutputOf life now w m n s → AreAdriftBy now n
   by_said life w n Going h = subst (AreAdriftBy now) (sym h) by
   by_said life w n Marked h = cell_set h.key (record h.cell { marked = true }) (λ since at. by h.key h.cell since h.there at) n h.done
   by_said life w n Skipped h = cell_set (at_row h.key h.at) (record h.cell { next = Some h.to }) (λ since at. by (at_row h.key h.at) h.cell since h.there at) n h.done
@@ -35,11 +35,11 @@ module _ (now : ℕ) (m : Rows) (by : AreAdriftBy now m) where
   by_said life w n Round h = subst (AreAdriftBy now) (sym h.0) by
 
 pub adrift_by_then : (life now : ℕ) (w : LogCollector) (m : Rows) → AreAdriftBy now m → AreAdriftBy now (rows_turned life now w m)
-adrift_by_then life now w m by = by_said now m by life w (rows_turned life now w m) (prune_says w (told life now w m)) (say_what_they_did life now w m)
+adrift_by_then life now w m by = by_said now m by life w (rows_turned life now w m) (prune_output w (told life now w m)) (say_what_they_did life now w m)
 
 pub adrift_by_there : (newest life now n : ℕ) (s t : Sweep) → GoesTo newest life now n s t → AreAdriftBy now s.rows → AreAdriftBy now t.rows
-adrift_by_there newest life now zero s t way by = subst (λ (x : Sweep). AreAdriftBy now x.rows) (sym way) by
-adrift_by_there newest life now (suc n) s t way by = adrift_by_there newest life now n (after_turn newest life now s) t way.1 (adrift_by_then life now s.collector s.rows by)
+adrift_by_there newest life now zero s t path by = subst (λ (x : Sweep). AreAdriftBy now x.rows) (sym path) by
+adrift_by_there newest life now (suc n) s t path by = adrift_by_there newest life now n (after_turn newest life now s) t path.1 (adrift_by_then life now s.collector s.rows by)
 
 -- more than a life later each is so for more than a life
 pub long_after : (life moment now : ℕ) (m : Rows) → moment + life < now → AreAdriftBy moment m → AreLongAdrift life now m

@@ -10,10 +10,10 @@ use Rattle.beldi_row.specs.{Act.is_old_row, Act.is_past, Key.RowKey, Key.at_row,
 use Rattle.beldi_row.proofs.Gets.{got, key_same}
 use Rattle.beldi_links.proofs.Ways.{one_cell}
 use Rattle.beldi_intent.specs.Intent.{intent_key}
-use Rattle.beldi_prune.specs.{Entries.HasEntryOf, Laws.IsOldAt, Laws.SaidOf, Laws.rows_turned, Laws.told, Prune.is_newest, Prune.prune_says, Seat.seat_of}
-use Rattle.beldi_prune.specs.declared.collector.{LogCollector.LogCollector, GcSays.GcSays, GcSays.TheVariants.Going, GcSays.TheVariants.Marked, GcSays.TheVariants.Skipped, GcSays.TheVariants.Dangled, GcSays.TheVariants.Removed, GcSays.TheVariants.Round}
-use Rattle.beldi_prune.proofs.Said.{say_what_they_did}
-use Rattle.beldi_sweep.specs.{Laws.OldIsOldLater, Laws.OldStaysOld, Rows.AllIsOld, Rows.IsIdle, Rows.IsIntentIdle, Sweep.GoesTo, Sweep.Sweep, Sweep.after_turn}
+use Rattle.beldi_prune.specs.{CellEntries.HasEntryOf, PruneLaws.IsOldAt, PruneLaws.IsOutputOf, PruneLaws.rows_turned, PruneLaws.told, Prune.is_newest, Prune.prune_output, Seat.seat_of}
+use Rattle.beldi_prune.specs.declared.collector.{LogCollector.LogCollector, GcOutput.GcOutput, GcOutput.TheVariants.Going, GcOutput.TheVariants.Marked, GcOutput.TheVariants.Skipped, GcOutput.TheVariants.Dangled, GcOutput.TheVariants.Removed, GcOutput.TheVariants.Round}
+use Rattle.beldi_prune.proofs.PruneOutput.{say_what_they_did}
+use Rattle.beldi_sweep.specs.{SweepLaws.OldIsOldLater, SweepLaws.OldStaysOld, SweptRows.AllIsOld, SweptRows.IsIdle, SweptRows.IsIntentIdle, Sweep.GoesTo, Sweep.Sweep, Sweep.after_turn}
 
 -- ---- what a turn leaves of a row: it goes, stays, or is a cell with its entries
 pub data RowLeft (o p : Option Row) : Type 0 where
@@ -37,7 +37,7 @@ module _ (m : Rows) (k q : RowKey) where
   gone_is n is = gone_set (is_eq (key_cmp q k)) (map.get n q) (ap (λ x. map.get x q) is ∙ got m k q None)
 
 -- whatever it said
-by_said : (life now : ℕ) (w : LogCollector) (m n : Rows) (q : RowKey) (s : GcSays) → SaidOf life now w m n s → RowLeft (map.get m q) (map.get n q)
+by_said : (life now : ℕ) (w : LogCollector) (m n : Rows) (q : RowKey) (s : GcOutput) → IsOutputOf life now w m n s → RowLeft (map.get m q) (map.get n q)
 by_said life now w m n q Going h = Same (ap (λ x. map.get x q) h)
 by_said life now w m n q Marked h = cell_is m h.key q h.cell (record h.cell { marked = true }) h.there refl n h.done
 by_said life now w m n q Skipped h = cell_is m (at_row h.key h.at) q h.cell (record h.cell { next = Some h.to }) h.there refl n h.done
@@ -77,7 +77,7 @@ module _ (newest life now : ℕ) (m n : Rows) (kept : (q : RowKey) → RowLeft (
   }
 
 pub row_left : (life now : ℕ) (w : LogCollector) (m : Rows) (q : RowKey) → RowLeft (map.get m q) (map.get (rows_turned life now w m) q)
-row_left life now w m q = by_said life now w m (rows_turned life now w m) q (prune_says w (told life now w m)) (say_what_they_did life now w m)
+row_left life now w m q = by_said life now w m (rows_turned life now w m) q (prune_output w (told life now w m)) (say_what_they_did life now w m)
 
 pub old_stays : OldStaysOld
 old_stays newest life now w m old = kept_old newest life now m (rows_turned life now w m) (row_left life now w m) old
@@ -96,12 +96,12 @@ pub idle_stays : (newest life now : ℕ) (w : LogCollector) (m : Rows) → IsIdl
 idle_stays newest life now w m idle k i r kind there = intent_idle (is_newest newest i) life now (map.get m k) (map.get (rows_turned life now w m) k) r (row_left life now w m k) there (λ s was. idle k i s kind was)
 
 pub idle_goes : (newest life now n : ℕ) (s t : Sweep) → GoesTo newest life now n s t → IsIdle newest life now s.rows → IsIdle newest life now t.rows
-idle_goes newest life now zero s t way idle = subst (λ (x : Sweep). IsIdle newest life now x.rows) (sym way) idle
-idle_goes newest life now (suc n) s t way idle = idle_goes newest life now n (after_turn newest life now s) t way.1 (idle_stays newest life now s.collector s.rows idle)
+idle_goes newest life now zero s t path idle = subst (λ (x : Sweep). IsIdle newest life now x.rows) (sym path) idle
+idle_goes newest life now (suc n) s t path idle = idle_goes newest life now n (after_turn newest life now s) t path.1 (idle_stays newest life now s.collector s.rows idle)
 
 pub old_goes : (newest life now n : ℕ) (s t : Sweep) → GoesTo newest life now n s t → AllIsOld newest life now s.rows → AllIsOld newest life now t.rows
-old_goes newest life now zero s t way old = subst (λ (x : Sweep). AllIsOld newest life now x.rows) (sym way) old
-old_goes newest life now (suc n) s t way old = old_goes newest life now n (after_turn newest life now s) t way.1 (old_stays newest life now s.collector s.rows old)
+old_goes newest life now zero s t path old = subst (λ (x : Sweep). AllIsOld newest life now x.rows) (sym path) old
+old_goes newest life now (suc n) s t path old = old_goes newest life now n (after_turn newest life now s) t path.1 (old_stays newest life now s.collector s.rows old)
 
 -- ---- later on
 past_later : (life now later : ℕ) → now ≤ later → (o : Option ℕ) → is_past life now o ≡ true → is_past life later o ≡ true

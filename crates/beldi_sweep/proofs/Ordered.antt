@@ -6,11 +6,11 @@ use Rattle.beldi_row.specs.{declared.key.Kind.Kind, declared.row.Cell.Cell, decl
 use Rattle.beldi_row.proofs.Gets.{got, key_same}
 use Rattle.beldi_chain.specs.Chain.{chain}
 use Rattle.beldi_links.proofs.Ways.{one_cell}
-use Rattle.beldi_prune.specs.{Laws.SaidOf, Laws.rows_turned, Laws.told, Prune.prune_says}
-use Rattle.beldi_prune.specs.declared.collector.{LogCollector.LogCollector, GcSays.GcSays, GcSays.TheVariants.Going, GcSays.TheVariants.Marked, GcSays.TheVariants.Skipped, GcSays.TheVariants.Dangled, GcSays.TheVariants.Removed, GcSays.TheVariants.Round}
-use Rattle.beldi_prune.proofs.Said.{say_what_they_did}
+use Rattle.beldi_prune.specs.{PruneLaws.IsOutputOf, PruneLaws.rows_turned, PruneLaws.told, Prune.prune_output}
+use Rattle.beldi_prune.specs.declared.collector.{LogCollector.LogCollector, GcOutput.GcOutput, GcOutput.TheVariants.Going, GcOutput.TheVariants.Marked, GcOutput.TheVariants.Skipped, GcOutput.TheVariants.Dangled, GcOutput.TheVariants.Removed, GcOutput.TheVariants.Round}
+use Rattle.beldi_prune.proofs.PruneOutput.{say_what_they_did}
 use Rattle.beldi_sweep.specs.{Rounds.AreOrdered, Rounds.IsOrdered, Rounds.OrderedStayOrdered, Rounds.SoundAreOrdered}
-use Rattle.beldi_sweep.proofs.{CellsSound.few_entries, Places.gone_less}
+use Rattle.beldi_sweep.proofs.{CellsSound.few_entries, SweptPlaces.gone_less}
 
 -- ---- sound rows are
 pub sound_ordered : SoundAreOrdered
@@ -30,7 +30,7 @@ module _ (m : Rows) (ordered : AreOrdered m) (k : RowKey) (c d : Cell) (there : 
   cell_set n is l t x q y kind here = set_by l t x q y kind (is_eq (key_cmp l k)) refl (sym (ap (λ z. map.get z l) is ∙ got m k l (Some (Row.Cell d))) ∙ here)
 
 -- ---- whatever a turn said
-by_said : (life now : ℕ) (w : LogCollector) (m n : Rows) → AreOrdered m → (s : GcSays) → SaidOf life now w m n s → AreOrdered n
+by_said : (life now : ℕ) (w : LogCollector) (m n : Rows) → AreOrdered m → (s : GcOutput) → IsOutputOf life now w m n s → AreOrdered n
 by_said life now w m n ordered Going h = subst AreOrdered (sym h) ordered
 by_said life now w m n ordered Marked h = cell_set m ordered h.key h.cell (record h.cell { marked = true }) h.there (λ x o. record { rises = o.rises; short = o.short }) n h.done
 by_said life now w m n ordered Skipped h =
@@ -41,4 +41,4 @@ by_said life now w m n ordered Removed h = λ k t x q c kind there. ordered k t 
 by_said life now w m n ordered Round h = subst AreOrdered (sym h.0) ordered
 
 pub ordered_stay : OrderedStayOrdered
-ordered_stay life now w m ordered = by_said life now w m (rows_turned life now w m) ordered (prune_says w (told life now w m)) (say_what_they_did life now w m)
+ordered_stay life now w m ordered = by_said life now w m (rows_turned life now w m) ordered (prune_output w (told life now w m)) (say_what_they_did life now w m)

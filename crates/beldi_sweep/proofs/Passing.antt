@@ -3,12 +3,12 @@ use Rattle.std.specs.FinMap as map
 use Rattle.std.proofs.lemmas.Option.{same_Some}
 use Rattle.std.proofs.Common.{◌≡◌, ◌⊎◌, inl, inr, ℕ, suc, None, Some, Less, ap, sym, ◌∙◌, subst}
 use Rattle.beldi_row.specs.{Key.RowKey, Key.key_cmp, Table.Rows, Table.next_row, Table.set_row, declared.row.Row.Row}
-use Rattle.beldi_walk.specs.Query.{found}
-use Rattle.beldi_prune.specs.Prune.{before_says, begins, past, row_next, todo_of}
+use Rattle.beldi_query.specs.Query.{found}
+use Rattle.beldi_prune.specs.Prune.{before_output, begins, past, row_next, todo_of}
 use Rattle.beldi_prune.specs.declared.found.Todo.{Todo, TheVariants.Pass}
-use Rattle.beldi_sweep.specs.{Done.AreMooredTo, Done.IsDone, Done.IsReady, Done.IsTidying, Rows.AreSound, Rows.AreTrimmedTo, Rows.IsTrim, Sweep.is_round}
+use Rattle.beldi_sweep.specs.{Done.AreMooredTo, Done.IsDone, Done.IsReady, Done.IsTidying, SweptRows.AreSound, SweptRows.AreTrimmedTo, SweptRows.IsTrim, Sweep.is_round}
 use Rattle.beldi_sweep.proofs.Going.{Comes, Turns, stays, sweep, turn_first}
-use Rattle.beldi_sweep.proofs.{Old.old_goes, Places.gone_here, Places.gone_less, Places.there, Places.up_to}
+use Rattle.beldi_sweep.proofs.{Old.old_goes, SweptPlaces.gone_here, SweptPlaces.gone_less, SweptPlaces.there, SweptPlaces.up_to}
 
 -- ---- rows that are not adrift
 abbrev pub IsFree : Row → Type 0
@@ -23,20 +23,20 @@ module _ (newest life now : ℕ) (c : RowKey) (m : Rows) (e : RowKey × Row) (ne
   -- the row after the cursor is found in one turn
   begun : Turns newest life now (sweep (past c) m) (sweep (begins c e.0 todo) m)
   begun = record {
-    goes_on = ap (λ o. is_round (before_says (found o))) next;
+    goes_on = ap (λ o. is_round (before_output (found o))) next;
     leads = ap (λ o. sweep (row_next newest life now c o) m) next ∙ ap (λ z. sweep (begins c e.0 z) m) is;
   }
 
   -- .. and then the sweep comes past it
   pub done : (n : Rows) → Comes newest life now (sweep (begins c e.0 todo) m) (sweep (past e.0) n) → AreSound n → AreTrimmedTo newest e.0 n
       → (IsTidying newest life now c m → IsTidying newest life now e.0 n) → IsDone newest life now c e.0 m
-  done n way sound trimmed tidying =
-      let goes = turn_first newest life now way.turns (sweep (past c) m) (sweep (begins c e.0 todo) m) (sweep (past e.0) n) begun way.goes in
+  done n path sound trimmed tidying =
+      let goes = turn_first newest life now path.turns (sweep (past c) m) (sweep (begins c e.0 todo) m) (sweep (past e.0) n) begun path.goes in
       record {
-        turns = way.turns;
+        turns = path.turns;
         rows = n;
         goes = goes;
-        ready = record { old = old_goes newest life now (suc way.turns) (sweep (past c) m) (sweep (past e.0) n) goes ready.old; sound = sound; trimmed = trimmed };
+        ready = record { old = old_goes newest life now (suc path.turns) (sweep (past c) m) (sweep (past e.0) n) goes ready.old; sound = sound; trimmed = trimmed };
         tidying = tidying;
       }
 
@@ -54,8 +54,8 @@ module _ (newest life now : ℕ) (c : RowKey) (m : Rows) (e : RowKey × Row) (ne
 
   -- it goes
   pub done_gone : Comes newest life now (sweep (begins c e.0 todo) m) (sweep (past e.0) (set_row m e.0 None)) → AreSound (set_row m e.0 None) → IsDone newest life now c e.0 m
-  done_gone way sound = let n = set_row m e.0 None in let less = gone_less m e.0 in
-      done n way sound (up_to_trimmed n less (λ r h. absurd (gone_here m e.0 r h))) (up_to_tidied n less (λ r h. absurd (gone_here m e.0 r h)))
+  done_gone path sound = let n = set_row m e.0 None in let less = gone_less m e.0 in
+      done n path sound (up_to_trimmed n less (λ r h. absurd (gone_here m e.0 r h))) (up_to_tidied n less (λ r h. absurd (gone_here m e.0 r h)))
 
 -- it is passed
 pub done_passed : (newest life now : ℕ) (c : RowKey) (m : Rows) (e : RowKey × Row) → next_row m c ≡ Some e → IsReady newest life now c m → todo_of newest life now e.0.kind e.1 ≡ Pass → IsTrim newest e.0.kind e.1 → (IsTidying newest life now c m → IsFree e.1)

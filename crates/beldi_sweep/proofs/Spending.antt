@@ -8,14 +8,14 @@ use Rattle.std.proofs.Common.{◌≡◌, ◌⊎◌, inl, inr, ℕ, suc, ◌+◌,
 use Rattle.beldi_value.specs.declared.{id.IntentId.IntentId, place.Place.Place}
 use Rattle.beldi_row.specs.declared.act.Act.TheVariants.{Look, MarkCell, SkipCell}
 use Rattle.beldi_row.specs.{declared.notes.Note.Note, declared.row.Cell.Cell, declared.row.Row.Row, Act.act, Key.RowKey, Key.at_row, Key.key_cmp, Key.row_of, KeyOrder.key_total, Log.most_entries_are, Table.Rows, Table.next_row}
-use Rattle.beldi_walk.specs.Query.{found, said}
+use Rattle.beldi_query.specs.Query.{found, replied}
 use Rattle.beldi_intent.specs.Intent.{intent_key}
-use Rattle.beldi_prune.specs.{Entries.intents_from, Entries.intents_of, Entries.is_other, Laws.IsBegun, Laws.IsRight, Laws.begun, Laws.is_behind, Laws.turned, Prune.before_says, Prune.begins, Prune.is_recyclable, Prune.led_next, Prune.marked_next, Prune.past, Prune.row_next, Prune.stand, Prune.stand_if, Prune.to_prove, Prune.todo_of, Seat.seat, Unlink.is_did, Unlink.lead_to, Unlink.step_to, Unlink.told_marked, Unlink.told_next}
+use Rattle.beldi_prune.specs.{CellEntries.intents_from, CellEntries.intents_of, CellEntries.is_other, PruneLaws.IsBegun, PruneLaws.HasCollectorInvariant, PruneLaws.begun, PruneLaws.is_behind, PruneLaws.turned, Prune.before_output, Prune.begins, Prune.is_recyclable, Prune.led_next, Prune.marked_next, Prune.past, Prune.row_next, Prune.stand, Prune.stand_if, Prune.to_prove, Prune.todo_of, Seat.seat, Unlink.is_did, Unlink.lead_to, Unlink.step_to, Unlink.told_marked, Unlink.told_next}
 use Rattle.beldi_prune.specs.declared.{collector.LogCollector.LogCollector, found.Todo.Todo, found.Todo.TheVariants.Pass, found.Todo.TheVariants.DropIt, found.Todo.TheVariants.LookAt, found.Todo.TheVariants.DropAdrift, found.Todo.TheVariants.LeadPast, found.Todo.TheVariants.Prove}
 use Rattle.beldi_prune.specs.declared.collector.CollectorAt.{CollectorAt, TheVariants.Before, TheVariants.ToDropIntent, TheVariants.ToLook, TheVariants.ToDrop, TheVariants.ToProve, TheVariants.ToMark, TheVariants.ToLead, TheVariants.ToSkip, TheVariants.ToDangle, TheVariants.ToDropCell}
 use Rattle.beldi_prune.proofs.Judged.{Judged, judged}
 use Rattle.beldi_sweep.specs.{Rounds.AreOrdered, Rounds.begun_turns, Rounds.rows_beside, Rounds.turns_of, Rounds.turns_past, Sweep.is_last_turn, Sweep.is_round}
-use Rattle.beldi_sweep.proofs.{Ahead.ahead, Ahead.ahead_falls, Ahead.ahead_few, Ahead.ahead_fewer, Ahead.ahead_some, Ahead.item_at, Ahead.items, Going.sweep, Places.past_cursor, Places.there, Sums.sum_falls, Sums.sum_less}
+use Rattle.beldi_sweep.proofs.{Ahead.ahead, Ahead.ahead_falls, Ahead.ahead_few, Ahead.ahead_fewer, Ahead.ahead_some, Ahead.item_at, Ahead.items, Going.sweep, SweptPlaces.past_cursor, SweptPlaces.there, Sums.sum_falls, Sums.sum_less}
 
 -- no row is there but those at the beginning
 abbrev pub AreOf : Rows → Rows → Type 0
@@ -129,9 +129,9 @@ module _ (first : Rows) (c k : RowKey) where
     leaves_marked None = omega arith
     leaves_marked (Some to) = let few = ahead_fewer first k 0 of in omega (arith, few)
 
-  leaves_marking : (now : ℕ) (o : Option Row) → (is_some o ≡ true → is_some (map.get first k) ≡ true) → Leaves (1 + rows_beside first k) (marked_next c k (told_marked (said (act MarkCell now o).1)))
+  leaves_marking : (now : ℕ) (o : Option Row) → (is_some o ≡ true → is_some (map.get first k) ≡ true) → Leaves (1 + rows_beside first k) (marked_next c k (told_marked (replied (act MarkCell now o).1)))
   leaves_marking now None of = omega arith
-  leaves_marking now (Some r) of = leaves_marked (of refl) (told_marked (said (act MarkCell now (Some r)).1))
+  leaves_marking now (Some r) of = leaves_marked (of refl) (told_marked (replied (act MarkCell now (Some r)).1))
 
   -- it looks at a row on the way
   module _ (behind : is_behind k.kind ≡ true) (to at : ℕ) (below : at < row_of k.kind) where
@@ -146,7 +146,7 @@ module _ (first : Rows) (c k : RowKey) where
       leaves_led (Some next) rises = leaves_step next (rises next refl) (next == row_of k.kind) (nat_lt next (row_of k.kind))
 
     leaves_leading : (now : ℕ) (o : Option Row) → (is_some o ≡ true → is_some (map.get first (at_row k at)) ≡ true) → ((x : Cell) (next : ℕ) → o ≡ Some (Row.Cell x) → x.next ≡ Some next → at < next)
-        → Leaves (1 + ahead first k at) (led_next c k to at (told_next (said (act Look now o).1)))
+        → Leaves (1 + ahead first k at) (led_next c k to at (told_next (replied (act Look now o).1)))
     leaves_leading now None of rises = omega arith
     leaves_leading now (Some (Row.Cell x)) of rises = leaves_led (of refl) x.next (λ next is. rises x next refl is)
     leaves_leading now (Some (Row.Intent i)) of rises = omega arith
@@ -170,7 +170,7 @@ module _ (newest life now : ℕ) (first m : Rows) (of : AreOf first m) (ordered 
       omega (arith, rest, on)
 
   found_pays : (c : RowKey) (o : Option (RowKey × Row)) → next_row m c ≡ o → Pays (past c)
-  found_pays c None next = inl (ap (λ o. is_round (before_says (found o))) next)
+  found_pays c None next = inl (ap (λ o. is_round (before_output (found o))) next)
   found_pays c (Some e) next = let on = subst (λ o. suc (turns_to_go first (row_next newest life now c o)) ≤ for_rest first c) (sym next) (finds c e next) in inr (omega (arith, on))
 
   rises : (k : RowKey) (at : ℕ) → is_behind k.kind ≡ true → (x : Cell) (next : ℕ) → map.get m (at_row k at) ≡ Some (Row.Cell x) → x.next ≡ Some next → at < next
@@ -179,15 +179,15 @@ module _ (newest life now : ℕ) (first m : Rows) (of : AreOf first m) (ordered 
   by_at : (c : RowKey) (a : CollectorAt) → IsBegun newest c a → Pays (stand c a)
   by_at c Before right = found_pays c (next_row m c) refl
   by_at c (ToDropIntent k) right = inr (omega arith)
-  by_at c (ToLook k) right = let on = leaves_if first c k 1 (ToDrop k) (omega arith) (is_recyclable life now (said (act Look now (map.get m (seat k))).1)) in inr (omega (arith, on))
+  by_at c (ToLook k) right = let on = leaves_if first c k 1 (ToDrop k) (omega arith) (is_recyclable life now (replied (act Look now (map.get m (seat k))).1)) in inr (omega (arith, on))
   by_at c (ToDrop k) right = inr (omega arith)
   by_at c (ToProve k i is) right =
-      let on = leaves_if first c k (length is + (2 + rows_beside first k)) (to_prove k is) (leaves_proving first c k is) (is_recyclable life now (said (act Look now (map.get m (intent_key i k.home))).1)) in inr (omega (arith, on))
+      let on = leaves_if first c k (length is + (2 + rows_beside first k)) (to_prove k is) (leaves_proving first c k is) (is_recyclable life now (replied (act Look now (map.get m (intent_key i k.home))).1)) in inr (omega (arith, on))
   by_at c (ToMark k) right = let on = leaves_marking first c k now (map.get m k) (of k) in inr (omega (arith, on))
   by_at c (ToLead k to at) right = let on = leaves_leading first c k right.1 to at right.2 now (map.get m (at_row k at)) (of (at_row k at)) (λ x next. rises k at right.1 x next) in inr (omega (arith, on))
-  by_at c (ToSkip k to at) right = let on = leaves_if first c k 1 (ToDangle k) (omega arith) (is_did (said (act (SkipCell (row_of k.kind) to) now (map.get m (at_row k at))).1)) in inr (omega (arith, on))
+  by_at c (ToSkip k to at) right = let on = leaves_if first c k 1 (ToDangle k) (omega arith) (is_did (replied (act (SkipCell (row_of k.kind) to) now (map.get m (at_row k at))).1)) in inr (omega (arith, on))
   by_at c (ToDangle k) right = inr (omega arith)
   by_at c (ToDropCell k) right = inr (omega arith)
 
-  pub pays : (w : LogCollector) → IsRight newest w → Pays w
+  pub pays : (w : LogCollector) → HasCollectorInvariant newest w → Pays w
   pays w right = by_at w.cursor w.at right

@@ -4,7 +4,7 @@ use Rattle.std.specs.FinMap as map
 use Rattle.std.specs.declared.cmp.Ordering.TheVariants.{Less}
 use Rattle.beldi_row.specs.{Key.RowKey, Key.key_cmp, Table.Rows, declared.row.Cell.Cell, declared.row.Row.Row}
 use Rattle.beldi_prune.specs.Prune.{past}
-use Rattle.beldi_sweep.specs.{Rows.AllIsOld, Rows.AreLongAdrift, Rows.AreSound, Rows.AreTrimmed, Rows.AreTrimmedTo, Sweep.GoesTo}
+use Rattle.beldi_sweep.specs.{SweptRows.AllIsOld, SweptRows.AreLongAdrift, SweptRows.AreSound, SweptRows.AreTrimmed, SweptRows.AreTrimmedTo, Sweep.GoesTo}
 
 -- up to this key no row is adrift
 abbrev pub AreMooredTo : RowKey → Rows → Type 0

@@ -1,5 +1,5 @@
 pub mod Done
-pub mod Laws
 pub mod Rounds
-pub mod Rows
 pub mod Sweep
+pub mod SweepLaws
+pub mod SweptRows

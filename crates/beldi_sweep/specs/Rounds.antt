@@ -5,9 +5,9 @@ use Rattle.std.specs.List.{count_by, sum_by}
 use Rattle.beldi_value.specs.declared.id.IntentId.{IntentId}
 use Rattle.beldi_row.specs.{Key.RowKey, Key.at_row, Log.most_entries, Table.Rows, declared.key.Kind.Kind, declared.row.Cell.Cell, declared.row.Row.Row}
 use Rattle.beldi_chain.specs.Chain.{is_row_of}
-use Rattle.beldi_prune.specs.{Laws.IsRight, Laws.begun, Laws.rows_turned, Marks.left_to_prove}
+use Rattle.beldi_prune.specs.{PruneLaws.HasCollectorInvariant, PruneLaws.begun, PruneLaws.rows_turned, Marks.left_to_prove}
 use Rattle.beldi_prune.specs.declared.collector.{LogCollector.LogCollector, CollectorAt.CollectorAt}
-use Rattle.beldi_sweep.specs.{Rows.AreSound, Sweep.EndsAt, Sweep.Sweep}
+use Rattle.beldi_sweep.specs.{SweptRows.AreSound, Sweep.EndsAt, Sweep.Sweep}
 
 -- ---- ordered rows
 -- a row of an item leads to a later one, and has no more entries than a cell may have
@@ -60,4 +60,4 @@ pub record EndsInTime (newest life now : ℕ) (w : LogCollector) (m : Rows) : Ty
 
 -- .. of a collector that stands anywhere, over any ordered rows, whether or not all work is past
 abbrev pub RoundsEnd : Type 0
-RoundsEnd = (newest life now : ℕ) (w : LogCollector) (m : Rows) → IsRight newest w → AreOrdered m → EndsInTime newest life now w m
+RoundsEnd = (newest life now : ℕ) (w : LogCollector) (m : Rows) → HasCollectorInvariant newest w → AreOrdered m → EndsInTime newest life now w m

@@ -1,5 +1,5 @@
 // The laws of sweeps.
-ghost use Rattle.beldi_sweep.specs.{Laws.OldIsOldLater, Laws.OldStaysOld, Laws.SweepsTidy, Laws.SweepsTrim, Rounds.OrderedStayOrdered, Rounds.RoundsEnd, Rounds.SoundAreOrdered};
+ghost use Rattle.beldi_sweep.specs.{SweepLaws.OldIsOldLater, SweepLaws.OldStaysOld, SweepLaws.SweepsTidy, SweepLaws.SweepsTrim, Rounds.OrderedStayOrdered, Rounds.RoundsEnd, Rounds.SoundAreOrdered};
 
 /// A sweep that begins before all rows, when all intents are old, leaves no row that an intent left and no row of an intent but that
 /// of the newest ticket; and of an item its first row, its last, and rows that are adrift.

@@ -2,12 +2,12 @@
 use Rattle.std.specs.Prelude.{◌^◌}
 use Rattle.beldi_syntax.{specs.Phrase.take, specs.Expressions.expr_at, specs.Statements.block_at, proofs.Lookahead.is_that, proofs.Lookahead.select, proofs.Lookahead.starts, proofs.Lookahead.first_of_two}
 use Rattle.beldi_syntax.proofs.Names.{Act, Bool, Command, Deployment, END, End, Func, INT, Lexeme, List, NAME, None, OfNumber, Option, Place, REL, Read, Rel, Sign, Some, Symbol, Syntax, TableHead, Term, Token, TooDeep, [], abort, after, after_first, ap, arith, async, async_of, at, bad, block, body, break, by, call_of, cell, choose, codes, commands_of, condition, condwrite, condwrite_of, deployment, else_tail, end_token, expr, false, function, function_of, functions, give, got, head, if_of, if◌then◌else◌, inl, inr, is_at_end, is_long, life, line_of, lock, lock_of, more_functions, more_stmts, more_tables, next_is, next_stmt, on_item, otherwise, past_token, place, plain, read, read_cell, read_deployment, read_end, read_of, read_room, read_stmt, refl, refuse, relation, relation_at, relation_or, repeat, repeat_of, return, return_of, room, rules, run, set, set_of, stmt, stmt_of, stmts, subst, suc, sum, table_of, tables, the_end, transaction, transaction_of, true, unlock, unlock_of, word, write, write_of, zero, ℕ, ◌++◌, ◌+◌, ◌<◌, ◌>>=◌, ◌||◌, ◌∙◌, ◌∷◌, ◌≡◌}
-use Rattle.beldi_syntax.proofs.Sound.{Stack, stack, Step, Run, went, Halt, Told, Sound, push, opened, by_rule, seq, given, told_made, made, told_by, ruled, told_if, Low, NoneOf, nothing_of, also_not, skips, skips_end, by_sign, sign_skips, not_sign, free, one, halted, told_bad, taken, named, numbered, Eaten, Else, sign_run, choice, whole, else_refused, else_given, some_same, Turn, Turns, repeats, Leads, leads, guarded, onwards, next_one, none_more}
+use Rattle.beldi_syntax.proofs.Sound.{Stack, stack, Step, Run, went, Halt, Explained, Sound, push, opened, by_rule, seq, given, told_made, made, told_by, ruled, told_if, Low, NoneOf, nothing_of, also_not, skips, skips_end, by_sign, sign_skips, not_sign, free, one, halted, told_bad, taken, named, numbered, Eaten, Else, sign_run, choice, whole, else_refused, else_given, some_same, Turn, Turns, repeats, Leads, leads, guarded, onwards, next_one, none_more}
 use Rattle.beldi_syntax.proofs.Terms.{Reads, expr_ops, relates, relates_not, rel_run, parts, arguments, sums_read, exprs_at, first_is, kind_step, too_deep, low_at}
 
 -- ---- statements
 
-relation_told : (n : ℕ) (es : List Place) (k : Rel → Act es Deployment) (s : List Lexeme) (o : Option Rel) → Low n → relation_at s ≡ o → Told (relation_or o s) (push n REL es k) (λ r. stack es (k r)) s
+relation_told : (n : ℕ) (es : List Place) (k : Rel → Act es Deployment) (s : List Lexeme) (o : Option Rel) → Low n → relation_at s ≡ o → Explained (relation_or o s) (push n REL es k) (λ r. stack es (k r)) s
 relation_told n es k s None l g = told_bad n REL es k s refl refl (relates_not s g)
 relation_told n es k s (Some v) l g = rel_run n es k s v l (relates s v g)
 
@@ -125,11 +125,11 @@ stmt_turn n p b es kk l h g cs s q e =
     let i = is_on_unless (next_is (codes "}") s) (after (read_stmt p b s) (λ y. give (cs ++ y ∷ []))) q e in
     let j : Stack = push n stmt (place n more_stmts ∷ zs) (λ c l. onwards kk cs (c ∷ l)) in
     let d = stmts_of n (line_of s) p b (place n more_stmts ∷ zs) (λ c l. onwards kk cs (c ∷ l)) l h g refl in
-    let t : Told (read_stmt p b s) j (λ c. f (cs ++ c ∷ [])) s = subst (λ m. Told (read_stmt p b s) j m s) (λ i y. push n more_stmts zs (next_one kk cs y i)) (d.told s refl (nothing_of s)) in
-    let u : Told (after (read_stmt p b s) (λ y. give (cs ++ y ∷ []))) j f s = told_made (read_stmt p b s) (λ y. cs ++ y ∷ []) j f s t in
+    let t : Explained (read_stmt p b s) j (λ c. f (cs ++ c ∷ [])) s = subst (λ m. Explained (read_stmt p b s) j m s) (λ i y. push n more_stmts zs (next_one kk cs y i)) (d.told s refl (nothing_of s)) in
+    let u : Explained (after (read_stmt p b s) (λ y. give (cs ++ y ∷ []))) j f s = told_made (read_stmt p b s) (λ y. cs ++ y ∷ []) j f s t in
     let a : Eaten (after (read_stmt p b s) (λ y. give (cs ++ y ∷ []))) s = eaten_made (read_stmt p b s) (λ y. cs ++ y ∷ []) s (d.eaten s refl) in
     record {
-      told = told_by q (f cs) j f s (by_rule n more_stmts _ zs (onwards kk cs) s (inl refl) (λ v y m c. first_of_two n more_stmts _ (by [] []) zs (onwards kk cs) v y refl (not_sign (codes "}") n es (onwards kk cs []) s i.0 v y m) c)) (subst (λ r. Told r j f s) i.1 u);
+      told = told_by q (f cs) j f s (by_rule n more_stmts _ zs (onwards kk cs) s (inl refl) (λ v y m c. first_of_two n more_stmts _ (by [] []) zs (onwards kk cs) v y refl (not_sign (codes "}") n es (onwards kk cs []) s i.0 v y m) c)) (subst (λ r. Explained r j f s) i.1 u);
       eaten = subst (λ r. Eaten r s) i.1 a;
     }
 
@@ -227,7 +227,7 @@ no_end : (s : List Lexeme) → next_is (codes "script") s ≡ false → is_at_en
 no_end [] h k = record { is = refl }
 no_end (l ∷ ls) h k = record { is = ap (λ b. b || (end_token l.token || false)) h ∙ ap (λ b. b || false) k }
 
-end_told : (c : Deployment) (s : List Lexeme) (a b : Bool) → next_is (codes "script") s ≡ a → is_at_end s ≡ b → Told {A = Unit {0}} (if a || b then got tt (after_first s) else refuse Syntax s) (push 0 the_end [] (λ line. c)) (λ u. stack [] c) s
+end_told : (c : Deployment) (s : List Lexeme) (a b : Bool) → next_is (codes "script") s ≡ a → is_at_end s ≡ b → Explained {A = Unit {0}} (if a || b then got tt (after_first s) else refuse Syntax s) (push 0 the_end [] (λ line. c)) (λ u. stack [] c) s
 end_told c s true b g f = sign_run (codes "script") 0 the_end _ _ [] (λ line. c) s refl refl refl g
 end_told c s false true g f = went (push 0 the_end [] (λ line. c)) (push 0 END [] (λ line. c)) s (stack [] c) (after_first s) (kind_step end_token 0 the_end _ [] (λ line. c) (inr (inl refl)) end_selects refl s (end_first s ∙ f)) (end_took (λ line. c) s f)
 end_told c s false false g f = told_bad 0 the_end [] (λ line. c) s refl refl (no_end s g f)

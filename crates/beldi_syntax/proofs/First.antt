@@ -1,8 +1,8 @@
 -- A text is refused at the first token that has a cause, and read where none has.
 use Rattle.std.specs.Prelude.{◌⊎◌, ◌||◌, ◌+◌, ◌≤◌, length}
-use Rattle.beldi_syntax.proofs.Names.{Act, Bad, Begins, Bool, Breaks, Cause, Deployment, END, End, Err, INT, IsCode, IsToken, Lexeme, List, Marked, NAME, Name, None, Number, Of, OfNumber, Ok, OneOf, Option, Place, Read, Refused, Rule, Sign, Some, Symbol, Syntax, TEXT, Text, Token, TooDeep, TooLarge, Utf8, What, Wrong, [], ap, append_assoc, arith, bad, begun_by, by, code_of, codes, deployment, ends, false, got, if◌then◌else◌, inl, inr, is_ascii_alphabetic, is_ascii_digit, is_blank, is_reserved, lexemes, lexemes_in, limit, line_after, line_of, marked, means, nat_le, not, nothing, phrase, piece_len, place, put, read_deployment, refl, rules, same, shape, sign_or_word, string_at, subst, suc, sym, take, text_or_bad, text_token_of, token, token_of, true, utf8_of, within, word, word_of, zero, ℕ, ◌++◌, ◌-◌, ◌==◌, ◌↔◌, ◌∙◌, ◌∷◌, ◌≡◌}
+use Rattle.beldi_syntax.proofs.Names.{Act, Bad, Begins, Bool, Breaks, Cause, Deployment, END, End, Err, INT, IsCode, IsToken, Lexeme, List, Marked, NAME, Name, None, Number, Of, OfNumber, Ok, OneOf, Option, Place, Read, Refused, Rule, Sign, Some, Symbol, Syntax, TEXT, Text, Token, TooDeep, TooLarge, Utf8, What, Wrong, [], ap, append_assoc, arith, bad, begun_by, by, code_of, codes, deployment, ends, false, got, if◌then◌else◌, inl, inr, is_ascii_alphabetic, is_ascii_digit, is_blank, is_reserved, lexemes, lexemes_in, limit, line_after, line_of, marked, means, nat_le, not, nothing, phrase, piece_len, place, put, read_deployment, refl, rules, same, shape, sign_or_word, string_at, subst, suc, sym, take, text_or_bad, text_token_of, token, token_of, true, utf8_of, unbroken, word, word_of, zero, ℕ, ◌++◌, ◌-◌, ◌==◌, ◌↔◌, ◌∙◌, ◌∷◌, ◌≡◌}
 use Rattle.beldi_syntax.proofs.Lookahead.{Gives, inner, all_inner, is_empty, ended, fit, begun, token_rules, left_is, right_is, nullable}
-use Rattle.beldi_syntax.proofs.Sound.{Stack, stack, Makes, Meets, Run, here, took, went, Halt, Broken, Never, Stuck, Told, push, one_value, token_mark}
+use Rattle.beldi_syntax.proofs.Sound.{Stack, stack, Makes, Meets, Run, here, took, went, Halt, Broken, Never, Stuck, Explained, push, one_value, token_mark}
 use Rattle.beldi_syntax.proofs.{Fill.fills, Commands.deployments}
 
 -- ---- runs and derivations
@@ -18,7 +18,7 @@ Over (t ∷ ts) (u ∷ us) = (t ≡ u.lexeme) × Over ts us
 pub record Passed (f g : Stack) (s r : List Lexeme) : Type 0 where
   pub ts : List Lexeme
   pub all : s ≡ ts ++ r
-  pub yields : (v : List Marked) (y : Deployment) → Makes g v y → Makes f (within ts ++ v) y
+  pub yields : (v : List Marked) (y : Deployment) → Makes g v y → Makes f (unbroken ts ++ v) y
   pub only : (us v : List Marked) (y : Deployment) → Over ts us → Meets r v → Makes f (us ++ v) y → Makes g v y
 
 met : (ts r : List Lexeme) (us v : List Marked) → Over ts us → Meets r v → Meets (ts ++ r) (us ++ v)
@@ -48,7 +48,7 @@ passed _ _ _ _ (took n a cs k t x s g r i l e) =
     record {
       ts = t ∷ h.ts;
       all = ap (λ q. t ∷ q) h.all;
-      yields = λ v y d. token n a cs k (marked None t) x (within h.ts ++ v) y i (sym l) (h.yields v y d);
+      yields = λ v y d. token n a cs k (marked None t) x (unbroken h.ts ++ v) y i (sym l) (h.yields v y d);
       only = λ us v y o m d. let w = over_first n a cs k t x h.ts us v y i l o d in h.only w.0 v y w.1 m w.2;
     }
 passed _ _ _ _ (went f j s g r d e) =
@@ -56,7 +56,7 @@ passed _ _ _ _ (went f j s g r d e) =
     record {
       ts = h.ts;
       all = h.all;
-      yields = λ v y c. d.back (within h.ts ++ v) y (h.yields v y c);
+      yields = λ v y c. d.back (unbroken h.ts ++ v) y (h.yields v y c);
       only = λ us v y o m c. h.only us v y o m (d.on (us ++ v) y (subst (λ q. Meets q (us ++ v)) (sym h.all) (met h.ts r us v o m)) c);
     }
 
@@ -161,23 +161,23 @@ stops_as_ends End h = absurd (cc)
 stops_as_ends Bad h = refl
 stops_as_ends t h = refl
 
-token_stops : (t : Token) (line : ℕ) (more : List Lexeme) (b : Bool) → stops t ≡ b → stops_last (within more) ≡ true → stops_last (within (record { token = t; line = line } ∷ (if b then [] else more))) ≡ true
+token_stops : (t : Token) (line : ℕ) (more : List Lexeme) (b : Bool) → stops t ≡ b → stops_last (unbroken more) ≡ true → stops_last (unbroken (record { token = t; line = line } ∷ (if b then [] else more))) ≡ true
 token_stops t line more true e h = ap (λ x. if x then true else false) e
-token_stops t line more false e h = ap (λ x. if x then is_empty (within more) else stops_last (within more)) e ∙ h
+token_stops t line more false e h = ap (λ x. if x then is_empty (unbroken more) else stops_last (unbroken more)) e ∙ h
 
-piece_stops : (t : Token) (line : ℕ) (more : List Lexeme) → is_no_end t ≡ true → stops_last (within more) ≡ true → stops_last (within (put (Some t) line ++ (if ends (Some t) then [] else more))) ≡ true
+piece_stops : (t : Token) (line : ℕ) (more : List Lexeme) → is_no_end t ≡ true → stops_last (unbroken more) ≡ true → stops_last (unbroken (put (Some t) line ++ (if ends (Some t) then [] else more))) ≡ true
 piece_stops t line more n h = token_stops t line more (ends (Some t)) (stops_as_ends t n) h
 
-begun_stops : (blank : Bool) (b : ℕ) (w : List ℕ) (line : ℕ) (more : List Lexeme) → stops_last (within more) ≡ true
-    → stops_last (within (put (if blank then None else Some (begun_by b w)) line ++ (if ends (if blank then None else Some (begun_by b w)) then [] else more))) ≡ true
+begun_stops : (blank : Bool) (b : ℕ) (w : List ℕ) (line : ℕ) (more : List Lexeme) → stops_last (unbroken more) ≡ true
+    → stops_last (unbroken (put (if blank then None else Some (begun_by b w)) line ++ (if ends (if blank then None else Some (begun_by b w)) then [] else more))) ≡ true
 begun_stops true b w line more h = h
 begun_stops false b w line more h = piece_stops (begun_by b w) line more (begun_no_end b w) h
 
-first_stops : (w : List ℕ) (line : ℕ) (more : List Lexeme) → stops_last (within more) ≡ true → stops_last (within (put (token_of w) line ++ (if ends (token_of w) then [] else more))) ≡ true
+first_stops : (w : List ℕ) (line : ℕ) (more : List Lexeme) → stops_last (unbroken more) ≡ true → stops_last (unbroken (put (token_of w) line ++ (if ends (token_of w) then [] else more))) ≡ true
 first_stops [] line more h = refl
 first_stops (b ∷ bs) line more h = begun_stops (is_blank b || b == 35) b (b ∷ bs) line more h
 
-text_stops : (skip line : ℕ) (bs : List ℕ) → stops_last (within (lexemes skip line bs)) ≡ true
+text_stops : (skip line : ℕ) (bs : List ℕ) → stops_last (unbroken (lexemes skip line bs)) ≡ true
 text_stops skip line [] = refl
 text_stops (suc k) line (b ∷ bs) = text_stops k line bs
 text_stops zero line (b ∷ bs) = first_stops (take (piece_len (b ∷ bs)) (b ∷ bs)) line _ (text_stops (piece_len (b ∷ bs) - 1) (line_after (b ∷ bs) line) bs)
@@ -187,40 +187,40 @@ text_stops zero line (b ∷ bs) = first_stops (take (piece_len (b ∷ bs)) (b �
 abbrev start : Stack
 start = push 0 deployment [] (λ c. c)
 
-over_within : (ts : List Lexeme) → Over ts (within ts)
+over_within : (ts : List Lexeme) → Over ts (unbroken ts)
 over_within [] = tt
 over_within (t ∷ ts) = (refl, over_within ts)
 
-meets_within : (r : List Lexeme) → Meets r (within r)
+meets_within : (r : List Lexeme) → Meets r (unbroken r)
 meets_within [] = tt
 meets_within (t ∷ r) = refl
 
-within_both : (ts us : List Lexeme) → within (ts ++ us) ≡ within ts ++ within us
+within_both : (ts us : List Lexeme) → unbroken (ts ++ us) ≡ unbroken ts ++ unbroken us
 within_both [] us = refl
 within_both (t ∷ ts) us = ap (λ v. marked None t ∷ v) (within_both ts us)
 
-within_as : (s ts r : List Lexeme) → s ≡ ts ++ r → within s ≡ within ts ++ within r
-within_as s ts r e = ap within e ∙ within_both ts r
+within_as : (s ts r : List Lexeme) → s ≡ ts ++ r → unbroken s ≡ unbroken ts ++ unbroken r
+within_as s ts r e = ap unbroken e ∙ within_both ts r
 
 done : (c : Deployment) (us : List Marked) (y : Deployment) → Gives [] c us y → c ≡ y
 done _ _ _ (nothing y) = refl
 
-empty_within : (r : List Lexeme) → within r ≡ [] → r ≡ []
+empty_within : (r : List Lexeme) → unbroken r ≡ [] → r ≡ []
 empty_within [] e = refl
 empty_within (t ∷ r) e = absurd (cc)
 
 -- a run to the end of a deployment is over all of a text
-none_left_of : (s left : List Lexeme) (code : Deployment) → stops_last (within s) ≡ true → Run start s (stack [] code) left → left ≡ []
+none_left_of : (s left : List Lexeme) (code : Deployment) → stops_last (unbroken s) ≡ true → Run start s (stack [] code) left → left ≡ []
 none_left_of s left code h d =
     let p = passed start (stack [] code) s left d in
-    let y : IsCode (within p.ts) code = subst (λ v. IsCode v code) (append_nil (within p.ts)) (p.yields [] code (nothing code)) in
-    empty_within left (no_more (within p.ts) (within left) (subst (λ v. stops_last v ≡ true) (within_as s p.ts left p.all) h) (last_only (place 0 deployment ∷ []) (λ c. c) (within p.ts) code y refl))
+    let y : IsCode (unbroken p.ts) code = subst (λ v. IsCode v code) (append_nil (unbroken p.ts)) (p.yields [] code (nothing code)) in
+    empty_within left (no_more (unbroken p.ts) (unbroken left) (subst (λ v. stops_last v ≡ true) (within_as s p.ts left p.all) h) (last_only (place 0 deployment ∷ []) (λ c. c) (unbroken p.ts) code y refl))
 
-whole_text : (s left : List Lexeme) (code : Deployment) → stops_last (within s) ≡ true → Run start s (stack [] code) left → IsCode (within s) code
+whole_text : (s left : List Lexeme) (code : Deployment) → stops_last (unbroken s) ≡ true → Run start s (stack [] code) left → IsCode (unbroken s) code
 whole_text s left code h d =
     let p = passed start (stack [] code) s left d in
-    let y : IsCode (within p.ts) code = subst (λ v. IsCode v code) (append_nil (within p.ts)) (p.yields [] code (nothing code)) in
-    subst (λ v. IsCode (within v) code) (sym (p.all ∙ ap (λ r. p.ts ++ r) (none_left_of s left code h d) ∙ append_nil p.ts)) y
+    let y : IsCode (unbroken p.ts) code = subst (λ v. IsCode v code) (append_nil (unbroken p.ts)) (p.yields [] code (nothing code)) in
+    subst (λ v. IsCode (unbroken v) code) (sym (p.all ∙ ap (λ r. p.ts ++ r) (none_left_of s left code h d) ∙ append_nil p.ts)) y
 
 -- what is stuck goes on with no token that breaks no limit
 stuck_goes : (g : Stack) (s : List Lexeme) (what : What) → Stuck g s what → (what ≡ Syntax × Never g s) ⊎ Broken g s what
@@ -248,25 +248,25 @@ stuck_end g what y h d = elim (stuck_goes g [] what h) [
   | inr b ↦ absurd (let e = b.all in cc)
 ]
 
-stuck_within : (g : Stack) (s : List Lexeme) (what : What) (y : Deployment) → Stuck g s what → Makes g (within s) y → ⊥
+stuck_within : (g : Stack) (s : List Lexeme) (what : What) (y : Deployment) → Stuck g s what → Makes g (unbroken s) y → ⊥
 stuck_within g [] what y h d = stuck_end g what y h d
-stuck_within g (t ∷ r) what y h d = stuck_off g t r what (within r) y h d
+stuck_within g (t ∷ r) what y h d = stuck_off g t r what (unbroken r) y h d
 
 -- where the tokens are a deployment, nothing is refused
-not_refused : (s : List Lexeme) (line : ℕ) (what : What) (code : Deployment) → Halt start s line what → IsCode (within s) code → ⊥
+not_refused : (s : List Lexeme) (line : ℕ) (what : What) (code : Deployment) → Halt start s line what → IsCode (unbroken s) code → ⊥
 not_refused s line what code h d =
     let p = passed start h.stop s h.left h.run in
-    stuck_within h.stop h.left what code h.stuck (p.only (within p.ts) (within h.left) code (over_within p.ts) (meets_within h.left) (subst (λ v. IsCode v code) (within_as s p.ts h.left p.all) d))
+    stuck_within h.stop h.left what code h.stuck (p.only (unbroken p.ts) (unbroken h.left) code (over_within p.ts) (meets_within h.left) (subst (λ v. IsCode v code) (within_as s p.ts h.left p.all) d))
 
-reads : (s : List Lexeme) (r : Read Deployment) (code : Deployment) → stops_last (within s) ≡ true → Told r start (λ c. stack [] c) s → (code_of r ≡ Ok code) ↔ IsCode (within s) code
+reads : (s : List Lexeme) (r : Read Deployment) (code : Deployment) → stops_last (unbroken s) ≡ true → Explained r start (λ c. stack [] c) s → (code_of r ≡ Ok code) ↔ IsCode (unbroken s) code
 reads s (got c left) code h d = (
   λ e. whole_text s left code h (subst (λ q. Run start s (stack [] q) left) (let f : c ≡ code = cc in f) d),
   λ y. let p = passed start (stack [] c) s left d in
-      ap Ok (done c (within left) code (p.only (within p.ts) (within left) code (over_within p.ts) (meets_within left) (subst (λ v. IsCode v code) (within_as s p.ts left p.all) y))),
+      ap Ok (done c (unbroken left) code (p.only (unbroken p.ts) (unbroken left) code (over_within p.ts) (meets_within left) (subst (λ v. IsCode v code) (within_as s p.ts left p.all) y))),
 )
 reads s (bad line what) code h d = (λ e. absurd (cc), λ y. absurd (not_refused s line what code d y))
 
-pub reads_tokens : (bytes : List ℕ) (code : Deployment) → (code_of (read_deployment (lexemes 0 1 bytes)) ≡ Ok code) ↔ IsCode (within (lexemes 0 1 bytes)) code
+pub reads_tokens : (bytes : List ℕ) (code : Deployment) → (code_of (read_deployment (lexemes 0 1 bytes)) ≡ Ok code) ↔ IsCode (unbroken (lexemes 0 1 bytes)) code
 reads_tokens bytes code = reads (lexemes 0 1 bytes) (read_deployment (lexemes 0 1 bytes)) code (text_stops 0 1 bytes) (deployments.told (lexemes 0 1 bytes))
 
 -- ---- what is refused
@@ -309,11 +309,11 @@ wrong_limit g s t r what p b c =
     let y = p.yields (marked (Some what) t ∷ b.more) b.code (subst (λ q. Makes g (marked (Some what) q ∷ b.more) b.code) f b.goes) in
     record { before = p.ts; first = t; after = r; more = marked (Some what) t ∷ b.more; code = b.code; all = p.all; here = refl; begins = y; cause = c (record { more = b.more; code = b.code; is = y }) }
 
-wrong_at : (g : Stack) (s left : List Lexeme) (what : What) → stops_last (within s) ≡ true → Passed start g s left → Stuck g left what → Wrong s (line_of left) what
+wrong_at : (g : Stack) (s left : List Lexeme) (what : What) → stops_last (unbroken s) ≡ true → Passed start g s left → Stuck g left what → Wrong s (line_of left) what
 wrong_at g s [] what h p d =
     let f = fills g.cs g.k in
     let y = p.yields f.us f.code f.yields in
-    let n : f.us ≡ [] = no_more (within p.ts) f.us (last_only (place 0 deployment ∷ []) (λ c. c) (within p.ts ++ f.us) f.code y refl) (subst (λ v. stops_last v ≡ true) (ap within (p.all ∙ append_nil p.ts)) h) in
+    let n : f.us ≡ [] = no_more (unbroken p.ts) f.us (last_only (place 0 deployment ∷ []) (λ c. c) (unbroken p.ts ++ f.us) f.code y refl) (subst (λ v. stops_last v ≡ true) (ap unbroken (p.all ∙ append_nil p.ts)) h) in
     absurd (stuck_end g what f.code d (subst (λ v. Makes g v f.code) n f.yields))
 wrong_at g s (t ∷ r) Utf8 h p d = absurd d
 wrong_at g s (t ∷ r) Syntax h p d = wrong_syntax g s t r p d
@@ -321,12 +321,12 @@ wrong_at g s (t ∷ r) OfNumber h p d = wrong_limit g s t r OfNumber p d (λ b. 
 wrong_at g s (t ∷ r) TooDeep h p d = wrong_limit g s t r TooDeep p d (λ b. b)
 wrong_at g s (t ∷ r) TooLarge h p d = wrong_limit g s t r TooLarge p d (λ b. b)
 
-halt_wrong : (s : List Lexeme) (line : ℕ) (what : What) → stops_last (within s) ≡ true → Halt start s line what → Wrong s line what
+halt_wrong : (s : List Lexeme) (line : ℕ) (what : What) → stops_last (unbroken s) ≡ true → Halt start s line what → Wrong s line what
 halt_wrong s line what h d = subst (λ l. Wrong s l what) (sym d.line_is) (wrong_at d.stop s d.left what h (passed start d.stop s d.left d.run) d.stuck)
 
 -- ---- nothing else is wrong
 
-same_lexemes : (ts : List Lexeme) → lexemes_in (within ts) ≡ ts
+same_lexemes : (ts : List Lexeme) → lexemes_in (unbroken ts) ≡ ts
 same_lexemes [] = refl
 same_lexemes (t ∷ ts) = ap (λ v. t ∷ v) (same_lexemes ts)
 
@@ -357,22 +357,22 @@ cause_is before first OfNumber c = inr c
 cause_is before first TooDeep c = inr c
 cause_is before first TooLarge c = inr c
 
-begins_so : (before : List Lexeme) (first : Lexeme) (m : List Lexeme) (us : List Marked) (code : Deployment) → IsCode (within (before ++ first ∷ m) ++ us) code → Begins (before ++ first ∷ [])
+begins_so : (before : List Lexeme) (first : Lexeme) (m : List Lexeme) (us : List Marked) (code : Deployment) → IsCode (unbroken (before ++ first ∷ m) ++ us) code → Begins (before ++ first ∷ [])
 begins_so before first m us code d = record {
-  front = within (before ++ first ∷ []);
-  more = within m ++ us;
+  front = unbroken (before ++ first ∷ []);
+  more = unbroken m ++ us;
   code = code;
   same = same_lexemes (before ++ first ∷ []);
   is = subst (λ v. IsCode v code)
-      (ap (λ v. v ++ us) (within_both before (first ∷ m)) ∙ append_assoc (within before) (within (first ∷ m)) us
-      ∙ sym (ap (λ v. v ++ (within m ++ us)) (within_both before (first ∷ [])) ∙ append_assoc (within before) (within (first ∷ [])) (within m ++ us))) d;
+      (ap (λ v. v ++ us) (within_both before (first ∷ m)) ∙ append_assoc (unbroken before) (unbroken (first ∷ m)) us
+      ∙ sym (ap (λ v. v ++ (unbroken m ++ us)) (within_both before (first ∷ [])) ∙ append_assoc (unbroken before) (unbroken (first ∷ [])) (unbroken m ++ us))) d;
 }
 
 -- a token that a run is over has no cause
-no_cause : (g : Stack) (s r before : List Lexeme) (first : Lexeme) (after m : List Lexeme) (us : List Marked) (code : Deployment) (what : What) → Run start s g r → s ≡ before ++ first ∷ after → length r ≤ length after → IsCode (within (before ++ first ∷ m) ++ us) code → Cause before first what → ⊥
+no_cause : (g : Stack) (s r before : List Lexeme) (first : Lexeme) (after m : List Lexeme) (us : List Marked) (code : Deployment) (what : What) → Run start s g r → s ≡ before ++ first ∷ after → length r ≤ length after → IsCode (unbroken (before ++ first ∷ m) ++ us) code → Cause before first what → ⊥
 no_cause g s r before first after m us code what d e l y c = elim (cause_is before first what c) [
   | inl n ↦ n.1 (begins_so before first m us code y)
-  | inr b ↦ let f : Some what ≡ None = fine_over start g s r d before first after (within before) (Some what) b.more b.code e l (over_within before) b.is in cc
+  | inr b ↦ let f : Some what ≡ None = fine_over start g s r d before first after (unbroken before) (Some what) b.more b.code e l (over_within before) b.is in cc
 ]
 
 -- where a text is cut twice, one cut comes first
@@ -423,18 +423,18 @@ one_cause g s left before first after what what' p e f d c = elim (stuck_goes g 
     some_what a b h = cc
 
     goes : (b : Breaks before first what') → Makes g (marked (Some what') first ∷ b.more) b.code
-    goes b = p.only (within p.ts) (marked (Some what') first ∷ b.more) b.code (over_within p.ts) (subst (λ q. Meets q (marked (Some what') first ∷ b.more)) (sym f) refl) (subst (λ q. IsCode (within q ++ marked (Some what') first ∷ b.more) b.code) (sym e) b.is)
+    goes b = p.only (unbroken p.ts) (marked (Some what') first ∷ b.more) b.code (over_within p.ts) (subst (λ q. Meets q (marked (Some what') first ∷ b.more)) (sym f) refl) (subst (λ q. IsCode (unbroken q ++ marked (Some what') first ∷ b.more) b.code) (sym e) b.is)
 
     begins : (k : Broken g left what) → k.first ≡ first → Begins (before ++ first ∷ [])
     begins k j = record {
-      front = within p.ts ++ marked (Some what) k.first ∷ [];
+      front = unbroken p.ts ++ marked (Some what) k.first ∷ [];
       more = k.more;
       code = k.code;
       same = names p.ts ∙ ap (λ q. q ++ k.first ∷ []) e ∙ ap (λ q. before ++ q ∷ []) j;
-      is = subst (λ v. IsCode v k.code) (sym (append_assoc (within p.ts) (marked (Some what) k.first ∷ []) k.more)) (p.yields (marked (Some what) k.first ∷ k.more) k.code k.goes);
+      is = subst (λ v. IsCode v k.code) (sym (append_assoc (unbroken p.ts) (marked (Some what) k.first ∷ []) k.more)) (p.yields (marked (Some what) k.first ∷ k.more) k.code k.goes);
     }
       where
-        names : (ts : List Lexeme) → lexemes_in (within ts ++ marked (Some what) k.first ∷ []) ≡ ts ++ k.first ∷ []
+        names : (ts : List Lexeme) → lexemes_in (unbroken ts ++ marked (Some what) k.first ∷ []) ≡ ts ++ k.first ∷ []
         names [] = refl
         names (t ∷ ts) = ap (λ v. t ∷ v) (names ts)
 
@@ -452,22 +452,22 @@ same_refusal s line what line' what' h w =
     earlier p c =
         let f = fills h.stop.cs h.stop.k in
         no_cause h.stop s h.left w.before w.first w.after c.m f.us f.code what' h.run w.all (let i = ap length c.back in let j = length_both c.m h.left in omega (arith, i, j))
-        (subst (λ q. IsCode (within q ++ f.us) f.code) c.front (p.yields f.us f.code f.yields)) w.cause
+        (subst (λ q. IsCode (unbroken q ++ f.us) f.code) c.front (p.yields f.us f.code f.yields)) w.cause
 
     later : (p : Passed start h.stop s h.left) → Later p.ts w.before h.left → ⊥
     later p c =
-        let v : List Marked = within c.m ++ w.more in
-        let y : IsCode (within p.ts ++ marked None c.t ∷ v) w.code = subst (λ u. IsCode u w.code) (ap (λ q. within q ++ w.more) c.front ∙ ap (λ u. u ++ w.more) (within_both p.ts (c.t ∷ c.m)) ∙ append_assoc (within p.ts) (within (c.t ∷ c.m)) w.more) w.begins in
-        let d = p.only (within p.ts) (marked None c.t ∷ v) w.code (over_within p.ts) (subst (λ q. Meets q (marked None c.t ∷ v)) (sym c.back) refl) y in
+        let v : List Marked = unbroken c.m ++ w.more in
+        let y : IsCode (unbroken p.ts ++ marked None c.t ∷ v) w.code = subst (λ u. IsCode u w.code) (ap (λ q. unbroken q ++ w.more) c.front ∙ ap (λ u. u ++ w.more) (within_both p.ts (c.t ∷ c.m)) ∙ append_assoc (unbroken p.ts) (unbroken (c.t ∷ c.m)) w.more) w.begins in
+        let d = p.only (unbroken p.ts) (marked None c.t ∷ v) w.code (over_within p.ts) (subst (λ q. Meets q (marked None c.t ∷ v)) (sym c.back) refl) y in
         stuck_off h.stop c.t c.rest what v w.code (subst (λ q. Stuck h.stop q what) c.back h.stuck) d
 
 -- what is read has nothing wrong
-nothing_wrong : (s : List Lexeme) (left : List Lexeme) (code : Deployment) (line : ℕ) (what : What) → stops_last (within s) ≡ true → Run start s (stack [] code) left → Wrong s line what → ⊥
+nothing_wrong : (s : List Lexeme) (left : List Lexeme) (code : Deployment) (line : ℕ) (what : What) → stops_last (unbroken s) ≡ true → Run start s (stack [] code) left → Wrong s line what → ⊥
 nothing_wrong s left code line what h d w =
     let y = whole_text s left code h d in
-    no_cause (stack [] code) s left w.before w.first w.after w.after [] code what d w.all (let n = ap length (none_left_of s left code h d) in omega (arith, n)) (subst (λ v. IsCode v code) (ap within w.all ∙ sym (append_nil (within (w.before ++ w.first ∷ w.after)))) y) w.cause
+    no_cause (stack [] code) s left w.before w.first w.after w.after [] code what d w.all (let n = ap length (none_left_of s left code h d) in omega (arith, n)) (subst (λ v. IsCode v code) (ap unbroken w.all ∙ sym (append_nil (unbroken (w.before ++ w.first ∷ w.after)))) y) w.cause
 
-refuses : (s : List Lexeme) (r : Read Deployment) (line : ℕ) (what : What) → stops_last (within s) ≡ true → Told r start (λ c. stack [] c) s → (code_of r ≡ Err (Refused line what)) ↔ Wrong s line what
+refuses : (s : List Lexeme) (r : Read Deployment) (line : ℕ) (what : What) → stops_last (unbroken s) ≡ true → Explained r start (λ c. stack [] c) s → (code_of r ≡ Err (Refused line what)) ↔ Wrong s line what
 refuses s (got c left) line what h d = (λ e. absurd (cc), λ w. absurd (nothing_wrong s left c line what h d w))
 refuses s (bad l w) line what h d = (
   λ e. let f : (l ≡ line) × (w ≡ what) = ((cc), (cc)) in subst (λ i. Wrong s i what) f.0 (subst (λ j. Wrong s l j) f.1 (halt_wrong s l w h d)),

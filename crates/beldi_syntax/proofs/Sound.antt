@@ -76,13 +76,13 @@ pub record Halt (f : Stack) (s : List Lexeme) (line : ℕ) (what : What) : Type 
   pub stuck : Stuck stop left what
 
 -- what is said of a text by what is read of it
-abbrev pub Told : {A : Type 0} → Read A → Stack → (A → Stack) → List Lexeme → Type 0
-Told (got x r) f g s = Run f s (g x) r
-Told (bad line what) f g s = Halt f s line what
+abbrev pub Explained : {A : Type 0} → Read A → Stack → (A → Stack) → List Lexeme → Type 0
+Explained (got x r) f g s = Run f s (g x) r
+Explained (bad line what) f g s = Halt f s line what
 
 -- a phrase leads from one stack to another
 pub record Sound {A : Type 0} (p : List Lexeme → Read A) (f : Stack) (g : A → Stack) : Type 0 where
-  pub told : (s : List Lexeme) → Told (p s) f g s
+  pub told : (s : List Lexeme) → Explained (p s) f g s
 
 -- ---- phrases one after another
 
@@ -90,11 +90,11 @@ halt_on : (f g : Stack) (s r : List Lexeme) (line : ℕ) (what : What) → Run f
 halt_on f g s r line what e h = record { stop = h.stop; left = h.left; run = and_on f g h.stop s r h.left e h.run; line_is = h.line_is; stuck = h.stuck }
 
 -- after a run
-pub told_on : {A : Type 0} (q : Read A) (f g : Stack) (h : A → Stack) (s r : List Lexeme) → Run f s g r → Told q g h r → Told q f h s
+pub told_on : {A : Type 0} (q : Read A) (f g : Stack) (h : A → Stack) (s r : List Lexeme) → Run f s g r → Explained q g h r → Explained q f h s
 told_on (got x u) f g h s r e k = and_on f g (h x) s r u e k
 told_on (bad line what) f g h s r e k = halt_on f g s r line what e k
 
-pub told_then : {A B : Type 0} (q : Read A) (p : A → List Lexeme → Read B) (f : Stack) (g : A → Stack) (h : B → Stack) (s : List Lexeme) → Told q f g s → ((x : A) → Sound (p x) (g x) h) → Told (after q p) f h s
+pub told_then : {A B : Type 0} (q : Read A) (p : A → List Lexeme → Read B) (f : Stack) (g : A → Stack) (h : B → Stack) (s : List Lexeme) → Explained q f g s → ((x : A) → Sound (p x) (g x) h) → Explained (after q p) f h s
 told_then (got x r) p f g h s e k = told_on (p x r) f (g x) h s r e ((k x).told r)
 told_then (bad line what) p f g h s e k = e
 
@@ -104,7 +104,7 @@ seq {p = p} {m = m} {f = f} {g = g} {h = h} d k = record { told = λ s. told_the
 pub given : {A : Type 0} (x : A) (g : A → Stack) → Sound (give x) (g x) g
 given x g = record { told = λ s. here (g x) s }
 
-pub told_made : {A B : Type 0} (q : Read A) (m : A → B) (f : Stack) (g : B → Stack) (s : List Lexeme) → Told q f (λ x. g (m x)) s → Told (after q (λ x. give (m x))) f g s
+pub told_made : {A B : Type 0} (q : Read A) (m : A → B) (f : Stack) (g : B → Stack) (s : List Lexeme) → Explained q f (λ x. g (m x)) s → Explained (after q (λ x. give (m x))) f g s
 told_made (got x r) m f g s h = h
 told_made (bad line what) m f g s h = h
 
@@ -113,11 +113,11 @@ pub made : {A B : Type 0} {p : List Lexeme → Read A} {f : Stack} {g : B → St
 made {p = p} {f = f} {g = g} m h = record { told = λ s. told_made (p s) m f g s (h.told s) }
 
 -- where one stack is as good as another
-pub told_by : {A : Type 0} (q : Read A) (f j : Stack) (h : A → Stack) (s : List Lexeme) → Step f j s → Told q j h s → Told q f h s
+pub told_by : {A : Type 0} (q : Read A) (f j : Stack) (h : A → Stack) (s : List Lexeme) → Step f j s → Explained q j h s → Explained q f h s
 told_by q f j h s d e = told_on q f j h s s (went f j s j s d (here j s)) e
 
 -- one or the other
-pub told_if : {A : Type 0} (b : Bool) (q r : Read A) (f : Stack) (h : A → Stack) (s : List Lexeme) → (b ≡ true → Told q f h s) → (b ≡ false → Told r f h s) → Told (if b then q else r) f h s
+pub told_if : {A : Type 0} (b : Bool) (q r : Read A) (f : Stack) (h : A → Stack) (s : List Lexeme) → (b ≡ true → Explained q f h s) → (b ≡ false → Explained r f h s) → Explained (if b then q else r) f h s
 told_if true q r f h s d e = d refl
 told_if false q r f h s d e = e refl
 
@@ -242,14 +242,14 @@ told_bad {ks = ks} n a es k s z f h = halted (push n a es k) s Syntax (record { 
 pub taken : (w : List ℕ) (n : ℕ) (es : List Place) (k : Act es Deployment) → Low n → Sound (take w) (stack (place n (word w) ∷ es) (λ line. k)) (λ u. stack es k)
 taken w n es k l = record { told = λ s. told_if (next_is w s) (got tt (after_first s)) (refuse Syntax s) _ _ s (λ i. first_took w n es (λ line. k) s l i) (λ i. halted _ s Syntax (record { never = not_sign w n es (λ line. k) s i })) }
 
-name_told : (c : Token) (n : ℕ) (es : List Place) (k : List ℕ → Act es Deployment) (t : Lexeme) (ts : List Lexeme) → Low n → t.token ≡ c → Told (name_of c (t ∷ ts) ts) (push n NAME es k) (λ x. stack es (k x)) (t ∷ ts)
+name_told : (c : Token) (n : ℕ) (es : List Place) (k : List ℕ → Act es Deployment) (t : Lexeme) (ts : List Lexeme) → Low n → t.token ≡ c → Explained (name_of c (t ∷ ts) ts) (push n NAME es k) (λ x. stack es (k x)) (t ∷ ts)
 name_told (Name v) n es k t ts l g = one n NAME es k t v ts g (free n NAME t.token refl l (ap is_long g))
 name_told c n es k t ts l g = told_bad {ks = Name [] ∷ []} n NAME es k (t ∷ ts) refl refl (record { is = ap (one_of (Name [] ∷ [])) g })
 
 nothing_read : (ks : List Token) (n : ℕ) (a : Symbol) (es : List Place) (k : Of a → Act es Deployment) → nullable a ≡ false → among (firsts a) ks ≡ true → Halt (push n a es k) [] 0 Syntax
 nothing_read ks n a es k z f = told_bad {ks = ks} n a es k [] z f (record { is = refl })
 
-name_read : (n : ℕ) (es : List Place) (k : List ℕ → Act es Deployment) (s : List Lexeme) → Low n → Told (name s) (push n NAME es k) (λ x. stack es (k x)) s
+name_read : (n : ℕ) (es : List Place) (k : List ℕ → Act es Deployment) (s : List Lexeme) → Low n → Explained (name s) (push n NAME es k) (λ x. stack es (k x)) s
 name_read n es k [] l = nothing_read (Name [] ∷ []) n NAME es k refl refl
 name_read n es k (t ∷ ts) l = name_told t.token n es k t ts l refl
 
@@ -276,12 +276,12 @@ broken n a es k t x s what e i l = record {
 too_large : (n : ℕ) (t : Token) → Low n → t ≡ Text None → limit n TEXT t ≡ Some TooLarge
 too_large n t l e = ap (limit n TEXT) e ∙ ap (λ b. if not b then Some TooDeep else Some TooLarge) l
 
-text_told : (c : Token) (n : ℕ) (es : List Place) (k : List ℕ → Act es Deployment) (t : Lexeme) (ts : List Lexeme) → Low n → t.token ≡ c → Told (text_of c (t ∷ ts) ts) (push n TEXT es k) (λ x. stack es (k x)) (t ∷ ts)
+text_told : (c : Token) (n : ℕ) (es : List Place) (k : List ℕ → Act es Deployment) (t : Lexeme) (ts : List Lexeme) → Low n → t.token ≡ c → Explained (text_of c (t ∷ ts) ts) (push n TEXT es k) (λ x. stack es (k x)) (t ∷ ts)
 text_told (Text None) n es k t ts l g = halted (push n TEXT es k) (t ∷ ts) TooLarge (broken n TEXT es k t [] ts TooLarge refl (inr g) (too_large n t.token l g))
 text_told (Text (Some v)) n es k t ts l g = one n TEXT es k t v ts (inl g) (free n TEXT t.token refl l (ap is_long g))
 text_told c n es k t ts l g = told_bad {ks = Text None ∷ []} n TEXT es k (t ∷ ts) refl refl (record { is = ap (one_of (Text None ∷ [])) g })
 
-text_read : (n : ℕ) (es : List Place) (k : List ℕ → Act es Deployment) (s : List Lexeme) → Low n → Told (text s) (push n TEXT es k) (λ x. stack es (k x)) s
+text_read : (n : ℕ) (es : List Place) (k : List ℕ → Act es Deployment) (s : List Lexeme) → Low n → Explained (text s) (push n TEXT es k) (λ x. stack es (k x)) s
 text_read n es k [] l = nothing_read (Text None ∷ []) n TEXT es k refl refl
 text_read n es k (t ∷ ts) l = text_told t.token n es k t ts l refl
 
@@ -294,7 +294,7 @@ outside n least most t m e h = ap (limit n (INT least most)) e ∙ ap (λ b. if 
 inside : (n least most : ℕ) (t : Token) (m : ℕ) → Low n → t ≡ Number (Some m) → in_range least most (Some m) ≡ true → limit n (INT least most) t ≡ None
 inside n least most t m l e h = free n (INT least most) t (ap (is_outside (INT least most)) e ∙ ap not h) l (ap is_long e)
 
-number_told : (least most : ℕ) (c : Token) (n : ℕ) (es : List Place) (k : ℕ → Act es Deployment) (t : Lexeme) (ts : List Lexeme) → Low n → t.token ≡ c → Told (number_of least most c (t ∷ ts) ts) (push n (INT least most) es k) (λ x. stack es (k x)) (t ∷ ts)
+number_told : (least most : ℕ) (c : Token) (n : ℕ) (es : List Place) (k : ℕ → Act es Deployment) (t : Lexeme) (ts : List Lexeme) → Low n → t.token ≡ c → Explained (number_of least most c (t ∷ ts) ts) (push n (INT least most) es k) (λ x. stack es (k x)) (t ∷ ts)
 number_told least most (Number None) n es k t ts l g = halted (push n (INT least most) es k) (t ∷ ts) OfNumber (broken n (INT least most) es k t 0 ts OfNumber refl (inr g) (outside n least most t.token None g refl))
 number_told least most (Number (Some m)) n es k t ts l g =
     told_if (nat_le least m && nat_le m most) (got m ts) (refuse OfNumber (t ∷ ts)) (push n (INT least most) es k) (λ x. stack es (k x)) (t ∷ ts)
@@ -302,7 +302,7 @@ number_told least most (Number (Some m)) n es k t ts l g =
     (λ i. halted (push n (INT least most) es k) (t ∷ ts) OfNumber (broken n (INT least most) es k t m ts OfNumber refl (inl g) (outside n least most t.token (Some m) g i)))
 number_told least most c n es k t ts l g = told_bad {ks = Number None ∷ []} n (INT least most) es k (t ∷ ts) refl refl (record { is = ap (one_of (Number None ∷ [])) g })
 
-number_read : (least most : ℕ) (n : ℕ) (es : List Place) (k : ℕ → Act es Deployment) (s : List Lexeme) → Low n → Told (number least most s) (push n (INT least most) es k) (λ x. stack es (k x)) s
+number_read : (least most : ℕ) (n : ℕ) (es : List Place) (k : ℕ → Act es Deployment) (s : List Lexeme) → Low n → Explained (number least most s) (push n (INT least most) es k) (λ x. stack es (k x)) s
 number_read least most n es k [] l = nothing_read (Number None ∷ []) n (INT least most) es k refl refl
 number_read least most n es k (t ∷ ts) l = number_told least most t.token n es k t ts l refl
 
@@ -320,18 +320,18 @@ pub shorter : (w : List ℕ) (s : List Lexeme) → next_is w s ≡ true → leng
 shorter w [] i = absurd (cc)
 shorter w (t ∷ ts) i = omega arith
 
-pub fewer : {A : Type 0} (q : Read A) (f : Stack) (g : A → Stack) (s : List Lexeme) → length (after_first s) < length s → Told q f g (after_first s) → Eaten q s
+pub fewer : {A : Type 0} (q : Read A) (f : Stack) (g : A → Stack) (s : List Lexeme) → length (after_first s) < length s → Explained q f g (after_first s) → Eaten q s
 fewer (got x r) f g s l h = let e = kept f (g x) (after_first s) r h in omega (arith, e, l)
 fewer (bad line what) f g s l h = tt
 
 -- a phrase for a symbol, where the next token stands in this line and is of none of these kinds; it takes tokens, if so asked
 pub record Else {A : Type 0} (eats : Bool) (line : ℕ) (ks : List Token) (p : List Lexeme → Read A) (f : Stack) (g : A → Stack) : Type 0 where
-  pub told : (s : List Lexeme) → line_of s ≡ line → NoneOf ks s → Told (p s) f g s
+  pub told : (s : List Lexeme) → line_of s ≡ line → NoneOf ks s → Explained (p s) f g s
   pub eaten : (s : List Lexeme) → eats ≡ true → Eaten (p s) s
 
 -- what a sign decides, or something else
 pub chosen : {A : Type 0} {p q : List Lexeme → Read A} {h : A → Stack} (line : ℕ) (ks : List Token) (w : List ℕ) (n : ℕ) (a : Symbol) (r : Rule (Of a)) (es : List Place) (k : Of a → Act es Deployment) → select (rules n a) (Sign w) ≡ r ∷ [] → (nullable a && starts es (Sign w)) ≡ false
-    → ((s : List Lexeme) → next_is w s ≡ true → line_of s ≡ line → Told (p s) (opened a r es k) h s) → Else false line (Sign w ∷ ks) q (push n a es k) h → Else false line ks (λ s. if next_is w s then p s else q s) (push n a es k) h
+    → ((s : List Lexeme) → next_is w s ≡ true → line_of s ≡ line → Explained (p s) (opened a r es k) h s) → Else false line (Sign w ∷ ks) q (push n a es k) h → Else false line ks (λ s. if next_is w s then p s else q s) (push n a es k) h
 chosen {p = p} {q = q} {h = h} line ks w n a r es k e f g c = record {
   told = λ s l z. told_if (next_is w s) (p s) (q s) (push n a es k) h s (λ i. told_by (p s) (push n a es k) (opened a r es k) h s (by_sign w n a r es k s i e f) (g s i l)) (λ i. c.told s l (also_not w ks s i z));
   eaten = λ s t. absurd (cc);
@@ -379,7 +379,7 @@ some_same x y e = cc
 
 -- one turn of a repetition
 pub record Turn {A : Type 0} (f : A → Stack) (x : A) (s : List Lexeme) (q : Read A) : Type 0 where
-  pub told : Told q (f x) f s
+  pub told : Explained q (f x) f s
   pub eaten : Eaten q s
 
 -- what was read so far is the stack's; at the end it is the whole
@@ -388,21 +388,21 @@ pub record Turns {A : Type 0} (step : A → List Lexeme → Option (Read A)) (f 
   pub ends : (x : A) (s : List Lexeme) → step x s ≡ None → Step (f x) (g x) s
   pub over : (x : A) → Step (f x) (g x) []
 
-told_again : {A : Type 0} (q : Read A) (p : A → List Lexeme → Read A) (j : Stack) (f g : A → Stack) (s : List Lexeme) → Told q j f s → Eaten q s → ((x : A) (r : List Lexeme) → length r < length s → Told (p x r) (f x) g r) → Told (after q p) j g s
+told_again : {A : Type 0} (q : Read A) (p : A → List Lexeme → Read A) (j : Stack) (f g : A → Stack) (s : List Lexeme) → Explained q j f s → Eaten q s → ((x : A) (r : List Lexeme) → length r < length s → Explained (p x r) (f x) g r) → Explained (after q p) j g s
 told_again (got x r) p j f g s h e k = told_on (p x r) j (f x) g s r h (k x r e)
 told_again (bad line what) p j f g s h e k = h
 
 pub stays : (f g : Stack) (s : List Lexeme) → Step f g s → Run f s g s
 stays f g s d = went f g s g s d (here g s)
 
-looped_on : {A : Type 0} (step : A → List Lexeme → Option (Read A)) (f g : A → Stack) → Turns step f g → (n : ℕ) → ((x : A) (s : List Lexeme) → length s ≤ n → Told (repeated n step x s) (f x) g s)
-    → (x : A) (s : List Lexeme) → length s ≤ suc n → (o : Option (Read A)) → step x s ≡ o → Told (go_on (repeated n step) o x s) (f x) g s
+looped_on : {A : Type 0} (step : A → List Lexeme → Option (Read A)) (f g : A → Stack) → Turns step f g → (n : ℕ) → ((x : A) (s : List Lexeme) → length s ≤ n → Explained (repeated n step x s) (f x) g s)
+    → (x : A) (s : List Lexeme) → length s ≤ suc n → (o : Option (Read A)) → step x s ≡ o → Explained (go_on (repeated n step) o x s) (f x) g s
 looped_on step f g h n again x s l None e = stays (f x) (g x) s (h.ends x s e)
 looped_on step f g h n again x s l (Some q) e =
     let t = h.on x s q e in
     told_again q (repeated n step) (f x) f g s t.told t.eaten (λ y r m. again y r (omega (arith, l, m)))
 
-looped : {A : Type 0} (step : A → List Lexeme → Option (Read A)) (f g : A → Stack) → Turns step f g → (n : ℕ) (x : A) (s : List Lexeme) → length s ≤ n → Told (repeated n step x s) (f x) g s
+looped : {A : Type 0} (step : A → List Lexeme → Option (Read A)) (f g : A → Stack) → Turns step f g → (n : ℕ) (x : A) (s : List Lexeme) → length s ≤ n → Explained (repeated n step x s) (f x) g s
 looped step f g h zero x [] l = stays (f x) (g x) [] (h.over x)
 looped step f g h zero x (t ∷ ts) l = absurd (omega (arith, l))
 looped step f g h (suc n) x s l = looped_on step f g h n (looped step f g h n) x s l (step x s) refl
@@ -440,8 +440,8 @@ pub guarded : {A : Type 0} (w : List ℕ) (p : List Lexeme → List Lexeme → R
 guarded w p f g h e o = record {
   on = λ xs s q d. let i = is_on (next_is w s) (after (p s (after_first s)) (λ y. give (xs ++ y ∷ []))) q d in
       let l = h xs s i.0 in
-      let t : Told (after (p s (after_first s)) (λ y. give (xs ++ y ∷ []))) l.mid f (after_first s) = told_made (p s (after_first s)) (λ y. xs ++ y ∷ []) l.mid f (after_first s) (l.sound.told (after_first s)) in
-      let u : Told q l.mid f (after_first s) = subst (λ r. Told r l.mid f (after_first s)) i.1 t in
+      let t : Explained (after (p s (after_first s)) (λ y. give (xs ++ y ∷ []))) l.mid f (after_first s) = told_made (p s (after_first s)) (λ y. xs ++ y ∷ []) l.mid f (after_first s) (l.sound.told (after_first s)) in
+      let u : Explained q l.mid f (after_first s) = subst (λ r. Explained r l.mid f (after_first s)) i.1 t in
       record { told = told_on q (f xs) l.mid f s (after_first s) l.run u; eaten = fewer q l.mid f s l.less u };
   ends = λ xs s d. e xs s (is_off (next_is w s) (after (p s (after_first s)) (λ y. give (xs ++ y ∷ []))) d);
   over = o;

@@ -2,7 +2,7 @@
 use Rattle.beldi_syntax.{specs.Phrase.take, specs.Expressions.expr_at, specs.Grammar.post, specs.Grammar.member, proofs.Deep.begins_with, proofs.Deep.deep_first}
 use Rattle.beldi_syntax.proofs.Names.{Act, Add, And, Binary, Bool, Compare, Conjunction, Deployment, Disjunction, Div, Eq, Ge, Gt, INT, Join, Le, Level, Lexeme, List, Lt, Marked, Mul, NAME, Name, Ne, None, Number, Of, OfNumber, OneOf, Operator, Option, Or, Place, Product, REL, Read, Rel, Relation, Rem, Rule, Sign, Some, Sub, Sum, Symbol, Syntax, TEXT, Term, Text, Token, TooDeep, What, [], after, after_first, and, and_tail, ap, argument, arith, at, atom, begins_expr, binary, boolean, bracketed, by, call, chain, codes, compare, conj, conjunction, element, element_of, expr, exprs, false, field, field_of, fields, give, go_on, got, if◌then◌else◌, inl, inr, int, is_a_name, is_a_number, is_a_text, is_past_numbers, is_sign, items_of, join_of, join_step, joined, json_of, le-leb, len, list, list_any, listed, literal, marked, means, members, members_of, more, more_exprs, more_members, name, name_term, name_token, neg, negate_term, negation, next_is, next_item, next_suffix, not_term, null, number, number_of, number_token, operator_at, option_map, or, or_tail, part, past_token, place, pos, post_tail, prefixed, prod, prod_tail, product, product_at, push_of, push_term, read_atom, read_member, read_post, read_sum, read_unary, refl, refuse, rel, rel_tail, relation_at, rules, subst, suc, sum, sum_at, sum_tail, sym, text, text_term, text_token, true, turns, unary, with, with_of, word, zero, ℕ, ◌&&◌, ◌++◌, ◌+◌, ◌-◌, ◌<◌, ◌>>=◌, ◌^◌, ◌||◌, ◌∙◌, ◌∷◌, ◌≡◌}
 use Rattle.beldi_syntax.proofs.Lookahead.{of_more, is_wide, Gives, ByRule, one_of, firsts, nullable, starts, select, sole, first_of_two, second_of_two, avoids, listed_in, avoided, avoids_rest}
-use Rattle.beldi_syntax.proofs.Sound.{Stack, stack, Meets, Step, Run, went, Broken, Told, Sound, push, opened, by_rule, told_on, seq, given, told_made, made, told_by, ruled, told_if, Low, NoneOf, nothing_of, also_not, skips, skips_end, by_next, by_sign, sign_skips, not_sign, first_took, halted, told_bad, taken, named, texted, numbered, shorter, fewer, Else, chosen, sign_run, choice, whole, some_same, Turn, Turns, stays, repeats, is_off, Leads, leads, guarded, onwards, next_one, none_more}
+use Rattle.beldi_syntax.proofs.Sound.{Stack, stack, Meets, Step, Run, went, Broken, Explained, Sound, push, opened, by_rule, told_on, seq, given, told_made, made, told_by, ruled, told_if, Low, NoneOf, nothing_of, also_not, skips, skips_end, by_next, by_sign, sign_skips, not_sign, first_took, halted, told_bad, taken, named, texted, numbered, shorter, fewer, Else, chosen, sign_run, choice, whole, some_same, Turn, Turns, stays, repeats, is_off, Leads, leads, guarded, onwards, next_one, none_more}
 
 -- a phrase is this symbol, where none of these signs follows
 abbrev pub Reads : (a : Symbol) → (List Lexeme → Read (Of a)) → ℕ → List (List ℕ) → Type 0
@@ -30,8 +30,8 @@ expr_ops = codes "or" ∷ and_ops
 
 signed_told : (w : List ℕ) (wrap : Term → Term) (p : List Lexeme → Read Term) (es : List Place) (f : (Term → Act es Deployment) → Stack)
     → ((k : Term → Act es Deployment) (s : List Lexeme) → next_is w s ≡ true → Run (f k) s (f (λ t. k (wrap t))) (after_first s))
-    → ((k : Term → Act es Deployment) (s : List Lexeme) → next_is w s ≡ false → Told (p s) (f k) (λ t. stack es (k t)) s)
-    → (k : Term → Act es Deployment) (s : List Lexeme) → Told (prefixed w wrap p s) (f k) (λ t. stack es (k t)) s
+    → ((k : Term → Act es Deployment) (s : List Lexeme) → next_is w s ≡ false → Explained (p s) (f k) (λ t. stack es (k t)) s)
+    → (k : Term → Act es Deployment) (s : List Lexeme) → Explained (prefixed w wrap p s) (f k) (λ t. stack es (k t)) s
 signed_told w wrap p es f more last k [] = last k [] refl
 signed_told w wrap p es f more last k (t ∷ ts) = told_if (is_sign w t.token) (after (prefixed w wrap p ts) (λ y. give (wrap y))) (p (t ∷ ts)) (f k) (λ t. stack es (k t)) (t ∷ ts)
     (λ i. told_on (after (prefixed w wrap p ts) (λ y. give (wrap y))) (f k) (f (λ t. k (wrap t))) (λ t. stack es (k t)) (t ∷ ts) ts (more k (t ∷ ts) i)
@@ -83,7 +83,7 @@ joined_turn : (level : Level) (p : List Lexeme → Read Term) (f g h : Term → 
 joined_turn level p f g h ops t s q e =
     let v = some_op (operator_at level s) p t s q e in
     let l = ops.at t s v.0 v.1 in
-    let u : Told q l.mid f (after_first s) = subst (λ r. Told r l.mid f (after_first s)) v.2 (told_made (p (after_first s)) (joined v.0 t) l.mid f (after_first s) (l.sound.told (after_first s))) in
+    let u : Explained q l.mid f (after_first s) = subst (λ r. Explained r l.mid f (after_first s)) v.2 (told_made (p (after_first s)) (joined v.0 t) l.mid f (after_first s) (l.sound.told (after_first s))) in
     record { told = told_on q (f t) l.mid f s (after_first s) l.run u; eaten = fewer q l.mid f s l.less u }
 
 joins : (level : Level) (p : List Lexeme → Read Term) (f g : Term → Stack) → Ops level p f g → Turns (join_step level p) f g
@@ -204,15 +204,15 @@ rel_leads n p es k t s o l d a h = record {
 }
 
 once : (n : ℕ) (p : List Lexeme → Read Term) (es : List Place) (k : Term → Act es Deployment) → Low n → Reads sum p n sum_ops → avoids relation_ops es ≡ true → (t : Term) (s : List Lexeme) (o : Option (Read Term)) → join_step Relation p t s ≡ o
-    → Told (go_on (λ x r. got x r) o t s) (push n rel_tail es (λ f. k (f t))) (λ t. stack es (k t)) s
+    → Explained (go_on (λ x r. got x r) o t s) (push n rel_tail es (λ f. k (f t))) (λ t. stack es (k t)) s
 once n p es k l h a t s None g = stays (push n rel_tail es (λ f. k (f t))) (stack es (k t)) s (skips n rel_tail (λ t. t) es (λ f. k (f t)) s refl refl (relates_not s (unmapped Compare (relation_at s) (none_op (operator_at Relation s) p t s g))))
 once n p es k l h a t s (Some q) g =
     let v = some_op (operator_at Relation s) p t s q g in
     let c = mapped Compare (relation_at s) v.0 v.1 in
     let b : avoids sum_ops es ≡ true = avoids_rest (codes "==" ∷ codes "!=" ∷ codes "<" ∷ codes "<=" ∷ codes ">" ∷ codes ">=" ∷ []) sum_ops es a in
     let d = rel_leads n p es k t s c.0 l (h es (λ u. k (compare c.0 t u)) b) a (relates s c.0 c.1) in
-    let u : Told (after (p (after_first s)) (λ u. give (joined (Compare c.0) t u))) d.mid (λ t. stack es (k t)) (after_first s) = told_made (p (after_first s)) (joined (Compare c.0) t) d.mid (λ t. stack es (k t)) (after_first s) (d.sound.told (after_first s)) in
-    let w : Told q d.mid (λ t. stack es (k t)) (after_first s) = subst (λ r. Told r d.mid (λ t. stack es (k t)) (after_first s)) (ap (λ i. after (p (after_first s)) (λ u. give (joined i t u))) c.2 ∙ v.2) u in
+    let u : Explained (after (p (after_first s)) (λ u. give (joined (Compare c.0) t u))) d.mid (λ t. stack es (k t)) (after_first s) = told_made (p (after_first s)) (joined (Compare c.0) t) d.mid (λ t. stack es (k t)) (after_first s) (d.sound.told (after_first s)) in
+    let w : Explained q d.mid (λ t. stack es (k t)) (after_first s) = subst (λ r. Explained r d.mid (λ t. stack es (k t)) (after_first s)) (ap (λ i. after (p (after_first s)) (λ u. give (joined i t u))) c.2 ∙ v.2) u in
     told_on (after q (λ x r. got x r)) (push n rel_tail es (λ f. k (f t))) d.mid (λ t. stack es (k t)) s (after_first s) d.run (told_made q (λ x. x) d.mid (λ t. stack es (k t)) (after_first s) w)
 
 relations : (n : ℕ) (p : List Lexeme → Read Term) → Low n → Reads sum p n sum_ops → Reads rel (chain Relation p) n relation_ops
@@ -358,11 +358,11 @@ number_refused : (least most : ℕ) (s : List Lexeme) → is_a_number s ≡ fals
 number_refused least most [] h = refl
 number_refused least most (t ∷ ts) h = no_number least most t.token (t ∷ ts) ts h
 
-int_told : (n : ℕ) (es : List Place) (k : Term → Act es Deployment) (s : List Lexeme) → Low n → NoneOf for_words s → is_a_name s ≡ false → is_a_text s ≡ false → (b : Bool) → is_a_number s ≡ b → Told (after (number 0 (2 ^ 63 - 1) s) (λ m. give (int (pos m)))) (push n atom es k) (λ t. stack es (k t)) s
+int_told : (n : ℕ) (es : List Place) (k : Term → Act es Deployment) (s : List Lexeme) → Low n → NoneOf for_words s → is_a_name s ≡ false → is_a_text s ≡ false → (b : Bool) → is_a_number s ≡ b → Explained (after (number 0 (2 ^ 63 - 1) s) (λ m. give (int (pos m)))) (push n atom es k) (λ t. stack es (k t)) s
 int_told n es k s l h i j true c = told_by (after (number 0 (2 ^ 63 - 1) s) (λ m. give (int (pos m)))) (push n atom es k) (push n (INT 0 (2 ^ 63 - 1)) es (λ m. k (int (pos m)))) (λ t. stack es (k t)) s
     (kind_step number_token n atom (by (place n (INT 0 (2 ^ 63 - 1)) ∷ []) (λ m. int (pos m))) es k (inl refl) (number_selects n) refl s (number_first s ∙ c))
     (told_made (number 0 (2 ^ 63 - 1) s) (λ m. int (pos m)) (push n (INT 0 (2 ^ 63 - 1)) es (λ m. k (int (pos m)))) (λ t. stack es (k t)) s ((numbered 0 (2 ^ 63 - 1) n es (λ m. k (int (pos m))) l).told s))
-int_told n es k s l h i j false c = subst (λ q. Told (after q (λ m. give (int (pos m)))) (push n atom es k) (λ t. stack es (k t)) s) (sym (number_refused 0 (2 ^ 63 - 1) s c)) (told_bad {ks = for_atom} n atom es k s refl refl (no_atom s h i j c))
+int_told n es k s l h i j false c = subst (λ q. Explained (after q (λ m. give (int (pos m)))) (push n atom es k) (λ t. stack es (k t)) s) (sym (number_refused 0 (2 ^ 63 - 1) s c)) (told_bad {ks = for_atom} n atom es k s refl refl (no_atom s h i j c))
 
 literals : (line n : ℕ) (es : List Place) (k : Term → Act es Deployment) → Low n → Else false line for_words literal (push n atom es k) (λ t. stack es (k t))
 literals line n es k l = record {
@@ -413,7 +413,7 @@ elements n p es k t l h = seq (h _ (λ i line. k (element t i)) refl) (λ i. seq
 
 led_turn : (f : Term → Stack) (t : Term) (s : List Lexeme) (p : List Lexeme → Read Term) (q : Read Term) → Leads (f t) p f s → p (after_first s) ≡ q → Turn f t s q
 led_turn f t s p q d e =
-    let u : Told q d.mid f (after_first s) = subst (λ r. Told r d.mid f (after_first s)) e (d.sound.told (after_first s)) in
+    let u : Explained q d.mid f (after_first s) = subst (λ r. Explained r d.mid f (after_first s)) e (d.sound.told (after_first s)) in
     record { told = told_on q (f t) d.mid f s (after_first s) d.run u; eaten = fewer q d.mid f s d.less u }
 
 -- what may follow an atom
@@ -501,7 +501,7 @@ regroup_true false true c d h = refl
 regroup_true false false true d h = refl
 regroup_true false false false d h = h
 
-deep_expr : (n : ℕ) (es : List Place) (k : Term → Act es Deployment) (s : List Lexeme) → 64 < n + 1 → (b c : Bool) → is_past_numbers s ≡ b → begins_expr s ≡ c → Told {A = Term} (if b then refuse OfNumber s else if c then refuse TooDeep s else refuse Syntax s) (push n expr es k) (λ t. stack es (k t)) s
+deep_expr : (n : ℕ) (es : List Place) (k : Term → Act es Deployment) (s : List Lexeme) → 64 < n + 1 → (b c : Bool) → is_past_numbers s ≡ b → begins_expr s ≡ c → Explained {A = Term} (if b then refuse OfNumber s else if c then refuse TooDeep s else refuse Syntax s) (push n expr es k) (λ t. stack es (k t)) s
 deep_expr n es k [] h true c e f = absurd (cc)
 deep_expr n es k (t ∷ ts) h true c e f = halted (push n expr es k) (t ∷ ts) OfNumber (too_deep n expr conj _ _ es k t ts OfNumber refl refl refl h (past_starts t.token e) (ap (λ x. if x then Some OfNumber else Some TooDeep) e))
 deep_expr n es k [] h false true e f = absurd (cc)

@@ -81,10 +81,10 @@ as_found bytes u z r o h k l m =
     ∙ ap (λ q. found bytes u z r q) m
 
 -- what is said of a text by what it is read as
-abbrev Says : List ℕ → Result Parsed SyntaxErr → Type 0
-Says bytes (Ok p) = Holds bytes p
-Says bytes (Err OutOfMemory) = ⊥
-Says bytes (Err (Refused line what)) = Refuses bytes line what
+abbrev Means : List ℕ → Result Parsed SyntaxErr → Type 0
+Means bytes (Ok p) = Holds bytes p
+Means bytes (Err OutOfMemory) = ⊥
+Means bytes (Err (Refused line what)) = Refuses bytes line what
 
 never_memory : (r : Read Deployment) → code_of r ≡ Err OutOfMemory → ⊥
 never_memory (got c s) e = cc
@@ -93,14 +93,14 @@ never_memory (bad line what) e = cc
 no_rest : (bs : List ℕ) → script_at bs ≡ None → (script : List ℕ) (lines : ℕ) → BlankRest bs script lines → ⊥
 no_rest bs e script lines b = let f : None ≡ Some (both script lines) = sym e ∙ of_rest bs script lines b in cc
 
-says : (bytes : List ℕ) (u z : Bool) (r : Result Deployment SyntaxErr) (o : Option (List ℕ × ℕ)) → is_utf8 (own bytes) ≡ u → nat_le (length (own bytes)) 65536 ≡ z → code_of (read_deployment (lexemes 0 1 (own bytes))) ≡ r → script_at (others bytes) ≡ o
-    → Says bytes (found bytes u z r o)
-says bytes false z r o h k l m = not_utf8 h
-says bytes true false r o h k l m = too_long h (leb-false (length (own bytes)) 65536 k)
-says bytes true true (Err OutOfMemory) o h k l m = never_memory (read_deployment (lexemes 0 1 (own bytes))) l
-says bytes true true (Err (Refused line what)) o h k l m = wrong_token line what h (leb-true (length (own bytes)) 65536 k) ((refuses_tokens (own bytes) line what).0 l)
-says bytes true true (Ok code) None h k l m = not_blank code (record { utf8 = h; small = leb-true (length (own bytes)) 65536 k; is = (reads_tokens (own bytes) code).0 l }) (no_rest (others bytes) m)
-says bytes true true (Ok code) (Some s) h k l m = record {
+means : (bytes : List ℕ) (u z : Bool) (r : Result Deployment SyntaxErr) (o : Option (List ℕ × ℕ)) → is_utf8 (own bytes) ≡ u → nat_le (length (own bytes)) 65536 ≡ z → code_of (read_deployment (lexemes 0 1 (own bytes))) ≡ r → script_at (others bytes) ≡ o
+    → Means bytes (found bytes u z r o)
+means bytes false z r o h k l m = not_utf8 h
+means bytes true false r o h k l m = too_long h (leb-false (length (own bytes)) 65536 k)
+means bytes true true (Err OutOfMemory) o h k l m = never_memory (read_deployment (lexemes 0 1 (own bytes))) l
+means bytes true true (Err (Refused line what)) o h k l m = wrong_token line what h (leb-true (length (own bytes)) 65536 k) ((refuses_tokens (own bytes) line what).0 l)
+means bytes true true (Ok code) None h k l m = not_blank code (record { utf8 = h; small = leb-true (length (own bytes)) 65536 k; is = (reads_tokens (own bytes) code).0 l }) (no_rest (others bytes) m)
+means bytes true true (Ok code) (Some s) h k l m = record {
   script = s.0;
   lines = s.1;
   code = record { utf8 = h; small = leb-true (length (own bytes)) 65536 k; is = (reads_tokens (own bytes) code).0 l };
@@ -109,11 +109,11 @@ says bytes true true (Ok code) (Some s) h k l m = record {
   line = refl;
 }
 
-all_said : (bytes : List ℕ) → Says bytes (parsed_at bytes)
+all_said : (bytes : List ℕ) → Means bytes (parsed_at bytes)
 all_said bytes =
     let r = code_of (read_deployment (lexemes 0 1 (own bytes))) in
-    subst (Says bytes) (sym (as_found bytes (is_utf8 (own bytes)) (nat_le (length (own bytes)) 65536) r (script_at (others bytes)) refl refl refl refl))
-    (says bytes (is_utf8 (own bytes)) (nat_le (length (own bytes)) 65536) r (script_at (others bytes)) refl refl refl refl)
+    subst (Means bytes) (sym (as_found bytes (is_utf8 (own bytes)) (nat_le (length (own bytes)) 65536) r (script_at (others bytes)) refl refl refl refl))
+    (means bytes (is_utf8 (own bytes)) (nat_le (length (own bytes)) 65536) r (script_at (others bytes)) refl refl refl refl)
 
 -- the code of a deployment
 reads_code : (bytes : List ℕ) (code : Deployment) → IsDeployment (own bytes) code → code_of (read_deployment (lexemes 0 1 (own bytes))) ≡ Ok code
@@ -139,10 +139,10 @@ refuses bytes _ _ (wrong_token line what h k w) = as_found bytes true true (Err 
 refuses bytes _ _ (not_blank code d n) = some_script bytes code d None (none_here bytes n (script_at (others bytes)) refl)
 
 ok_said : (bytes : List ℕ) (p : Parsed) → parsed_at bytes ≡ Ok p → Holds bytes p
-ok_said bytes p e = subst (Says bytes) e (all_said bytes)
+ok_said bytes p e = subst (Means bytes) e (all_said bytes)
 
 err_said : (bytes : List ℕ) (line : ℕ) (what : What) → parsed_at bytes ≡ Err (Refused line what) → Refuses bytes line what
-err_said bytes line what e = subst (Says bytes) e (all_said bytes)
+err_said bytes line what e = subst (Means bytes) e (all_said bytes)
 
 pub reads_the_grammar : ReadsGrammar
 reads_the_grammar bytes p = (ok_said bytes p, holds bytes p)

@@ -3,7 +3,7 @@
 --   function = "function" NAME "(" NAME ")" "{" { "table" NAME ";" } { stmt } "}"
 use Rattle.std.specs.Prelude.{◌≡◌, ℕ, ◌+◌, ◌-◌, ◌^◌, ◌==◌, nat_le, min, Bool, ◌||◌, List, [], ◌∷◌, ◌++◌, length, take as front, drop, count_by, Option, Some, None, Result, Ok, Err, codes, if◌then◌else◌}
 use Rattle.std.specs.{List.take_while, Str.is_utf8, Str.Lossy.utf8_valid_len}
-use Rattle.beldi_tree.specs.{Command.Command, declared.deployment.Deployment.Deployment, declared.deployment.Func.Func, declared.deployment.TableHead.TableHead}
+use Rattle.beldi_tree.specs.{StatementCommand.Command, declared.deployment.Deployment.Deployment, declared.deployment.Func.Func, declared.deployment.TableHead.TableHead}
 use Rattle.beldi_syntax.specs.Phrase.{Read, got, bad, ◌>>=◌, give, repeated, is_end, next_is, line_of, after_first, refuse, take, name, number}
 use Rattle.beldi_syntax.specs.{declared.refusal.SyntaxErr.SyntaxErr, declared.refusal.SyntaxErr.TheVariants.OutOfMemory, declared.refusal.SyntaxErr.TheVariants.Refused, declared.refusal.What.What, declared.refusal.What.TheVariants.Utf8, declared.refusal.What.TheVariants.Syntax, declared.refusal.What.TheVariants.TooLarge, declared.token.Lexeme.Lexeme, declared.reading.Parsed.Parsed, Expressions.expr_at, Statements.block_at, Statements.stmts, Lexer.lexemes, Lexer.to_script}
 

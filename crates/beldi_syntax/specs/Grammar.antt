@@ -2,7 +2,7 @@
 use Rattle.std.specs.Prelude.{◌≡◌, ◌⊎◌, ℕ, ◌+◌, ◌-◌, ◌^◌, nat_le, pos, Bool, true, false, not, ◌&&◌, List, [], ◌∷◌, ◌++◌, map, Option, Some, None, codes, if◌then◌else◌}
 use Rattle.beldi_value.specs.declared.rel.Rel.{Rel, TheVariants.Eq, TheVariants.Ne, TheVariants.Lt, TheVariants.Le, TheVariants.Gt, TheVariants.Ge}
 use Rattle.beldi_tree.specs.Term.{Term, int, text, boolean, null, name, or, and, not as not_term, negate, compare, binary, field, element, list, fields, len, text_of, push, with, items_of, members_of}
-use Rattle.beldi_tree.specs.Command.{Command, set, read, write, condwrite, call, async, lock, unlock, transaction, abort, break, choose, repeat, return, commands_of}
+use Rattle.beldi_tree.specs.StatementCommand.{Command, set, read, write, condwrite, call, async, lock, unlock, transaction, abort, break, choose, repeat, return, commands_of}
 use Rattle.beldi_tree.specs.declared.deployment.{Op.TheVariants.Add, Op.TheVariants.Sub, Op.TheVariants.Join, Op.TheVariants.Mul, Op.TheVariants.Div, Op.TheVariants.Rem, Deployment.Deployment, Func.Func, TableHead.TableHead}
 use Rattle.beldi_syntax.specs.declared.{refusal.What.What, refusal.What.TheVariants.Utf8, refusal.What.TheVariants.Syntax, refusal.What.TheVariants.Number as OfNumber, refusal.What.TheVariants.TooDeep, refusal.What.TheVariants.TooLarge, token.Lexeme.Lexeme, token.Token.Token, token.Token.TheVariants.Sign, token.Token.TheVariants.Name, token.Token.TheVariants.Number, token.Token.TheVariants.Text, token.Token.TheVariants.End}
 
@@ -229,8 +229,8 @@ abbrev pub marked : Option What → Lexeme → Marked
 marked m t = record { lexeme = t; breaks = m }
 
 -- tokens that break no limit
-abbrev pub within : List Lexeme → List Marked
-within ts = map (marked None) ts
+abbrev pub unbroken : List Lexeme → List Marked
+unbroken ts = map (marked None) ts
 
 -- ---- derivations
 
@@ -264,7 +264,7 @@ pub record Begins (ts : List Lexeme) : Type 0 where
 pub record Breaks (before : List Lexeme) (first : Lexeme) (what : What) : Type 0 where
   pub more : List Marked
   pub code : Deployment
-  pub is : IsCode (within before ++ marked (Some what) first ∷ more) code
+  pub is : IsCode (unbroken before ++ marked (Some what) first ∷ more) code
 
 -- why a deployment does not go on with a token
 abbrev pub Cause : List Lexeme → Lexeme → What → Type 0
@@ -283,5 +283,5 @@ pub record Wrong (s : List Lexeme) (line : ℕ) (what : What) : Type 0 where
   pub code : Deployment
   pub all : s ≡ before ++ first ∷ after
   pub here : line ≡ first.line
-  pub begins : IsCode (within before ++ more) code
+  pub begins : IsCode (unbroken before ++ more) code
   pub cause : Cause before first what

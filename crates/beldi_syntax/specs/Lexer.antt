@@ -2,7 +2,7 @@
 use Rattle.std.specs.Prelude.{ℕ, zero, suc, ◌+◌, ◌-◌, ◌^◌, ◌==◌, nat_le, Bool, true, false, not, ◌&&◌, ◌||◌, List, [], ◌∷◌, ◌++◌, length, take, Option, Some, None, codes, if◌then◌else◌}
 use Rattle.std.specs.{List.list_any, List.take_while, Str.is_utf8, Char.is_ascii_alphabetic, Char.is_ascii_alphanumeric, Char.is_ascii_digit}
 use Rattle.serde_json.specs.Data as json
-use Rattle.beldi_value.specs.{Number.number_at, Reading.json_at}
+use Rattle.beldi_value.specs.{Number.number_at, ValueReading.json_at}
 use Rattle.beldi_syntax.specs.{declared.token.Token.Token, declared.token.Token.TheVariants.Sign, declared.token.Token.TheVariants.Name, declared.token.Token.TheVariants.Number, declared.token.Token.TheVariants.Text, declared.token.Token.TheVariants.End, declared.token.Token.TheVariants.Bad, declared.token.Lexeme.Lexeme, declared.lexer.Kind.Kind, declared.lexer.Kind.TheVariants.Word, declared.lexer.Kind.TheVariants.Digit, declared.lexer.Kind.TheVariants.Comment, Phrase.same, Phrase.is_sign}
 
 -- a space, a tab, a carriage return or a newline

@@ -4,5 +4,5 @@ pub mod Grammar
 pub mod Lexer
 pub mod Operators
 pub mod Phrase
+pub mod SourceText
 pub mod Statements
-pub mod Text

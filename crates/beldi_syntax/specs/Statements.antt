@@ -11,7 +11,7 @@
 -- statement is a phrase of its own.
 use Rattle.std.specs.Prelude.{ℕ, zero, suc, List, [], ◌∷◌, ◌++◌, length, Option, Some, None, codes, if◌then◌else◌}
 use Rattle.beldi_value.specs.declared.rel.Rel.{Rel}
-use Rattle.beldi_tree.specs.Command.{Command, set, read, write, condwrite, call, async, lock, unlock, transaction, abort, break, choose, repeat, return, commands_of}
+use Rattle.beldi_tree.specs.StatementCommand.{Command, set, read, write, condwrite, call, async, lock, unlock, transaction, abort, break, choose, repeat, return, commands_of}
 use Rattle.beldi_tree.specs.Term.{Term}
 use Rattle.beldi_syntax.specs.Phrase.{Read, got, ◌>>=◌, give, repeated, next_is, line_of, after_first, refuse, take, name, number}
 use Rattle.beldi_syntax.specs.{declared.refusal.What.TheVariants.Syntax, declared.refusal.What.TheVariants.TooDeep, declared.token.Lexeme.Lexeme, Operators.relation_at, Expressions.part, Expressions.argument, Expressions.sum, Expressions.expr_at}

@@ -1,5 +1,5 @@
 // The laws of the reader.
-ghost use Rattle.beldi_syntax.specs.Text.{ReadsGrammar, RefusesFirst};
+ghost use Rattle.beldi_syntax.specs.SourceText.{ReadsGrammar, RefusesFirst};
 
 /// What is read: what a text holds by the grammar, where no token of its deployment breaks a limit.
 pub fn reads_the_grammar()

@@ -3,7 +3,7 @@ ghost use Rattle.std.specs.Prelude.{◌≡◌, ◌≤◌, ◌<◌, ◌++◌, ◌
 ghost use Rattle.std.specs.List.{list_any, take_while};
 ghost use Rattle.beldi_syntax.specs.Lexer.{is_blank, is_of, is_pair, is_single, sign_len, closes, escapes, text_len, piece_len, is_reserved, word_of, string_in, text_token_of, utf8_of, begun, token_of, is_bad, is_script, ends, put, line_after, lexemes, to_script};
 ghost use Rattle.beldi_syntax.specs.Phrase.{same};
-ghost use Rattle.beldi_value.specs.Reading.{json_at};
+ghost use Rattle.beldi_value.specs.ValueReading.{json_at};
 ghost use Rattle.serde_json.specs.View.{view};
 
 use crate::token::{Lexeme, Token};

@@ -3,7 +3,7 @@
 //! Its definitions: `specs/Lexer` (tokens on bytes), `specs/Phrase` (what is read off the front of the tokens, or the line
 //! and the cause of a refusal), `specs/Operators`, `specs/Expressions`, `specs/Statements` and `specs/Deployments` (the
 //! grammar, phrase by phrase, and what a text is read as), `specs/Grammar` (the grammar as a relation: a table of rules, each
-//! with what it makes of what its symbols stand for, and which token breaks which limit) and `specs/Text` (what a text holds
+//! with what it makes of what its symbols stand for, and which token breaks which limit) and `specs/SourceText` (what a text holds
 //! by that grammar, and why one is refused).
 //!
 //! Proved:

@@ -1,7 +1,7 @@
 // The grammar of statements. `depth` is how many levels of nesting a block or an expression in the phrase may open.
 ghost use Rattle.std.specs.Prelude.{◌≡◌, length};
 ghost use Rattle.beldi_tree.specs.Expr.{term_of};
-ghost use Rattle.beldi_tree.specs.Command.{abort, break};
+ghost use Rattle.beldi_tree.specs.StatementCommand.{abort, break};
 ghost use Rattle.beldi_tree.specs.Statement.{command_of};
 ghost use Rattle.beldi_syntax.specs.Phrase.{Reads, ReadsAs};
 ghost use Rattle.beldi_syntax.specs.Expressions.{part, expr_at};

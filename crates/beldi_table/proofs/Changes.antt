@@ -2,23 +2,23 @@
 use Rattle.std.specs.FinMap as map
 use Rattle.std.specs.{BTreeMap.BTreeMap, BTreeMap.get, BTreeMap.is_at}
 use Rattle.std.proofs.Common.{◌≡◌, ℕ, ◌<◌, Bool, true, false, cond, not, ◌&&◌, Option, None, Some, Ok, option_map, refl, subst, ap, sym, ◌∙◌, is_some, IsTrue}
-use Rattle.beldi_row.{specs.KeyOrder.key_total, specs.KeyOrder.key_exact, specs.Key.key_cmp, specs.Act.Changes, specs.Act.on, specs.Act.off, specs.Act.act, specs.Act.said_by, specs.Act.stays, specs.Act.stays_unless, specs.Act.drops, specs.Act.removes, specs.Act.removed_tell, specs.Act.here_tell, specs.Table.Rows, specs.Table.adds, specs.Table.set_row, specs.Key.RowKey, specs.declared.row.Row.Row, specs.declared.act.Act.Act, specs.declared.act.Act.TheVariants.Look, specs.declared.act.Change.Change, proofs.Rows.get_rows, proofs.Rows.one_set, proofs.Rows.one_gone, proofs.Rows.get_set, proofs.Rows.same_set, proofs.Rows.none_removed, proofs.Unchanged.unchanged, proofs.Unchanged.looked, proofs.Removed.act_stays, proofs.Removed.act_drops, proofs.Removed.drops_none}
+use Rattle.beldi_row.{specs.KeyOrder.key_total, specs.KeyOrder.key_exact, specs.Key.key_cmp, specs.Act.Changes, specs.Act.on, specs.Act.off, specs.Act.act, specs.Act.change_reply, specs.Act.stays, specs.Act.stays_unless, specs.Act.drops, specs.Act.removes, specs.Act.removed_reply, specs.Act.here_reply, specs.Table.Rows, specs.Table.adds, specs.Table.set_row, specs.Key.RowKey, specs.declared.row.Row.Row, specs.declared.act.Act.Act, specs.declared.act.Act.TheVariants.Look, specs.declared.act.Change.Change, proofs.TableRows.get_rows, proofs.TableRows.one_set, proofs.TableRows.one_gone, proofs.TableRows.get_set, proofs.TableRows.same_set, proofs.TableRows.none_removed, proofs.Unchanged.unchanged, proofs.Unchanged.looked, proofs.Removed.act_stays, proofs.Removed.act_drops, proofs.Removed.drops_none}
 use Rattle.beldi_table.specs.MapTable.{ChangedOn}
 
 pub not_both : (b : Bool) → IsTrue b → b ≡ false → ⊥
 not_both b h e = cc
 
 -- the row is there, and was changed
-pub there : (a : Act) (now : ℕ) (k : RowKey) (room : ℕ) (m n : Rows) (r s : Row) (c : Change) → drops a ≡ false → map.get m k ≡ Some r → n ≡ map.insert m k s → (s, said_by c (Some s)) ≡ on a now r → ChangedOn a now k room m n (map.get n k) (Ok c)
+pub there : (a : Act) (now : ℕ) (k : RowKey) (room : ℕ) (m n : Rows) (r s : Row) (c : Change) → drops a ≡ false → map.get m k ≡ Some r → n ≡ map.insert m k s → (s, change_reply c (Some s)) ≡ on a now r → ChangedOn a now k room m n (map.get n k) (Ok c)
 there a now k room m n r s c keeps here is done =
-    let acted : (Some s, said_by c (Some s)) ≡ act a now (map.get m k) = ap stays done ∙ sym (act_stays a now r keeps) ∙ ap (act a now) (sym here) in (
+    let acted : (Some s, change_reply c (Some s)) ≡ act a now (map.get m k) = ap stays done ∙ sym (act_stays a now r keeps) ∙ ap (act a now) (sym here) in (
       is ∙ ap (λ p. set_row m k p.0) acted,
-      ap (λ p. said_by c (map.get p k)) is ∙ ap (said_by c) (get_set key_total key_exact m k s) ∙ ap (λ p. p.1) acted,
+      ap (λ p. change_reply c (map.get p k)) is ∙ ap (change_reply c) (get_set key_total key_exact m k s) ∙ ap (λ p. p.1) acted,
       λ h. absurd (not_both (adds a now k m) h (ap (λ p. not (is_some p) && is_some (off a now).0) here)),
     )
 
 -- no row is there, and none was added
-pub none_added : (a : Act) (now : ℕ) (k : RowKey) (room : ℕ) (m n : Rows) (c : Change) → n ≡ m → map.get m k ≡ None → (off a now).0 ≡ None → ((r : Option Row) → said_by c r ≡ (off a now).1) → ChangedOn a now k room m n None (Ok c)
+pub none_added : (a : Act) (now : ℕ) (k : RowKey) (room : ℕ) (m n : Rows) (c : Change) → n ≡ m → map.get m k ≡ None → (off a now).0 ≡ None → ((r : Option Row) → change_reply c r ≡ (off a now).1) → ChangedOn a now k room m n None (Ok c)
 none_added a now k room m n c same here none tells = (
   same ∙ sym (none_removed key_total key_exact m k here) ∙ ap (set_row m k) (sym none ∙ ap (λ p. (act a now p).0) (sym here)),
   tells None ∙ ap (λ p. (act a now p).1) (sym here),
@@ -26,7 +26,7 @@ none_added a now k room m n c same here none tells = (
 )
 
 -- no row is there, and one was added
-pub one_added : (a : Act) (now : ℕ) (k : RowKey) (room : ℕ) (m n : Rows) (s : Row) (c : Change) → map.get m k ≡ None → (off a now).0 ≡ Some s → ((r : Option Row) → said_by c r ≡ (off a now).1) → n ≡ map.insert m k s → map.len m < room → ChangedOn a now k room m n None (Ok c)
+pub one_added : (a : Act) (now : ℕ) (k : RowKey) (room : ℕ) (m n : Rows) (s : Row) (c : Change) → map.get m k ≡ None → (off a now).0 ≡ Some s → ((r : Option Row) → change_reply c r ≡ (off a now).1) → n ≡ map.insert m k s → map.len m < room → ChangedOn a now k room m n None (Ok c)
 one_added a now k room m n s c here some tells is fits = (
   is ∙ ap (set_row m k) (sym some ∙ ap (λ p. (act a now p).0) (sym here)),
   tells None ∙ ap (λ p. (act a now p).1) (sym here),
@@ -34,8 +34,8 @@ one_added a now k room m n s c here some tells is fits = (
 )
 
 -- an act that may remove the row that is there: it does, and says so, or it does not
-dropped : (a : Act) (now : ℕ) (k : RowKey) (m : Rows) (r : Row) (b : Bool) → drops a ≡ true → map.get m k ≡ Some r → b ≡ removes a now r → act a now (map.get m k) ≡ stays_unless b (r, removed_tell b)
-dropped a now k m r b may here is = ap (act a now) here ∙ act_drops a now r may ∙ ap (λ z. stays_unless z (r, removed_tell z)) (sym is)
+dropped : (a : Act) (now : ℕ) (k : RowKey) (m : Rows) (r : Row) (b : Bool) → drops a ≡ true → map.get m k ≡ Some r → b ≡ removes a now r → act a now (map.get m k) ≡ stays_unless b (r, removed_reply b)
+dropped a now k m r b may here is = ap (act a now) here ∙ act_drops a now r may ∙ ap (λ z. stays_unless z (r, removed_reply z)) (sym is)
 
 none_more : (a : Act) (now : ℕ) (k : RowKey) (room : ℕ) (m : Rows) → drops a ≡ true → IsTrue (adds a now k m) → map.len m < room
 none_more a now k room m may h = absurd (not_both _ h (ap (λ o. not (map.contains_key m k) && is_some o) (drops_none a now may) ∙ never _))
@@ -58,7 +58,7 @@ unremoved a now k room m n r may here stay same =
 abbrev pub Fate : Act → ℕ → Option Row → Option Bool → Type 0
 Fate a now o b = b ≡ option_map (removes a now) o
 
-pub none_dropped : (a : Act) (now : ℕ) (k : RowKey) (room : ℕ) (m : Rows) (o : Option Row) (c : Change) → drops a ≡ true → map.get m k ≡ o → Fate a now o None → ((r : Option Row) → said_by c r ≡ (off a now).1) → ChangedOn a now k room m m None (Ok c)
+pub none_dropped : (a : Act) (now : ℕ) (k : RowKey) (room : ℕ) (m : Rows) (o : Option Row) (c : Change) → drops a ≡ true → map.get m k ≡ o → Fate a now o None → ((r : Option Row) → change_reply c r ≡ (off a now).1) → ChangedOn a now k room m m None (Ok c)
 none_dropped a now k room m None c may here f tells = none_added a now k room m m c refl here (drops_none a now may) tells
 none_dropped a now k room m (Some r) c may here f tells = cc
 
@@ -93,13 +93,13 @@ pub would_add : (a : Act) (now : ℕ) (k : RowKey) (m : Rows) (s : Row) → map.
 would_add a now k m s here some = ap (λ p. not (is_some p) && is_some (off a now).0) here ∙ ap is_some some
 
 -- a Look: the rows stay, and the row is told
-look_tell : (now : ℕ) (r : Option Row) → here_tell r ≡ (act Look now r).1
-look_tell now None = refl
-look_tell now (Some r) = refl
+look_reply : (now : ℕ) (r : Option Row) → here_reply r ≡ (act Look now r).1
+look_reply now None = refl
+look_reply now (Some r) = refl
 
 adds_none : (b : Bool) → IsTrue (b && false) → ⊥
 adds_none true h = cc
 adds_none false h = cc
 
 pub looks : (a : Act) (now : ℕ) (k : RowKey) (room : ℕ) (m : Rows) → a ≡ Look → ChangedOn a now k room m m (map.get m k) (Ok Change.Row)
-looks a now k room m is = subst (λ (b : Act). ChangedOn b now k room m m (map.get m k) (Ok Change.Row)) (sym is) (sym (looked now k m), look_tell now (map.get m k), λ h. absurd (adds_none _ h))
+looks a now k room m is = subst (λ (b : Act). ChangedOn b now k room m m (map.get m k) (Ok Change.Row)) (sym is) (sym (looked now k m), look_reply now (map.get m k), λ h. absurd (adds_none _ h))

@@ -3,17 +3,17 @@ use Rattle.std.specs.{BTreeMap.BTreeMap, BTreeMap.get, BTreeMap.is_at, BTreeSet.
 use Rattle.std.specs.Prelude.{IfSome, slice_get}
 use Rattle.std.specs.FinMap as map
 use Rattle.std.proofs.Common.{◌≡◌, ℕ, Bool, true, false, not, ◌&&◌, ◌||◌, cond, List, [], ◌∷◌, Option, Some, None, is_some, IsTrue, refl, subst, ap, sym, ◌∙◌}
-use Rattle.beldi_row.specs.{Key.RowKey, Key.key_cmp, KeyOrder.key_exact, KeyOrder.key_total, Table.is_open, Table.NoneOpen, Table.NoneOpenTo, Act.on, Act.on_cell, Act.on_invoke, Act.end_with, Act.stamp_with, Act.Tell, Act.Changes, declared.key.Kind.Kind, declared.row.Row.Row, declared.row.Cell.Cell, declared.row.IntentRow.IntentRow, declared.row.InvokeRow.InvokeRow, declared.act.Act.Act, declared.act.Change.Change}
+use Rattle.beldi_row.specs.{Key.RowKey, Key.key_cmp, KeyOrder.key_exact, KeyOrder.key_total, Table.is_open, Table.NoneOpen, Table.NoneOpenTo, Act.on, Act.on_cell, Act.on_invoke, Act.end_with, Act.stamp_with, Act.ActReply, Act.Changes, declared.key.Kind.Kind, declared.row.Row.Row, declared.row.Cell.Cell, declared.row.IntentRow.IntentRow, declared.row.InvokeRow.InvokeRow, declared.act.Act.Act, declared.act.Change.Change}
 use Rattle.beldi_value.specs.declared.outcome.Outcome.{Outcome}
-use Rattle.beldi_row.proofs.Rows.{get_rows}
+use Rattle.beldi_row.proofs.TableRows.{get_rows}
 use Rattle.beldi_table.specs.Opened.{opened, Indexed, binds, switches, Sets}
 
 -- ---- what an act makes of an open intent
-in_cell : (k : Kind) (f : Cell → Cell × Tell) (t : Tell) (r : Row) → is_open k (on_cell f t r).0 ≡ is_open k r
+in_cell : (k : Kind) (f : Cell → Cell × ActReply) (t : ActReply) (r : Row) → is_open k (on_cell f t r).0 ≡ is_open k r
 in_cell (Kind.Intent id) f t (Row.Intent i) = refl
 in_cell k f t r = refl
 
-in_invoke : (k : Kind) (f : InvokeRow → InvokeRow × Tell) (t : Tell) (r : Row) → is_open k (on_invoke f t r).0 ≡ is_open k r
+in_invoke : (k : Kind) (f : InvokeRow → InvokeRow × ActReply) (t : ActReply) (r : Row) → is_open k (on_invoke f t r).0 ≡ is_open k r
 in_invoke (Kind.Intent id) f t (Row.Intent i) = refl
 in_invoke k f t r = refl
 

@@ -1,7 +1,7 @@
 -- The rows of a table over an ordered map.
 use Rattle.std.specs.Prelude.{◌≡◌, ℕ, ◌<◌, Option, Some, None, Result, Ok, Err, IsTrue}
 use Rattle.std.specs.FinMap as map
-use Rattle.beldi_row.specs.{Act.said_by, Table.Rows, Table.TableState, Table.after_act, Table.tell_act, Table.adds, Table.IsFull, Key.RowKey, declared.row.Row.Row, declared.act.Act.Act, declared.act.Change.Change, declared.table.TableErr.TableErr, declared.table.TableErr.TheVariants.OutOfMemory, declared.table.TableErr.TheVariants.Failed, declared.table.TableErr.TheVariants.Full}
+use Rattle.beldi_row.specs.{Act.change_reply, Table.Rows, Table.TableState, Table.after_act, Table.act_reply, Table.adds, Table.IsFull, Key.RowKey, declared.row.Row.Row, declared.act.Act.Act, declared.act.Change.Change, declared.table.TableErr.TableErr, declared.table.TableErr.TheVariants.OutOfMemory, declared.table.TableErr.TheVariants.Failed, declared.table.TableErr.TheVariants.Full}
 use Rattle.beldi_table.specs.declared.map_table.{MapTable.MapTable, Tried.Tried, Tried.TheVariants.Done, Tried.TheVariants.Absent}
 
 abbrev pub rows_of : MapTable → Rows
@@ -13,7 +13,7 @@ map_state t = record { rows = Some (rows_of t); faults = 0; room = t.room; calls
 
 -- what a change leaves of the rows, and what is said of it, where the row is then this one
 abbrev pub ChangedOn : Act → ℕ → RowKey → ℕ → Rows → Rows → Option Row → Result Change TableErr → Type 0
-ChangedOn a now k room m n r (Ok c) = (n ≡ after_act a now k m) × (said_by c r ≡ tell_act a now k m) × (IsTrue (adds a now k m) → map.len m < room)
+ChangedOn a now k room m n r (Ok c) = (n ≡ after_act a now k m) × (change_reply c r ≡ act_reply a now k m) × (IsTrue (adds a now k m) → map.len m < room)
 ChangedOn a now k room m n r (Err OutOfMemory) = n ≡ m
 ChangedOn a now k room m n r (Err Failed) = ⊥
 ChangedOn a now k room m n r (Err (Full live most)) = (n ≡ m) × IsFull a now k room m live most

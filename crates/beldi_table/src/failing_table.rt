@@ -10,7 +10,7 @@ ghost use Rattle.beldi_table.specs.MapTable.{rows_of};
 ghost use Rattle.beldi_table.specs.FailingTable.{failing_state, stands_in, Counts, CountsNone};
 
 use crate::map_table::MapTable;
-use beldi_row::{Act, Row, RowKey, Said, Table, TableErr};
+use beldi_row::{Act, ActReplyRef, Row, RowKey, Table, TableErr};
 use std::alloc::Global;
 
 /// A table over an ordered map that fails some of its calls of `act` and `next`. A call that fails changes no row. It
@@ -82,7 +82,7 @@ impl Table for FailingTable {
         self.table.ready(rooms)
     }
 
-    fn act(&mut self, key: RowKey, act: Act, now: u64) -> Result<Said<'_>, TableErr>
+    fn act(&mut self, key: RowKey, act: Act, now: u64) -> Result<ActReplyRef<'_>, TableErr>
         ensures* acts { sem 𝓛 (follows_so the_row the_row self.entry.ghost_name none (λ _ _. ⊤) (λ after.
             Acted act now key (failing_state self.entry.now) (failing_state after) result)) }
         ensures told { IsErrOf result Failed ↔ IsTrue (stands_in self.entry.now.fail.items self.entry.now.calls) }

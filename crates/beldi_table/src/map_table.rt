@@ -2,14 +2,14 @@
 ghost use Rattle.std.specs.Prelude.{◌≡◌, ℕ, ◌^◌, ◌-◌, min, true, false, None, Ok, option_map};
 ghost use Rattle.std.specs.Option.{option_copied};
 ghost use Rattle.std.specs.FinMap as map;
-ghost use Rattle.beldi_row.specs.Act.{drops, removes, said_by};
+ghost use Rattle.beldi_row.specs.Act.{drops, removes, change_reply};
 ghost use Rattle.beldi_row.specs.Table.{room_of};
 ghost use Rattle.beldi_table.specs.Opened.{Indexed};
 
 use crate::open_keys::{binds, follow, forget_if, is_open, note_if, switches};
 use beldi_row::{
-    Act, Change, Opens, Row, RowKey, Said, Table, TableErr, apply, drops, is_of_row, made, missing,
-    removes, tell,
+    Act, ActReplyRef, Change, Opens, Row, RowKey, Table, TableErr, apply, drops, is_of_row, made,
+    missing, removes, tell,
 };
 use beldi_value::or_drop;
 use std::alloc::Global;
@@ -136,7 +136,7 @@ impl MapTable {
 
     // The row, where a change tells what lies in it.
     fn row_told(&self, key: &RowKey, change: Change) -> Option<&Row>
-        ensures { said_by change (option_copied result) ≡ said_by change (map.get (rows_of self.now) key.now) }
+        ensures { change_reply change (option_copied result) ≡ change_reply change (map.get (rows_of self.now) key.now) }
     {
         if is_of_row(change) {
             self.rows.get(key)
@@ -219,7 +219,7 @@ impl Table for MapTable {
         Ok(())
     }
 
-    fn act(&mut self, key: RowKey, act: Act, now: u64) -> Result<Said<'_>, TableErr> {
+    fn act(&mut self, key: RowKey, act: Act, now: u64) -> Result<ActReplyRef<'_>, TableErr> {
         if drops(&act) {
             let change = self.drop_row(&key, act, now);
             drop(key);

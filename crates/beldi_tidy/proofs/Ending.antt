@@ -8,13 +8,13 @@ use Rattle.beldi_row.specs.{Table.Rows, Act.is_past, Key.at_row, declared.row.Ce
 use Rattle.beldi_chain.specs.Chain.{Chain, chain}
 use Rattle.beldi_splice.specs.Splice.{LeadsPast, LessRow}
 use Rattle.beldi_prune.specs.Prune.{is_newest}
-use Rattle.beldi_sweep.specs.Rows.{AreTidy, IsIntentIdle, IsLastOrAdrift}
-use Rattle.beldi_step.specs.Host.{Core}
-use Rattle.beldi_known.specs.{Contents.head_key, Stands.key_in}
-use Rattle.beldi_laws.specs.Inside.{has_finish}
-use Rattle.beldi_upkeep.specs.Work.{finish_in}
+use Rattle.beldi_sweep.specs.SweptRows.{AreTidy, IsIntentIdle, IsLastOrAdrift}
+use Rattle.beldi_step.specs.HostStep.{Core}
+use Rattle.beldi_histories.specs.{Contents.head_key, Stands.key_in}
+use Rattle.beldi_invariant.specs.FoundInside.{has_finish}
+use Rattle.beldi_upkeep.specs.WorksFor.{finish_in}
 use Rattle.beldi_wanted.{specs.Wanted.AllFinished, proofs.Finished.end_once}
-use Rattle.beldi_kept.specs.Kept.{HasKept, IsOld, IsUnbound}
+use Rattle.beldi_kept.specs.KeptRows.{HasKept, IsOld, IsUnbound}
 use Rattle.beldi_kept.proofs.{Gone.done_there, Gone.old_finished, Gone.one_row, Gone.unbound_bare, Less.IsBare}
 use Rattle.beldi_tidy.specs.Tidy.{EndOnce, HaveOneBehind, IdleEndOnce}
 use Rattle.beldi_tidy.proofs.Old.{bound_past}
@@ -26,11 +26,11 @@ module _ (d : Deployment) (c : Core) (m : Rows) (h : HasKept d c m) (all : AllFi
     over_gone : (room : ℕ) → IsOld d.life h.latest (finish_in (map.get h.kept (key_in room id))) ⊎ IsUnbound c.newest id (map.get m (key_in room id)) (map.get h.kept (key_in room id)) → is_some i.finish ≡ true
     over_gone room (inl old) =
         let over = old_finished d.life h.latest (map.get h.kept (key_in room id)) old in
-        let same = one_row d c h.kept h.upkeep.right id room home (done_there (map.get h.kept (key_in room id)) (inl over)) (ap is_some at) in
+        let same = one_row d c h.kept h.upkeep.invariant id room home (done_there (map.get h.kept (key_in room id)) (inl over)) (ap is_some at) in
         sym (ap has_finish (ap (map.get h.kept) same ∙ at)) ∙ over
     over_gone room (inr u) =
         let bare = unbound_bare c.newest id (map.get m (key_in room id)) (map.get h.kept (key_in room id)) u in
-        let same = one_row d c h.kept h.upkeep.right id room home (done_there (map.get h.kept (key_in room id)) (inr bare)) (ap is_some at) in
+        let same = one_row d c h.kept h.upkeep.invariant id room home (done_there (map.get h.kept (key_in room id)) (inr bare)) (ap is_some at) in
         let none : i.body ≡ None = subst IsBare (ap (map.get h.kept) same ∙ at) bare in
         let clash = sym (ap is_some none) ∙ bound in cc
 
@@ -66,7 +66,7 @@ end_so : (d : Deployment) (c : Core) (m : Rows) (h : HasKept d c m) → AllFinis
 end_so d c m h all x a b p q at ends there none =
     let u = ends_kept d c m h all x a p at ends in
     let v = ends_kept d c m h all x b q there none in
-    end_once d c h.kept h.upkeep.right h.upkeep.seats h.wanted (λ home id i is bound. kept_over d c m h all home id i is bound) x a b u.cell v.cell u.there u.ends v.there v.ends
+    end_once d c h.kept h.upkeep.invariant h.upkeep.seats h.wanted (λ home id i is bound. kept_over d c m h all home id i is bound) x a b u.cell v.cell u.there u.ends v.there v.ends
 
 -- ---- so it is once all intents are idle
 finished_by : (newest : Bool) (life now : ℕ) (i : IntentRow) → IsIntentIdle newest life now (Row.Intent i) → is_some i.body ≡ true → is_some i.finish ≡ true

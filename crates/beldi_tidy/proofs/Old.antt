@@ -9,16 +9,16 @@ use Rattle.beldi_chain.specs.Chain.{chain}
 use Rattle.beldi_links.proofs.Last.{last_there}
 use Rattle.beldi_intent.specs.Intent.{intent_key}
 use Rattle.beldi_splice.proofs.Pruned.{is_of}
-use Rattle.beldi_prune.specs.{Entries.HasEntryOf, Laws.IsOldAt, Laws.is_left, Prune.is_newest, Seat.belongs_to, Seat.seat_of}
-use Rattle.beldi_sweep.specs.Rows.{AllIsOld, IsIdle, IsIntentIdle}
-use Rattle.beldi_step.specs.Host.{Core}
-use Rattle.beldi_known.specs.{Contents.content_of, Contents.head_key, Contents.shadow_chain, Known.Known, Known.is_mark, Known.owed_call, Known.owed_note, Known.owed_read, Known.owed_lockset, Known.owed_value, Owed.called_by, Matches.LocksetMatches, Matches.has_ended, Matches.lockset_ahead, Rows.CallMatches, Rows.CalleeBodyMatches, Rows.BodyMatches, Rows.IntentMatches, Rows.LogMatches, Rows.RootMatches, Stands.key_in}
+use Rattle.beldi_prune.specs.{CellEntries.HasEntryOf, PruneLaws.IsOldAt, PruneLaws.is_left, Prune.is_newest, Seat.belongs_to, Seat.seat_of}
+use Rattle.beldi_sweep.specs.SweptRows.{AllIsOld, IsIdle, IsIntentIdle}
+use Rattle.beldi_step.specs.HostStep.{Core}
+use Rattle.beldi_histories.specs.{Contents.content_of, Contents.head_key, Contents.shadow_chain, Histories.Histories, Histories.is_mark, Histories.expected_call, Histories.expected_note, Histories.expected_read, Histories.expected_lockset, Histories.expected_value, Expected.called_by, Matches.LocksetMatches, Matches.has_ended, Matches.lockset_ahead, RowMatching.CallMatches, RowMatching.CalleeBodyMatches, RowMatching.BodyMatches, RowMatching.IntentMatches, RowMatching.LogMatches, RowMatching.RootMatches, Stands.key_in}
 use Rattle.beldi_upkeep.specs.Passed.{has_note}
 use Rattle.beldi_upkeep.proofs.{PastOwn.got_owner, RowNotes.row_noted}
-use Rattle.beldi_kept.specs.{Kept.HasKept}
+use Rattle.beldi_kept.specs.{KeptRows.HasKept}
 use Rattle.beldi_kept.proofs.{Less.there_kept, Seated.noted_place}
 use Rattle.beldi_tidy.specs.Tidy.{IdleAreOld}
-use Rattle.beldi_order.proofs.Maps.{same_some}
+use Rattle.beldi_plain_laws.proofs.Maps.{same_some}
 use Rattle.beldi_tidy.proofs.Sound.{not_item}
 
 -- ---- an idle intent
@@ -49,11 +49,11 @@ callee_body home None o i fits = absurd fits
 callee_body home (Some b) o i fits = refl
 
 module _ (d : Deployment) (c : Core) (m : Rows) (h : HasKept d c m) (idle : IsIdle c.newest d.life c.now m) where
-  abbrev known : Known
-  known = h.upkeep.right.known
+  abbrev recorded : Histories
+  recorded = h.upkeep.invariant.histories
 
   -- the row of one that is known, if it is there, is old
-  bound : (b : Bool) (home : ℕ) (i : IntentRow) (q : Instance) → IntentMatches (has_ended d known) b home (Some (Row.Intent i)) (Some q) → is_some i.body ≡ true
+  bound : (b : Bool) (home : ℕ) (i : IntentRow) (q : Instance) → IntentMatches (has_ended d recorded) b home (Some (Row.Intent i)) (Some q) → is_some i.body ≡ true
   bound true home i q fits = by_home (home == 0) fits
     where
       by_home : (z : Bool) → RootMatches z (Some (Row.Intent i)) (Some q) → is_some i.body ≡ true
@@ -73,29 +73,29 @@ module _ (d : Deployment) (c : Core) (m : Rows) (h : HasKept d c m) (idle : IsId
   other_idle true Row.Lockset left is = is
   other_idle false Row.Lockset left is = is
 
-  row_old : (b newest : Bool) (home : ℕ) (r : Row) (q : Instance) → IsIntentIdle newest d.life c.now r → IntentMatches (has_ended d known) b home (Some r) (Some q) → IsOldAt d.life c.now (Some r)
+  row_old : (b newest : Bool) (home : ℕ) (r : Row) (q : Instance) → IsIntentIdle newest d.life c.now r → IntentMatches (has_ended d recorded) b home (Some r) (Some q) → IsOldAt d.life c.now (Some r)
   row_old b newest home (Row.Intent i) q is fits = bound_past newest d.life c.now i (bound b home i q fits) is
   row_old b newest home (Row.ReadLog v) q is fits = absurd (other_idle newest (Row.ReadLog v) refl is)
   row_old b newest home (Row.Invoke i) q is fits = absurd (other_idle newest (Row.Invoke i) refl is)
   row_old b newest home (Row.Cell e) q is fits = absurd (other_idle newest (Row.Cell e) refl is)
   row_old b newest home Row.Lockset q is fits = absurd (other_idle newest Row.Lockset refl is)
 
-  seat_old : (home : ℕ) (i : IntentId) → is_some (map.get known i) ≡ true → IsOldAt d.life c.now (map.get m (key_in home i))
-  seat_old home i made = by_known (map.get known i) refl made
+  seat_old : (home : ℕ) (i : IntentId) → is_some (map.get recorded i) ≡ true → IsOldAt d.life c.now (map.get m (key_in home i))
+  seat_old home i made = by_recorded (map.get recorded i) refl made
     where
-      by_known : (o : Option Instance) → map.get known i ≡ o → is_some o ≡ true → IsOldAt d.life c.now (map.get m (key_in home i))
-      by_known None is some = cc
-      by_known (Some q) is some = by_row (map.get m (key_in home i)) refl
+      by_recorded : (o : Option Instance) → map.get recorded i ≡ o → is_some o ≡ true → IsOldAt d.life c.now (map.get m (key_in home i))
+      by_recorded None is some = cc
+      by_recorded (Some q) is some = by_row (map.get m (key_in home i)) refl
         where
           by_row : (r : Option Row) → map.get m (key_in home i) ≡ r → IsOldAt d.life c.now r
           by_row None none = tt
           by_row (Some r) there =
               let row = there_kept h.gone m h.kept h.less (key_in home i) r refl there in
               row_old (has_no_hops i.hops) (is_newest c.newest i) home r q (idle (key_in home i) i r refl there)
-              (subst (λ z. IntentMatches (has_ended d known) (has_no_hops i.hops) home z (Some q)) row (subst (IntentMatches (has_ended d known) (has_no_hops i.hops) home (map.get h.kept (key_in home i))) is (h.upkeep.right.rows.keys (key_in home i))))
+              (subst (λ z. IntentMatches (has_ended d recorded) (has_no_hops i.hops) home z (Some q)) row (subst (IntentMatches (has_ended d recorded) (has_no_hops i.hops) home (map.get h.kept (key_in home i))) is (h.upkeep.invariant.rows.keys (key_in home i))))
 
   -- ---- whose a row is, is known
-  of_read : (f n : ℕ) (o : Option Instance) (v : Option Value) → owed_value d f n o ≡ v → is_some v ≡ true → is_some o ≡ true
+  of_read : (f n : ℕ) (o : Option Instance) (v : Option Value) → expected_value d f n o ≡ v → is_some v ≡ true → is_some o ≡ true
   of_read f n None v is some = let clash = ap is_some is ∙ some in cc
   of_read f n (Some q) v is some = refl
 
@@ -124,29 +124,29 @@ module _ (d : Deployment) (c : Core) (m : Rows) (h : HasKept d c m) (idle : IsId
   locked_by (Row.Invoke i) a b fits = absurd fits
   locked_by (Row.Cell e) a b fits = absurd fits
 
-  of_lockset : (b : ℕ) (x : Item) (i : IntentId) (o : Option Instance) → (owed_lockset d b x i o || lockset_ahead d known b x i o) ≡ true → is_some o ≡ true
+  of_lockset : (b : ℕ) (x : Item) (i : IntentId) (o : Option Instance) → (expected_lockset d b x i o || lockset_ahead d recorded b x i o) ≡ true → is_some o ≡ true
   of_lockset b x i None is = is
   of_lockset b x i (Some q) is = refl
 
-  of_note : (x : Item) (i : IntentId) (b : Bool) (n : ℕ) (o : Option Instance) (u : Option Note) → (is_mark d known n o ≡ false → u ≡ owed_note d x i b n o) → is_some u ≡ true → is_some o ≡ true
+  of_note : (x : Item) (i : IntentId) (b : Bool) (n : ℕ) (o : Option Instance) (u : Option Note) → (is_mark d recorded n o ≡ false → u ≡ expected_note d x i b n o) → is_some u ≡ true → is_some o ≡ true
   of_note x i b n None u is some = ap is_some (sym (is refl)) ∙ some
   of_note x i b n (Some q) u is some = refl
 
-  its_intent : (home : ℕ) (k : Kind) (r : Row) (i : IntentId) → is_left k ≡ true → belongs_to k ≡ Some i → map.get h.kept (record { home = home; kind = k }) ≡ Some r → is_some (map.get known i) ≡ true
+  its_intent : (home : ℕ) (k : Kind) (r : Row) (i : IntentId) → is_left k ≡ true → belongs_to k ≡ Some i → map.get h.kept (record { home = home; kind = k }) ≡ Some r → is_some (map.get recorded i) ≡ true
   its_intent home (Kind.ReadLog a) r i left of is =
-      let p = subst (λ z. LogMatches z (owed_read d known home a)) is (h.upkeep.right.rows.keys (record { home = home; kind = Kind.ReadLog a })) in
-      ap (λ j. is_some (map.get known j)) (sym (same_some of)) ∙ of_read home a.step (map.get known a.intent) (owed_read d known home a) refl (logged r (owed_read d known home a) p)
+      let p = subst (λ z. LogMatches z (expected_read d recorded home a)) is (h.upkeep.invariant.rows.keys (record { home = home; kind = Kind.ReadLog a })) in
+      ap (λ j. is_some (map.get recorded j)) (sym (same_some of)) ∙ of_read home a.step (map.get recorded a.intent) (expected_read d recorded home a) refl (logged r (expected_read d recorded home a) p)
   its_intent home (Kind.Invoke a) r i left of is =
-      let p = subst (λ z. CallMatches z (owed_call known home a)) is (h.upkeep.right.rows.keys (record { home = home; kind = Kind.Invoke a })) in
-      ap (λ j. is_some (map.get known j)) (sym (same_some of)) ∙ of_call home (map.get known a.intent) (map.get known (child_of a.intent a.step)) (owed_call known home a) refl (called r (owed_call known home a) p)
+      let p = subst (λ z. CallMatches z (expected_call recorded home a)) is (h.upkeep.invariant.rows.keys (record { home = home; kind = Kind.Invoke a })) in
+      ap (λ j. is_some (map.get recorded j)) (sym (same_some of)) ∙ of_call home (map.get recorded a.intent) (map.get recorded (child_of a.intent a.step)) (expected_call recorded home a) refl (called r (expected_call recorded home a) p)
   its_intent home (Kind.Shadow s t k n) r i left of is =
       let x : Item = record { func = home; table = t; key = k } in
-      let there = last_there (shadow_chain h.kept s x) (h.upkeep.right.rows.asides s x).linked n (ap is_some is) in
-      ap (λ j. is_some (map.get known j)) (sym (same_some of)) ∙ ap is_some (got_owner d known h.upkeep.right.sane s h.upkeep.right.locked x (h.upkeep.right.shadows.got s x there)).made
+      let there = last_there (shadow_chain h.kept s x) (h.upkeep.invariant.rows.asides s x).linked n (ap is_some is) in
+      ap (λ j. is_some (map.get recorded j)) (sym (same_some of)) ∙ ap is_some (got_owner d recorded h.upkeep.invariant.well_formed s h.upkeep.invariant.lock_ahead x (h.upkeep.invariant.shadows.got s x there)).made
   its_intent home (Kind.Lockset j b t k) r i left of is =
       let x : Item = record { func = home; table = t; key = k } in
-      let p = subst (λ z. LocksetMatches z (owed_lockset d b x j (map.get known j)) (lockset_ahead d known b x j (map.get known j))) is (h.upkeep.right.rows.keys (record { home = home; kind = Kind.Lockset j b t k })) in
-      ap (λ y. is_some (map.get known y)) (sym (same_some of)) ∙ of_lockset b x j (map.get known j) (locked_by r (owed_lockset d b x j (map.get known j)) (lockset_ahead d known b x j (map.get known j)) p)
+      let p = subst (λ z. LocksetMatches z (expected_lockset d b x j (map.get recorded j)) (lockset_ahead d recorded b x j (map.get recorded j))) is (h.upkeep.invariant.rows.keys (record { home = home; kind = Kind.Lockset j b t k })) in
+      ap (λ y. is_some (map.get recorded y)) (sym (same_some of)) ∙ of_lockset b x j (map.get recorded j) (locked_by r (expected_lockset d b x j (map.get recorded j)) (lockset_ahead d recorded b x j (map.get recorded j)) p)
   its_intent home (Kind.Intent j) r i left of is = cc
   its_intent home (Kind.Data t k n) r i left of is = cc
 
@@ -162,9 +162,9 @@ module _ (d : Deployment) (c : Core) (m : Rows) (h : HasKept d c m) (idle : IsId
       let k = is_of h.gone (chain m (head_key x)) (chain h.kept (head_key x)) (h.less.cells x) n e is in
       let z = noted_place k.kept.log i (subst (λ es. HasEntryOf es i) k.less.log of) in
       let p = z.place in
-      let noted = row_noted (chain h.kept (head_key x)) p (h.upkeep.right.rows.chains x) n (ap (has_note p) k.there ∙ z.noted) in
-      let made = of_note x p.intent (h.upkeep.right.locked p.intent) p.step (map.get known p.intent) (note_at (content_of h.kept x).notes p) ((h.upkeep.right.rows.items x).notes p) noted in
-      seat_old (intent_key i x.func).home i (ap (λ j. is_some (map.get known j)) (sym z.intent) ∙ made)
+      let noted = row_noted (chain h.kept (head_key x)) p (h.upkeep.invariant.rows.chains x) n (ap (has_note p) k.there ∙ z.noted) in
+      let made = of_note x p.intent (h.upkeep.invariant.lock_ahead p.intent) p.step (map.get recorded p.intent) (note_at (content_of h.kept x).notes p) ((h.upkeep.invariant.rows.items x).notes p) noted in
+      seat_old (intent_key i x.func).home i (ap (λ j. is_some (map.get recorded j)) (sym z.intent) ∙ made)
 
   pub all_old : AllIsOld c.newest d.life c.now m
   all_old = record {

@@ -1,4 +1,4 @@
--- The rows of a right host are sound.
+-- The rows of a host with the invariant are sound.
 use Rattle.std.specs.FinMap as map
 use Rattle.std.proofs.Common.{◌≡◌, ◌⊎◌, inl, inr, ℕ, zero, suc, ◌==◌, ◌<◌, ◌≤◌, Bool, true, false, List, [], ◌∷◌, length, is_some, Option, Some, None, refl, ap, sym, ◌∙◌, subst, arith}
 use Rattle.beldi_value.specs.declared.{id.IntentId.IntentId, outcome.Outcome.Outcome, value.Value.Value}
@@ -8,16 +8,16 @@ use Rattle.beldi_chain.specs.Chain.{Chain, chain}
 use Rattle.beldi_links.specs.Links.{FitsAt, FitsNext, LinkedFrom, IsLinked, Linked, Steps}
 use Rattle.beldi_links.proofs.Ways.{none_next, one_cell}
 use Rattle.beldi_splice.specs.Splice.{IsPassable, IsThreaded, LeadsPast, LessChain, LessRow}
-use Rattle.beldi_splice.proofs.{Alike.before_last, Alike.fits_at, Alike.goes, Alike.no_later, Alike.no_row, Both.there_linked, Pruned.IsOf, Pruned.is_of}
-use Rattle.beldi_prune.specs.Laws.{is_left}
-use Rattle.beldi_sweep.specs.Rows.{AreSound, IsSound}
-use Rattle.beldi_step.specs.Host.{Core}
-use Rattle.beldi_known.specs.{Contents.head_key, Contents.shadow_chain, Known.owed_call, Known.owed_lockset, Known.owed_read, Matches.LocksetMatches, Matches.has_ended, Matches.lockset_ahead, Rows.CallMatches, Rows.IntentMatches, Rows.LogMatches, Rows.RootMatches, Stands.key_in}
-use Rattle.beldi_kept.specs.Kept.{HasKept}
+use Rattle.beldi_splice.proofs.{Alike.before_last, Alike.fits_at, Alike.leads_on_kept, Alike.no_later, Alike.no_row, Both.there_linked, Pruned.IsOf, Pruned.is_of}
+use Rattle.beldi_prune.specs.PruneLaws.{is_left}
+use Rattle.beldi_sweep.specs.SweptRows.{AreSound, IsSound}
+use Rattle.beldi_step.specs.HostStep.{Core}
+use Rattle.beldi_histories.specs.{Contents.head_key, Contents.shadow_chain, Histories.expected_call, Histories.expected_lockset, Histories.expected_read, Matches.LocksetMatches, Matches.has_ended, Matches.lockset_ahead, RowMatching.CallMatches, RowMatching.IntentMatches, RowMatching.LogMatches, RowMatching.RootMatches, Stands.key_in}
+use Rattle.beldi_kept.specs.KeptRows.{HasKept}
 use Rattle.beldi_kept.proofs.Less.{there_kept}
 use Rattle.beldi_kept.specs.Less.{is_item}
 use Rattle.beldi_tidy.specs.Tidy.{RowsAreSound}
-use Rattle.beldi_laws.proofs.Cases.{false_by}
+use Rattle.beldi_invariant.proofs.Cases.{false_by}
 use Rattle.beldi_plain.specs.{Item.Item, Plain.Instance}
 use Rattle.std.specs.{Cmp.nat_cmp_is, Ordering.ordering_then, declared.cmp.Ordering.TheVariants.Less}
 use Rattle.beldi_value.specs.Id.{has_no_hops}
@@ -64,7 +64,7 @@ past_last f l n k there none = elim (l.rest n k there) [
   where
     by_way : (ks : List ℕ) → Steps f n ks l.last → l.last ≤ n
     by_way [] at = let same : n ≡ l.last = at in omega (arith, same)
-    by_way (j ∷ ks) (c, is, next, rise, way) = absurd (none_next k j none (ap (λ (z : Cell). z.next) (one_cell k c (sym there ∙ is)) ∙ next))
+    by_way (j ∷ ks) (c, is, next, rise, path) = absurd (none_next k j none (ap (λ (z : Cell). z.next) (one_cell k c (sym there ∙ is)) ∙ next))
 
 module _ (gone : IntentId → Bool) (g f : Chain) (less : LessChain gone g f) (linked : IsLinked f) where
   of : (n : ℕ) (c : Cell) → g n ≡ Some (Row.Cell c) → IsOf gone f n c
@@ -106,7 +106,7 @@ module _ (gone : IntentId → Bool) (g f : Chain) (less : LessChain gone g f) (l
       moored (Some t) h = let clash = sym unmarked ∙ h refl in cc
 
   rises : (n k : ℕ) (c : Cell) → g n ≡ Some (Row.Cell c) → c.next ≡ Some k → n < k
-  rises n k c is next = (no_later f (links n c is) gone n k c (goes gone g f less n k c is next)).0
+  rises n k c is next = (no_later f (links n c is) gone n k c (leads_on_kept gone g f less n k c is next)).0
 
   follows : (n : ℕ) (c : Cell) (is : g n ≡ Some (Row.Cell c)) → is_some c.next ≡ is_some (of n c is).kept.next
   follows n c is = let k = of n c is in leads_where gone f n c.next k.kept.next k.less.next
@@ -129,7 +129,7 @@ module _ (gone : IntentId → Bool) (g f : Chain) (less : LessChain gone g f) (l
       omega (arith, high, low)
 
   item_sound : (is_some (g 0) ≡ true → IsThreaded g) → IsSound g
-  item_sound threads = record { cells = cells; begins = begins; first = first; rises = rises; adrift = adrift; threads = threads; ends = λ n c way is none. ends n c is none }
+  item_sound threads = record { cells = cells; begins = begins; first = first; rises = rises; adrift = adrift; threads = threads; ends = λ n c path is none. ends n c is none }
 
 -- ---- all rows
 -- a row that an intent left is not an intent's
@@ -164,18 +164,18 @@ of_cell Row.Lockset fits = refl
 module _ (d : Deployment) (c : Core) (m : Rows) (h : HasKept d c m) where
   kept_left : (home : ℕ) (k : Kind) (r : Row) → is_left k ≡ true → map.get h.kept (record { home = home; kind = k }) ≡ Some r → is_left_row r ≡ true
   kept_left home (Kind.Intent i) r left is = cc
-  kept_left home (Kind.ReadLog a) r left is = of_read r (owed_read d h.upkeep.right.known home a) (subst (λ z. LogMatches z (owed_read d h.upkeep.right.known home a)) is (h.upkeep.right.rows.keys (record { home = home; kind = Kind.ReadLog a })))
-  kept_left home (Kind.Invoke a) r left is = of_call r (owed_call h.upkeep.right.known home a) (subst (λ z. CallMatches z (owed_call h.upkeep.right.known home a)) is (h.upkeep.right.rows.keys (record { home = home; kind = Kind.Invoke a })))
+  kept_left home (Kind.ReadLog a) r left is = of_read r (expected_read d h.upkeep.invariant.histories home a) (subst (λ z. LogMatches z (expected_read d h.upkeep.invariant.histories home a)) is (h.upkeep.invariant.rows.keys (record { home = home; kind = Kind.ReadLog a })))
+  kept_left home (Kind.Invoke a) r left is = of_call r (expected_call h.upkeep.invariant.histories home a) (subst (λ z. CallMatches z (expected_call h.upkeep.invariant.histories home a)) is (h.upkeep.invariant.rows.keys (record { home = home; kind = Kind.Invoke a })))
   kept_left home (Kind.Data t k n) r left is = cc
   kept_left home (Kind.Shadow s t k n) r left is =
       let x : Item = record { func = home; table = t; key = k } in
       let f = shadow_chain h.kept s x in
-      of_cell r (subst FitsAt is ((there_linked f (h.upkeep.right.rows.asides s x).linked n r is).fits n))
+      of_cell r (subst FitsAt is ((there_linked f (h.upkeep.invariant.rows.asides s x).linked n r is).fits n))
   kept_left home (Kind.Lockset i b t k) r left is =
       let x : Item = record { func = home; table = t; key = k } in
-      let known = h.upkeep.right.known in
-      let p = h.upkeep.right.rows.keys (record { home = home; kind = Kind.Lockset i b t k }) in
-      of_lockset r (owed_lockset d b x i (map.get known i)) (lockset_ahead d known b x i (map.get known i)) (subst (λ z. LocksetMatches z (owed_lockset d b x i (map.get known i)) (lockset_ahead d known b x i (map.get known i))) is p)
+      let histories = h.upkeep.invariant.histories in
+      let p = h.upkeep.invariant.rows.keys (record { home = home; kind = Kind.Lockset i b t k }) in
+      of_lockset r (expected_lockset d b x i (map.get histories i)) (lockset_ahead d histories b x i (map.get histories i)) (subst (λ z. LocksetMatches z (expected_lockset d b x i (map.get histories i)) (lockset_ahead d histories b x i (map.get histories i))) is p)
 
   -- an intent's row is one, and none stands at the least key: no root has ticket 0
   root_row : (b : Bool) (r : Row) (o : Option Instance) → RootMatches b (Some r) o → is_left_row r ≡ false
@@ -186,7 +186,7 @@ module _ (d : Deployment) (c : Core) (m : Rows) (h : HasKept d c m) where
   root_row true Row.Lockset o fits = absurd fits
   root_row false r o fits = cc
 
-  intent_row : (b : Bool) (home : ℕ) (r : Row) (o : Option Instance) → IntentMatches (has_ended d h.upkeep.right.known) b home (Some r) o → is_left_row r ≡ false
+  intent_row : (b : Bool) (home : ℕ) (r : Row) (o : Option Instance) → IntentMatches (has_ended d h.upkeep.invariant.histories) b home (Some r) o → is_left_row r ≡ false
   intent_row true home r o fits = root_row (home == 0) r o fits
   intent_row false home (Row.Intent i) o fits = refl
   intent_row false home (Row.ReadLog v) o fits = absurd fits
@@ -202,10 +202,10 @@ module _ (d : Deployment) (c : Core) (m : Rows) (h : HasKept d c m) where
 
   kept_intent : (home : ℕ) (i : IntentId) (r : Row) → map.get m (key_in home i) ≡ Some r → (is_left_row r ≡ false) × (key_cmp least_key (key_in home i) ≡ Less)
   kept_intent home i r is = (
-    intent_row (has_no_hops i.hops) home r (map.get h.upkeep.right.known i) (subst (λ z. IntentMatches (has_ended d h.upkeep.right.known) (has_no_hops i.hops) home z (map.get h.upkeep.right.known i)) row (h.upkeep.right.rows.keys (key_in home i))),
+    intent_row (has_no_hops i.hops) home r (map.get h.upkeep.invariant.histories i) (subst (λ z. IntentMatches (has_ended d h.upkeep.invariant.histories) (has_no_hops i.hops) home z (map.get h.upkeep.invariant.histories i)) row (h.upkeep.invariant.rows.keys (key_in home i))),
     elim (after_least home i.ticket i.hops) [
       | inl later ↦ later
-      | inr least ↦ let clash = sym (h.upkeep.right.tickets 0) ∙ ap (λ k. is_some (map.get h.kept k)) (sym least) ∙ ap is_some row in cc
+      | inr least ↦ let clash = sym (h.upkeep.invariant.tickets 0) ∙ ap (λ k. is_some (map.get h.kept k)) (sym least) ∙ ap is_some row in cc
     ],
   )
     where
@@ -230,7 +230,7 @@ module _ (d : Deployment) (c : Core) (m : Rows) (h : HasKept d c m) where
     items = λ k t n q is.
         let x : Item = record { func = k.home; table = t; key = q } in
         let head : at_row k 0 ≡ head_key x = λ i. record { home = k.home; kind = kind_at (is i) 0 } in
-        subst (λ z. IsSound (chain m z)) (sym head) (item_sound h.gone (chain m (head_key x)) (chain h.kept (head_key x)) (h.less.cells x) (h.upkeep.right.rows.chains x) (h.less.threads x));
+        subst (λ z. IsSound (chain m z)) (sym head) (item_sound h.gone (chain m (head_key x)) (chain h.kept (head_key x)) (h.less.cells x) (h.upkeep.invariant.rows.chains x) (h.less.threads x));
   }
 
 pub rows_are_sound : RowsAreSound

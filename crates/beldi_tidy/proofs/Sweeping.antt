@@ -3,12 +3,12 @@ use Rattle.std.proofs.Common.{◌≡◌, ℕ, zero, suc, ◌+◌, ◌%◌, ◌<�
 use Rattle.std.specs.declared.alloc.AllocError.{AllocError}
 use Rattle.beldi_tree.specs.declared.deployment.Deployment.{Deployment}
 use Rattle.beldi_row.specs.{Table.Rows, declared.table.TableErr.TableErr}
-use Rattle.beldi_prune.specs.{Collectors.collector_at, Laws.SaidOf, Laws.rows_turned, Laws.told, Laws.turned, Prune.first_collector, Prune.prune_says, Prune.row_next}
-use Rattle.beldi_prune.proofs.Said.{say_what_they_did}
-use Rattle.beldi_prune.specs.declared.{collector.GcSays.GcSays, collector.LogCollector.LogCollector}
-use Rattle.beldi_sweep.specs.{Laws.begin, Rounds.begun_turns, Rounds.turns_of, Rows.AllIsOld, Rows.AreAdriftBy, Rows.AreLongAdrift, Rows.AreSound, Rows.AreTidy, Rows.AreTrimmed, Rows.IsIdle, Sweep.EndsAt, Sweep.GoesTo, Sweep.Sweep, Sweep.after_turn, Sweep.is_last_turn, Sweep.is_round}
+use Rattle.beldi_prune.specs.{Collectors.collector_at, PruneLaws.IsOutputOf, PruneLaws.rows_turned, PruneLaws.told, PruneLaws.turned, Prune.first_collector, Prune.prune_output, Prune.row_next}
+use Rattle.beldi_prune.proofs.PruneOutput.{say_what_they_did}
+use Rattle.beldi_prune.specs.declared.{collector.GcOutput.GcOutput, collector.LogCollector.LogCollector}
+use Rattle.beldi_sweep.specs.{SweepLaws.begin, Rounds.begun_turns, Rounds.turns_of, SweptRows.AllIsOld, SweptRows.AreAdriftBy, SweptRows.AreLongAdrift, SweptRows.AreSound, SweptRows.AreTidy, SweptRows.AreTrimmed, SweptRows.IsIdle, Sweep.EndsAt, Sweep.GoesTo, Sweep.Sweep, Sweep.after_turn, Sweep.is_last_turn, Sweep.is_round}
 use Rattle.beldi_sweep.proofs.{Cells.cells_done, Going.joined, Ending.rounds_end, Going.left, Loop.tidies, Loop.trims, Moments.adrift_by_then, Moments.adrift_by_there, Moments.long_after, Old.idle_goes, Old.idle_later, Old.idle_stays, Ordered.sound_ordered}
-use Rattle.beldi_step.specs.{Host.Core, Host.counted, Host.most_events, Prunes.PrunesOnBy, Prunes.says_pruned, declared.event.Pruned.Pruned}
+use Rattle.beldi_step.specs.{HostStep.Core, HostStep.counted, HostStep.most_events, Prunes.PrunesOnBy, Prunes.output_pruned, declared.event.Pruned.Pruned}
 use Rattle.beldi_schedule.specs.Settles.{State}
 use Rattle.beldi_bound.specs.Ends.{IsBelowEnd}
 use Rattle.beldi_kept.{specs.Safe.IsSafe, proofs.Collecting.prunings_keep_safe}
@@ -50,18 +50,18 @@ module _ (d : Deployment) (k : ℕ) where
   rises_by true false s t x on = on.5.later
   rises_by false shut s t x on = let same = on.3 in omega (arith, same)
 
-  ends : (g : GcSays) (x : Pruned) → x ≡ says_pruned g → is_round g ≡ ends_round x
-  ends GcSays.Going x is = ap ends_round (sym is)
-  ends GcSays.Marked x is = ap ends_round (sym is)
-  ends GcSays.Skipped x is = ap ends_round (sym is)
-  ends GcSays.Dangled x is = ap ends_round (sym is)
-  ends GcSays.Removed x is = ap ends_round (sym is)
-  ends GcSays.Round x is = ap ends_round (sym is)
+  ends : (g : GcOutput) (x : Pruned) → x ≡ output_pruned g → is_round g ≡ ends_round x
+  ends GcOutput.Going x is = ap ends_round (sym is)
+  ends GcOutput.Marked x is = ap ends_round (sym is)
+  ends GcOutput.Skipped x is = ap ends_round (sym is)
+  ends GcOutput.Dangled x is = ap ends_round (sym is)
+  ends GcOutput.Removed x is = ap ends_round (sym is)
+  ends GcOutput.Round x is = ap ends_round (sym is)
 
   went_by : (s t : State) (x : Pruned) → By true false s t x → t.faults ≡ s.faults → IsBelowEnd t.faults → length s.core.collectors ≡ 8 → Went s t x
   went_by s t x (Ok g, w, on, core, said, cause) same below eight = record {
     leads = λ i. record { collector = (sym on.0 ∙ sym (set_there s.core.collectors (k % 8) w first_collector (omega (arith, eight))) ∙ ap (λ (z : Core). collector_at z.collectors k) (sym core)) i; rows = sym on.1 i };
-    last = ap is_round (sym on.2) ∙ ends g x (ok_same x (says_pruned g) (Ok x) (Ok (says_pruned g)) refl refl said);
+    last = ap is_round (sym on.2) ∙ ends g x (ok_same x (output_pruned g) (Ok x) (Ok (output_pruned g)) refl refl said);
     newest = ap (λ (z : Core). z.newest) core;
     now = ap (λ (z : Core). z.now) core;
     shut = ap (λ (z : Core). z.shut) core;
@@ -80,11 +80,11 @@ module _ (d : Deployment) (k : ℕ) where
 
   -- ---- turns
   rise : (n : ℕ) (s t : State) → Turns d k n s t → s.faults ≤ t.faults
-  rise zero s t way = let same = ap (λ (z : State). z.faults) way in omega (arith, same)
-  rise (suc n) s t (u, x, way, on, going) = let first = rise n s u way in let last = rises_by (nat_lt u.core.taken most_events) u.core.shut u t x on in omega (arith, first, last)
+  rise zero s t path = let same = ap (λ (z : State). z.faults) path in omega (arith, same)
+  rise (suc n) s t (u, x, path, on, going) = let first = rise n s u path in let last = rises_by (nat_lt u.core.taken most_events) u.core.shut u t x on in omega (arith, first, last)
 
   record WentTo (n : ℕ) (s t : State) : Type 0 where
-    way : GoesTo s.core.newest d.life s.core.now n (sweep_of s) (sweep_of t)
+    path : GoesTo s.core.newest d.life s.core.now n (sweep_of s) (sweep_of t)
     newest : t.core.newest ≡ s.core.newest
     now : t.core.now ≡ s.core.now
     shut : t.core.shut ≡ s.core.shut
@@ -93,7 +93,7 @@ module _ (d : Deployment) (k : ℕ) where
 
   went_to : (n : ℕ) (s t : State) → Turns d k n s t → t.faults ≡ s.faults → IsBelowEnd t.faults → s.core.shut ≡ false → s.core.taken + n ≤ most_events → length s.core.collectors ≡ 8 → WentTo n s t
   went_to zero s t same faults below serves few eight = record {
-    way = ap sweep_of same;
+    path = ap sweep_of same;
     newest = ap (λ (z : State). z.core.newest) same;
     now = ap (λ (z : State). z.core.now) same;
     shut = ap (λ (z : State). z.core.shut) same;
@@ -110,7 +110,7 @@ module _ (d : Deployment) (k : ℕ) where
       let more = w.taken in
       let one_more : n + 1 ≡ suc n = omega arith in
       record {
-        way = subst (λ z. GoesTo s.core.newest d.life s.core.now z (sweep_of s) (sweep_of t)) one_more (joined s.core.newest d.life s.core.now n 1 (sweep_of s) (sweep_of u) (sweep_of t) h.way next);
+        path = subst (λ z. GoesTo s.core.newest d.life s.core.now z (sweep_of s) (sweep_of t)) one_more (joined s.core.newest d.life s.core.now n 1 (sweep_of s) (sweep_of u) (sweep_of t) h.path next);
         newest = w.newest ∙ h.newest;
         now = w.now ∙ h.now;
         shut = w.shut ∙ h.shut;
@@ -119,27 +119,27 @@ module _ (d : Deployment) (k : ℕ) where
       }
 
   -- ---- where a round ends its collector stands before all rows
-  says_round : (g : GcSays) → is_round g ≡ true → g ≡ GcSays.Round
-  says_round GcSays.Round e = refl
-  says_round GcSays.Going e = cc
-  says_round GcSays.Marked e = cc
-  says_round GcSays.Skipped e = cc
-  says_round GcSays.Dangled e = cc
-  says_round GcSays.Removed e = cc
+  output_round : (g : GcOutput) → is_round g ≡ true → g ≡ GcOutput.Round
+  output_round GcOutput.Round e = refl
+  output_round GcOutput.Going e = cc
+  output_round GcOutput.Marked e = cc
+  output_round GcOutput.Skipped e = cc
+  output_round GcOutput.Dangled e = cc
+  output_round GcOutput.Removed e = cc
 
   first_after : (newest now : ℕ) (s : Sweep) → is_last_turn d.life now s ≡ true → (after_turn newest d.life now s).collector ≡ first_collector
-  first_after newest now s last = by_said (subst (SaidOf d.life now s.collector s.rows (rows_turned d.life now s.collector s.rows)) (says_round (prune_says s.collector (told d.life now s.collector s.rows)) last) (say_what_they_did d.life now s.collector s.rows))
+  first_after newest now s last = by_said (subst (IsOutputOf d.life now s.collector s.rows (rows_turned d.life now s.collector s.rows)) (output_round (prune_output s.collector (told d.life now s.collector s.rows)) last) (say_what_they_did d.life now s.collector s.rows))
     where
-      by_said : SaidOf d.life now s.collector s.rows (rows_turned d.life now s.collector s.rows) GcSays.Round → turned newest d.life now s.collector s.rows ≡ first_collector
+      by_said : IsOutputOf d.life now s.collector s.rows (rows_turned d.life now s.collector s.rows) GcOutput.Round → turned newest d.life now s.collector s.rows ≡ first_collector
       by_said (same, before, none) = ap (λ a. turned newest d.life now (record { cursor = s.collector.cursor; at = a }) s.rows) before ∙ ap (row_next newest d.life now s.collector.cursor) none
 
-  -- ---- the host stays right
-  turn_right : (s t : State) (x : Pruned) → IsSafe d s.core s.rows → Turn d k s t x → IsSafe d t.core t.rows
-  turn_right s t x right on = (prunings_keep_safe d s.faults t.faults k s.core t.core s.rows t.rows (Ok x) right on).0
+  -- ---- the host keeps the invariant
+  turn_invariant : (s t : State) (x : Pruned) → IsSafe d s.core s.rows → Turn d k s t x → IsSafe d t.core t.rows
+  turn_invariant s t x right on = (prunings_keep_safe d s.faults t.faults k s.core t.core s.rows t.rows (Ok x) right on).0
 
-  turns_right : (n : ℕ) (s t : State) → IsSafe d s.core s.rows → Turns d k n s t → IsSafe d t.core t.rows
-  turns_right zero s t right same = subst (λ (z : State). IsSafe d z.core z.rows) (sym same) right
-  turns_right (suc n) s t right (u, x, way, on, going) = turn_right u t x (turns_right n s u right way) on
+  turns_invariant : (n : ℕ) (s t : State) → IsSafe d s.core s.rows → Turns d k n s t → IsSafe d t.core t.rows
+  turns_invariant zero s t right same = subst (λ (z : State). IsSafe d z.core z.rows) (sym same) right
+  turns_invariant (suc n) s t right (u, x, path, on, going) = turn_invariant u t x (turns_invariant n s u right path) on
 
   -- ---- the promises
   module _ (s t : State) (right : IsSafe d s.core s.rows) (eight : length s.core.collectors ≡ 8) where
@@ -154,9 +154,9 @@ module _ (d : Deployment) (k : ℕ) where
 
     -- one that leads on has taken at most so many turns
     few_by : (n : ℕ) (u : Sweep) → GoesTo s.core.newest d.life s.core.now n (sweep_of s) u → n ≤ begun_turns s.rows (collector_at s.core.collectors k).at + turns_of s.rows
-    few_by n u way =
-        let soon = rounds_end s.core.newest d.life s.core.now (collector_at s.core.collectors k) s.rows (right.collects k).right (sound_ordered s.rows sound) in
-        let l = left s.core.newest d.life s.core.now n soon.turns (sweep_of s) u soon.left way soon.ends in
+    few_by n u path =
+        let soon = rounds_end s.core.newest d.life s.core.now (collector_at s.core.collectors k) s.rows (right.collects k).invariant (sound_ordered s.rows sound) in
+        let l = left s.core.newest d.life s.core.now n soon.turns (sweep_of s) u soon.left path soon.ends in
         let all = l.all in
         let few = soon.few in
         omega (arith, all, few)
@@ -166,34 +166,34 @@ module _ (d : Deployment) (k : ℕ) where
     idle_by newest now m idle a b = subst (λ x. IsIdle x d.life now m) (sym a) (subst (λ x. IsIdle s.core.newest d.life x m) (sym b) idle)
 
     idle_there : AllIdle d s → (n : ℕ) (u : Sweep) → GoesTo s.core.newest d.life s.core.now n (sweep_of s) u → IsIdle s.core.newest d.life s.core.now u.rows
-    idle_there idle n u way = idle_goes s.core.newest d.life s.core.now n (sweep_of s) u way idle
+    idle_there idle n u path = idle_goes s.core.newest d.life s.core.now n (sweep_of s) u path idle
 
     adrift_by : (n : ℕ) (u : Sweep) → GoesTo s.core.newest d.life s.core.now n (sweep_of s) u → {now : ℕ} → now ≡ s.core.now → AreAdriftBy s.core.now s.rows → AreAdriftBy now u.rows
-    adrift_by n u way {now} same by = subst (λ z. AreAdriftBy z u.rows) (sym same) (adrift_by_there s.core.newest d.life s.core.now n (sweep_of s) u way by)
+    adrift_by n u path {now} same by = subst (λ z. AreAdriftBy z u.rows) (sym same) (adrift_by_there s.core.newest d.life s.core.now n (sweep_of s) u path by)
 
     -- while it goes on
     goes_as_promised : (turns : ℕ) → Turns d k turns s t → IsUntroubled turns s t → Promises d k turns false s t
-    goes_as_promised turns way free =
+    goes_as_promised turns path free =
         let events = free.events in
-        let h = went_to turns s t way free.faults free.below free.serves (omega (arith, events)) eight in
+        let h = went_to turns s t path free.faults free.below free.serves (omega (arith, events)) eight in
         record {
-          few = few_by turns (sweep_of t) h.way;
+          few = few_by turns (sweep_of t) h.path;
           ended = λ e. cc;
-          moments = adrift_by turns (sweep_of t) h.way h.now;
-          idle = λ idle. idle_by t.core.newest t.core.now t.rows (idle_there idle turns (sweep_of t) h.way) h.newest h.now;
+          moments = adrift_by turns (sweep_of t) h.path h.now;
+          idle = λ idle. idle_by t.core.newest t.core.now t.rows (idle_there idle turns (sweep_of t) h.path) h.newest h.now;
           trims = λ e. cc;
           tidies = λ e. cc;
         }
 
     -- .. and where it ends
     ends_as_promised : (turns : ℕ) → Sweeps d k turns true s t → IsUntroubled turns s t → Promises d k turns true s t
-    ends_as_promised turns (u, way, on) free =
+    ends_as_promised turns (u, path, on) free =
         let events = free.events in
-        let a = rise turns s u way in
+        let a = rise turns s u path in
         let b = rises_by (nat_lt u.core.taken most_events) u.core.shut u t Pruned.Round on in
         let same = free.faults in
         let below = free.below in
-        let h = went_to turns s u way (omega (arith, a, b, same)) (omega (arith, b, below)) free.serves (omega (arith, events)) eight in
+        let h = went_to turns s u path (omega (arith, a, b, same)) (omega (arith, b, below)) free.serves (omega (arith, events)) eight in
         let count = h.taken in
         let w = went u t Pruned.Round on (omega (arith, a, b, same)) free.below (h.shut ∙ free.serves) (omega (arith, count, events)) (h.eight ∙ eight) in
         let x = s.core.newest in
@@ -202,29 +202,29 @@ module _ (d : Deployment) (k : ℕ) where
         let leads : after_turn x d.life y (sweep_of u) ≡ sweep_of t = sym (ap₂ (λ a b. after_turn a d.life b (sweep_of u)) h.newest h.now) ∙ w.leads in
         let newest : t.core.newest ≡ x = w.newest ∙ h.newest in
         let ends : IsFirst k s.core → EndsAt x d.life y turns (begin s.rows) (sweep_of t) =
-        λ at. record { before = sweep_of u; way = subst (λ z. GoesTo x d.life y turns z (sweep_of u)) (first_is at) h.way; last = last; done = sym leads } in
+        λ at. record { before = sweep_of u; path = subst (λ z. GoesTo x d.life y turns z (sweep_of u)) (first_is at) h.path; last = last; done = sym leads } in
         let idle_then : AllIdle d s → AllIdle d t =
-        λ idle. idle_by t.core.newest t.core.now t.rows (subst (λ (z : Sweep). IsIdle x d.life y z.rows) leads (idle_stays x d.life y (sweep_of u).collector u.rows (idle_there idle turns (sweep_of u) h.way))) newest (w.now ∙ h.now) in
-        let right_then : IsSafe d t.core t.rows = turn_right u t Pruned.Round (turns_right turns s u right way) on in
+        λ idle. idle_by t.core.newest t.core.now t.rows (subst (λ (z : Sweep). IsIdle x d.life y z.rows) leads (idle_stays x d.life y (sweep_of u).collector u.rows (idle_there idle turns (sweep_of u) h.path))) newest (w.now ∙ h.now) in
+        let invariant_then : IsSafe d t.core t.rows = turn_invariant u t Pruned.Round (turns_invariant turns s u right path) on in
         record {
-          few = few_by turns (sweep_of u) h.way;
+          few = few_by turns (sweep_of u) h.path;
           ended = λ e. sym (ap (λ (z : Sweep). z.collector) leads) ∙ first_after x y (sweep_of u) last;
-          moments = λ by. subst (λ z. AreAdriftBy z t.rows) (sym (w.now ∙ h.now)) (subst (λ (z : Sweep). AreAdriftBy y z.rows) leads (adrift_by_then d.life y (sweep_of u).collector u.rows (adrift_by_there x d.life y turns (sweep_of s) (sweep_of u) h.way by)));
+          moments = λ by. subst (λ z. AreAdriftBy z t.rows) (sym (w.now ∙ h.now)) (subst (λ (z : Sweep). AreAdriftBy y z.rows) leads (adrift_by_then d.life y (sweep_of u).collector u.rows (adrift_by_there x d.life y turns (sweep_of s) (sweep_of u) h.path by)));
           idle = idle_then;
           trims = λ e idle at. subst (λ z. AreTrimmed z t.rows) (sym newest) (trims x d.life y (cells_done x d.life y) turns s.rows (sweep_of t) (old idle) sound (ends at));
           tidies = λ e idle at trimmed long.
               let tidy = subst (λ z. AreTidy z t.rows) (sym newest) (tidies x d.life y (cells_done x d.life y) turns s.rows (sweep_of t) (old idle) sound trimmed long (ends at)) in
-              (tidy, one_behind t.core.newest t.rows tidy (idle_end_once d t.core t.rows right_then.has (idle_then idle)));
+              (tidy, one_behind t.core.newest t.rows tidy (idle_end_once d t.core t.rows invariant_then.has (idle_then idle)));
         }
 
 pub sweeps_as_promised : SweepsAsPromised
-sweeps_as_promised d k turns false s t right eight way free = goes_as_promised d k s t right eight turns way free
-sweeps_as_promised d k turns true s t right eight way free = ends_as_promised d k s t right eight turns way free
+sweeps_as_promised d k turns false s t right eight path free = goes_as_promised d k s t right eight turns path free
+sweeps_as_promised d k turns true s t right eight path free = ends_as_promised d k s t right eight turns path free
 
 -- ---- three sweeps
 module _ (d : Deployment) (k : ℕ) where
   swept : (s t : State) (w : Swept d k s t) → Promises d k w.turns true s t
-  swept s t w = sweeps_as_promised d k w.turns true s t w.right w.eight w.way w.free
+  swept s t w = sweeps_as_promised d k w.turns true s t w.invariant w.eight w.path w.free
 
   still_idle : (s t : State) → Rests s t → AllIdle d s → AllIdle d t
   still_idle s t rests idle = subst (λ n. IsIdle n d.life t.core.now t.rows) (sym rests.newest) (subst (IsIdle s.core.newest d.life t.core.now) (sym rests.rows) (idle_later s.core.newest d.life s.core.now t.core.now s.rows rests.later idle))

@@ -2,8 +2,8 @@
 use Rattle.std.specs.Prelude.{◌≡◌, ℕ, zero, suc, ◌+◌, ◌<◌, ◌≤◌, Bool, true, false, length, Ok}
 use Rattle.beldi_tree.specs.declared.deployment.Deployment.{Deployment}
 use Rattle.beldi_prune.specs.{Collectors.collector_at, Prune.first_collector}
-use Rattle.beldi_sweep.specs.{Rounds.begun_turns, Rounds.turns_of, Rows.AreAdriftBy, Rows.AreLongAdrift, Rows.AreTidy, Rows.AreTrimmed, Rows.IsIdle}
-use Rattle.beldi_step.specs.{Host.Core, Host.most_events, Prunes.PrunesOn, declared.event.Pruned.Pruned}
+use Rattle.beldi_sweep.specs.{Rounds.begun_turns, Rounds.turns_of, SweptRows.AreAdriftBy, SweptRows.AreLongAdrift, SweptRows.AreTidy, SweptRows.AreTrimmed, SweptRows.IsIdle}
+use Rattle.beldi_step.specs.{HostStep.Core, HostStep.most_events, Prunes.PrunesOn, declared.event.Pruned.Pruned}
 use Rattle.beldi_schedule.specs.Settles.{State}
 use Rattle.beldi_bound.specs.Ends.{IsBelowEnd}
 use Rattle.beldi_kept.specs.Safe.{IsSafe}
@@ -56,17 +56,17 @@ pub record Promises (d : Deployment) (k turns : ℕ) (over : Bool) (s t : State)
   -- .. and tidy ones, with at most two of an item, where they were trimmed, and each that was adrift was so for more than a life
   pub tidies : over ≡ true → AllIdle d s → IsFirst k s.core → AreTrimmed s.core.newest s.rows → AreLongAdrift d.life s.core.now s.rows → AreTidy t.core.newest t.rows × HaveOneBehind t.rows
 
--- so it is of a right host
+-- so it is of a host with the invariant
 abbrev pub SweepsAsPromised : Type 0
 SweepsAsPromised = (d : Deployment) (k turns : ℕ) (over : Bool) (s t : State) → IsSafe d s.core s.rows → length s.core.collectors ≡ 8 → Sweeps d k turns over s t → IsUntroubled turns s t → Promises d k turns over s t
 
 -- ---- three sweeps
--- a whole one of a right host, that nothing troubled
+-- a whole one of a host with the invariant, that nothing troubled
 pub record Swept (d : Deployment) (k : ℕ) (s t : State) : Type 0 where
-  pub right : IsSafe d s.core s.rows
+  pub invariant : IsSafe d s.core s.rows
   pub eight : length s.core.collectors ≡ 8
   pub turns : ℕ
-  pub way : Sweeps d k turns true s t
+  pub path : Sweeps d k turns true s t
   pub free : IsUntroubled turns s t
 
 -- between two the moment rises, and nothing else is done

@@ -1,13 +1,13 @@
--- What the rows of a right host are to a sweep of a log collector.
+-- What the rows of a host with the invariant are to a sweep of a log collector.
 use Rattle.std.specs.Prelude.{◌≡◌, ℕ, ◌<◌, Some, None}
 use Rattle.beldi_tree.specs.declared.deployment.Deployment.{Deployment}
 use Rattle.beldi_plain.specs.Item.{Item}
 use Rattle.beldi_row.specs.{Table.Rows, declared.row.Cell.Cell, declared.row.Row.Row}
 use Rattle.beldi_chain.specs.Chain.{chain}
-use Rattle.beldi_sweep.specs.Rows.{AllIsOld, AreSound, IsIdle}
-use Rattle.beldi_step.specs.Host.{Core}
-use Rattle.beldi_known.specs.Contents.{head_key}
-use Rattle.beldi_kept.specs.Kept.{HasKept}
+use Rattle.beldi_sweep.specs.SweptRows.{AllIsOld, AreSound, IsIdle}
+use Rattle.beldi_step.specs.HostStep.{Core}
+use Rattle.beldi_histories.specs.Contents.{head_key}
+use Rattle.beldi_kept.specs.KeptRows.{HasKept}
 
 -- they are sound
 abbrev pub RowsAreSound : Type 0

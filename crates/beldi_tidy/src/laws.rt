@@ -1,7 +1,7 @@
-// The laws of sweeps over the rows of a right host.
+// The laws of sweeps over the rows of a host with the invariant.
 ghost use Rattle.beldi_tidy.specs.{Sweeping.SweepsAsPromised, Sweeping.ThreeSweepsTidy, Tidy.IdleAreOld, Tidy.IdleEndOnce, Tidy.RowsAreSound};
 
-/// The rows of a right host are sound, whatever log collectors did.
+/// The rows of a host with the invariant are sound, whatever log collectors did.
 pub fn rows_are_sound()
     ensures { RowsAreSound }
 {}
@@ -16,7 +16,7 @@ pub fn idle_items_end_once()
     ensures { IdleEndOnce }
 {}
 
-/// A sweep of a right host keeps its promises: it ends with the turn after at most eleven for each row and one for each row of its item,
+/// A sweep of a host with the invariant keeps its promises: it ends with the turn after at most eleven for each row and one for each row of its item,
 /// and where its collector had begun a row, what is left of that one's. Once all intents are idle, and where it began before all rows,
 /// it leaves trimmed rows; and of trimmed ones, of which each that is adrift is so for more than a life, tidy ones.
 pub fn sweeps_are_as_promised()

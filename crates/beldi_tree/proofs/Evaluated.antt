@@ -19,11 +19,11 @@ member_falls (x ∷ ms) Nat.zero m h is = let same : term_size (term_of m.1) ≡
 member_falls (x ∷ ms) (suc i) m h is = omega (arith, member_falls ms i m (omega arith) is)
 
 -- the same of items that were looked through, in a list that is seen as these terms
-pub seen_falls : (gs es : List Expr) (ts : List Term) (i : ℕ) (e : Expr) → gs ≡ es → items_view es ≡ ts → i < length gs → e ≡ get_or gs i e → term_size (term_of e) < terms_size ts
-seen_falls gs es ts i e p q h is = subst (λ us. term_size (term_of e) < terms_size us) (ap items_view p ∙ q) (item_falls gs i e h is)
+pub evaluated_falls : (gs es : List Expr) (ts : List Term) (i : ℕ) (e : Expr) → gs ≡ es → items_view es ≡ ts → i < length gs → e ≡ get_or gs i e → term_size (term_of e) < terms_size ts
+evaluated_falls gs es ts i e p q h is = subst (λ us. term_size (term_of e) < terms_size us) (ap items_view p ∙ q) (item_falls gs i e h is)
 
-pub seen_member_falls : (gs ms : List (List ℕ × Expr)) (ts : List (List ℕ × Term)) (i : ℕ) (m : List ℕ × Expr) → gs ≡ ms → members_view ms ≡ ts → i < length gs → m ≡ get_or gs i m → term_size (term_of m.1) < members_size ts
-seen_member_falls gs ms ts i m p q h is = subst (λ us. term_size (term_of m.1) < members_size us) (ap members_view p ∙ q) (member_falls gs i m h is)
+pub evaluated_member_falls : (gs ms : List (List ℕ × Expr)) (ts : List (List ℕ × Term)) (i : ℕ) (m : List ℕ × Expr) → gs ≡ ms → members_view ms ≡ ts → i < length gs → m ≡ get_or gs i m → term_size (term_of m.1) < members_size ts
+evaluated_member_falls gs ms ts i m p q h is = subst (λ us. term_size (term_of m.1) < members_size us) (ap members_view p ∙ q) (member_falls gs i m h is)
 
 -- ---- the steps of a chain
 

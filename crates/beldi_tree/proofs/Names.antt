@@ -6,4 +6,4 @@ pub use Rattle.std.specs.FinMap as map
 pub use Rattle.std.proofs.Common.{Bool, Err, List, None, Ok, Option, Result, Some, [], ap, ap₂, arith, below_more, cond, drop, eqb-true, false, get_or, get_or-set_same, length, not, refl, rules, set, take, slice_get, subst, suc, sym, true, ℕ, ◌*◌, ◌++◌, ◌+◌, ◌<◌, ◌==◌, ◌∙◌, ◌∷◌, ◌≡◌, ◌≤◌}
 pub use Rattle.beldi_value.{proofs.Maps.get_made, proofs.Maps.set_made, specs.Datum.Datum, specs.Json.text_of, specs.Value.datum_of, specs.declared.outcome.Code.Code, specs.declared.value.Value.Value, specs.declared.value.Value.TheVariants.Text}
 pub use Rattle.beldi_tree.specs.Evaluate.{IsFault, and_then, both, compared, either, element_of, field_of, fields_value, items_value, length_of, limited, negated, on_three, on_two, operate, opposite, pushed, term_value, value_at, with_field, ◌>>=◌}
-pub use Rattle.beldi_tree.specs.{Apart.AreApart, Bindings.Bindings, Bindings.is_name, Command.Command, Expr.applied, Expr.chained, Expr.items_view, Expr.members_view, Expr.term_of, Falls.first_falls, Seen.seen_value, Statement.command_of, Statement.statements_view, Steps.ended, Steps.stepped, Term.Term, Term.items_of, Term.members_of, Term.members_size, Term.term_size, Term.terms_size, declared.deployment.Expr.Expr, declared.deployment.Func.Func, declared.deployment.Step.Step, declared.deployment.TableHead.TableHead, declared.fault.EvalErr.EvalErr, declared.fault.EvalErr.TheVariants.Fault, declared.fault.EvalErr.TheVariants.OutOfMemory}
+pub use Rattle.beldi_tree.specs.{DistinctNames.AreApart, Bindings.Bindings, Bindings.is_name, StatementCommand.Command, Expr.applied, Expr.chained, Expr.items_view, Expr.members_view, Expr.term_of, TreeFalls.first_falls, CowValue.cow_value, Statement.command_of, Statement.statements_view, OperatorSteps.ended, OperatorSteps.stepped, Term.Term, Term.items_of, Term.members_of, Term.members_size, Term.term_size, Term.terms_size, declared.deployment.Expr.Expr, declared.deployment.Func.Func, declared.deployment.Step.Step, declared.deployment.TableHead.TableHead, declared.fault.EvalErr.EvalErr, declared.fault.EvalErr.TheVariants.Fault, declared.fault.EvalErr.TheVariants.OutOfMemory}

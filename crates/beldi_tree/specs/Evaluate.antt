@@ -3,7 +3,7 @@ use Rattle.std.specs.Prelude.{◌≡◌, ℕ, ◌^◌, nat_lt, nat_le, ℤ, pos,
 use Rattle.std.specs.{Ordering.int_eq, declared.cmp.Ordering.Ordering}
 use lib.Signed.{mag}
 use Rattle.std.specs.FinMap as map
-use Rattle.beldi_value.specs.{declared.value.Value.Value, declared.value.Value.TheVariants.Null, declared.value.Value.TheVariants.Bool as Truth, declared.value.Value.TheVariants.Int, declared.value.Value.TheVariants.Text, declared.value.Value.TheVariants.List as ListOf, declared.value.Value.TheVariants.Rec, declared.outcome.Code.Code, declared.outcome.Code.TheVariants.WrongType, declared.outcome.Code.TheVariants.Overflow, declared.outcome.Code.TheVariants.DivideByZero, declared.outcome.Code.TheVariants.ValueTooLarge, declared.rel.Rel.Rel, declared.rel.Rel.TheVariants.Eq, declared.rel.Rel.TheVariants.Ne, declared.rel.Rel.TheVariants.Lt, declared.rel.Rel.TheVariants.Le, declared.rel.Rel.TheVariants.Gt, declared.rel.Rel.TheVariants.Ge, Datum.Datum, Value.datum_of, Injective.value_of, Json.text_of, Limits.is_within, Parts.field_at, Parts.set_field, Parts.item_at, Passes.meets, Passes.order_of, Same.same_value}
+use Rattle.beldi_value.specs.{declared.value.Value.Value, declared.value.Value.TheVariants.Null, declared.value.Value.TheVariants.Bool as Truth, declared.value.Value.TheVariants.Int, declared.value.Value.TheVariants.Text, declared.value.Value.TheVariants.List as ListOf, declared.value.Value.TheVariants.Rec, declared.outcome.Code.Code, declared.outcome.Code.TheVariants.WrongType, declared.outcome.Code.TheVariants.Overflow, declared.outcome.Code.TheVariants.DivideByZero, declared.outcome.Code.TheVariants.ValueTooLarge, declared.rel.Rel.Rel, declared.rel.Rel.TheVariants.Eq, declared.rel.Rel.TheVariants.Ne, declared.rel.Rel.TheVariants.Lt, declared.rel.Rel.TheVariants.Le, declared.rel.Rel.TheVariants.Gt, declared.rel.Rel.TheVariants.Ge, Datum.Datum, Value.datum_of, Injective.value_of, Json.text_of, Limits.is_within, RecordParts.field_at, RecordParts.set_field, RecordParts.item_at, Passes.meets, Passes.order_of, Same.same_value}
 use Rattle.beldi_tree.specs.{declared.fault.EvalErr.EvalErr, declared.fault.EvalErr.TheVariants.OutOfMemory, declared.fault.EvalErr.TheVariants.Fault, declared.deployment.Op.Op, declared.deployment.Op.TheVariants.Add, declared.deployment.Op.TheVariants.Sub, declared.deployment.Op.TheVariants.Join, declared.deployment.Op.TheVariants.Mul, declared.deployment.Op.TheVariants.Div, declared.deployment.Op.TheVariants.Rem, declared.deployment.Expr.Expr, Term.Term, Term.Terms, Term.Members, Expr.term_of}
 pub use Rattle.beldi_tree.specs.Bindings.{Bindings, or_null}
 use Rattle.beldi_tree.specs.Term as term

@@ -1,11 +1,11 @@
-pub mod Apart
 pub mod Bindings
-pub mod Command
+pub mod CowValue
+pub mod DistinctNames
 pub mod Evaluate
 pub mod Expr
-pub mod Falls
 pub mod Names
-pub mod Seen
+pub mod OperatorSteps
 pub mod Statement
-pub mod Steps
+pub mod StatementCommand
 pub mod Term
+pub mod TreeFalls

@@ -1,6 +1,6 @@
 -- The command that a `Stmt` stands for.
 use Rattle.std.specs.Prelude.{ℕ, List, map}
-use Rattle.beldi_tree.specs.Command.{Command, set, read, write, condwrite, call, async, lock, unlock, transaction, abort, break, choose, repeat, return, commands_of}
+use Rattle.beldi_tree.specs.StatementCommand.{Command, set, read, write, condwrite, call, async, lock, unlock, transaction, abort, break, choose, repeat, return, commands_of}
 use Rattle.beldi_tree.specs.{declared.deployment.Stmt.Stmt, declared.deployment.Form.Form, Expr.term_of}
 
 abbrev pub command_at : ℕ → Form → Command

@@ -15,7 +15,7 @@ pub struct Block {
 
 impl Model for Block {
     ghost use Rattle.std.specs.Prelude.{List};
-    ghost use Rattle.beldi_tree.specs.Command.{Command, coded_block, block_size};
+    ghost use Rattle.beldi_tree.specs.StatementCommand.{Command, coded_block, block_size};
 
     ghost Value = { List Command };
 
@@ -28,7 +28,7 @@ impl Model for Block {
     ghost size = { block_size };
 
     ghost use Rattle.std.proofs.Common.{arith};
-    ghost use Rattle.beldi_tree.specs.Falls.{most_statements};
+    ghost use Rattle.beldi_tree.specs.TreeFalls.{most_statements};
 
     ghost size_decreases = { λ a h. omega (arith, most_statements a.items.items) };
 }

@@ -231,7 +231,7 @@ impl Model for Funcs {
     ghost view = { λ a. a.items.items };
 
     ghost use Rattle.std.specs.Prelude.{IsTrue};
-    ghost use Rattle.beldi_tree.specs.Apart.{AreApart};
+    ghost use Rattle.beldi_tree.specs.DistinctNames.{AreApart};
 
     ghost invariant = { λ a. IsTrue a.apart → AreApart (λ f. f.name) a.items.items };
 }
@@ -302,7 +302,7 @@ impl Model for TableHeads {
     ghost view = { λ a. a.items.items };
 
     ghost use Rattle.std.specs.Prelude.{IsTrue};
-    ghost use Rattle.beldi_tree.specs.Apart.{AreApart};
+    ghost use Rattle.beldi_tree.specs.DistinctNames.{AreApart};
 
     ghost invariant = { λ a. IsTrue a.apart → AreApart (λ t. t.name) a.items.items };
 }

@@ -2,10 +2,11 @@
 ghost use Rattle.std.specs.Prelude.{◌≡◌, [], Ok, IfSome};
 ghost use Rattle.beldi_value.specs.declared.value.Value.TheVariants as kind;
 ghost use Rattle.beldi_tree.specs.Evaluate.{term_value, value_at, key_at as key_of_expr, items_value, fields_value, on_two, compared as compared_of, operate as operate_of, pushed as pushed_of, with_field as with_field_of, either as either_of, both as both_of, settled as settled_of, limited as limited_of, element_of, on_three, and_then, Evaluates};
-ghost use Rattle.beldi_tree.specs.Seen.{seen_value, Finds};
-ghost use Rattle.beldi_tree.specs.Steps.{plain_step, stepped};
+ghost use Rattle.beldi_tree.specs.CowValue.{cow_value, Finds};
+ghost use Rattle.beldi_tree.specs.OperatorSteps.{plain_step, stepped};
 ghost use Rattle.beldi_tree.specs.Term.{items_of, members_of};
 
+use crate::cow::{CowValue, lent, lent_element, lent_field, made};
 use crate::deployment::{Expr, Op, Step};
 use crate::fault::EvalErr;
 use crate::operators::{
@@ -13,7 +14,6 @@ use crate::operators::{
     operate, opposite, or_fault, pushed, settled, truth, with_field,
 };
 use crate::parts::{Chain, Exprs, Members};
-use crate::seen::{Seen, lent, lent_element, lent_field, made};
 use crate::variables::Variables;
 use beldi_value::{Rec, Rel, Str, Value, Values, or_drop};
 use std::alloc::Global;
@@ -28,7 +28,7 @@ pub fn evaluate(alloc: Global, variables: &Variables, expr: &Expr) -> Result<Val
             return Ok(limited(number(op, left, right)?)?);
         }
     }
-    Ok(seen(alloc, variables, expr)?.into_value(alloc)?)
+    Ok(evaluated(alloc, variables, expr)?.into_value(alloc)?)
 }
 
 // A number that is at hand: no value is made of it.
@@ -66,12 +66,16 @@ fn numbers(variables: &Variables, chain: &Chain) -> Option<(Op, i64, i64)>
 pub fn key_at(alloc: Global, variables: &Variables, expr: &Expr) -> Result<Str, EvalErr>
     ensures { Evaluates (key_of_expr variables.now expr.now) result }
 {
-    key(alloc, seen(alloc, variables, expr)?.value())
+    key(alloc, evaluated(alloc, variables, expr)?.value())
 }
 
 // The value, which is not copied where it stands among the variables.
 #[cycle(evaluate)]
-fn seen<'a>(alloc: Global, variables: &'a Variables, expr: &Expr) -> Result<Seen<'a>, EvalErr>
+fn evaluated<'a>(
+    alloc: Global,
+    variables: &'a Variables,
+    expr: &Expr,
+) -> Result<CowValue<'a>, EvalErr>
     ensures { Finds (value_at variables.now expr.now) result }
 {
     match expr {
@@ -88,10 +92,10 @@ fn seen<'a>(alloc: Global, variables: &'a Variables, expr: &Expr) -> Result<Seen
 
 // The value at the end of a chain.
 #[cycle(evaluate)]
-fn walk<'a>(alloc: Global, variables: &'a Variables, chain: &Chain) -> Result<Seen<'a>, EvalErr>
+fn walk<'a>(alloc: Global, variables: &'a Variables, chain: &Chain) -> Result<CowValue<'a>, EvalErr>
     ensures { Finds (term_value variables.now chain.now) result }
 {
-    let first = seen(alloc, variables, &chain.first)?;
+    let first = evaluated(alloc, variables, &chain.first)?;
     let mut value = advance(alloc, variables, first, &chain.next)?;
     for step in &chain.more {
         value = match advance(alloc, variables, value, step) {
@@ -107,10 +111,10 @@ fn walk<'a>(alloc: Global, variables: &'a Variables, chain: &Chain) -> Result<Se
 fn advance<'a>(
     alloc: Global,
     variables: &'a Variables,
-    value: Seen<'a>,
+    value: CowValue<'a>,
     step: &Step,
-) -> Result<Seen<'a>, EvalErr>
-    ensures { Finds (stepped variables.now (seen_value value.entry) step.now) result }
+) -> Result<CowValue<'a>, EvalErr>
+    ensures { Finds (stepped variables.now (cow_value value.entry) step.now) result }
 {
     // the most common step, before what the others need
     if let Step::Binary(op, right) = step {
@@ -119,8 +123,8 @@ fn advance<'a>(
         return made(result?);
     }
     match value {
-        Seen::Lent(whole) => of_lent(alloc, variables, whole, step),
-        Seen::Made(whole) => made(of_made(alloc, variables, whole, step)?),
+        CowValue::Lent(whole) => of_lent(alloc, variables, whole, step),
+        CowValue::Made(whole) => made(of_made(alloc, variables, whole, step)?),
     }
 }
 
@@ -131,7 +135,7 @@ fn of_lent<'a>(
     variables: &'a Variables,
     whole: &'a Value,
     step: &Step,
-) -> Result<Seen<'a>, EvalErr>
+) -> Result<CowValue<'a>, EvalErr>
     ensures { Finds (stepped variables.now whole.entry.now step.now) result }
 {
     match step {
@@ -194,7 +198,7 @@ fn binary(
 ) -> Result<Value, EvalErr>
     ensures { Evaluates (on_two (operate_of op) (Ok left.now) (value_at variables.now right.now)) result }
 {
-    let right = seen(alloc, variables, right)?;
+    let right = evaluated(alloc, variables, right)?;
     let result = operate(alloc, op, left, right.value());
     drop(right);
     result
@@ -205,7 +209,7 @@ fn binary(
 fn at(alloc: Global, variables: &Variables, list: &Value, index: &Expr) -> Result<Value, EvalErr>
     ensures { Evaluates (on_two element_of (Ok list.now) (value_at variables.now index.now)) result }
 {
-    let index = seen(alloc, variables, index)?;
+    let index = evaluated(alloc, variables, index)?;
     let result = element(alloc, list, index.value());
     drop(index);
     result
@@ -218,10 +222,10 @@ fn lent_at<'a>(
     variables: &Variables,
     list: &'a Value,
     index: &Expr,
-) -> Result<Seen<'a>, EvalErr>
+) -> Result<CowValue<'a>, EvalErr>
     ensures { Finds (and_then (on_two element_of (Ok list.entry.now) (value_at variables.now index.now)) limited_of) result }
 {
-    let index = seen(alloc, variables, index)?;
+    let index = evaluated(alloc, variables, index)?;
     let result = lent_element(list, index.value());
     drop(index);
     result
@@ -238,7 +242,7 @@ fn comparison(
 ) -> Result<Value, EvalErr>
     ensures { Evaluates (on_two (compared_of rel) (Ok left.now) (value_at variables.now right.now)) result }
 {
-    let right = seen(alloc, variables, right)?;
+    let right = evaluated(alloc, variables, right)?;
     let result = compared(rel, left, right.value());
     drop(right);
     or_fault(result)
@@ -249,7 +253,7 @@ fn comparison(
 fn settled_at(alloc: Global, variables: &Variables, expr: &Expr) -> Result<Value, EvalErr>
     ensures { Evaluates (and_then (value_at variables.now expr.now) settled_of) result }
 {
-    let value = seen(alloc, variables, expr)?;
+    let value = evaluated(alloc, variables, expr)?;
     let result = settled(value.value());
     drop(value);
     or_fault(result)
@@ -302,7 +306,7 @@ fn with(
 ) -> Result<Value, EvalErr>
     ensures { Evaluates (on_three with_field_of (Ok whole) (value_at variables.now key.now) (value_at variables.now value.now)) result }
 {
-    let key = or_drop!(seen(alloc, variables, key); whole);
+    let key = or_drop!(evaluated(alloc, variables, key); whole);
     let value = or_drop!(evaluate(alloc, variables, value); whole, key);
     let result = with_field(alloc, whole, key.value(), value);
     drop(key);

@@ -1,6 +1,6 @@
 // Finds the names in statements, once, so that none is searched when its statement runs.
 ghost use Rattle.std.specs.Prelude.{◌≡◌, ◌<◌, IsTrue, length};
-ghost use Rattle.beldi_tree.specs.Apart.{AreApart};
+ghost use Rattle.beldi_tree.specs.DistinctNames.{AreApart};
 ghost use Rattle.beldi_tree.specs.Names.{func_place as func_place_of, table_place as table_place_of};
 ghost use Rattle.beldi_tree.specs.Statement.{command_of};
 

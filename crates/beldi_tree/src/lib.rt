@@ -1,7 +1,7 @@
 //! The tree of a deployment: its functions, their tables, statements and expressions, and the values of the expressions.
-//! It stands on `beldi_value`. Its definitions: `specs/Term` and `specs/Command` (what an expression and a statement stand
+//! It stands on `beldi_value`. Its definitions: `specs/Term` and `specs/StatementCommand` (what an expression and a statement stand
 //! for, by `specs/Expr` and `specs/Statement`), `specs/Names` (what names mean), `specs/Evaluate` (the value of an expression
-//! or its fault, by recursion on the expression) and `specs/Steps` (the same along a chain of operators).
+//! or its fault, by recursion on the expression) and `specs/OperatorSteps` (the same along a chain of operators).
 //!
 //! Proved:
 //! - `evaluate` gives the value of an expression, or its first fault: the definition by recursion on the syntax, with
@@ -16,14 +16,15 @@
 //! - Code (`src/`): `deployment` functions, statements and expressions, and what names mean; `name` a name in a statement,
 //!   with the place where it was found; `find` finds them, once; `block` statements one after another; `parts` the parts of
 //!   expressions, and chains of operators; `evaluation` the value of an expression; `operators` what each makes of values;
-//!   `seen` a value that is lent or made; `fault`; `variables`, and `many` those beyond the first ones.
-//! - Further definitions (`specs/`): `Apart` things of which no two have one name; `Bindings` names and their values; `Falls`
-//!   each part of an expression is smaller than the expression, and each part of a statement than the statement; `Seen` the
+//!   `cow` a value that is lent or made; `fault`; `variables`, and `many` those beyond the first ones.
+//! - Further definitions (`specs/`): `DistinctNames` things of which no two have one name; `Bindings` names and their values; `TreeFalls`
+//!   each part of an expression is smaller than the expression, and each part of a statement than the statement; `CowValue` the
 //!   value of an expression, lent or made.
 //! - Lemmas (`proofs/`): `Evaluated` an evaluation part by part; `Lookups` entries in front of a map; `Copies`; `Aparts`.
 #![tactic(auto)]
 
 mod block;
+mod cow;
 mod deployment;
 mod evaluation;
 mod fault;
@@ -32,7 +33,6 @@ mod many;
 mod name;
 mod operators;
 mod parts;
-mod seen;
 mod variables;
 
 pub use block::Block;

@@ -3,32 +3,7 @@ ghost use Rattle.std.specs.Prelude.{◌≡◌, pos, ◌+ℤ◌, ◌-ℤ◌, ◌*
 ghost use Rattle.beldi_value.specs.Value.{datum_of};
 ghost use Rattle.beldi_value.specs.Json.{text_of as text_of_datum};
 ghost use Rattle.beldi_value.specs.declared.value.Value.TheVariants as kind;
-ghost use Rattle.beldi_tree.specs.Evaluate.{
-  truth as truth_of,
-  settled as settled_of,
-  int as int_of,
-  text as text_of,
-  items as items_of,
-  fields as fields_of,
-  limited as limited_of,
-  whole,
-  quotient as quotient_of,
-  remainder as remainder_of,
-  ints,
-  joined as joined_of,
-  compared as compared_of,
-  operate as operate_of,
-  opposite as opposite_of,
-  negated as negated_of,
-  field_of,
-  element_of,
-  length_of,
-  pushed as pushed_of,
-  with_field as with_field_of,
-  or_null,
-  key_of,
-  Evaluates,
-};
+ghost use Rattle.beldi_tree.specs.Evaluate.{truth as truth_of, settled as settled_of, int as int_of, text as text_of, items as items_of, fields as fields_of, limited as limited_of, whole, quotient as quotient_of, remainder as remainder_of, ints, joined as joined_of, compared as compared_of, operate as operate_of, opposite as opposite_of, negated as negated_of, field_of, element_of, length_of, pushed as pushed_of, with_field as with_field_of, or_null, key_of, Evaluates};
 
 use crate::deployment::Op;
 use crate::fault::EvalErr;

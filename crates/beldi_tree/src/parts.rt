@@ -45,7 +45,7 @@ impl Model for Exprs {
     ghost size = { terms_size };
 
     ghost use Rattle.std.proofs.Common.{arith};
-    ghost use Rattle.beldi_tree.specs.Falls.{most_items};
+    ghost use Rattle.beldi_tree.specs.TreeFalls.{most_items};
 
     ghost size_decreases = { λ a h. omega (arith, most_items a.items.items) };
 }
@@ -64,7 +64,7 @@ impl Model for Members {
 
     ghost size = { members_size };
 
-    ghost use Rattle.beldi_tree.specs.Falls.{most_members};
+    ghost use Rattle.beldi_tree.specs.TreeFalls.{most_members};
 
     ghost size_decreases = { λ a h. most_members a.items.items };
 }
@@ -82,7 +82,7 @@ impl Model for Chain {
 
     ghost size = { term_size };
 
-    ghost use Rattle.beldi_tree.specs.Falls.{chain_falls};
+    ghost use Rattle.beldi_tree.specs.TreeFalls.{chain_falls};
 
     ghost size_decreases = { λ a h. chain_falls a.first.value a.next.value a.more.items };
 }

@@ -119,7 +119,7 @@ fn add_request(
     book: &mut Book,
     ticket: u32,
     args: Value,
-    seen: u64,
+    version: u64,
 ) -> Result<(), Fail> {
     let func = 1;
     add(book, Entry::Start { ticket, func, args })?;
@@ -128,7 +128,7 @@ fn add_request(
         add(book, Entry::Step { id })?;
     }
     let id = IntentId::root(alloc, ticket);
-    add(book, Entry::Read { id, seen })
+    add(book, Entry::Read { id, version })
 }
 
 // Two requests of the function f, each with its read kept last.
@@ -155,7 +155,7 @@ fn is_ordered(alloc: Global, code: &Checked, book: &Book) -> Result<bool, Fail> 
     let mut text = Str::new(alloc);
     or_drop!(book.write(alloc, code.code(), &mut text); text);
     let is_written = is_text(text, WANTED);
-    let has_read = matches!(book.get(5), Some(Entry::Read { seen: 4, .. }));
+    let has_read = matches!(book.get(5), Some(Entry::Read { version: 4, .. }));
     Ok(is_written && has_read && book.len() == 8)
 }
 

@@ -1,5 +1,5 @@
 // Requests as they come in, whole and a byte at a time, and what is written; the real link and the clock once.
-use beldi_gateway::{CallSaid, Desk, Served, TicketSaid, serve_one};
+use beldi_gateway::{CallReply, Desk, Served, TicketReply, serve_one};
 use beldi_outside::{Link, MemLink, ReadyLink, WallClock};
 use beldi_value::{Outcome, Value, or_drop};
 use std::alloc::Global;
@@ -28,25 +28,25 @@ impl Desk for EchoDesk {
         }
     }
 
-    fn ticket(&mut self) -> TicketSaid {
+    fn ticket(&mut self) -> TicketReply {
         self.asked = self.asked.saturating_add(1);
-        TicketSaid::Issued(self.asked)
+        TicketReply::Issued(self.asked)
     }
 
-    fn call(&mut self, _ticket: u32, _func: u16, args: Value) -> CallSaid {
+    fn call(&mut self, _ticket: u32, _func: u16, args: Value) -> CallReply {
         self.asked = self.asked.saturating_add(1);
-        CallSaid::Reply(Outcome::Value(args))
+        CallReply::Reply(Outcome::Value(args))
     }
 
-    fn reply(&mut self, ticket: u32) -> CallSaid {
+    fn reply(&mut self, ticket: u32) -> CallReply {
         self.asked = self.asked.saturating_add(1);
         match ticket {
-            1 => CallSaid::Running,
-            2 => CallSaid::Other,
-            3 => CallSaid::Gone,
-            4 => CallSaid::Fault,
-            5 => CallSaid::NoMemory,
-            _ => CallSaid::Unknown,
+            1 => CallReply::Running,
+            2 => CallReply::Other,
+            3 => CallReply::Gone,
+            4 => CallReply::Fault,
+            5 => CallReply::NoMemory,
+            _ => CallReply::Unknown,
         }
     }
 }

@@ -1,7 +1,7 @@
 // A run that has begun: its machine and the transaction that it is in, past an answer and past what takes no turn.
 ghost use Rattle.std.specs.Prelude.{◌≡◌, Option, is_some, IfOk, OnOk};
 ghost use Rattle.beldi_lang.specs.Machine.{begun as machine_begun};
-ghost use Rattle.beldi_step.specs.Run.{followed, plain_says, goes_to, takes, at_state, at_once as at_once_of, once as once_of, open_after as open_after_of, with_cause, at_stage, within as within_of, answer_at_once as answer_at_once_of};
+ghost use Rattle.beldi_step.specs.Run.{followed, plain_output, goes_to, takes, at_state, local_steps as local_steps_of, local_step as local_step_of, open_after as open_after_of, with_cause, at_stage, inherited_tx as inherited_tx_of, local_answer as local_answer_of};
 ghost use Rattle.beldi_step.specs.declared.run.Mark.{Mark};
 ghost use Rattle.beldi_step.specs.declared.run.Run.{Run};
 ghost use Rattle.beldi_step.specs.declared.run.RunAt.TheVariants as at;
@@ -11,7 +11,7 @@ use beldi_lang::{Answer, Deployment, Effect, Machine};
 use beldi_row::Body;
 use beldi_stage::{first_stage, place_of};
 use beldi_step::{Begun, OpenTx, RunAt, RunTx, Stage};
-use beldi_value::{Apart, Cause, IntentId, TxId, or_drop};
+use beldi_value::{Boxed, Cause, IntentId, TxId, or_drop};
 use std::alloc::{AllocError, Global};
 use std::mem::replace;
 
@@ -22,12 +22,12 @@ fn answer_at_once(
     step: u32,
     effect: &Effect,
 ) -> Result<Option<Answer>, AllocError>
-    ensures { IfOk result (λ a. a ≡ answer_at_once_of id.now step effect.now) }
+    ensures { IfOk result (λ a. a ≡ local_answer_of id.now step effect.now) }
 {
     match effect {
         Effect::Begin => Ok(Some(Answer::Done)),
         Effect::Abort => Ok(Some(Answer::Aborted(Cause {
-            place: Apart::new(alloc, place_of(alloc, id, step)?)?,
+            place: Boxed::new(alloc, place_of(alloc, id, step)?)?,
             holder: None,
         }))),
         _ => Ok(None),
@@ -35,8 +35,8 @@ fn answer_at_once(
 }
 
 // The transaction of a body.
-fn within(tx: Option<TxId>) -> Option<RunTx>
-    ensures { result ≡ within_of tx }
+fn inherited_tx(tx: Option<TxId>) -> Option<RunTx>
+    ensures { result ≡ inherited_tx_of tx }
 {
     match tx {
         None => None,
@@ -83,13 +83,13 @@ pub fn begin_with(
     func: u16,
     body: Body,
 ) -> Result<(), AllocError>
-    ensures { OnOk result (run_at.new ≡ at.Begins (record { machine = machine_begun code.now func body.args (is_some body.tx); caller = body.from; tx = within_of body.tx; stage = stages.Close })) }
+    ensures { OnOk result (run_at.new ≡ at.Begins (record { machine = machine_begun code.now func body.args (is_some body.tx); caller = body.parent; tx = inherited_tx_of body.tx; stage = stages.Close })) }
 {
     let Body {
         func: _,
         args,
         tx,
-        from: caller,
+        parent: caller,
     } = body;
     let inherited = tx.is_some();
     match Machine::new(alloc, code, func, args, inherited) {
@@ -97,7 +97,7 @@ pub fn begin_with(
             let begun = RunAt::Begins(Begun {
                 machine,
                 caller,
-                tx: within(tx),
+                tx: inherited_tx(tx),
                 stage: Stage::Close,
             });
             drop(replace(run_at, begun));
@@ -131,7 +131,7 @@ fn once(
     code: &Deployment,
     id: &IntentId,
 ) -> Result<(), AllocError>
-    ensures { OnOk result (begun.new ≡ at_state begun.old (once_of code.now id.now (begun.old.machine, begun.old.tx))) }
+    ensures { OnOk result (begun.new ≡ at_state begun.old (local_step_of code.now id.now (begun.old.machine, begun.old.tx))) }
 {
     match answer_at_once(alloc, id, begun.machine.steps(), begun.machine.wants())? {
         Some(answer) => take(alloc, begun, code, answer),
@@ -140,13 +140,13 @@ fn once(
 }
 
 // What takes no turn: after a begin comes no begin, and after an abort neither.
-fn at_once(
+fn local_steps(
     alloc: Global,
     begun: &mut Begun,
     code: &Deployment,
     id: &IntentId,
 ) -> Result<(), AllocError>
-    ensures { OnOk result (begun.new ≡ at_state begun.old (at_once_of code.now id.now (begun.old.machine, begun.old.tx))) }
+    ensures { OnOk result (begun.new ≡ at_state begun.old (local_steps_of code.now id.now (begun.old.machine, begun.old.tx))) }
 {
     once(alloc, begun, code, id)?;
     once(alloc, begun, code, id)
@@ -159,9 +159,9 @@ pub fn go_to(
     code: &Deployment,
     id: &IntentId,
 ) -> Result<bool, AllocError>
-    ensures { IfOk result (λ over. (r : Run) (mark : Option Mark) → r.id ≡ id.now → followed (record r { at = at.Begins begun.new }) (plain_says mark over) ≡ goes_to code.now r (begun.old.machine, begun.old.tx) begun.old.caller mark) }
+    ensures { IfOk result (λ over. (r : Run) (mark : Option Mark) → r.id ≡ id.now → followed (record r { at = at.Begins begun.new }) (plain_output mark over) ≡ goes_to code.now r (begun.old.machine, begun.old.tx) begun.old.caller mark) }
 {
-    at_once(alloc, begun, code, id)?;
+    local_steps(alloc, begun, code, id)?;
     let stage = first_stage(
         alloc,
         id,

@@ -1,10 +1,10 @@
 // One turn of a run: what it asks, and where it goes by what it is told.
 ghost use Rattle.std.specs.Prelude.{◌≡◌, true, false, Option, Some, None, IfOk, IfErr};
 ghost use Rattle.beldi_tree.specs.Names.{func_at};
-ghost use Rattle.beldi_walk.specs.Query.{told_of};
+ghost use Rattle.beldi_query.specs.Query.{query_reply_of};
 ghost use Rattle.beldi_intent.specs.Intent.{body_in, body_told, open_body as open_body_of, register_asks};
-ghost use Rattle.beldi_step.specs.Run.{run_asks, run_told, followed, plain_says, begin_in, goes_to, takes, at_stage, body_found, body_added, turned_by, Turns, callee_by, callee_of, callee_run as callee_run_of};
-ghost use Rattle.beldi_step.specs.Stride.{walking as walking_of, past_first, walked};
+ghost use Rattle.beldi_step.specs.Run.{run_asks, run_told, followed, plain_output, begin_in, goes_to, takes, at_stage, body_found, body_added, turned_by, Turns, callee_by, callee_of, callee_run as callee_run_of};
+ghost use Rattle.beldi_step.specs.RunStride.{walking as walking_of, past_first, walked};
 ghost use Rattle.beldi_step.specs.declared.run.Begun.{Begun};
 ghost use Rattle.beldi_step.specs.declared.run.Mark.{Mark};
 ghost use Rattle.beldi_step.specs.declared.run.RunAt.{RunAt};
@@ -15,18 +15,18 @@ use crate::begun::{begin_with, go_to, stand, take};
 use beldi_call::CallAt;
 use beldi_intent::{open_body, register_query};
 use beldi_lang::{Answer, Deployment, Effect};
-use beldi_row::{Body, IntentRow, Row, Said};
+use beldi_query::{Query, QueryReplyRef};
+use beldi_row::{ActReplyRef, Body, IntentRow, Row};
 use beldi_stage::{callee_body, hear, look, may_walk, set_row, stage_query, stage_walk, tx_at};
-use beldi_step::{Begun, Mark, Run, RunAt, RunTx, Says, Stage, TurnSays, Walking};
-use beldi_value::{Apart, IntentId, Value, or_drop};
-use beldi_walk::{Heard, Query};
+use beldi_step::{Begun, Mark, Run, RunAt, RunTx, Stage, StageOutput, TurnOutput, Walking};
+use beldi_value::{Boxed, IntentId, Value, or_drop};
 use std::alloc::{AllocError, Global};
 use std::mem::replace;
 
-fn plain(mark: Option<Mark>, over: bool) -> TurnSays
-    ensures { result ≡ plain_says mark over }
+fn plain(mark: Option<Mark>, over: bool) -> TurnOutput
+    ensures { result ≡ plain_output mark over }
 {
-    TurnSays {
+    TurnOutput {
         mark,
         over,
         starts: false,
@@ -36,11 +36,11 @@ fn plain(mark: Option<Mark>, over: bool) -> TurnSays
 }
 
 // The body of an intent that has not ended and is to run this function.
-fn told_body(alloc: Global, func: u16, heard: Heard<'_>) -> Result<Option<Body>, AllocError>
-    ensures { IfOk result (λ b. b ≡ body_told func (told_of heard.entry)) }
+fn told_body(alloc: Global, func: u16, heard: QueryReplyRef<'_>) -> Result<Option<Body>, AllocError>
+    ensures { IfOk result (λ b. b ≡ body_told func (query_reply_of heard.entry)) }
 {
     match heard {
-        Heard::Said(Said::Row(Row::Intent(intent))) => body_of(alloc, func, intent),
+        QueryReplyRef::Act(ActReplyRef::Row(Row::Intent(intent))) => body_of(alloc, func, intent),
         _ => Ok(None),
     }
 }
@@ -71,7 +71,7 @@ fn own_body(func: u16, body: Body) -> Option<Body>
 }
 
 // Asks for the row of an intent with this body.
-fn register(alloc: Global, id: &IntentId, body: &Body) -> Result<Apart<Query>, AllocError>
+fn register(alloc: Global, id: &IntentId, body: &Body) -> Result<Boxed<Query>, AllocError>
     ensures { IfOk result (λ q. q ≡ register_asks id.now body.now) }
 {
     register_query(alloc, id.copy(alloc)?, body.copy(alloc)?)
@@ -91,7 +91,7 @@ fn registered(func: u16, at: RunAt) -> Option<Body>
 }
 
 /// What the run asks in its next turn.
-pub fn ask(alloc: Global, run: &Run) -> Result<Apart<Query>, AllocError>
+pub fn ask(alloc: Global, run: &Run) -> Result<Boxed<Query>, AllocError>
     ensures { IfOk result (λ q. q ≡ run_asks run.now) }
 {
     match &run.at {
@@ -103,7 +103,7 @@ pub fn ask(alloc: Global, run: &Run) -> Result<Apart<Query>, AllocError>
 
 /// A run of what the run calls, if it stands at a call: it may act as long as the run. One that is waited for registers
 /// its body, and is in the transaction that the run is in; the row of any other is there before a run of it may start.
-pub fn callee(alloc: Global, run: &Run) -> Result<Option<Apart<Run>>, AllocError>
+pub fn callee(alloc: Global, run: &Run) -> Result<Option<Boxed<Run>>, AllocError>
     ensures { IfOk result (λ r. r ≡ callee_of run.now) }
 {
     let RunAt::Begins(begun) = &run.at else {
@@ -125,7 +125,7 @@ fn awaited_run(
     step: u32,
     func: u16,
     args: &Value,
-) -> Result<Option<Apart<Run>>, AllocError>
+) -> Result<Option<Boxed<Run>>, AllocError>
     ensures { IfOk result (λ r. r ≡ callee_by run.now tx.now step (effects.Call func args.now)) }
 {
     let tx = tx_at(alloc, &run.id, run.func, tx)?;
@@ -139,7 +139,7 @@ fn left_run(
     run: &Run,
     step: u32,
     func: u16,
-) -> Result<Option<Apart<Run>>, AllocError>
+) -> Result<Option<Boxed<Run>>, AllocError>
     ensures { IfOk result (λ r. r ≡ callee_run_of run.now step func at.Looks) }
 {
     callee_run(alloc, run, step, func, RunAt::Looks)
@@ -151,7 +151,7 @@ fn callee_run(
     step: u32,
     func: u16,
     at: RunAt,
-) -> Result<Option<Apart<Run>>, AllocError>
+) -> Result<Option<Boxed<Run>>, AllocError>
     ensures { IfOk result (λ r. r ≡ callee_run_of run.now step func at) }
 {
     if !run.id.has_callees() {
@@ -165,24 +165,24 @@ fn callee_run(
         deadline: run.deadline,
         at,
     };
-    Ok(Some(Apart::new(alloc, run)?))
+    Ok(Some(Boxed::new(alloc, run)?))
 }
 
 /// Where it goes after it was told, when so many changes had been made. Out of memory, it is to be dropped, and the
 /// mark of its act is told.
-pub fn told(
+pub fn resume(
     alloc: Global,
     run: &mut Run,
     code: &Deployment,
     changes: u64,
-    heard: Heard<'_>,
-) -> Result<TurnSays, Option<Mark>>
-    ensures turns { Turns run.new result (run_told code.now changes run.old (told_of heard.entry)) }
+    heard: QueryReplyRef<'_>,
+) -> Result<TurnOutput, Option<Mark>>
+    ensures turns { Turns run.new result (run_told code.now changes run.old (query_reply_of heard.entry)) }
     ensures id { run.new.id ≡ run.old.id }
 {
     match &mut run.at {
         RunAt::Begins(begun) => match hear(alloc, &run.id, run.func, begun, changes, heard) {
-            Ok(says) => follow(alloc, run, code, says),
+            Ok(output) => follow(alloc, run, code, output),
             Err(mark) => Err(mark),
         },
         _ => find_body(alloc, run, code, heard),
@@ -194,14 +194,14 @@ fn find_body(
     alloc: Global,
     run: &mut Run,
     code: &Deployment,
-    heard: Heard<'_>,
-) -> Result<TurnSays, Option<Mark>>
-    ensures begun { IfOk result (λ x. followed run.new x ≡ begin_in code.now run.old (func_at code.now run.old.func) (body_found run.old.func run.old.at (told_of heard.entry))) }
+    heard: QueryReplyRef<'_>,
+) -> Result<TurnOutput, Option<Mark>>
+    ensures begun { IfOk result (λ x. followed run.new x ≡ begin_in code.now run.old (func_at code.now run.old.func) (body_found run.old.func run.old.at (query_reply_of heard.entry))) }
     ensures none { IfErr result (λ m. m ≡ None) }
     ensures id { run.new.id ≡ run.old.id }
 {
     match begin(alloc, run, code, heard) {
-        Ok(says) => Ok(says),
+        Ok(output) => Ok(output),
         Err(_) => Err(None),
     }
 }
@@ -210,9 +210,9 @@ fn begin(
     alloc: Global,
     run: &mut Run,
     code: &Deployment,
-    heard: Heard<'_>,
-) -> Result<TurnSays, AllocError>
-    ensures begun { IfOk result (λ x. followed run.new x ≡ begin_in code.now run.old (func_at code.now run.old.func) (body_found run.old.func run.old.at (told_of heard.entry))) }
+    heard: QueryReplyRef<'_>,
+) -> Result<TurnOutput, AllocError>
+    ensures begun { IfOk result (λ x. followed run.new x ≡ begin_in code.now run.old (func_at code.now run.old.func) (body_found run.old.func run.old.at (query_reply_of heard.entry))) }
     ensures id { run.new.id ≡ run.old.id }
 {
     match find(alloc, run, heard)? {
@@ -222,12 +222,14 @@ fn begin(
 }
 
 // The body that it runs. One that was registered now is moved: where the run stands counts no more.
-fn find(alloc: Global, run: &mut Run, heard: Heard<'_>) -> Result<Option<Body>, AllocError>
-    ensures found { IfOk result (λ b. (b ≡ body_found run.old.func run.old.at (told_of heard.entry)) × (run.new ≡ record run.old { at = run.new.at })) }
+fn find(alloc: Global, run: &mut Run, heard: QueryReplyRef<'_>) -> Result<Option<Body>, AllocError>
+    ensures found { IfOk result (λ b. (b ≡ body_found run.old.func run.old.at (query_reply_of heard.entry)) × (run.new ≡ record run.old { at = run.new.at })) }
     ensures id { run.new.id ≡ run.old.id }
 {
     match heard {
-        Heard::Said(Said::Added) => { Ok(registered(run.func, replace(&mut run.at, RunAt::Looks))) }
+        QueryReplyRef::Act(ActReplyRef::Added) => {
+            Ok(registered(run.func, replace(&mut run.at, RunAt::Looks)))
+        }
         heard => told_body(alloc, run.func, heard),
     }
 }
@@ -237,7 +239,7 @@ fn begin_body(
     run: &mut Run,
     code: &Deployment,
     body: Body,
-) -> Result<TurnSays, AllocError>
+) -> Result<TurnOutput, AllocError>
     ensures begun { IfOk result (λ x. (at : RunAt) → followed run.new x ≡ begin_in code.now (record run.old { at = at }) (func_at code.now run.old.func) (Some body)) }
     ensures id { run.new.id ≡ run.old.id }
 {
@@ -250,7 +252,7 @@ fn begin_body(
 }
 
 // The first effect of its body.
-fn enter(alloc: Global, run: &mut Run, code: &Deployment) -> Result<TurnSays, AllocError>
+fn enter(alloc: Global, run: &mut Run, code: &Deployment) -> Result<TurnOutput, AllocError>
     ensures begun { (g : Begun) → run.old.at ≡ at.Begins g → IfOk result (λ x. (at : RunAt) → followed run.new x ≡ goes_to code.now (record run.old { at = at }) (g.machine, g.tx) g.caller None) }
     ensures id { run.new.id ≡ run.old.id }
 {
@@ -267,20 +269,20 @@ fn follow(
     alloc: Global,
     run: &mut Run,
     code: &Deployment,
-    says: Says,
-) -> Result<TurnSays, Option<Mark>>
-    ensures turns { (g : Begun) → run.old.at ≡ at.Begins g → Turns run.new result (turned_by code.now run.old g says) }
+    output: StageOutput,
+) -> Result<TurnOutput, Option<Mark>>
+    ensures turns { (g : Begun) → run.old.at ≡ at.Begins g → Turns run.new result (turned_by code.now run.old g output) }
     ensures id { run.new.id ≡ run.old.id }
 {
-    match says {
-        Says::On(stage, mark) => {
+    match output {
+        StageOutput::On(stage, mark) => {
             stand_at(run, stage);
             Ok(plain(mark, false))
         }
-        Says::Stays => Ok(plain(None, false)),
-        Says::Opens(mark) => {
+        StageOutput::Stays => Ok(plain(None, false)),
+        StageOutput::Opens(mark) => {
             stand_at(run, Stage::Call(CallAt::Look));
-            Ok(TurnSays {
+            Ok(TurnOutput {
                 mark,
                 over: false,
                 starts: true,
@@ -288,25 +290,25 @@ fn follow(
                 reply: None,
             })
         }
-        Says::Waits(wait) => Ok(TurnSays {
+        StageOutput::Waits(wait) => Ok(TurnOutput {
             mark: None,
             over: false,
             starts: false,
             wait: Some(wait),
             reply: None,
         }),
-        Says::Starts(answer) => match go_on(alloc, run, code, answer) {
-            Ok(over) => Ok(TurnSays {
+        StageOutput::Starts(answer) => match go_on(alloc, run, code, answer) {
+            Ok(over) => Ok(TurnOutput {
                 starts: true,
                 ..plain(None, over)
             }),
             Err(_) => Err(None),
         },
-        Says::Answers(answer, mark) => match go_on(alloc, run, code, answer) {
+        StageOutput::Answers(answer, mark) => match go_on(alloc, run, code, answer) {
             Ok(over) => Ok(plain(mark, over)),
             Err(_) => Err(mark),
         },
-        Says::Ends(mark, reply) => Ok(TurnSays {
+        StageOutput::Ends(mark, reply) => Ok(TurnOutput {
             mark,
             over: true,
             starts: false,
@@ -332,7 +334,7 @@ fn go_on(
     code: &Deployment,
     answer: Answer,
 ) -> Result<bool, AllocError>
-    ensures goes { (g : Begun) → run.old.at ≡ at.Begins g → IfOk result (λ b. (mark : Option Mark) → followed run.new (plain_says mark b) ≡ goes_to code.now run.old (takes code.now g.machine g.tx answer) g.caller mark) }
+    ensures goes { (g : Begun) → run.old.at ≡ at.Begins g → IfOk result (λ b. (mark : Option Mark) → followed run.new (plain_output mark b) ≡ goes_to code.now run.old (takes code.now g.machine g.tx answer) g.caller mark) }
     ensures id { run.new.id ≡ run.old.id }
 {
     let RunAt::Begins(begun) = &mut run.at else {

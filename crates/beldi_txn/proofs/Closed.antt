@@ -5,10 +5,10 @@ use Rattle.beldi_value.specs.declared.{place.TxId.TxId, value.Value.Value}
 use Rattle.beldi_row.specs.{Table.Rows, declared.row.Row.Row}
 use Rattle.beldi_chain.specs.Chain.{chain, tail}
 use Rattle.beldi_links.proofs.Meets.{reads_begin, walks_begin}
-use Rattle.beldi_txn.specs.{Way.Member, Way.member_at, Way.callee_of, declared.way.Called.Called, declared.end.EndAt.TheVariants.Callees, declared.end.EndAt.TheVariants.Next, declared.end.EndAt.TheVariants.Stamp, declared.end_walk.EndWalk.EndWalk, End.visited_by, End.free_first, End.free_place}
+use Rattle.beldi_txn.specs.{CallPath.Member, CallPath.member_at, CallPath.callee_of, declared.call_path.Called.Called, declared.end.EndAt.TheVariants.Callees, declared.end.EndAt.TheVariants.Next, declared.end.EndAt.TheVariants.Stamp, declared.end_walk.EndWalk.EndWalk, End.visited_by, End.free_first, End.free_place}
 use Rattle.beldi_daal.specs.declared.cell.WriteAt.TheVariants.{Try}
 use Rattle.beldi_txn.proofs.Freeing.{freeing_sees}
-use Rattle.beldi_txn.specs.Visited.{Visited, is_closed, is_own, item_in, item_row, aside_row, lock_row, IsCall, IsWay, AreClosed, Levels, IsWithin, IsPassed, owner_of, IsReleased, given_value}
+use Rattle.beldi_txn.specs.Visited.{Visited, is_closed, is_own, item_in, item_row, aside_row, lock_row, IsCall, IsCallPath, AreClosed, Levels, IsWithin, IsPassed, owner_of, IsReleased, given_value}
 use Rattle.beldi_txn.specs.Closed.{visiting, Passes, ClosedArePassed}
 
 -- where all callees of who is at the end of the way are closed, any of its calls are passed
@@ -16,9 +16,9 @@ any_passed : (m : Rows) (p : Member) (At Past Then : ℕ → Type 0) (cs : List 
 any_passed m p At Past Then [] all l = λ c call here. all c call tt
 any_passed m p At Past Then (c ∷ cs) all l = (l.0, any_passed m (callee_of p c) (λ n. Unit {0}) Past Then cs all l.1)
 
-way_more : (m : Rows) (p : Member) (cs : List Called) (e : Called) → IsWay m p cs → IsCall m (member_at p cs) e → IsWay m p (cs ++ e ∷ [])
-way_more m p [] e way call = (call, tt)
-way_more m p (c ∷ cs) e way call = (way.0, way_more m (callee_of p c) cs e way.1 call)
+path_more : (m : Rows) (p : Member) (cs : List Called) (e : Called) → IsCallPath m p cs → IsCall m (member_at p cs) e → IsCallPath m p (cs ++ e ∷ [])
+path_more m p [] e path call = (call, tt)
+path_more m p (c ∷ cs) e path call = (path.0, path_more m (callee_of p c) cs e path.1 call)
 
 levels_more : (m : Rows) (p : Member) (At Past : ℕ → Type 0) (cs : List Called) (e : Called) → AreClosed m (member_at p cs) (λ n. Unit {0}) → Levels m p At cs Past → Levels m p At (cs ++ e ∷ []) (λ n. ⊥)
 levels_more m p At Past [] e all l = (λ c call here. all c call tt, λ c call here. absurd here.1)
@@ -54,7 +54,7 @@ module _ (tx : TxId) (end : ℕ) (commit : Bool) (c : Called) (cs : List Called)
         item = refl;
         begins = tt;
         from = tt;
-        member = (h.member.0, way_more m (owner_of w) (c ∷ cs) e h.member.1 call);
+        member = (h.member.0, path_more m (owner_of w) (c ∷ cs) e h.member.1 call);
         gives = tt;
         sees = tt;
         asked = tt;

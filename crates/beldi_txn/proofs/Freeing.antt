@@ -1,8 +1,8 @@
 -- A walk that gives an item back, by whether the item is still to be given back.
-use Rattle.beldi_row.specs.Act.{did, given_or, if_owned, if_room, next_or, not_owner, noted_or, entered, Tell}
+use Rattle.beldi_row.specs.Act.{did, given_or, if_owned, if_room, next_or, not_owner, noted_or, entered, ActReply}
 use Rattle.beldi_row.specs.declared.act.Act.TheVariants.{FreeCell}
-use Rattle.beldi_daal.proofs.Turns.{content_here, linked_by}
-use Rattle.beldi_txn.proofs.Names.{Bool, Cell, CellOp, Chain, Content, EndAt, EndWalk, FitsAt, Free, FreesStandFurther, IsLinked, Linked, List, None, Note, Option, Owner, Place, ReadsAt, Row, RowKey, Rows, RowsGrow, SeesAt, SeesFreeing, Some, Try, Value, Visited, WriteAt, WriteGoes, act, ap, at_of, at_row, chain, content, false, free_place, if◌then◌else◌, inl, inr, is_own, item_in, item_row, left_row, next_is_read, note_at, others_keep, owns, readers_keep, refl, rows_after, said, subst, sym, told_by, true, visited_by, write_asks, write_goes, ℕ, ◌∙◌, ◌≡◌, ◌⊎◌}
+use Rattle.beldi_daal.proofs.WalkTurns.{content_here, linked_by}
+use Rattle.beldi_txn.proofs.Names.{Bool, Cell, CellOp, Chain, Content, EndAt, EndWalk, FitsAt, Free, FreesStandFurther, IsLinked, Linked, List, None, Note, Option, Owner, Place, ReadsAt, Row, RowKey, Rows, RowsGrow, SeesAt, SeesFreeing, Some, Try, Value, Visited, WriteAt, WriteGoes, act, ap, at_of, at_row, chain, content, false, free_place, if◌then◌else◌, inl, inr, is_own, item_in, item_row, left_row, next_is_read, note_at, others_keep, owns, readers_keep, refl, rows_after, replied, subst, sym, query_reply, true, visited_by, write_asks, write_goes, ℕ, ◌∙◌, ◌≡◌, ◌⊎◌}
 
 -- what a walk sees that puts is more than it has to see
 pub freeing_sees : (own : Bool) (f : Chain) (p : Place) (a : WriteAt) → SeesAt f p (at_of a) → SeesFreeing own f p a
@@ -35,24 +35,24 @@ module _ (head : RowKey) (p : Place) (who : Owner) (u : Option Value) (now : ℕ
   pub record Passes (a : WriteAt) : Type 0 where
     pub not_own : owns who (content (chain m head)).owner ≡ false
     pub rows : rows_after (write_asks head p who (CellOp.Free u) a) now m ≡ m
-    pub goes : GoesPast (chain m head) p (write_goes Note.Freed a (told_by (write_asks head p who (CellOp.Free u) a) now m))
+    pub goes : GoesPast (chain m head) p (write_goes Note.Freed a (query_reply (write_asks head p who (CellOp.Free u) a) now m))
 
 -- so it is at a row
 module _ (head : RowKey) (p : Place) (who : Owner) (u : Option Value) (now : ℕ) (m : Rows) (linked : IsLinked (chain m head)) (none : owns who (content (chain m head)).owner ≡ false) (r : ℕ) (reads : ReadsAt (chain m head) r) where
   abbrev f : Chain
   f = chain m head
 
-  abbrev Stays : Option Row → Option Row × Tell → Type 0
-  Stays o z = (z.0 ≡ o) × GoesPast f p (write_goes Note.Freed (Try r) (said z.1))
+  abbrev Stays : Option Row → Option Row × ActReply → Type 0
+  Stays o z = (z.0 ≡ o) × GoesPast f p (write_goes Note.Freed (Try r) (replied z.1))
 
   module _ (c : Cell) (is : f r ≡ Some (Row.Cell c)) where
     abbrev l : Linked f
     l = linked_by f linked r (Row.Cell c) is
 
-    abbrev StaysCell : Cell × Tell → Type 0
+    abbrev StaysCell : Cell × ActReply → Type 0
     StaysCell z = Stays (Some (Row.Cell c)) (Some (Row.Cell z.0), z.1)
 
-    abbrev given : Cell × Tell
+    abbrev given : Cell × ActReply
     given = if_room c (entered p Note.Freed (given_or u c.value) None c, did)
 
     by_owner : (b : Bool) → owns who c.owner ≡ b → c.next ≡ None → StaysCell (if b then given else (c, not_owner))
@@ -87,7 +87,7 @@ puts_or_passes head p who u now m linked a sees = inl sees
 
 -- ---- such a walk may stand at a further row
 further : (w : EndWalk) (m : Rows) (i : ℕ × List ℕ) (r k : ℕ) → let here = λ (z : ℕ). record w { visit = record w.visit { item = Some i; at = Free (Try z) } } in
-    SeesFreeing (is_own w (item_in (visited_by w.tx w.visit.way).1 m i)) (chain m (item_row (visited_by w.tx w.visit.way).1 i)) (free_place w.tx w.end w.visit.way) (Try k) → Visited (here r) m → Visited (here k) m
+    SeesFreeing (is_own w (item_in (visited_by w.tx w.visit.path).1 m i)) (chain m (item_row (visited_by w.tx w.visit.path).1 i)) (free_place w.tx w.end w.visit.path) (Try k) → Visited (here r) m → Visited (here k) m
 further w m i r k sees v = record {
   decided = v.decided;
   item = refl;

@@ -1,5 +1,5 @@
 -- The calls that lead to who is visited, and what is closed of their callees.
-use Rattle.beldi_txn.proofs.Names.{AreClosed, AreFit, AreHops, AtEnd, Called, IntentId, IsCall, IsWay, Levels, List, Member, None, Option, Row, Rows, Some, Visit, [], ap, arith, back_from, call_key, callee_id, callee_of, child_of, false, front_of, func_called, has_callees, if◌then◌else◌, is_owner, is_some, last_of, length, ltb-true, member_at, most, option_map, option_to_list, refl, slice_get, split_front, split_last, subst, suc, sym, true, zero, ℕ, ◌++◌, ◌-◌, ◌<◌, ◌∙◌, ◌∷◌, ◌≡◌, ◌≤◌}
+use Rattle.beldi_txn.proofs.Names.{AreClosed, AreFit, AreHops, AtEnd, Called, IntentId, IsCall, IsCallPath, Levels, List, Member, None, Option, Row, Rows, Some, EndState, [], ap, arith, back_from, call_key, callee_id, callee_of, child_of, false, front_of, func_called, has_callees, if◌then◌else◌, is_owner, is_some, last_of, length, ltb-true, member_at, most, option_map, option_to_list, refl, slice_get, split_front, split_last, subst, suc, sym, true, zero, ℕ, ◌++◌, ◌-◌, ◌<◌, ◌∙◌, ◌∷◌, ◌≡◌, ◌≤◌}
 use Rattle.beldi_txn.proofs.Names.map
 
 -- ---- lists of calls
@@ -59,25 +59,25 @@ func_is p (c ∷ []) = refl
 func_is p (c ∷ d ∷ ds) = func_is (callee_of p c) (d ∷ ds)
 
 -- where there is no last one, there is none
-pub back_none : (v : Visit) (cs : List Called) → cs ≡ front_of (split_last v.way) → last_of (split_last v.way) ≡ None → record v { way = cs } ≡ back_from v (split_last v.way)
-back_none v cs left last = by v.way left last
+pub back_none : (v : EndState) (cs : List Called) → cs ≡ front_of (split_last v.path) → last_of (split_last v.path) ≡ None → record v { path = cs } ≡ back_from v (split_last v.path)
+back_none v cs left last = by v.path left last
   where
-    by : (ds : List Called) → cs ≡ front_of (split_last ds) → last_of (split_last ds) ≡ None → record v { way = cs } ≡ back_from (record v { way = ds }) (split_last ds)
-    by [] left last = ap (λ (es : List Called). record v { way = es }) left
+    by : (ds : List Called) → cs ≡ front_of (split_last ds) → last_of (split_last ds) ≡ None → record v { path = cs } ≡ back_from (record v { path = ds }) (split_last ds)
+    by [] left last = ap (λ (es : List Called). record v { path = es }) left
     by (c ∷ ds) left last = cc
 
 -- ---- calls that are there
-pub way_more : (m : Rows) (p : Member) (cs : List Called) (c : Called) → IsWay m p cs → IsCall m (member_at p cs) c → IsWay m p (cs ++ c ∷ [])
-way_more m p [] c w k = (k, tt)
-way_more m p (d ∷ ds) c w k = (w.0, way_more m (callee_of p d) ds c w.1 k)
+pub path_more : (m : Rows) (p : Member) (cs : List Called) (c : Called) → IsCallPath m p cs → IsCall m (member_at p cs) c → IsCallPath m p (cs ++ c ∷ [])
+path_more m p [] c w k = (k, tt)
+path_more m p (d ∷ ds) c w k = (w.0, path_more m (callee_of p d) ds c w.1 k)
 
-pub way_front : (m : Rows) (p : Member) (cs : List Called) (c : Called) → IsWay m p (cs ++ c ∷ []) → IsWay m p cs
-way_front m p [] c w = tt
-way_front m p (d ∷ ds) c w = (w.0, way_front m (callee_of p d) ds c w.1)
+pub path_front : (m : Rows) (p : Member) (cs : List Called) (c : Called) → IsCallPath m p (cs ++ c ∷ []) → IsCallPath m p cs
+path_front m p [] c w = tt
+path_front m p (d ∷ ds) c w = (w.0, path_front m (callee_of p d) ds c w.1)
 
-pub way_last : (m : Rows) (p : Member) (cs : List Called) (c : Called) → IsWay m p (cs ++ c ∷ []) → IsCall m (member_at p cs) c
-way_last m p [] c w = w.0
-way_last m p (d ∷ ds) c w = way_last m (callee_of p d) ds c w.1
+pub path_last : (m : Rows) (p : Member) (cs : List Called) (c : Called) → IsCallPath m p (cs ++ c ∷ []) → IsCall m (member_at p cs) c
+path_last m p [] c w = w.0
+path_last m p (d ∷ ds) c w = path_last m (callee_of p d) ds c w.1
 
 -- ---- levels
 pub levels_top : (m : Rows) (p : Member) (At : ℕ → Type 0) (cs : List Called) (Past : ℕ → Type 0) → Levels m p At cs Past → AreClosed m (member_at p cs) (λ n. AtEnd At cs n × Past n)
@@ -117,7 +117,7 @@ callee_is : (id : IntentId) (s : ℕ) → has_callees id ≡ true → callee_id 
 callee_is id s h = ap (λ b. if b then child_of id s else id) h
 
 -- a participant's id has its width, where the rows have
-pub member_fit : (m : Rows) (p : Member) (cs : List Called) → AreFit m → 1 ≤ p.0.ticket → AreHops 63 p.0.hops → IsWay m p cs → (1 ≤ (member_at p cs).0.ticket) × AreHops 63 (member_at p cs).0.hops
+pub member_fit : (m : Rows) (p : Member) (cs : List Called) → AreFit m → 1 ≤ p.0.ticket → AreHops 63 p.0.hops → IsCallPath m p cs → (1 ≤ (member_at p cs).0.ticket) × AreHops 63 (member_at p cs).0.hops
 member_fit m p [] fit some hops w = (some, hops)
 member_fit m p (c ∷ cs) fit some hops w =
     let same = callee_is p.0 c.step w.0.0 in

@@ -1,9 +1,9 @@
-pub mod Beside
-pub mod Calls
+pub mod BesideRows
 mod Closed
 pub mod Freeing
+pub mod InvokedInside
 pub mod Levels
-pub mod Locks
+pub mod LocksetRows
 mod Names
 pub mod TxTurn
 pub mod Visited

@@ -1,11 +1,11 @@
 -- The end of a transaction visits all who took part, and passes all rows of their locks, one after another.
-use Rattle.beldi_txn.{specs.declared.end.EndAt.TheVariants.Shadow, proofs.TxTurn.others_set, proofs.TxTurn.here_set, proofs.TxTurn.Reads, proofs.TxTurn.reads_on, proofs.TxTurn.other_kind, proofs.TxTurn.item_kept, proofs.TxTurn.aside_kept, proofs.TxTurn.asked, proofs.Calls.by_order, proofs.Calls.next_call, proofs.Calls.first_call, proofs.Locks.Item, proofs.Locks.item_at, proofs.Locks.item_told, proofs.Locks.none_past, proofs.Locks.none_first, proofs.Locks.none_between, proofs.Locks.none_before}
-use Rattle.beldi_txn.proofs.Names.{cell_key, rows_there, write_spares, Act, AllFreed, AllGrow, AllReleased, AreClosed, AreFit, AreLinked, AreMarked, AreReleased, AtEnd, Bool, Called, Callees, CellOp, Chain, ChangedAlone, Content, Decide, DecidedAt, EndAt, EndGoes, EndSays, EndTurn, EndWalk, EndsAreVisits, Free, Frees, Gives, HasItem, HasWay, IntentId, IsAfter, IsCall, IsDecided, IsFirstFrom, IsFrom, IsLinked, IsMember, IsNext, IsNextCall, IsPassed, IsPast, IsReleased, IsWay, IsWithin, Kind, Leaves, LeftAt, Less, Levels, List, LoggedTurn, Look, Member, Next, None, Note, Option, Owner, Place, Plain, PutRead, Query, ReadGoes, Row, RowKey, Rows, RowsStay, SeesAt, SeesFreeing, SeesRows, Some, Stamp, StampAct, Stamps, StartsWithin, Try, TxId, Value, Visit, Visited, VisitsBegin, VisitsStand, WasAsked, WriteAt, WriteGoes, WriteSays, WriteWalk, [], act, alone_by, ap, arith, aside_head, aside_row, at_each, at_of, at_row, back_from, by_op, call_after, call_goes, call_key, called_at, callee_of, calls_after, calls_goes, chain, chain_other, child_of, content, counts, decide_goes, decision_row, false, first_from, first_visit, free_first, free_place, freed_goes, func_called, given_value, has_callees, has_no_hops, head_asked, home_of, if◌then◌else◌, inl, inr, intent_key, invokes_after, is_closed, is_eq, is_none, is_own, is_owner, is_some, item_after, item_head, item_in, item_row, key_cmp, key_exact, key_same, key_total, last_goes, left_row, lock_row, lockset_after, lockset_key, logged_at, logged_so, looked, ltb-false, ltb-true, member_at, moved, next_goes, next_row, next_row_least, no_root, note_at, of_no_item, option_map, ordering_reverse, others_grow, owner_of, owns, rank_of, read_goes, readers_keep, reads_begin, refl, row_closed, rows_after, said, said_of, same_grow, shadow_value, split_front, stamp_with, subst, suc, sym, tail, told_by, true, turned, unless_owned, value_goes, visited_by, walk_asks, walk_goes, walk_next, walk_says, walks_begin, write_goes, zero, ℕ, ◌++◌, ◌<◌, ◌∙◌, ◌∷◌, ◌≡◌, ◌≤◌, ◌⊎◌}
+use Rattle.beldi_txn.{specs.declared.end.EndAt.TheVariants.Shadow, proofs.TxTurn.others_set, proofs.TxTurn.here_set, proofs.TxTurn.Reads, proofs.TxTurn.reads_on, proofs.TxTurn.other_kind, proofs.TxTurn.item_kept, proofs.TxTurn.aside_kept, proofs.TxTurn.asked, proofs.InvokedInside.by_order, proofs.InvokedInside.next_call, proofs.InvokedInside.first_call, proofs.LocksetRows.Item, proofs.LocksetRows.item_at, proofs.LocksetRows.item_told, proofs.LocksetRows.none_past, proofs.LocksetRows.none_first, proofs.LocksetRows.none_between, proofs.LocksetRows.none_before}
+use Rattle.beldi_txn.proofs.Names.{cell_key, rows_there, write_spares, Act, AllFreed, AllGrow, AllReleased, AreClosed, AreFit, AreLinked, AreMarked, AreReleased, AtEnd, Bool, Called, Callees, CellOp, Chain, ChangedAlone, Content, Decide, DecidedAt, EndAt, EndGoes, EndOutput, EndTurn, EndWalk, EndsAreVisits, Free, Frees, Gives, HasItem, HasCallPath, IntentId, IsAfter, IsCall, IsDecided, IsFirstFrom, IsFrom, IsLinked, IsMember, IsNext, IsNextCall, IsPassed, IsPast, IsReleased, IsCallPath, IsWithin, Kind, Leaves, LeftAt, Less, Levels, List, LoggedTurn, Look, Member, Next, None, Note, Option, Owner, Place, Plain, PutRead, Query, ReadGoes, Row, RowKey, Rows, RowsStay, SeesAt, SeesFreeing, SeesRows, Some, Stamp, StampAct, Stamps, StartsWithin, Try, TxId, Value, EndState, Visited, VisitsBegin, VisitsStand, WasAsked, WriteAt, WriteGoes, WriteOutput, WriteWalk, [], act, alone_by, ap, arith, aside_head, aside_row, at_each, at_of, at_row, back_from, by_op, call_after, call_goes, call_key, called_at, callee_of, calls_after, calls_goes, chain, chain_other, child_of, content, counts, decide_goes, decision_row, false, first_from, first_visit, free_first, free_place, freed_goes, func_called, given_value, has_callees, has_no_hops, head_asked, home_of, if◌then◌else◌, inl, inr, intent_key, invokes_after, is_closed, is_eq, is_none, is_own, is_owner, is_some, item_after, item_head, item_in, item_row, key_cmp, key_exact, key_same, key_total, last_goes, left_row, lock_row, lockset_after, lockset_key, logged_at, logged_so, looked, ltb-false, ltb-true, member_at, end_after, next_goes, next_row, next_row_least, no_root, note_at, of_no_item, option_map, ordering_reverse, others_grow, owner_of, owns, rank_of, read_goes, readers_keep, reads_begin, refl, row_closed, rows_after, replied, output_of, same_grow, shadow_value, split_front, stamp_with, subst, suc, sym, tail, query_reply, true, turned, unless_owned, value_goes, visited_by, walk_asks, walk_goes, walk_next, walk_output, walks_begin, write_goes, zero, ℕ, ◌++◌, ◌<◌, ◌∙◌, ◌∷◌, ◌≡◌, ◌≤◌, ◌⊎◌}
 use Rattle.beldi_txn.proofs.Freeing.{GoesPast, Passes, freeing_sees, freeing_stands, puts_or_passes}
-use Rattle.beldi_txn.proofs.Levels.{ends_in, member_more, way_more, way_front, way_last, levels_top, levels_with, levels_pushed, levels_last, levels_popped, member_fit}
+use Rattle.beldi_txn.proofs.Levels.{ends_in, member_more, path_more, path_front, path_last, levels_top, levels_with, levels_pushed, levels_last, levels_popped, member_fit}
 use Rattle.beldi_txn.proofs.Names.map
 
-is_owned : (b : Bool) (s : Option WriteSays) → unless_owned b ≡ s → b ≡ is_none s
+is_owned : (b : Bool) (s : Option WriteOutput) → unless_owned b ≡ s → b ≡ is_none s
 is_owned true s h = ap is_none h
 is_owned false s h = ap is_none h
 
@@ -37,9 +37,9 @@ module _ (m n : Rows) (same : (p : Member) (s : ℕ) → map.get n (call_key p.1
   pub call_kept : (p : Member) (c : Called) → IsCall m p c → IsCall n p c
   call_kept p c k = (k.0, ap (option_map func_called) (same p c.step) ∙ k.1)
 
-  pub way_kept : (p : Member) (cs : List Called) → IsWay m p cs → IsWay n p cs
-  way_kept p [] w = tt
-  way_kept p (c ∷ cs) w = (call_kept p c w.0, way_kept (callee_of p c) cs w.1)
+  pub path_kept : (p : Member) (cs : List Called) → IsCallPath m p cs → IsCallPath n p cs
+  path_kept p [] w = tt
+  path_kept p (c ∷ cs) w = (call_kept p c w.0, path_kept (callee_of p c) cs w.1)
 
 -- ---- what others do
 decided_stands : (a : EndAt) (w : EndWalk) (m n : Rows) → Leaves w m n → DecidedAt a w m → DecidedAt a w n
@@ -59,7 +59,7 @@ sees_stands (Shadow r) (Some j) w home m n h d =
     let k = aside_row w home j in readers_keep (chain m k) (chain n k) r (h.grows k (aside_head home w.tx j.0 j.1)) d
 sees_stands (Free f) (Some j) w home m n h d =
     let k = item_row home j in
-    freeing_stands (chain m k) (chain n k) (free_place w.tx w.end w.visit.way) f (is_own w (item_in home m j)) (is_own w (item_in home n j)) (h.grows k (item_head home j.0 j.1)) (h.items home j) d
+    freeing_stands (chain m k) (chain n k) (free_place w.tx w.end w.visit.path) f (is_own w (item_in home m j)) (is_own w (item_in home n j)) (h.grows k (item_head home j.0 j.1)) (h.items home j) d
 sees_stands a i w home m n h d = tt
 
 asked_stands : (a : EndAt) (i : Option Item) (w : EndWalk) (p : Member) (m n : Rows) → RowsStay m n → WasAsked a w p m i → WasAsked a w p n i
@@ -73,17 +73,17 @@ module _ (w : EndWalk) (m n : Rows) (h : Leaves w m n) where
   closed_more [] c member k at closed = h.closed c [] (at, (k, tt)) closed
   closed_more (d ∷ ds) c member k at closed =
       let same = member_more (callee_of (owner_of w) d) ds c in
-      ap (is_closed n) (sym same) ∙ h.closed d (ds ++ c ∷ []) (member.0, way_more m (owner_of w) (d ∷ ds) c member.1 k) (ap (is_closed m) same ∙ closed)
+      ap (is_closed n) (sym same) ∙ h.closed d (ds ++ c ∷ []) (member.0, path_more m (owner_of w) (d ∷ ds) c member.1 k) (ap (is_closed m) same ∙ closed)
 
   level_on : (ds : List Called) (At P : ℕ → Type 0) → IsMember w m ds → ((s : ℕ) → At s → AtEnd (IsWithin w) ds s) → AreClosed m (visited_by w.tx ds) (λ s. At s × P s) → AreClosed n (visited_by w.tx ds) (λ s. At s × P s)
   level_on ds At P member within l c k at = let was = h.calls ds member c (within c.step at.0) k in closed_more ds c member was (within c.step at.0) (l c was at)
 
-  below_on : (d : Called) (ds cs : List Called) (Past : ℕ → Type 0) → let p = visited_by w.tx (d ∷ ds) in IsMember w m (d ∷ ds) → IsWay m p cs → Levels m p (λ s. Unit {0}) cs Past → Levels n p (λ s. Unit {0}) cs Past
+  below_on : (d : Called) (ds cs : List Called) (Past : ℕ → Type 0) → let p = visited_by w.tx (d ∷ ds) in IsMember w m (d ∷ ds) → IsCallPath m p cs → Levels m p (λ s. Unit {0}) cs Past → Levels n p (λ s. Unit {0}) cs Past
   below_on d ds [] Past member leads l = level_on (d ∷ ds) (λ s. Unit {0}) Past member (λ s at. tt) l
   below_on d ds (e ∷ es) Past member leads l = (
     level_on (d ∷ ds) (λ s. Unit {0}) (λ s. s < e.step) member (λ s at. tt) l.0,
-    subst (λ (p : Member). IsWay m p es → Levels m p (λ s. Unit {0}) es Past → Levels n p (λ s. Unit {0}) es Past) (member_more (callee_of (owner_of w) d) ds e)
-        (below_on d (ds ++ e ∷ []) es Past (member.0, way_more m (owner_of w) (d ∷ ds) e member.1 leads.0)) leads.1 l.1,
+    subst (λ (p : Member). IsCallPath m p es → Levels m p (λ s. Unit {0}) es Past → Levels n p (λ s. Unit {0}) es Past) (member_more (callee_of (owner_of w) d) ds e)
+        (below_on d (ds ++ e ∷ []) es Past (member.0, path_more m (owner_of w) (d ∷ ds) e member.1 leads.0)) leads.1 l.1,
   )
 
   levels_stand : (cs : List Called) (Past : ℕ → Type 0) → IsMember w m cs → Levels m (owner_of w) (IsWithin w) cs Past → Levels n (owner_of w) (IsWithin w) cs Past
@@ -99,19 +99,19 @@ visits_stand w m n v h = record {
   item = v.item;
   begins = v.begins;
   from = v.from;
-  member = h.way v.member;
+  member = h.path v.member;
   gives = gives_stands w.visit.at w.visit.item w p.1 m n h v.gives;
   sees = sees_stands w.visit.at w.visit.item w p.1 m n h v.sees;
   asked = asked_stands w.visit.at w.visit.item w p m n h.stay v.asked;
-  callees = levels_stand w m n h w.visit.way (IsPassed w.visit.at w.visit.after) v.member v.callees;
-  freed = λ q r here past. let s = row_in (map.get m (lock_row w p q)) (h.locks w.visit.way v.member q r here) in h.items p.1 q (v.freed q s.0 s.1 past);
+  callees = levels_stand w m n h w.visit.path (IsPassed w.visit.at w.visit.after) v.member v.callees;
+  freed = λ q r here past. let s = row_in (map.get m (lock_row w p q)) (h.locks w.visit.path v.member q r here) in h.items p.1 q (v.freed q s.0 s.1 past);
   released = h.released;
   marked = h.marks;
   linked = h.linked;
 }
   where
     p : Member
-    p = visited_by w.tx w.visit.way
+    p = visited_by w.tx w.visit.path
 
 pub visits_begin : VisitsBegin
 visits_begin tx end commit m released marked linked = record {
@@ -148,7 +148,7 @@ at_end At (c ∷ cs) n h = tt
 abbrev Decided_by : Bool → Row → EndGoes → Type 0
 Decided_by c r g = ((r ≡ Row.ReadLog (Value.Bool c)) × (g ≡ EndGoes.Decided false)) ⊎ ((r ≡ Row.ReadLog (Value.Bool c) → ⊥) × (g ≡ EndGoes.Stays))
 
-by_row : (c : Bool) (now : ℕ) (r : Row) → Decided_by c r (decide_goes c (said (act (PutRead (Value.Bool c)) now (Some r)).1))
+by_row : (c : Bool) (now : ℕ) (r : Row) → Decided_by c r (decide_goes c (replied (act (PutRead (Value.Bool c)) now (Some r)).1))
 by_row true now (Row.ReadLog (Value.Bool true)) = inl (refl, refl)
 by_row true now (Row.ReadLog (Value.Bool false)) = inr (λ h. cc, refl)
 by_row false now (Row.ReadLog (Value.Bool true)) = inr (λ h. cc, refl)
@@ -157,7 +157,7 @@ by_row c now r = inr (λ h. cc, refl)
 
 -- ---- a participant gets its finish
 -- a participant is no root
-not_root : (m : Rows) (p : Member) (cs : List Called) → IsWay m p cs → is_owner cs ≡ false → has_no_hops (member_at p cs).0.hops ≡ false
+not_root : (m : Rows) (p : Member) (cs : List Called) → IsCallPath m p cs → is_owner cs ≡ false → has_no_hops (member_at p cs).0.hops ≡ false
 not_root m p [] w h = cc
 not_root m p (c ∷ []) w h = ap (λ b. has_no_hops (if b then child_of p.0 c.step else p.0).hops) w.0.0 ∙ no_root p.0 c.step
 not_root m p (c ∷ d ∷ ds) w h = not_root m (callee_of p c) (d ∷ ds) w.1 refl
@@ -198,11 +198,11 @@ func_or n None = n
 func_or n (Some f) = f
 
 module _ (x : TxId) (end : ℕ) (commit : Bool) where
-  abbrev walk : Visit → EndWalk
+  abbrev walk : EndState → EndWalk
   walk z = record { tx = x; end = end; commit = commit; visit = z }
 
-  abbrev visit : List Called → Option ℕ → Option Item → Option Value → EndAt → Visit
-  visit cs af i u a = record { way = cs; after = af; item = i; value = u; at = a }
+  abbrev visit : List Called → Option ℕ → Option Item → Option Value → EndAt → EndState
+  visit cs af i u a = record { path = cs; after = af; item = i; value = u; at = a }
 
   -- the walk, wherever it stands
   abbrev bare : EndWalk
@@ -214,30 +214,30 @@ module _ (x : TxId) (end : ℕ) (commit : Bool) where
   abbrev who : List Called → Member
   who cs = visited_by x cs
 
-  pub record Leads (z : Visit) (q : Query) (m n : Rows) (g : EndGoes) : Type 0 where
+  pub record Leads (z : EndState) (q : Query) (m n : Rows) (g : EndGoes) : Type 0 where
     pub others : ChangedAlone (head_asked q) m n
     pub stay : RowsStay m n
     pub grows : AllGrow m n
-    pub left : LeftAt z.at (walk z) z.item (said_of g) m n
-    pub visited : Visited (walk (moved commit z g)) n
-    pub done : said_of g ≡ EndSays.Done → IsDecided (walk z) n × AllReleased (walk z) n
+    pub left : LeftAt z.at (walk z) z.item (output_of g) m n
+    pub visited : Visited (walk (end_after commit z g)) n
+    pub done : output_of g ≡ EndOutput.Done → IsDecided (walk z) n × AllReleased (walk z) n
 
   -- a turn of the walk at a visit ..
-  abbrev Turns : Visit → ℕ → Rows → Type 0
-  Turns z now m = let q = walk_asks (walk z) in Leads z q m (rows_after q now m) (walk_goes (walk z) (told_by q now m))
+  abbrev Turns : EndState → ℕ → Rows → Type 0
+  Turns z now m = let q = walk_asks (walk z) in Leads z q m (rows_after q now m) (walk_goes (walk z) (query_reply q now m))
 
   -- .. and one that leaves the rows
-  abbrev Moves : Visit → Rows → EndGoes → Type 0
+  abbrev Moves : EndState → Rows → EndGoes → Type 0
   Moves z m g = Leads z (walk_asks (walk z)) m m g
 
   -- unless it is the last, it says what is so of where it goes
-  moves : (z : Visit) (m : Rows) (g : EndGoes) → LeftAt z.at (walk z) z.item (said_of g) m m → (said_of g ≡ EndSays.Done → ⊥) → Visited (walk (moved commit z g)) m → Moves z m g
+  moves : (z : EndState) (m : Rows) (g : EndGoes) → LeftAt z.at (walk z) z.item (output_of g) m m → (output_of g ≡ EndOutput.Done → ⊥) → Visited (walk (end_after commit z g)) m → Moves z m g
   moves z m g left on v = record { others = λ k off. refl; stay = λ k h. h; grows = same_grow m m refl; left = left; visited = v; done = λ h. absurd (on h) }
 
   -- at the same rows, all that is said of everyone is so at any visit
-  goes_to : (z y : Visit) (m : Rows) → Visited (walk z) m → DecidedAt y.at (walk y) m → HasItem y.at y.item → HasWay y.at y.way y.after → IsFrom bare y.way y.after → IsMember bare m y.way
-      → Gives y.at (walk y) (who y.way).1 m y.item → SeesRows y.at (walk y) (who y.way).1 m y.item → WasAsked y.at (walk y) (who y.way) m y.item → Levels m owns_all (IsWithin bare) y.way (IsPassed y.at y.after)
-      → ((q : Item) (r : Row) → let p = who y.way in map.get m (lock_row bare p q) ≡ Some r → IsPast y.at (walk y) p y.item q → is_own bare (item_in p.1 m q) ≡ false) → Visited (walk y) m
+  goes_to : (z y : EndState) (m : Rows) → Visited (walk z) m → DecidedAt y.at (walk y) m → HasItem y.at y.item → HasCallPath y.at y.path y.after → IsFrom bare y.path y.after → IsMember bare m y.path
+      → Gives y.at (walk y) (who y.path).1 m y.item → SeesRows y.at (walk y) (who y.path).1 m y.item → WasAsked y.at (walk y) (who y.path) m y.item → Levels m owns_all (IsWithin bare) y.path (IsPassed y.at y.after)
+      → ((q : Item) (r : Row) → let p = who y.path in map.get m (lock_row bare p q) ≡ Some r → IsPast y.at (walk y) p y.item q → is_own bare (item_in p.1 m q) ≡ false) → Visited (walk y) m
   goes_to z y m v decided item begins from member gives sees asked callees freed = record {
     decided = decided;
     item = item;
@@ -255,7 +255,7 @@ module _ (x : TxId) (end : ℕ) (commit : Bool) where
   }
 
   -- to the calls of who is visited
-  to_calls : (z : Visit) (cs : List Called) (af : Option ℕ) (u : Option Value) (m : Rows) → Visited (walk z) m → IsDecided bare m → IsFrom bare cs af → IsMember bare m cs → Levels m owns_all (IsWithin bare) cs (IsPassed Callees af)
+  to_calls : (z : EndState) (cs : List Called) (af : Option ℕ) (u : Option Value) (m : Rows) → Visited (walk z) m → IsDecided bare m → IsFrom bare cs af → IsMember bare m cs → Levels m owns_all (IsWithin bare) cs (IsPassed Callees af)
       → Visited (walk (visit cs af None u Callees)) m
   to_calls z cs af u m v decided from member callees = goes_to z (visit cs af None u Callees) m v decided refl tt from member tt tt tt callees (λ q r here past. absurd past)
 
@@ -286,7 +286,7 @@ module _ (x : TxId) (end : ℕ) (commit : Bool) where
 
     released_on : AreReleased bare m → AreReleased bare n
     released_on all c cs member closed =
-        let was : IsMember bare m (c ∷ cs) = (member.0, way_kept n m call_back owns_all (c ∷ cs) member.1) in
+        let was : IsMember bare m (c ∷ cs) = (member.0, path_kept n m call_back owns_all (c ∷ cs) member.1) in
         elim (h.released c cs was closed) [
           | inl k ↦ on (who (c ∷ cs)) (all c cs was k)
           | inr k ↦ on (who (c ∷ cs)) k
@@ -297,18 +297,18 @@ module _ (x : TxId) (end : ℕ) (commit : Bool) where
 
     marked_on : AreMarked bare m → AreMarked bare n
     marked_on v cs member q nt noted = elim (h.items (who cs).1 q) [
-      | inl same ↦ ap (is_own bare) same ∙ v cs (member.0, way_kept n m call_back owns_all cs member.1) q nt (sym (ap (λ (c : Content). note_at c.notes (free_place x end cs)) same) ∙ noted)
+      | inl same ↦ ap (is_own bare) same ∙ v cs (member.0, path_kept n m call_back owns_all cs member.1) q nt (sym (ap (λ (c : Content). note_at c.notes (free_place x end cs)) same) ∙ noted)
       | inr none ↦ none
     ]
 
     -- so the visit stands, wherever it is
-    stands : (z : Visit) → Visited (walk z) m → Visited (walk z) n
+    stands : (z : EndState) → Visited (walk z) m → Visited (walk z) n
     stands z v = visits_stand (walk z) m n v (record {
       stay = h.stay;
       grows = h.grows;
       decision = h.decision;
       asides = λ f q. ap (λ c. shadow_value (tail c)) (h.asides f q);
-      way = λ w. (w.0, way_kept m n h.calls owns_all z.way w.1);
+      path = λ w. (w.0, path_kept m n h.calls owns_all z.path w.1);
       calls = λ cs w c at. call_kept n m call_back (who cs) c;
       locks = λ cs w q r here. ap is_some (sym (h.locks (who cs) q) ∙ here);
       closed = λ c cs w. h.closed (who (c ∷ cs));
@@ -320,7 +320,7 @@ module _ (x : TxId) (end : ℕ) (commit : Bool) where
 
   -- ---- the decision
   module _ (u : Option Value) (now : ℕ) (m : Rows) (v : Visited (walk (visit [] None None u Decide)) m) where
-    abbrev dz : Visit
+    abbrev dz : EndState
     dz = visit [] None None u Decide
 
     abbrev dk : RowKey
@@ -378,10 +378,10 @@ module _ (x : TxId) (end : ℕ) (commit : Bool) where
     stood r g is (inl h) = let there = is ∙ ap (λ s. Some s) h.0 in subst (Moves dz m) (sym h.1) (moves dz m (EndGoes.Decided false) (there, refl) (λ e. cc) (decides m v there))
     stood r g is (inr h) = subst (Moves dz m) (sym h.1) (moves dz m EndGoes.Stays (λ was. h.0 (let e = sym is ∙ was in cc), refl) (λ e. cc) v)
 
-    by_told : (o : Option Row) → map.get m dk ≡ o → Leads dz (walk_asks (walk dz)) m dn (decide_goes commit (said (act (PutRead (Value.Bool commit)) now o).1))
+    by_told : (o : Option Row) → map.get m dk ≡ o → Leads dz (walk_asks (walk dz)) m dn (decide_goes commit (replied (act (PutRead (Value.Bool commit)) now o).1))
     by_told None is = put_first is
     by_told (Some r) is =
-        let g = decide_goes commit (said (act (PutRead (Value.Bool commit)) now (Some r)).1) in
+        let g = decide_goes commit (replied (act (PutRead (Value.Bool commit)) now (Some r)).1) in
         subst (λ n. Leads dz (walk_asks (walk dz)) m n g) (sym (left_row (PutRead (Value.Bool commit)) now dk m (Some r) is refl)) (stood r g is (by_row commit now r))
 
   -- ---- the next call of who is visited
@@ -411,7 +411,7 @@ module _ (x : TxId) (end : ℕ) (commit : Bool) where
   counted_before (d ∷ ds) c n h at = cc
 
   module _ (cs : List Called) (af : Option ℕ) (u : Option Value) (m : Rows) (v : Visited (walk (visit cs af None u Callees)) m) where
-    abbrev cz : Visit
+    abbrev cz : EndState
     cz = visit cs af None u Callees
 
     abbrev ckey : RowKey
@@ -442,7 +442,7 @@ module _ (x : TxId) (end : ℕ) (commit : Bool) where
 
       by_callees : (b : Bool) → has_callees (who cs).0 ≡ b → counts end cs c ≡ true → Moves cz m (call_goes b cs c)
       by_callees true has counted = moves cz m (EndGoes.Callee (cs ++ c ∷ [])) refl (λ h. cc)
-          (to_calls cz (cs ++ c ∷ []) None None m v v.decided (from_none (cs ++ c ∷ [])) (starts_within cs c v.member.0 from counted, way_more m owns_all cs c v.member.1 (has, next.1.0))
+          (to_calls cz (cs ++ c ∷ []) None None m v v.decided (from_none (cs ++ c ∷ [])) (starts_within cs c v.member.0 from counted, path_more m owns_all cs c v.member.1 (has, next.1.0))
           (levels_pushed m owns_all (IsWithin bare) cs c (IsPassed Callees af) (IsPassed Callees None) v.callees (closed_if (λ n. n < c.step) seen_before) (λ d k at. absurd at.1)))
       by_callees false has counted = moves cz m (EndGoes.Passed c.step) refl (λ h. cc)
           (to_calls cz cs (Some c.step) u m v v.decided from v.member
@@ -464,13 +464,13 @@ module _ (x : TxId) (end : ℕ) (commit : Bool) where
   -- ---- after the last lock the owner is done: all who took part are closed, as each of them has given back all and so have its callees
   module _ (m : Rows) (released : AreReleased bare m) (own : AreClosed m owns_all (IsWithin bare)) where
     -- from a way to a participant that is closed, on to those below it
-    below_closed : (c : Called) (ds : List Called) → IsMember bare m (c ∷ ds) → is_closed m (who (c ∷ ds)) ≡ true → (es : List Called) → IsWay m (who (c ∷ ds)) es → is_closed m (member_at (who (c ∷ ds)) es) ≡ true
+    below_closed : (c : Called) (ds : List Called) → IsMember bare m (c ∷ ds) → is_closed m (who (c ∷ ds)) ≡ true → (es : List Called) → IsCallPath m (who (c ∷ ds)) es → is_closed m (member_at (who (c ∷ ds)) es) ≡ true
     below_closed c ds member closed [] w = closed
     below_closed c ds member closed (e ∷ es) w =
         let k = (released c ds member closed).1 e w.0 tt in
         let same = member_more (callee_of owns_all c) ds e in
         subst (λ (p : Member). is_closed m (member_at p es) ≡ true) same
-        (below_closed c (ds ++ e ∷ []) (member.0, way_more m owns_all (c ∷ ds) e member.1 w.0) (subst (λ (p : Member). is_closed m p ≡ true) (sym same) k) es (subst (λ (p : Member). IsWay m p es) (sym same) w.1))
+        (below_closed c (ds ++ e ∷ []) (member.0, path_more m owns_all (c ∷ ds) e member.1 w.0) (subst (λ (p : Member). is_closed m p ≡ true) (sym same) k) es (subst (λ (p : Member). IsCallPath m p es) (sym same) w.1))
 
     all_closed : (c : Called) (cs : List Called) → IsMember bare m (c ∷ cs) → is_closed m (who (c ∷ cs)) ≡ true
     all_closed c cs member = below_closed c [] (member.0, (member.1.0, tt)) (own c member.1.0 member.0) cs member.1.1
@@ -490,7 +490,7 @@ module _ (x : TxId) (end : ℕ) (commit : Bool) where
       (goes_to (visit (c ∷ cs) af i u Next) (visit (c ∷ cs) af i u Stamp) m v v.decided tt refl tt v.member tt tt tt v.callees (λ q r here past. freed q r here))
 
   module _ (cs : List Called) (af : Option ℕ) (u : Option Value) (m : Rows) (first : FindsFirstLock x (who cs) m) where
-    abbrev nz : Option Item → Visit
+    abbrev nz : Option Item → EndState
     nz i = visit cs af i u Next
 
     abbrev key_after : Option Item → RowKey
@@ -530,10 +530,10 @@ module _ (x : TxId) (end : ℕ) (commit : Bool) where
   -- ---- the shadow of an item
   look_turn : (cs : List Called) (af : Option ℕ) (j : Item) (u : Option Value) (r now : ℕ) (m : Rows) → let z = visit cs af (Some j) u (Shadow r) in Visited (walk z) m → Turns z now m
   look_turn cs af j u r now m v =
-      subst (λ n. Leads z (walk_asks (walk z)) m n (walk_goes (walk z) (told_by (walk_asks (walk z)) now m))) (sym (looked now (at_row (aside_row bare (who cs).1 j) r) m))
-      (by (read_goes None (said (act Look now (chain m (aside_row bare (who cs).1 j) r)).1)) (reads_on (chain m (aside_row bare (who cs).1 j)) r now (v.linked (who cs).1 j).1 v.sees))
+      subst (λ n. Leads z (walk_asks (walk z)) m n (walk_goes (walk z) (query_reply (walk_asks (walk z)) now m))) (sym (looked now (at_row (aside_row bare (who cs).1 j) r) m))
+      (by (read_goes None (replied (act Look now (chain m (aside_row bare (who cs).1 j) r)).1)) (reads_on (chain m (aside_row bare (who cs).1 j)) r now (v.linked (who cs).1 j).1 v.sees))
     where
-      z : Visit
+      z : EndState
       z = visit cs af (Some j) u (Shadow r)
 
       f : Chain
@@ -565,7 +565,7 @@ module _ (x : TxId) (end : ℕ) (commit : Bool) where
         (λ greater. absurd (past (key_total.antisymm (lock_row bare (who cs) j) (lock_row bare (who cs) q) ∙ ap ordering_reverse greater))))
 
   module _ (cs : List Called) (af : Option ℕ) (j : Item) (u : Option Value) (f : WriteAt) (m n : Rows) (stay : RowsStay m n) (v : Visited (walk (visit cs af (Some j) u (Free f))) m) where
-    abbrev fz : Visit
+    abbrev fz : EndState
     fz = visit cs af (Some j) u (Free f)
 
     abbrev place : Place
@@ -581,7 +581,7 @@ module _ (x : TxId) (end : ℕ) (commit : Bool) where
     abbrev Became : Content → Content → Type 0
     Became c d = (d ≡ c) ⊎ (is_own bare d ≡ false)
 
-    module _ (y : WriteWalk) (s : WriteSays) (l : LoggedTurn as_free y m n s) (became : Became (item_in (who cs).1 m j) (item_in (who cs).1 n j)) where
+    module _ (y : WriteWalk) (s : WriteOutput) (l : LoggedTurn as_free y m n s) (became : Became (item_in (who cs).1 m j) (item_in (who cs).1 n j)) where
       abbrev fk : RowKey
       fk = item_row (who cs).1 j
 
@@ -615,7 +615,7 @@ module _ (x : TxId) (end : ℕ) (commit : Bool) where
         );
       }) fz v
 
-      freed_to : (g : EndGoes) → Frees place (Owner.Tx x) u (item_in (who cs).1 m j) (item_in (who cs).1 n j) → (said_of g ≡ EndSays.Done → ⊥) → Visited (walk (moved commit fz g)) n → Frees_to g
+      freed_to : (g : EndGoes) → Frees place (Owner.Tx x) u (item_in (who cs).1 m j) (item_in (who cs).1 n j) → (output_of g ≡ EndOutput.Done → ⊥) → Visited (walk (end_after commit fz g)) n → Frees_to g
       freed_to g left going w = record {
         others = subst (λ y. ChangedAlone y m n) (sym (asked fk (λ r. refl) refl place (Owner.Tx x) (CellOp.Free u) f)) l.others;
         stay = stay;
@@ -626,36 +626,36 @@ module _ (x : TxId) (end : ℕ) (commit : Bool) where
       }
 
     -- it goes on at this item, or stays ..
-    on_item : (a : WriteAt) (l : LoggedTurn as_free (record as_free { at = a }) m n WriteSays.Going) → Frees_to (EndGoes.On (Free a))
+    on_item : (a : WriteAt) (l : LoggedTurn as_free (record as_free { at = a }) m n WriteOutput.Going) → Frees_to (EndGoes.On (Free a))
     on_item a l =
         let y = record as_free { at = a } in
-        let w = stood_free y WriteSays.Going l (inl l.logs) in
+        let w = stood_free y WriteOutput.Going l (inl l.logs) in
         let sees = freeing_sees (is_own bare (item_in (who cs).1 n j)) (chain n (item_row (who cs).1 j)) place a l.sees in
-        freed_to y WriteSays.Going l (inl l.logs) (EndGoes.On (Free a)) (inl l.logs) (λ h. cc) (further cs af j u f n w a sees)
+        freed_to y WriteOutput.Going l (inl l.logs) (EndGoes.On (Free a)) (inl l.logs) (λ h. cc) (further cs af j u f n w a sees)
 
-    again : (s : WriteSays) (l : LoggedTurn as_free as_free m n s) → item_in (who cs).1 n j ≡ item_in (who cs).1 m j → (g : EndGoes) → moved commit fz g ≡ fz → (said_of g ≡ EndSays.Done → ⊥) → Frees_to g
+    again : (s : WriteOutput) (l : LoggedTurn as_free as_free m n s) → item_in (who cs).1 n j ≡ item_in (who cs).1 m j → (g : EndGoes) → end_after commit fz g ≡ fz → (output_of g ≡ EndOutput.Done → ⊥) → Frees_to g
     again s l same g stays going = freed_to as_free s l (inl same) g (inl same) going (subst (λ z. Visited (walk z) n) (sym stays) (stood_free as_free s l (inl same)))
 
     -- .. or goes past it, as it is not the transaction's
-    onward : (s : WriteSays) (l : LoggedTurn as_free as_free m n s) → Frees place (Owner.Tx x) u (item_in (who cs).1 m j) (item_in (who cs).1 n j) → is_own bare (item_in (who cs).1 n j) ≡ false → Frees_to (EndGoes.On Next)
+    onward : (s : WriteOutput) (l : LoggedTurn as_free as_free m n s) → Frees place (Owner.Tx x) u (item_in (who cs).1 m j) (item_in (who cs).1 n j) → is_own bare (item_in (who cs).1 n j) ≡ false → Frees_to (EndGoes.On Next)
     onward s l left not_own = freed_to as_free s l (inr not_own) (EndGoes.On Next) left (λ h. cc) (past_item cs af j u f n (stood_free as_free s l (inr not_own)) not_own)
 
     free_by : (g : WriteGoes) → LoggedTurn as_free (logged_at as_free g) m n (logged_so g) → Frees_to (freed_goes g)
     free_by (WriteGoes.On a) l = on_item a l
-    free_by WriteGoes.Stays l = again WriteSays.Going l l.logs EndGoes.Stays refl (λ h. cc)
+    free_by WriteGoes.Stays l = again WriteOutput.Going l l.logs EndGoes.Stays refl (λ h. cc)
     free_by (WriteGoes.Done nt true) l =
         let did = l.logs.1.1 in
-        onward (WriteSays.Done nt true) l (inr (l.logs.1.0, is_owned (owns (Owner.Tx x) (item_in (who cs).1 m j).owner) None did.0, did.1)) (ap (is_own bare) did.1)
+        onward (WriteOutput.Done nt true) l (inr (l.logs.1.0, is_owned (owns (Owner.Tx x) (item_in (who cs).1 m j).owner) None did.0, did.1)) (ap (is_own bare) did.1)
     free_by (WriteGoes.Done nt false) l =
         let same = l.logs.1 in
-        onward (WriteSays.Done nt false) l (inl same) (ap (is_own bare) same ∙ v.marked cs v.member j nt (ap (λ (c : Content). note_at c.notes place) (sym same) ∙ l.logs.0))
-    free_by WriteGoes.NotOwner l = onward WriteSays.NotOwner l (inl l.logs.2) (ap (is_own bare) l.logs.2 ∙ is_owned (owns (Owner.Tx x) (item_in (who cs).1 m j).owner) (Some WriteSays.NotOwner) l.logs.1)
-    free_by (WriteGoes.Held o) l = again (WriteSays.Held o) l l.logs.2 EndGoes.Stays refl (λ h. cc)
-    free_by WriteGoes.Worn l = again WriteSays.Worn l l.logs.1 EndGoes.Worn refl (λ h. cc)
+        onward (WriteOutput.Done nt false) l (inl same) (ap (is_own bare) same ∙ v.marked cs v.member j nt (ap (λ (c : Content). note_at c.notes place) (sym same) ∙ l.logs.0))
+    free_by WriteGoes.NotOwner l = onward WriteOutput.NotOwner l (inl l.logs.2) (ap (is_own bare) l.logs.2 ∙ is_owned (owns (Owner.Tx x) (item_in (who cs).1 m j).owner) (Some WriteOutput.NotOwner) l.logs.1)
+    free_by (WriteGoes.Held o) l = again (WriteOutput.Held o) l l.logs.2 EndGoes.Stays refl (λ h. cc)
+    free_by WriteGoes.Worn l = again WriteOutput.Worn l l.logs.1 EndGoes.Worn refl (λ h. cc)
 
   -- .. by what it sees: it is the turn of a walk that puts, or passes an item that is not the transaction's
   module _ (cs : List Called) (af : Option ℕ) (j : Item) (u : Option Value) (f : WriteAt) (now : ℕ) (m : Rows) (v : Visited (walk (visit cs af (Some j) u (Free f))) m) where
-    abbrev gz : Visit
+    abbrev gz : EndState
     gz = visit cs af (Some j) u (Free f)
 
     abbrev gq : Query
@@ -668,7 +668,7 @@ module _ (x : TxId) (end : ℕ) (commit : Bool) where
     puts sees =
         let n = rows_after gq now m in
         let stay = rows_there gq (write_spares gk (free_place x end cs) (Owner.Tx x) (CellOp.Free u) f) now m in
-        free_by cs af j u f m n stay v (write_goes Note.Freed f (told_by gq now m)) (by_op (as_free cs af j u f m n stay v) m n now (v.linked (who cs).1 j).0 sees refl)
+        free_by cs af j u f m n stay v (write_goes Note.Freed f (query_reply gq now m)) (by_op (as_free cs af j u f m n stay v) m n now (v.linked (who cs).1 j).0 sees refl)
 
     module _ (h : Passes gk (free_place x end cs) (Owner.Tx x) u now m f) where
       goes_past : (g : WriteGoes) → GoesPast (chain m gk) (free_place x end cs) g → Moves gz m (freed_goes g)
@@ -678,7 +678,7 @@ module _ (x : TxId) (end : ℕ) (commit : Bool) where
       goes_past g past = absurd past
 
       passes : Turns gz now m
-      passes = let g = write_goes Note.Freed f (told_by gq now m) in subst (λ n. Leads gz gq m n (freed_goes g)) (sym h.rows) (goes_past g h.goes)
+      passes = let g = write_goes Note.Freed f (query_reply gq now m) in subst (λ n. Leads gz gq m n (freed_goes g)) (sym h.rows) (goes_past g h.goes)
 
     free_turn : Turns gz now m
     free_turn = elim (puts_or_passes gk (free_place x end cs) (Owner.Tx x) u now m (v.linked (who cs).1 j).0 f v.sees) [
@@ -688,14 +688,14 @@ module _ (x : TxId) (end : ℕ) (commit : Bool) where
 
   -- ---- a participant gets its finish
   module _ (front : List Called) (c : Called) (af : Option ℕ) (i : Option Item) (u : Option Value) (now : ℕ) (m : Rows) (v : Visited (walk (visit (front ++ c ∷ []) af i u Stamp)) m) where
-    abbrev way : List Called
-    way = front ++ c ∷ []
+    abbrev path : List Called
+    path = front ++ c ∷ []
 
-    abbrev pz : Visit
-    pz = visit way af i u Stamp
+    abbrev pz : EndState
+    pz = visit path af i u Stamp
 
     abbrev pk : RowKey
-    pk = intent_key (who way).0 (who way).1
+    pk = intent_key (who path).0 (who path).1
 
     abbrev pn : Rows
     pn = rows_after (walk_asks (walk pz)) now m
@@ -728,8 +728,8 @@ module _ (x : TxId) (end : ℕ) (commit : Bool) where
     closed_here = closed_by (map.get m pk) (map.get pn pk) stamped
 
     -- who is visited has given back all, and so have its callees
-    given_back : IsReleased bare m (who way)
-    given_back = (λ q r here. v.freed q r here tt, λ d k at. levels_top m owns_all (IsWithin bare) way (IsPassed Stamp af) v.callees d k (at_end (IsWithin bare) way d.step (owner_not front c), tt))
+    given_back : IsReleased bare m (who path)
+    given_back = (λ q r here. v.freed q r here tt, λ d k at. levels_top m owns_all (IsWithin bare) path (IsPassed Stamp af) v.callees d k (at_end (IsWithin bare) path d.step (owner_not front c), tt))
 
     stood_stamp : Visited (walk pz) pn
     stood_stamp = stands m pn (record {
@@ -744,7 +744,7 @@ module _ (x : TxId) (end : ℕ) (commit : Bool) where
           (λ off. ap row_closed (off_here (intent_key p.0 p.1) off) ∙ k);
       items = λ h q. inl (ap content (same_item h q));
       released = λ d ds w k. let p = who (d ∷ ds) in by_key (intent_key p.0 p.1) pk ((is_closed m p ≡ true) ⊎ IsReleased bare m p)
-          (λ e. inr (subst (λ (y : Member). IsReleased bare m y) (sym (same_member (who way) p (not_root m owns_all way v.member.1 (owner_not front c)) (not_root m owns_all (d ∷ ds) w.1 refl) e)) given_back))
+          (λ e. inr (subst (λ (y : Member). IsReleased bare m y) (sym (same_member (who path) p (not_root m owns_all path v.member.1 (owner_not front c)) (not_root m owns_all (d ∷ ds) w.1 refl) e)) given_back))
           (λ off. inl (sym (ap row_closed (off_here (intent_key p.0 p.1) off)) ∙ k));
       linked = λ h q. (subst IsLinked (sym (same_item h q)) (v.linked h q).0, subst IsLinked (sym (same_shadow h q)) (v.linked h q).1);
     }) pz v
@@ -754,7 +754,7 @@ module _ (x : TxId) (end : ℕ) (commit : Bool) where
     closed_to d k at = elim (at_most_or c.step d.step) [
       | inl l ↦
           let level : d.step ≡ c.step = omega (arith, l, at.1) in
-          let func : d.func ≡ c.func = ap (func_or 0) (sym k.1 ∙ ap (called_at pn (who front)) level ∙ (way_last pn owns_all front c stood_stamp.member.1).1) in
+          let func : d.func ≡ c.func = ap (func_or 0) (sym k.1 ∙ ap (called_at pn (who front)) level ∙ (path_last pn owns_all front c stood_stamp.member.1).1) in
           let same : d ≡ c = λ y. record { step = level y; func = func y } in
           ap (λ e. is_closed pn (callee_of (who front) e)) same ∙ ap (is_closed pn) (sym (member_more owns_all front c)) ∙ closed_here
       | inr l ↦ levels_last pn owns_all (IsWithin bare) front c (IsPassed Stamp af) stood_stamp.callees d k (at.0, l)
@@ -771,7 +771,7 @@ module _ (x : TxId) (end : ℕ) (commit : Bool) where
       grows = grows;
       left = stamped;
       visited = subst (λ (s : Option (List Called × Called)). Visited (walk (back_from pz s)) pn) (sym (split_front front c))
-          (to_calls pz front (Some c.step) None pn stood_stamp stood_stamp.decided (begins_front front v.member.0).0 ((begins_front front v.member.0).1, way_front pn owns_all front c stood_stamp.member.1)
+          (to_calls pz front (Some c.step) None pn stood_stamp stood_stamp.decided (begins_front front v.member.0).0 ((begins_front front v.member.0).1, path_front pn owns_all front c stood_stamp.member.1)
           (levels_popped pn owns_all (IsWithin bare) front c (IsPassed Stamp af) (IsPassed Callees (Some c.step)) stood_stamp.callees closed_to));
       done = λ h. cc;
     }
@@ -800,10 +800,10 @@ module _ (x : TxId) (end : ℕ) (commit : Bool) where
 
 pub ends_are_visits : EndsAreVisits
 ends_are_visits w x now old new s some hops h =
-    turned (walk_asks w) now (walk_next w) (walk_says w) (λ m n z. AreFit m → Visited w m → EndTurn w z.0 m n z.1)
+    turned (walk_asks w) now (walk_next w) (walk_output w) (λ m n z. AreFit m → Visited w m → EndTurn w z.0 m n z.1)
     (λ m fit v.
-    let p = visited_by w.tx w.visit.way in
-    let k = member_fit m (w.tx.intent, w.tx.func) w.visit.way fit some hops v.member.1 in
-    let l = turns w.tx w.end w.commit now m w.visit.way w.visit.after w.visit.item w.visit.value w.visit.at
+    let p = visited_by w.tx w.visit.path in
+    let k = member_fit m (w.tx.intent, w.tx.func) w.visit.path fit some hops v.member.1 in
+    let l = turns w.tx w.end w.commit now m w.visit.path w.visit.after w.visit.item w.visit.value w.visit.at
     (λ e next. first_call p.1 p.0 k.0 k.1 m e fit next) (λ e next. first_from p.1 p.0 k.0 k.1 w.tx.begin m e fit next) v in
     record { others = l.others; stay = l.stay; grows = l.grows; left = l.left; same = refl; visited = l.visited; done = l.done }) w x old new s h

@@ -3,11 +3,11 @@ use Rattle.std.specs.Prelude.{◌≡◌, ℕ, Bool, true, List, [], ◌∷◌, �
 use Rattle.std.specs.FinMap as map
 use Rattle.beldi_value.specs.declared.{place.TxId.TxId, value.Value.Value}
 use Rattle.beldi_row.specs.Table.{Rows}
-use Rattle.beldi_txn.specs.{declared.way.Called.Called, declared.end.EndAt.EndAt, declared.end.EndAt.TheVariants.Callees, declared.end.EndAt.TheVariants.Next, declared.end.EndAt.TheVariants.Stamp, declared.end_walk.EndWalk.EndWalk, End.visited_by, End.free_first, Visited.Visited, Visited.IsCall, Visited.is_closed, Visited.lock_row}
+use Rattle.beldi_txn.specs.{declared.call_path.Called.Called, declared.end.EndAt.EndAt, declared.end.EndAt.TheVariants.Callees, declared.end.EndAt.TheVariants.Next, declared.end.EndAt.TheVariants.Stamp, declared.end_walk.EndWalk.EndWalk, End.visited_by, End.free_first, Visited.Visited, Visited.IsCall, Visited.is_closed, Visited.lock_row}
 
 -- a visit of a participant, at a stage
 abbrev pub visiting : TxId → ℕ → Bool → Called → List Called → Option ℕ → Option (ℕ × List ℕ) → Option Value → EndAt → EndWalk
-visiting tx end commit c cs after i v a = record { tx = tx; end = end; commit = commit; visit = record { way = c ∷ cs; after = after; item = i; value = v; at = a } }
+visiting tx end commit c cs after i v a = record { tx = tx; end = end; commit = commit; visit = record { path = c ∷ cs; after = after; item = i; value = v; at = a } }
 
 pub record Passes (tx : TxId) (end : ℕ) (commit : Bool) (c : Called) (cs : List Called) (after : Option ℕ) (m : Rows) : Type 0 where
   -- its calls are passed

@@ -4,12 +4,12 @@
 use Rattle.std.specs.Prelude.{ℕ, nat_lt, Bool, true, false, List, [], ◌∷◌, ◌++◌, Option, Some, None, if◌then◌else◌}
 use Rattle.beldi_value.specs.{declared.place.Place.Place, declared.place.TxId.TxId, declared.value.Value.Value, Id.has_callees, declared.place.Owner.Owner}
 use Rattle.beldi_row.specs.{declared.act.Act.TheVariants.Look, Key.at_row, Act.added, Act.kept, declared.notes.Note.Note}
-use Rattle.beldi_walk.specs.{declared.query.Query.Query, declared.query.Query.TheVariants.Act, Query.Told, Query.said}
+use Rattle.beldi_query.specs.{declared.query.Query.Query, declared.query.Query.TheVariants.Act, Query.QueryReply, Query.replied}
 use Rattle.beldi_daal.specs.{declared.cell.ReadGoes.ReadGoes, declared.cell.WriteAt.WriteAt, declared.cell.WriteAt.TheVariants.Try, declared.cell.WriteGoes.WriteGoes, Cell.cell_key, Cell.shadow_key, Cell.read_goes, Cell.write_asks, Cell.write_goes, declared.cell.CellOp.CellOp}
 use Rattle.beldi_lock.specs.{Last.split_last, Lockset.most, Lockset.lockset_asks, Lockset.lockset_found}
 use Rattle.beldi_readlog.specs.ReadLog.{keep_asks}
 use Rattle.beldi_intent.specs.Intent.{stamp_asks}
-use Rattle.beldi_txn.specs.{Invokes.invokes_asks, Invokes.invokes_found, Way.Member, Way.member_at, Way.is_owner, declared.way.Called.Called, declared.end.EndAt.EndAt, declared.end.EndAt.TheVariants.Decide, declared.end.EndAt.TheVariants.Callees, declared.end.EndAt.TheVariants.Next, declared.end.EndAt.TheVariants.Shadow, declared.end.EndAt.TheVariants.Free, declared.end.EndAt.TheVariants.Stamp, declared.end.EndGoes.EndGoes, declared.end.EndSays.EndSays, declared.end.Visit.Visit, declared.end_walk.EndWalk.EndWalk}
+use Rattle.beldi_txn.specs.{Invokes.invokes_asks, Invokes.invokes_found, CallPath.Member, CallPath.member_at, CallPath.is_owner, declared.call_path.Called.Called, declared.end.EndAt.EndAt, declared.end.EndAt.TheVariants.Decide, declared.end.EndAt.TheVariants.Callees, declared.end.EndAt.TheVariants.Next, declared.end.EndAt.TheVariants.Shadow, declared.end.EndAt.TheVariants.Free, declared.end.EndAt.TheVariants.Stamp, declared.end.EndGoes.EndGoes, declared.end.EndOutput.EndOutput, declared.end.EndState.EndState, declared.end_walk.EndWalk.EndWalk}
 
 -- the places of the transaction's begin, and of its end
 abbrev pub begin_place : TxId → Place
@@ -18,8 +18,8 @@ begin_place x = record { intent = x.intent; step = x.begin }
 abbrev pub end_place : TxId → ℕ → Place
 end_place x end = record { intent = x.intent; step = end }
 
-abbrev pub first_visit : Visit
-first_visit = record { way = []; after = None; item = None; value = None; at = Decide }
+abbrev pub first_visit : EndState
+first_visit = record { path = []; after = None; item = None; value = None; at = Decide }
 
 -- ---- who is visited
 abbrev pub visited_by : TxId → List Called → Member
@@ -65,9 +65,9 @@ decided_by true false = EndGoes.Stays
 decided_by false true = EndGoes.Stays
 decided_by false false = EndGoes.Decided false
 
-abbrev pub decide_goes : Bool → Told → EndGoes
-decide_goes commit (said added) = EndGoes.Decided true
-decide_goes commit (said (kept (Value.Bool b))) = decided_by commit b
+abbrev pub decide_goes : Bool → QueryReply → EndGoes
+decide_goes commit (replied added) = EndGoes.Decided true
+decide_goes commit (replied (kept (Value.Bool b))) = decided_by commit b
 decide_goes commit t = EndGoes.Stays
 
 -- the callee of a call is visited next; a call of an intent whose callees have no id is passed over
@@ -105,7 +105,7 @@ freed_goes WriteGoes.NotOwner = EndGoes.On Next
 freed_goes (WriteGoes.Held o) = EndGoes.Stays
 freed_goes WriteGoes.Worn = EndGoes.Worn
 
-abbrev pub end_goes : TxId → ℕ → Bool → List Called → EndAt → Told → EndGoes
+abbrev pub end_goes : TxId → ℕ → Bool → List Called → EndAt → QueryReply → EndGoes
 end_goes x end commit cs Decide t = decide_goes commit t
 end_goes x end commit cs Callees t = let p = visited_by x cs in calls_goes end p cs (invokes_found p.1 p.0 t)
 end_goes x end commit cs Next t = let p = visited_by x cs in next_goes cs (lockset_found p.1 p.0 x.begin t)
@@ -120,50 +120,50 @@ free_first true = Shadow 0
 free_first false = Free (Try 0)
 
 -- at the calls of who is visited, after a step
-abbrev pub at_calls : List Called → Option ℕ → Visit
-at_calls cs after = record { way = cs; after = after; item = None; value = None; at = Callees }
+abbrev pub at_calls : List Called → Option ℕ → EndState
+at_calls cs after = record { path = cs; after = after; item = None; value = None; at = Callees }
 
 -- a participant was visited: its caller goes on after this call
-abbrev pub back_from : Visit → Option (List Called × Called) → Visit
+abbrev pub back_from : EndState → Option (List Called × Called) → EndState
 back_from v None = v
 back_from v (Some s) = at_calls s.0 (Some s.1.step)
 
-abbrev pub moved : Bool → Visit → EndGoes → Visit
-moved commit v (EndGoes.On a) = record v { at = a }
-moved commit v EndGoes.Stays = v
-moved commit v EndGoes.Worn = v
-moved commit v (EndGoes.Decided first) = record v { at = Callees }
-moved commit v (EndGoes.Passed s) = record v { after = Some s }
-moved commit v (EndGoes.Callee cs) = at_calls cs None
-moved commit v (EndGoes.Item t k) = record v { item = Some (t, k); value = None; at = free_first commit }
-moved commit v (EndGoes.Value u) = record v { value = u; at = Free (Try 0) }
-moved commit v EndGoes.Back = back_from v (split_last v.way)
-moved commit v EndGoes.Done = v
+abbrev pub end_after : Bool → EndState → EndGoes → EndState
+end_after commit v (EndGoes.On a) = record v { at = a }
+end_after commit v EndGoes.Stays = v
+end_after commit v EndGoes.Worn = v
+end_after commit v (EndGoes.Decided first) = record v { at = Callees }
+end_after commit v (EndGoes.Passed s) = record v { after = Some s }
+end_after commit v (EndGoes.Callee cs) = at_calls cs None
+end_after commit v (EndGoes.Item t k) = record v { item = Some (t, k); value = None; at = free_first commit }
+end_after commit v (EndGoes.Value u) = record v { value = u; at = Free (Try 0) }
+end_after commit v EndGoes.Back = back_from v (split_last v.path)
+end_after commit v EndGoes.Done = v
 
-abbrev pub said_of : EndGoes → EndSays
-said_of (EndGoes.On a) = EndSays.Going
-said_of EndGoes.Stays = EndSays.Going
-said_of EndGoes.Worn = EndSays.Worn
-said_of (EndGoes.Decided first) = EndSays.Decided first
-said_of (EndGoes.Passed s) = EndSays.Going
-said_of (EndGoes.Callee cs) = EndSays.Going
-said_of (EndGoes.Item t k) = EndSays.Going
-said_of (EndGoes.Value u) = EndSays.Going
-said_of EndGoes.Back = EndSays.Going
-said_of EndGoes.Done = EndSays.Done
+abbrev pub output_of : EndGoes → EndOutput
+output_of (EndGoes.On a) = EndOutput.Going
+output_of EndGoes.Stays = EndOutput.Going
+output_of EndGoes.Worn = EndOutput.Worn
+output_of (EndGoes.Decided first) = EndOutput.Decided first
+output_of (EndGoes.Passed s) = EndOutput.Going
+output_of (EndGoes.Callee cs) = EndOutput.Going
+output_of (EndGoes.Item t k) = EndOutput.Going
+output_of (EndGoes.Value u) = EndOutput.Going
+output_of EndGoes.Back = EndOutput.Going
+output_of EndGoes.Done = EndOutput.Done
 
 -- ---- the walk
 abbrev pub first_end : TxId → ℕ → Bool → EndWalk
 first_end x end commit = record { tx = x; end = end; commit = commit; visit = first_visit }
 
 abbrev pub walk_asks : EndWalk → Query
-walk_asks w = visit_asks w.tx w.end w.commit w.visit.way w.visit.after w.visit.item w.visit.value w.visit.at
+walk_asks w = visit_asks w.tx w.end w.commit w.visit.path w.visit.after w.visit.item w.visit.value w.visit.at
 
-abbrev pub walk_goes : EndWalk → Told → EndGoes
-walk_goes w t = end_goes w.tx w.end w.commit w.visit.way w.visit.at t
+abbrev pub walk_goes : EndWalk → QueryReply → EndGoes
+walk_goes w t = end_goes w.tx w.end w.commit w.visit.path w.visit.at t
 
-abbrev pub walk_next : EndWalk → Told → EndWalk
-walk_next w t = record w { visit = moved w.commit w.visit (walk_goes w t) }
+abbrev pub walk_next : EndWalk → QueryReply → EndWalk
+walk_next w t = record w { visit = end_after w.commit w.visit (walk_goes w t) }
 
-abbrev pub walk_says : EndWalk → Told → EndSays
-walk_says w t = said_of (walk_goes w t)
+abbrev pub walk_output : EndWalk → QueryReply → EndOutput
+walk_output w t = output_of (walk_goes w t)

@@ -4,10 +4,10 @@ use Rattle.std.specs.Option.{option_map}
 use Rattle.std.specs.FinMap as map
 use Rattle.beldi_value.specs.declared.id.IntentId.{IntentId}
 use Rattle.beldi_row.specs.{Key.RowKey, declared.key.Kind.Kind, declared.row.InvokeRow.InvokeRow, declared.row.Row.Row, Log.id_eq, Table.Rows}
-use Rattle.beldi_walk.specs.{declared.query.Query.Query, declared.query.Query.TheVariants.After, Query.Told, Query.found, Walk.Promises}
+use Rattle.beldi_query.specs.{declared.query.Query.Query, declared.query.Query.TheVariants.After, Query.QueryReply, Query.found, Walk.Promises}
 use Rattle.beldi_lock.specs.Lockset.{most, id_before, AreHops, AreFit}
 use Rattle.beldi_invokelog.specs.InvokeLog.{invoke_key, call_in}
-use Rattle.beldi_txn.specs.declared.way.Called.{Called}
+use Rattle.beldi_txn.specs.declared.call_path.Called.{Called}
 
 -- the row of the call that an intent makes at a step
 abbrev pub call_key : ℕ → IntentId → ℕ → RowKey
@@ -38,7 +38,7 @@ abbrev pub call_after : ℕ → IntentId → Option (RowKey × Row) → Option C
 call_after home id None = None
 call_after home id (Some e) = call_of home id e.0 e.0.kind e.1
 
-abbrev pub invokes_found : ℕ → IntentId → Told → Option Called
+abbrev pub invokes_found : ℕ → IntentId → QueryReply → Option Called
 invokes_found home id (found e) = call_after home id e
 invokes_found home id t = None
 

@@ -1,3 +1,4 @@
+pub mod CallPath
 pub mod Closed
 pub mod End
 pub mod Invokes
@@ -5,4 +6,3 @@ pub mod Tx
 pub mod TxTurn
 pub mod TxWalk
 pub mod Visited
-pub mod Way

@@ -4,7 +4,7 @@ use Rattle.std.specs.Prelude.{ℕ, Bool, true, false, List, Option, Some, None}
 use Rattle.beldi_value.specs.declared.{id.IntentId.IntentId, place.Place.Place, place.TxId.TxId, value.Value.Value, place.Owner.Owner}
 use Rattle.beldi_lang.specs.declared.effect.Effect.{Effect, TheVariants.Read, TheVariants.Write, TheVariants.CondWrite}
 use Rattle.beldi_row.specs.{declared.act.Act.TheVariants.Look, declared.act.Act.TheVariants.MakeCell, Key.RowKey, Key.at_row, declared.notes.Note.Note, Act.absent, Act.here, Act.added, Act.present, Act.kept, Log.blank}
-use Rattle.beldi_walk.specs.{declared.query.Query.Query, declared.query.Query.TheVariants.Act, Query.Told, Query.said}
+use Rattle.beldi_query.specs.{declared.query.Query.Query, declared.query.Query.TheVariants.Act, Query.QueryReply, Query.replied}
 use Rattle.beldi_daal.specs.{declared.cell.CellOp.CellOp, declared.cell.ReadGoes.ReadGoes, declared.cell.WriteAt.WriteAt, declared.cell.WriteAt.TheVariants.Try, declared.cell.WriteGoes.WriteGoes, Cell.cell_key, Cell.shadow_key, Cell.read_goes, Cell.write_asks, Cell.write_goes}
 use Rattle.beldi_lock.specs.{declared.lock.LockAt.TheVariants.Lockset, declared.lock.LockGoes.LockGoes, Lock.asks_at, Lock.lock_goes}
 use Rattle.beldi_readlog.specs.ReadLog.{given_asks, given_of, keep_asks}
@@ -97,9 +97,9 @@ shadow_read (ReadGoes.Got (Some v)) = On (TxAt.Keep v)
 shadow_read (ReadGoes.Held o) = Stays
 
 -- a condition is tested on the shadow; without one, one is made with the item's value
-abbrev pub seek_goes : Told → TxGoes
-seek_goes (said absent) = On (TxAt.Item 0)
-seek_goes (said (here r)) = On (TxAt.Write (Try 0))
+abbrev pub seek_goes : QueryReply → TxGoes
+seek_goes (replied absent) = On (TxAt.Item 0)
+seek_goes (replied (here r)) = On (TxAt.Write (Try 0))
 seek_goes t = Stays
 
 abbrev pub item_leads : Effect → Value → TxGoes
@@ -116,15 +116,15 @@ item_goes e (ReadGoes.Got (Some v)) = item_leads e v
 item_goes e (ReadGoes.Held o) = Stays
 
 -- the kept value is the answer: this one, or the one that was there; a row of another kind reads as null
-abbrev pub keep_goes : Told → TxGoes
-keep_goes (said added) = Put
-keep_goes (said (kept v)) = Gives v
+abbrev pub keep_goes : QueryReply → TxGoes
+keep_goes (replied added) = Put
+keep_goes (replied (kept v)) = Gives v
 keep_goes t = Gives Value.Null
 
 -- once the shadow is there, it is written
-abbrev pub head_made : Told → TxGoes
-head_made (said added) = On (TxAt.Write (Try 0))
-head_made (said present) = On (TxAt.Write (Try 0))
+abbrev pub head_made : QueryReply → TxGoes
+head_made (replied added) = On (TxAt.Write (Try 0))
+head_made (replied present) = On (TxAt.Write (Try 0))
 head_made t = Stays
 
 -- the note of the place, read as the answer; the operation stays at a note of another kind
@@ -142,7 +142,7 @@ write_leads e WriteGoes.NotOwner = Stays
 write_leads e (WriteGoes.Held o) = Stays
 write_leads e WriteGoes.Worn = Worn
 
-abbrev pub tx_goes : Place → ℕ → Effect → TxAt → Told → TxGoes
+abbrev pub tx_goes : Place → ℕ → Effect → TxAt → QueryReply → TxGoes
 tx_goes p begin e TxAt.Log t = given_goes begin (given_of t)
 tx_goes p begin e (TxAt.Lock l) t = lock_leads p e (lock_goes l t)
 tx_goes p begin e TxAt.Seek t = seek_goes t

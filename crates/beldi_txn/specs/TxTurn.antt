@@ -3,13 +3,13 @@ use Rattle.std.specs.Prelude.{◌≡◌, ◌⊎◌, ℕ, Bool, true, false, is_s
 use Rattle.beldi_value.specs.declared.{id.IntentId.IntentId, outcome.Cause.Cause, place.Owner.Owner, place.Place.Place, place.TxId.TxId, value.Value.Value}
 use Rattle.beldi_lang.specs.declared.effect.Effect.{Effect, TheVariants.Read, TheVariants.Write, TheVariants.CondWrite}
 use Rattle.beldi_row.specs.{declared.row.Row.Row, Act.other_owner, Key.RowKey, Key.at_row, Log.note_at, Table.Rows, Table.TableState, Table.Tells, declared.notes.Note.Note}
-use Rattle.beldi_walk.specs.{declared.query.Query.Query, declared.query.Query.TheVariants.Act, declared.query.Query.TheVariants.After, Walk.Turned}
+use Rattle.beldi_query.specs.{declared.query.Query.Query, declared.query.Query.TheVariants.Act, declared.query.Query.TheVariants.After, Walk.Turned}
 use Rattle.beldi_chain.specs.{Chain.Chain, Chain.ChangedAlone, Chain.chain, Chain.content, Chain.tail, Content.Content}
 use Rattle.beldi_links.specs.Links.{AllGrow, IsLinked, ReadsAt, SeesAt}
 use Rattle.beldi_daal.specs.{declared.cell.CellOp.CellOp, declared.cell.CellOp.TheVariants.Lock, Cell.cell_key, Cell.shadow_key, Logged.at_of, Logged.waited, Logged.dies, Logged.done_to, Logged.DidAs}
 use Rattle.beldi_lock.specs.Locked.{SeesItem}
 use Rattle.beldi_readlog.specs.ReadLog.{log_key, given}
-use Rattle.beldi_txn.specs.{declared.tx.TxAt.TxAt, declared.tx.TxSays.TxSays, declared.tx_walk.TxWalk.TxWalk, Tx.item_of, Tx.op_of, TxWalk.first_tx, TxWalk.walk_asks, TxWalk.walk_next, TxWalk.walk_says}
+use Rattle.beldi_txn.specs.{declared.tx.TxAt.TxAt, declared.tx.TxOutput.TxOutput, declared.tx_walk.TxWalk.TxWalk, Tx.item_of, Tx.op_of, TxWalk.first_tx, TxWalk.walk_asks, TxWalk.walk_next, TxWalk.walk_output}
 
 -- ---- where an operation may stand
 -- each has stages of its own
@@ -75,19 +75,19 @@ ItemMoves (TxAt.Lock l) p who c d = LockMoves p who c d
 ItemMoves a p who c d = d ≡ c
 
 -- nothing is answered, and nothing was done
-abbrev pub is_going : TxSays → Bool
-is_going TxSays.Going = true
-is_going TxSays.Worn = true
+abbrev pub is_going : TxOutput → Bool
+is_going TxOutput.Going = true
+is_going TxOutput.Worn = true
 is_going s = false
 
 -- what the shadow holds changes only by this operation, which is answered at once
-abbrev pub AsideMoves : Option CellOp → Place → Owner → TxSays → Content → Content → Type 0
+abbrev pub AsideMoves : Option CellOp → Place → Owner → TxOutput → Content → Content → Type 0
 AsideMoves None p who s c d = d ≡ c
 AsideMoves (Some o) p who s c d = (d ≡ c) ⊎ ((d ≡ done_to p who o c) × (is_going s ≡ false))
 
 -- the shadow's rows change only where its place had no note: by the operation, by a row that is to follow a full one, and its link, or
 -- by a first row, with the value that was found and no notes; by what is said, and the shadow before and after
-abbrev pub ShadowMoves : Effect → TxAt → Place → Owner → TxSays → Chain → Chain → Type 0
+abbrev pub ShadowMoves : Effect → TxAt → Place → Owner → TxOutput → Chain → Chain → Type 0
 ShadowMoves e (TxAt.Head v) p who s f g = (g ≡ f) ⊎ ((note_at (content f).notes p ≡ None) × (tail f ≡ None) × (content g ≡ record { value = v; owner = None; notes = [] }))
 ShadowMoves e (TxAt.Write w) p who s f g = (g ≡ f) ⊎ ((note_at (content f).notes p ≡ None) × AsideMoves (op_of e) p who s (content f) (content g))
 ShadowMoves e a p who s f g = g ≡ f
@@ -123,15 +123,15 @@ WasDone (Write t k v) p d = note_at d.notes p ≡ Some Note.Wrote
 WasDone e p d = ⊥
 
 -- by what was kept for the place, and the contents of the item and of the shadow, after the turn
-abbrev pub IsSo : Effect → Place → Owner → TxSays → Option Value → Content → Content → Type 0
-IsSo e p who TxSays.Going g c d = Unit {0}
-IsSo e p who (TxSays.Died a) g c d = HasDied p a c
-IsSo e p who (TxSays.Held o) g c d = (note_at c.notes p ≡ None) × (waited who (other_owner who c.owner) ≡ Some o)
-IsSo e p who TxSays.Worn g c d = Unit {0}
-IsSo e p who (TxSays.Value v) g c d = Gave e p v g d
-IsSo e p who TxSays.Done g c d = WasDone e p d
+abbrev pub IsSo : Effect → Place → Owner → TxOutput → Option Value → Content → Content → Type 0
+IsSo e p who TxOutput.Going g c d = Unit {0}
+IsSo e p who (TxOutput.Died a) g c d = HasDied p a c
+IsSo e p who (TxOutput.Held o) g c d = (note_at c.notes p ≡ None) × (waited who (other_owner who c.owner) ≡ Some o)
+IsSo e p who TxOutput.Worn g c d = Unit {0}
+IsSo e p who (TxOutput.Value v) g c d = Gave e p v g d
+IsSo e p who TxOutput.Done g c d = WasDone e p d
 
-pub record TxTurn (w x : TxWalk) (t : ℕ) (k : List ℕ) (m n : Rows) (s : TxSays) : Type 0 where
+pub record TxTurn (w x : TxWalk) (t : ℕ) (k : List ℕ) (m n : Rows) (s : TxOutput) : Type 0 where
   -- all rows are as before but the one, or those of the item, that it asks for
   pub others : ChangedAlone (head_asked (walk_asks w)) m n
   pub grows : AllGrow m n
@@ -146,8 +146,8 @@ pub record TxTurn (w x : TxWalk) (t : ℕ) (k : List ℕ) (m n : Rows) (s : TxSa
 
 -- for every turn that says something, over every table that tells its rows
 abbrev pub OperationsAreSo : Type 0
-OperationsAreSo = (w x : TxWalk) (t : ℕ) (k : List ℕ) (now : ℕ) (old new : TableState) (s : TxSays) → item_of w.effect ≡ Some (t, k)
-    → Turned (walk_asks w) now (walk_next w) (walk_says w) w x old new (Ok s) → Tells old.rows new.rows (λ m n. Stands w t k m → TxTurn w x t k m n s)
+OperationsAreSo = (w x : TxWalk) (t : ℕ) (k : List ℕ) (now : ℕ) (old new : TableState) (s : TxOutput) → item_of w.effect ≡ Some (t, k)
+    → Turned (walk_asks w) now (walk_next w) (walk_output w) w x old new (Ok s) → Tells old.rows new.rows (λ m n. Stands w t k m → TxTurn w x t k m n s)
 
 -- an operation begins where it may stand, and needs no lock there
 abbrev pub OperationsBegin : Type 0

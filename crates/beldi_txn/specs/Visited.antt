@@ -5,15 +5,15 @@ use Rattle.std.specs.{Option.option_map, declared.cmp.Ordering.TheVariants.Less}
 use Rattle.std.specs.FinMap as map
 use Rattle.beldi_value.specs.{declared.place.Owner.Owner, declared.place.Place.Place, declared.place.TxId.TxId, declared.value.Value.Value, Id.has_callees}
 use Rattle.beldi_row.specs.{declared.notes.Note.Note, declared.row.IntentRow.IntentRow, declared.row.Row.Row, Act.owns, Key.RowKey, Key.key_cmp, Log.note_at, Table.Rows, Table.TableState, Table.Tells}
-use Rattle.beldi_walk.specs.Walk.{Turned}
+use Rattle.beldi_query.specs.Walk.{Turned}
 use Rattle.beldi_chain.specs.{Chain.Chain, Chain.ChangedAlone, Chain.chain, Chain.content, Chain.tail, Content.Content}
 use Rattle.beldi_links.specs.Links.{AllGrow, IsLinked, Passed, ReadsAt, SeesAt}
 use Rattle.beldi_daal.specs.{declared.cell.CellOp.TheVariants.Free as FreeOp, declared.cell.WriteAt.WriteAt, declared.cell.WriteAt.TheVariants.Try, Cell.cell_key, Cell.shadow_key, Logged.at_of, Logged.done_to}
 use Rattle.beldi_lock.specs.{Lock.lockset_key, Lockset.AreHops, Lockset.AreFit}
 use Rattle.beldi_readlog.specs.ReadLog.{log_key}
 use Rattle.beldi_intent.specs.Intent.{intent_key}
-use Rattle.beldi_txn.specs.End.{begin_place, visited_by, free_place, first_end, walk_asks, walk_next, walk_says}
-use Rattle.beldi_txn.specs.{declared.way.Called.Called, Invokes.call_key, Invokes.func_called, Way.Member, Way.callee_of, Way.is_owner, declared.end.EndAt.EndAt, declared.end.EndAt.TheVariants.Decide, declared.end.EndAt.TheVariants.Callees, declared.end.EndAt.TheVariants.Next, declared.end.EndAt.TheVariants.Shadow, declared.end.EndAt.TheVariants.Free, declared.end.EndAt.TheVariants.Stamp, declared.end.EndSays.EndSays, declared.end.Visit.Visit, declared.end_walk.EndWalk.EndWalk, TxTurn.head_asked, TxTurn.shadow_value}
+use Rattle.beldi_txn.specs.End.{begin_place, visited_by, free_place, first_end, walk_asks, walk_next, walk_output}
+use Rattle.beldi_txn.specs.{declared.call_path.Called.Called, Invokes.call_key, Invokes.func_called, CallPath.Member, CallPath.callee_of, CallPath.is_owner, declared.end.EndAt.EndAt, declared.end.EndAt.TheVariants.Decide, declared.end.EndAt.TheVariants.Callees, declared.end.EndAt.TheVariants.Next, declared.end.EndAt.TheVariants.Shadow, declared.end.EndAt.TheVariants.Free, declared.end.EndAt.TheVariants.Stamp, declared.end.EndOutput.EndOutput, declared.end.EndState.EndState, declared.end_walk.EndWalk.EndWalk, TxTurn.head_asked, TxTurn.shadow_value}
 
 -- ---- the rows: the decision, and by its table and key an item of a function, the transaction's shadow of it, and that a member asked
 -- for its lock
@@ -54,9 +54,9 @@ called_at m p step = option_map func_called (map.get m (call_key p.1 p.0 step))
 abbrev pub IsCall : Rows → Member → Called → Type 0
 IsCall m p c = (has_callees p.0 ≡ true) × (called_at m p c.step ≡ Some c.func)
 
-abbrev pub IsWay : Rows → Member → List Called → Type 0
-IsWay m p [] = Unit {0}
-IsWay m p (c ∷ cs) = IsCall m p c × IsWay m (callee_of p c) cs
+abbrev pub IsCallPath : Rows → Member → List Called → Type 0
+IsCallPath m p [] = Unit {0}
+IsCallPath m p (c ∷ cs) = IsCall m p c × IsCallPath m (callee_of p c) cs
 
 -- of the owner's calls those after the transaction's begin and before its end are the transaction's
 abbrev pub IsWithin : EndWalk → ℕ → Type 0
@@ -71,7 +71,7 @@ owner_of w = (w.tx.intent, w.tx.func)
 
 -- calls that lead to a participant, or none
 abbrev pub IsMember : EndWalk → Rows → List Called → Type 0
-IsMember w m cs = StartsWithin w cs × IsWay m (owner_of w) cs
+IsMember w m cs = StartsWithin w cs × IsCallPath m (owner_of w) cs
 
 -- the row of a participant has its finish, or is absent
 abbrev pub row_closed : Option Row → Bool
@@ -109,10 +109,10 @@ HasItem Stamp i = Unit {0}
 HasItem a i = is_some i ≡ true
 
 -- it begins at the owner, who gets no finish here
-abbrev pub HasWay : EndAt → List Called → Option ℕ → Type 0
-HasWay Decide cs after = (cs ≡ []) × (after ≡ None)
-HasWay Stamp cs after = is_owner cs ≡ false
-HasWay a cs after = Unit {0}
+abbrev pub HasCallPath : EndAt → List Called → Option ℕ → Type 0
+HasCallPath Decide cs after = (cs ≡ []) × (after ≡ None)
+HasCallPath Stamp cs after = is_owner cs ≡ false
+HasCallPath a cs after = Unit {0}
 
 -- the owner's calls are passed from the begin on
 abbrev pub IsFrom : EndWalk → List Called → Option ℕ → Type 0
@@ -134,7 +134,7 @@ SeesFreeing own f p a = SeesAt f p (at_of a)
 -- what it sees of the rows of the shadow that it looks at, and of those of the item that it gives back
 abbrev pub SeesRows : EndAt → EndWalk → ℕ → Rows → Option (ℕ × List ℕ) → Type 0
 SeesRows (Shadow r) w home m (Some i) = ReadsAt (chain m (aside_row w home i)) r
-SeesRows (Free f) w home m (Some i) = SeesFreeing (is_own w (item_in home m i)) (chain m (item_row home i)) (free_place w.tx w.end w.visit.way) f
+SeesRows (Free f) w home m (Some i) = SeesFreeing (is_own w (item_in home m i)) (chain m (item_row home i)) (free_place w.tx w.end w.visit.path) f
 SeesRows a w home m i = Unit {0}
 
 -- the row is there that says that the lock of the item was asked for
@@ -182,16 +182,16 @@ AreMarked w m = (cs : List Called) → IsMember w m cs → let f = (visited_by w
 pub record Visited (w : EndWalk) (m : Rows) : Type 0 where
   pub decided : DecidedAt w.visit.at w m
   pub item : HasItem w.visit.at w.visit.item
-  pub begins : HasWay w.visit.at w.visit.way w.visit.after
-  pub from : IsFrom w w.visit.way w.visit.after
+  pub begins : HasCallPath w.visit.at w.visit.path w.visit.after
+  pub from : IsFrom w w.visit.path w.visit.after
   -- the calls that lead to who is visited are there
-  pub member : IsMember w m w.visit.way
-  pub gives : Gives w.visit.at w (visited_by w.tx w.visit.way).1 m w.visit.item
-  pub sees : SeesRows w.visit.at w (visited_by w.tx w.visit.way).1 m w.visit.item
-  pub asked : WasAsked w.visit.at w (visited_by w.tx w.visit.way) m w.visit.item
-  pub callees : Levels m (owner_of w) (IsWithin w) w.visit.way (IsPassed w.visit.at w.visit.after)
+  pub member : IsMember w m w.visit.path
+  pub gives : Gives w.visit.at w (visited_by w.tx w.visit.path).1 m w.visit.item
+  pub sees : SeesRows w.visit.at w (visited_by w.tx w.visit.path).1 m w.visit.item
+  pub asked : WasAsked w.visit.at w (visited_by w.tx w.visit.path) m w.visit.item
+  pub callees : Levels m (owner_of w) (IsWithin w) w.visit.path (IsPassed w.visit.at w.visit.after)
   -- no item is the transaction's whose lock who is visited asked for, and that was passed
-  pub freed : (q : ℕ × List ℕ) (r : Row) → let p = visited_by w.tx w.visit.way in map.get m (lock_row w p q) ≡ Some r → IsPast w.visit.at w p w.visit.item q → is_own w (item_in p.1 m q) ≡ false
+  pub freed : (q : ℕ × List ℕ) (r : Row) → let p = visited_by w.tx w.visit.path in map.get m (lock_row w p q) ≡ Some r → IsPast w.visit.at w p w.visit.item q → is_own w (item_in p.1 m q) ≡ false
   pub released : AreReleased w m
   pub marked : AreMarked w m
   pub linked : AreLinked w m
@@ -208,12 +208,12 @@ RowsStay m n = (k : RowKey) → is_some (map.get m k) ≡ true → is_some (map.
 
 -- ---- a turn of its own
 -- the decision is put once; the end stays at another decision than its own
-abbrev pub Decides : EndSays → Value → Option Row → Option Row → Type 0
-Decides (EndSays.Decided true) v r s = (r ≡ None) × (s ≡ Some (Row.ReadLog v))
-Decides (EndSays.Decided false) v r s = (r ≡ Some (Row.ReadLog v)) × (s ≡ r)
-Decides EndSays.Going v r s = (r ≡ Some (Row.ReadLog v) → ⊥) × (s ≡ r)
-Decides EndSays.Worn v r s = ⊥
-Decides EndSays.Done v r s = ⊥
+abbrev pub Decides : EndOutput → Value → Option Row → Option Row → Type 0
+Decides (EndOutput.Decided true) v r s = (r ≡ None) × (s ≡ Some (Row.ReadLog v))
+Decides (EndOutput.Decided false) v r s = (r ≡ Some (Row.ReadLog v)) × (s ≡ r)
+Decides EndOutput.Going v r s = (r ≡ Some (Row.ReadLog v) → ⊥) × (s ≡ r)
+Decides EndOutput.Worn v r s = ⊥
+Decides EndOutput.Done v r s = ⊥
 
 -- an item that is the transaction's is given back, where its place has no note; any other stands
 abbrev pub Frees : Place → Owner → Option Value → Content → Content → Type 0
@@ -230,13 +230,13 @@ pub record GetsFinish (r s : Option Row) : Type 0 where
 abbrev pub Stamps : Option Row → Option Row → Type 0
 Stamps r s = ((s ≡ r) × (row_closed r ≡ true)) ⊎ GetsFinish r s
 
-abbrev pub LeftAt : EndAt → EndWalk → Option (ℕ × List ℕ) → EndSays → Rows → Rows → Type 0
+abbrev pub LeftAt : EndAt → EndWalk → Option (ℕ × List ℕ) → EndOutput → Rows → Rows → Type 0
 LeftAt Decide w i s m n = Decides s (Value.Bool w.commit) (map.get m (decision_row w)) (map.get n (decision_row w))
-LeftAt (Free f) w (Some i) s m n = let h = (visited_by w.tx w.visit.way).1 in Frees (free_place w.tx w.end w.visit.way) (Owner.Tx w.tx) w.visit.value (item_in h m i) (item_in h n i)
-LeftAt Stamp w i s m n = let p = visited_by w.tx w.visit.way in Stamps (map.get m (intent_key p.0 p.1)) (map.get n (intent_key p.0 p.1))
+LeftAt (Free f) w (Some i) s m n = let h = (visited_by w.tx w.visit.path).1 in Frees (free_place w.tx w.end w.visit.path) (Owner.Tx w.tx) w.visit.value (item_in h m i) (item_in h n i)
+LeftAt Stamp w i s m n = let p = visited_by w.tx w.visit.path in Stamps (map.get m (intent_key p.0 p.1)) (map.get n (intent_key p.0 p.1))
 LeftAt a w i s m n = n ≡ m
 
-pub record EndTurn (w x : EndWalk) (m n : Rows) (s : EndSays) : Type 0 where
+pub record EndTurn (w x : EndWalk) (m n : Rows) (s : EndOutput) : Type 0 where
   -- all rows are as before but the one, or those of the item, that it asks for
   pub others : ChangedAlone (head_asked (walk_asks w)) m n
   pub stay : RowsStay m n
@@ -244,12 +244,12 @@ pub record EndTurn (w x : EndWalk) (m n : Rows) (s : EndSays) : Type 0 where
   pub left : LeftAt w.visit.at w w.visit.item s m n
   pub same : x ≡ record w { visit = x.visit }
   pub visited : Visited x n
-  pub done : s ≡ EndSays.Done → IsDecided w n × AllReleased w n
+  pub done : s ≡ EndOutput.Done → IsDecided w n × AllReleased w n
 
 -- for every turn that says something, over every table that tells its rows
 abbrev pub EndsAreVisits : Type 0
-EndsAreVisits = (w x : EndWalk) (now : ℕ) (old new : TableState) (s : EndSays) → 1 ≤ w.tx.intent.ticket → AreHops 63 w.tx.intent.hops
-    → Turned (walk_asks w) now (walk_next w) (walk_says w) w x old new (Ok s) → Tells old.rows new.rows (λ m n. AreFit m → Visited w m → EndTurn w x m n s)
+EndsAreVisits = (w x : EndWalk) (now : ℕ) (old new : TableState) (s : EndOutput) → 1 ≤ w.tx.intent.ticket → AreHops 63 w.tx.intent.hops
+    → Turned (walk_asks w) now (walk_next w) (walk_output w) w x old new (Ok s) → Tells old.rows new.rows (λ m n. AreFit m → Visited w m → EndTurn w x m n s)
 
 -- ---- what others do
 -- rows that stay and grow, keep the decision and the values of the transaction's shadows, and have no further row of its calls and its locks; the
@@ -260,7 +260,7 @@ pub record Leaves (w : EndWalk) (m n : Rows) : Type 0 where
   pub grows : AllGrow m n
   pub decision : IsDecided w m → IsDecided w n
   pub asides : (f : ℕ) (q : ℕ × List ℕ) → shadow_value (tail (chain n (aside_row w f q))) ≡ shadow_value (tail (chain m (aside_row w f q)))
-  pub way : IsMember w m w.visit.way → IsMember w n w.visit.way
+  pub path : IsMember w m w.visit.path → IsMember w n w.visit.path
   pub calls : (cs : List Called) → IsMember w m cs → (c : Called) → AtEnd (IsWithin w) cs c.step → IsCall n (visited_by w.tx cs) c → IsCall m (visited_by w.tx cs) c
   pub locks : (cs : List Called) → IsMember w m cs → (q : ℕ × List ℕ) (r : Row) → map.get n (lock_row w (visited_by w.tx cs) q) ≡ Some r → is_some (map.get m (lock_row w (visited_by w.tx cs) q)) ≡ true
   pub closed : (c : Called) (cs : List Called) → IsMember w m (c ∷ cs) → is_closed m (visited_by w.tx (c ∷ cs)) ≡ true → is_closed n (visited_by w.tx (c ∷ cs)) ≡ true
@@ -279,9 +279,9 @@ VisitsBegin = (tx : TxId) (end : ℕ) (commit : Bool) (m : Rows) → let w = fir
 
 -- a turn of another walk of the same end, wherever that walk stands, is among what an end bears
 abbrev pub OtherWalksLeave : Type 0
-OtherWalksLeave = (w x : EndWalk) (v : Visit) (m n : Rows) (s : EndSays) → EndTurn (record w { visit = v }) x m n s → Leaves w m n
+OtherWalksLeave = (w x : EndWalk) (v : EndState) (m n : Rows) (s : EndOutput) → EndTurn (record w { visit = v }) x m n s → Leaves w m n
 
 -- a walk that is to give an item back may stand at a further row: what it has not seen then counts only where the item is the transaction's
 abbrev pub FreesStandFurther : Type 0
-FreesStandFurther = (w : EndWalk) (m : Rows) (i : ℕ × List ℕ) (r k : ℕ) → w.visit.at ≡ Free (Try r) → w.visit.item ≡ Some i → Visited w m → let home = (visited_by w.tx w.visit.way).1 in
-    let f = chain m (item_row home i) in ReadsAt f k → (is_own w (item_in home m i) ≡ true → Passed f (free_place w.tx w.end w.visit.way) k) → Visited (record w { visit = record w.visit { at = Free (Try k) } }) m
+FreesStandFurther = (w : EndWalk) (m : Rows) (i : ℕ × List ℕ) (r k : ℕ) → w.visit.at ≡ Free (Try r) → w.visit.item ≡ Some i → Visited w m → let home = (visited_by w.tx w.visit.path).1 in
+    let f = chain m (item_row home i) in ReadsAt f k → (is_own w (item_in home m i) ≡ true → Passed f (free_place w.tx w.end w.visit.path) k) → Visited (record w { visit = record w.visit { at = Free (Try k) } }) m

@@ -2,26 +2,26 @@
 ghost use Rattle.std.specs.Prelude.{◌≡◌, ℕ, Some, None, true, IfOk, OnErr};
 ghost use Rattle.beldi_value.specs.declared.value.Value.TheVariants as value;
 ghost use Rattle.beldi_daal.specs.declared.cell.WriteAt.TheVariants as WriteAt;
-ghost use Rattle.beldi_walk.specs.Query.{told_of, lends};
+ghost use Rattle.beldi_query.specs.Query.{query_reply_of, lends};
 ghost use Rattle.beldi_lock.specs.Last.{split_last};
 ghost use Rattle.beldi_lock.specs.Lockset.{item_lent};
 ghost use Rattle.beldi_readlog.specs.ReadLog.{keep_asks};
-ghost use Rattle.beldi_txn.specs.Way.{is_owner};
+ghost use Rattle.beldi_txn.specs.CallPath.{is_owner};
 ghost use Rattle.beldi_txn.specs.declared.end.EndAt.TheVariants as EndAt;
-ghost use Rattle.beldi_txn.specs.End.{begin_place, first_visit, visited_by, calls_after, counts as counts_by, free_place as freed_at, visit_asks, shadow_asks, free_asks, decided_by, decide_goes, calls_goes, last_goes, value_goes, freed_goes, end_goes, free_first, at_calls, back_from, moved, said_of};
+ghost use Rattle.beldi_txn.specs.End.{begin_place, first_visit, visited_by, calls_after, counts as counts_by, free_place as freed_at, visit_asks, shadow_asks, free_asks, decided_by, decide_goes, calls_goes, last_goes, value_goes, freed_goes, end_goes, free_first, at_calls, back_from, end_after, output_of};
 
+use crate::call_path::{CallPath, Called};
 use crate::invokes::{invokes_query, invokes_told};
 use crate::tx::own_query;
-use crate::way::{Called, Way};
 use beldi_daal::{
     CellOp, ReadGoes, WriteAt, WriteGoes, cell_key, read_told, shadow_key, write_told,
 };
 use beldi_intent::stamp_query;
 use beldi_lock::{lockset_query, lockset_told};
+use beldi_query::{Query, QueryReplyRef};
 use beldi_readlog::log_key;
-use beldi_row::{Act, Note, Said};
-use beldi_value::{Apart, IntentId, Place, Str, TxId, Value, or_drop};
-use beldi_walk::{Heard, Query};
+use beldi_row::{Act, ActReplyRef, Note};
+use beldi_value::{Boxed, IntentId, Place, Str, TxId, Value, or_drop};
 use std::alloc::{AllocError, Global};
 use std::mem::replace;
 
@@ -44,9 +44,9 @@ pub enum EndAt {
 
 /// The end of a transaction, on its way from callee to callee, and from item to item.
 #[derive(Drop)]
-pub struct Visit {
+pub struct EndState {
     /// The calls that lead to who is visited.
-    pub way: Way,
+    pub path: CallPath,
     /// The step of the last of its calls whose callee was visited; None before the first.
     pub after: Option<u32>,
     /// The item that is to be given back, or the last one that was: its table and key. None before the first.
@@ -70,7 +70,7 @@ pub enum EndGoes {
     /// The callee of the call at this step has no id, so it is passed over.
     Passed(u32),
     /// The callee that these calls lead to comes next.
-    Callee(Way),
+    Callee(CallPath),
     /// The item with this table and key comes next.
     Item(u16, Str),
     /// The item is given back next, with this value.
@@ -83,7 +83,7 @@ pub enum EndGoes {
 
 /// What a turn of the end of a transaction says.
 #[derive(Drop)]
-pub enum EndSays {
+pub enum EndOutput {
     /// The end goes on.
     Going,
     /// The decision is there; `first` says that this turn put it.
@@ -94,13 +94,13 @@ pub enum EndSays {
     Done,
 }
 
-impl Visit {
+impl EndState {
     /// An end that has not yet decided.
-    pub fn first(alloc: Global) -> Visit
+    pub fn first(alloc: Global) -> EndState
         ensures { result ≡ first_visit }
     {
-        Visit {
-            way: Way::new(alloc),
+        EndState {
+            path: CallPath::new(alloc),
             after: None,
             item: None,
             value: None,
@@ -109,42 +109,42 @@ impl Visit {
     }
 
     /// Goes on so, where the transaction is committed, or else aborted; it says what the turn did.
-    pub fn go(&mut self, commit: bool, goes: EndGoes) -> EndSays
-        ensures now { self.new ≡ moved commit self.old goes }
-        ensures says { result ≡ said_of goes }
+    pub fn go(&mut self, commit: bool, goes: EndGoes) -> EndOutput
+        ensures now { self.new ≡ end_after commit self.old goes }
+        ensures output { result ≡ output_of goes }
     {
         match goes {
             EndGoes::On(at) => {
                 self.stand(at);
-                EndSays::Going
+                EndOutput::Going
             }
-            EndGoes::Stays => EndSays::Going,
-            EndGoes::Worn => EndSays::Worn,
+            EndGoes::Stays => EndOutput::Going,
+            EndGoes::Worn => EndOutput::Worn,
             EndGoes::Decided { first } => {
                 self.stand(EndAt::Callees);
-                EndSays::Decided { first }
+                EndOutput::Decided { first }
             }
             EndGoes::Passed(step) => {
                 self.after = Some(step);
-                EndSays::Going
+                EndOutput::Going
             }
-            EndGoes::Callee(way) => {
-                self.to_callee(way);
-                EndSays::Going
+            EndGoes::Callee(path) => {
+                self.to_callee(path);
+                EndOutput::Going
             }
             EndGoes::Item(table, key) => {
                 self.to_item(table, key, at_first(commit));
-                EndSays::Going
+                EndOutput::Going
             }
             EndGoes::Value(value) => {
                 self.to_free(value);
-                EndSays::Going
+                EndOutput::Going
             }
             EndGoes::Back => {
                 self.back();
-                EndSays::Going
+                EndOutput::Going
             }
-            EndGoes::Done => EndSays::Done,
+            EndGoes::Done => EndOutput::Done,
         }
     }
 
@@ -156,10 +156,10 @@ impl Visit {
     }
 
     // To the callee that these calls lead to.
-    fn to_callee(&mut self, way: Way)
-        ensures { self.new ≡ at_calls way None }
+    fn to_callee(&mut self, path: CallPath)
+        ensures { self.new ≡ at_calls path None }
     {
-        self.way = way;
+        self.path = path;
         self.to_calls(None);
     }
 
@@ -182,7 +182,7 @@ impl Visit {
 
     // To the calls of who is visited, after a step.
     fn to_calls(&mut self, after: Option<u32>)
-        ensures { self.new ≡ at_calls self.old.way after }
+        ensures { self.new ≡ at_calls self.old.path after }
     {
         self.after = after;
         self.item = None;
@@ -192,9 +192,9 @@ impl Visit {
 
     // From a participant to its caller.
     fn back(&mut self)
-        ensures { self.new ≡ back_from self.old (split_last self.old.way) }
+        ensures { self.new ≡ back_from self.old (split_last self.old.path) }
     {
-        match self.way.pop() {
+        match self.path.pop() {
             Some(call) => self.to_calls(Some(call.step)),
             None => (),
         }
@@ -222,10 +222,10 @@ fn lent(item: &Option<(u16, Str)>) -> Option<(u16, &Str)>
 }
 
 // After which of its calls the next one of who is visited is looked for: of the owner's, those after its begin.
-fn after_call(tx: &TxId, way: &Way, after: Option<u32>) -> Option<u32>
-    ensures { result ≡ calls_after tx.now way.now after }
+fn after_call(tx: &TxId, path: &CallPath, after: Option<u32>) -> Option<u32>
+    ensures { result ≡ calls_after tx.now path.now after }
 {
-    if way.is_owner() && after.is_none() {
+    if path.is_owner() && after.is_none() {
         Some(tx.begin)
     } else {
         after
@@ -238,23 +238,23 @@ pub fn end_query(
     tx: &TxId,
     end: u32,
     commit: bool,
-    visit: &Visit,
-) -> Result<Apart<Query>, AllocError>
-    ensures { IfOk result (λ q. q ≡ visit_asks tx.now end commit visit.now.way visit.now.after visit.now.item visit.now.value visit.now.at) }
+    visit: &EndState,
+) -> Result<Boxed<Query>, AllocError>
+    ensures { IfOk result (λ q. q ≡ visit_asks tx.now end commit visit.now.path visit.now.after visit.now.item visit.now.value visit.now.at) }
 {
-    let way = &visit.way;
+    let path = &visit.path;
     match &visit.at {
         EndAt::Decide => decide_query(alloc, tx, commit),
-        EndAt::Callees => calls_query(alloc, tx, way, visit.after),
-        EndAt::Next => locks_query(alloc, tx, way, lent(&visit.item)),
-        EndAt::Shadow(row) => look_query(alloc, tx, way, *row, lent(&visit.item)),
-        EndAt::Free(at) => free_query(alloc, tx, end, way, lent(&visit.item), &visit.value, at),
-        EndAt::Stamp => finish_query(alloc, tx, way),
+        EndAt::Callees => calls_query(alloc, tx, path, visit.after),
+        EndAt::Next => locks_query(alloc, tx, path, lent(&visit.item)),
+        EndAt::Shadow(row) => look_query(alloc, tx, path, *row, lent(&visit.item)),
+        EndAt::Free(at) => free_query(alloc, tx, end, path, lent(&visit.item), &visit.value, at),
+        EndAt::Stamp => finish_query(alloc, tx, path),
     }
 }
 
 /// What the end of a transaction asks for first: that its decision is kept.
-pub fn decide_query(alloc: Global, tx: &TxId, commit: bool) -> Result<Apart<Query>, AllocError>
+pub fn decide_query(alloc: Global, tx: &TxId, commit: bool) -> Result<Boxed<Query>, AllocError>
     ensures { IfOk result (λ q. q ≡ keep_asks tx.now.func (begin_place tx.now) (value.Bool commit)) }
 {
     let place = Place {
@@ -268,41 +268,44 @@ pub fn decide_query(alloc: Global, tx: &TxId, commit: bool) -> Result<Apart<Quer
 fn calls_query(
     alloc: Global,
     tx: &TxId,
-    way: &Way,
+    path: &CallPath,
     after: Option<u32>,
-) -> Result<Apart<Query>, AllocError>
-    ensures { IfOk result (λ q. q ≡ visit_asks tx.now 0 true way.now after None None EndAt.Callees) }
+) -> Result<Boxed<Query>, AllocError>
+    ensures { IfOk result (λ q. q ≡ visit_asks tx.now 0 true path.now after None None EndAt.Callees) }
 {
-    let (id, func) = way.member(alloc, tx)?;
-    invokes_query(alloc, func, id, after_call(tx, way, after))
+    let (id, func) = path.member(alloc, tx)?;
+    invokes_query(alloc, func, id, after_call(tx, path, after))
 }
 
 fn locks_query(
     alloc: Global,
     tx: &TxId,
-    way: &Way,
+    path: &CallPath,
     item: Option<(u16, &Str)>,
-) -> Result<Apart<Query>, AllocError>
-    ensures { IfOk result (λ q. q ≡ visit_asks tx.now 0 true way.now None (item_lent item.entry) None EndAt.Next) }
+) -> Result<Boxed<Query>, AllocError>
+    ensures { IfOk result (λ q. q ≡ visit_asks tx.now 0 true path.now None (item_lent item.entry) None EndAt.Next) }
 {
-    let (id, func) = way.member(alloc, tx)?;
+    let (id, func) = path.member(alloc, tx)?;
     lockset_query(alloc, func, &id, tx.begin, item)
 }
 
 fn look_query(
     alloc: Global,
     tx: &TxId,
-    way: &Way,
+    path: &CallPath,
     row: u32,
     item: Option<(u16, &Str)>,
-) -> Result<Apart<Query>, AllocError>
-    ensures { IfOk result (λ q. q ≡ shadow_asks tx.now (visited_by tx.now way.now) row (item_lent item.entry)) }
+) -> Result<Boxed<Query>, AllocError>
+    ensures { IfOk result (λ q. q ≡ shadow_asks tx.now (visited_by tx.now path.now) row (item_lent item.entry)) }
 {
     match item {
         Some((table, key)) => {
-            Query::look(alloc, shadow_key(alloc, way.func(tx), tx, table, key, row)?)
+            Query::look(
+                alloc,
+                shadow_key(alloc, path.func(tx), tx, table, key, row)?,
+            )
         }
-        None => locks_query(alloc, tx, way, None),
+        None => locks_query(alloc, tx, path, None),
     }
 }
 
@@ -310,37 +313,37 @@ fn free_query(
     alloc: Global,
     tx: &TxId,
     end: u32,
-    way: &Way,
+    path: &CallPath,
     item: Option<(u16, &Str)>,
     value: &Option<Value>,
     at: &WriteAt,
-) -> Result<Apart<Query>, AllocError>
-    ensures { IfOk result (λ q. q ≡ free_asks tx.now (visited_by tx.now way.now) (freed_at tx.now end way.now) value.now at.now (item_lent item.entry)) }
+) -> Result<Boxed<Query>, AllocError>
+    ensures { IfOk result (λ q. q ≡ free_asks tx.now (visited_by tx.now path.now) (freed_at tx.now end path.now) value.now at.now (item_lent item.entry)) }
 {
     match item {
         Some((table, key)) => {
-            let row = cell_key(alloc, way.func(tx), table, key, 0)?;
-            let place = or_drop!(free_place(alloc, tx, end, way); row);
+            let row = cell_key(alloc, path.func(tx), table, key, 0)?;
+            let place = or_drop!(free_place(alloc, tx, end, path); row);
             let op = CellOp::Free(or_drop!(copy_of(alloc, value); row, place));
             own_query(alloc, row, place, tx, op, at)
         }
-        None => locks_query(alloc, tx, way, None),
+        None => locks_query(alloc, tx, path, None),
     }
 }
 
 /// The place at which who is visited gives items back, where the transaction ends at the step `end`.
-pub fn free_place(alloc: Global, tx: &TxId, end: u32, way: &Way) -> Result<Place, AllocError>
-    ensures { IfOk result (λ p. p ≡ freed_at tx.now end way.now) }
+pub fn free_place(alloc: Global, tx: &TxId, end: u32, path: &CallPath) -> Result<Place, AllocError>
+    ensures { IfOk result (λ p. p ≡ freed_at tx.now end path.now) }
 {
-    let (intent, _) = way.member(alloc, tx)?;
-    let step = if way.is_owner() { end } else { u32::MAX };
+    let (intent, _) = path.member(alloc, tx)?;
+    let step = if path.is_owner() { end } else { u32::MAX };
     Ok(Place { intent, step })
 }
 
-fn finish_query(alloc: Global, tx: &TxId, way: &Way) -> Result<Apart<Query>, AllocError>
-    ensures { IfOk result (λ q. q ≡ visit_asks tx.now 0 true way.now None None None EndAt.Stamp) }
+fn finish_query(alloc: Global, tx: &TxId, path: &CallPath) -> Result<Boxed<Query>, AllocError>
+    ensures { IfOk result (λ q. q ≡ visit_asks tx.now 0 true path.now None None None EndAt.Stamp) }
 {
-    let (id, func) = way.member(alloc, tx)?;
+    let (id, func) = path.member(alloc, tx)?;
     stamp_query(alloc, id, func)
 }
 
@@ -359,16 +362,16 @@ pub fn end_told(
     tx: &TxId,
     end: u32,
     commit: bool,
-    visit: &Visit,
-    heard: Heard<'_>,
+    visit: &EndState,
+    heard: QueryReplyRef<'_>,
 ) -> Result<EndGoes, AllocError>
-    ensures ok { IfOk result (λ g. g ≡ end_goes tx.now end commit visit.now.way visit.now.at (told_of heard.entry)) }
-    ensures err { OnErr result (lends (told_of heard.entry) ≡ true) }
+    ensures ok { IfOk result (λ g. g ≡ end_goes tx.now end commit visit.now.path visit.now.at (query_reply_of heard.entry)) }
+    ensures err { OnErr result (lends (query_reply_of heard.entry) ≡ true) }
 {
     match &visit.at {
         EndAt::Decide => Ok(decide_told(commit, heard)),
-        EndAt::Callees => hear_call(alloc, tx, end, &visit.way, heard),
-        EndAt::Next => hear_next(alloc, tx, &visit.way, heard),
+        EndAt::Callees => hear_call(alloc, tx, end, &visit.path, heard),
+        EndAt::Next => hear_next(alloc, tx, &visit.path, heard),
         EndAt::Shadow(_) => Ok(hear_value(read_told(alloc, &None, heard)?)),
         EndAt::Free(at) => Ok(hear_free(write_told(alloc, Note::Freed, at, heard)?)),
         EndAt::Stamp => Ok(EndGoes::Back),
@@ -380,17 +383,17 @@ fn hear_call(
     alloc: Global,
     tx: &TxId,
     end: u32,
-    way: &Way,
-    heard: Heard<'_>,
+    path: &CallPath,
+    heard: QueryReplyRef<'_>,
 ) -> Result<EndGoes, AllocError>
-    ensures ok { IfOk result (λ g. g ≡ end_goes tx.now end true way.now EndAt.Callees (told_of heard.entry)) }
-    ensures err { OnErr result (lends (told_of heard.entry) ≡ true) }
+    ensures ok { IfOk result (λ g. g ≡ end_goes tx.now end true path.now EndAt.Callees (query_reply_of heard.entry)) }
+    ensures err { OnErr result (lends (query_reply_of heard.entry) ≡ true) }
 {
     match heard {
-        Heard::Found(found) => {
-            let (id, func) = way.member(alloc, tx)?;
-            match invokes_told(func, &id, Heard::Found(found)) {
-                Some(call) => next_call(alloc, end, way, &id, call),
+        QueryReplyRef::Found(found) => {
+            let (id, func) = path.member(alloc, tx)?;
+            match invokes_told(func, &id, QueryReplyRef::Found(found)) {
+                Some(call) => next_call(alloc, end, path, &id, call),
                 None => Ok(EndGoes::On(EndAt::Next)),
             }
         }
@@ -402,51 +405,57 @@ fn hear_call(
 fn next_call(
     alloc: Global,
     end: u32,
-    way: &Way,
+    path: &CallPath,
     id: &IntentId,
     call: Called,
 ) -> Result<EndGoes, AllocError>
-    ensures { (func : ℕ) → IfOk result (λ g. g ≡ calls_goes end (id.now, func) way.now (Some call)) }
+    ensures { (func : ℕ) → IfOk result (λ g. g ≡ calls_goes end (id.now, func) path.now (Some call)) }
 {
-    if !counts(end, way, call) {
+    if !counts(end, path, call) {
         return Ok(EndGoes::On(EndAt::Next));
     }
     if id.has_callees() {
-        Ok(EndGoes::Callee(way.with(alloc, call)?))
+        Ok(EndGoes::Callee(path.with(alloc, call)?))
     } else {
         Ok(EndGoes::Passed(call.step))
     }
 }
 
-fn counts(end: u32, way: &Way, call: Called) -> bool
-    ensures { result ≡ counts_by end way.now call }
+fn counts(end: u32, path: &CallPath, call: Called) -> bool
+    ensures { result ≡ counts_by end path.now call }
 {
-    !way.is_owner() || call.step < end
+    !path.is_owner() || call.step < end
 }
 
-fn hear_next(alloc: Global, tx: &TxId, way: &Way, heard: Heard<'_>) -> Result<EndGoes, AllocError>
-    ensures ok { IfOk result (λ g. g ≡ end_goes tx.now 0 true way.now EndAt.Next (told_of heard.entry)) }
-    ensures err { OnErr result (lends (told_of heard.entry) ≡ true) }
+fn hear_next(
+    alloc: Global,
+    tx: &TxId,
+    path: &CallPath,
+    heard: QueryReplyRef<'_>,
+) -> Result<EndGoes, AllocError>
+    ensures ok { IfOk result (λ g. g ≡ end_goes tx.now 0 true path.now EndAt.Next (query_reply_of heard.entry)) }
+    ensures err { OnErr result (lends (query_reply_of heard.entry) ≡ true) }
 {
     match heard {
-        Heard::Found(found) => {
-            let (id, func) = way.member(alloc, tx)?;
-            let item = or_drop!(lockset_told(alloc, func, &id, tx.begin, Heard::Found(found)); id);
+        QueryReplyRef::Found(found) => {
+            let (id, func) = path.member(alloc, tx)?;
+            let item =
+                or_drop!(lockset_told(alloc, func, &id, tx.begin, QueryReplyRef::Found(found)); id);
             drop(id);
             match item {
                 Some((table, key)) => Ok(EndGoes::Item(table, key)),
-                None => Ok(past_locks(way)),
+                None => Ok(past_locks(path)),
             }
         }
-        _ => Ok(past_locks(way)),
+        _ => Ok(past_locks(path)),
     }
 }
 
 // After the last lock the owner is done, and a participant gets its finish.
-fn past_locks(way: &Way) -> EndGoes
-    ensures { result ≡ last_goes (is_owner way.now) }
+fn past_locks(path: &CallPath) -> EndGoes
+    ensures { result ≡ last_goes (is_owner path.now) }
 {
-    if way.is_owner() {
+    if path.is_owner() {
         EndGoes::Done
     } else {
         EndGoes::On(EndAt::Stamp)
@@ -454,12 +463,12 @@ fn past_locks(way: &Way) -> EndGoes
 }
 
 /// Where the end goes from its decision. It stays at another decision than its own, which no session leaves there.
-pub fn decide_told(commit: bool, heard: Heard<'_>) -> EndGoes
-    ensures { result ≡ decide_goes commit (told_of heard.entry) }
+pub fn decide_told(commit: bool, heard: QueryReplyRef<'_>) -> EndGoes
+    ensures { result ≡ decide_goes commit (query_reply_of heard.entry) }
 {
     match heard {
-        Heard::Said(Said::Added) => EndGoes::Decided { first: true },
-        Heard::Said(Said::Kept(Value::Bool(kept))) => kept_decision(commit, *kept),
+        QueryReplyRef::Act(ActReplyRef::Added) => EndGoes::Decided { first: true },
+        QueryReplyRef::Act(ActReplyRef::Kept(Value::Bool(kept))) => kept_decision(commit, *kept),
         _ => EndGoes::Stays,
     }
 }

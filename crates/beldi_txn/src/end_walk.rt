@@ -2,9 +2,9 @@
 ghost use Rattle.std.specs.Prelude.{◌≡◌};
 ghost use Rattle.beldi_txn.specs.End.{first_end};
 
-use crate::end::{EndSays, Visit, end_query, end_told};
-use beldi_value::{Apart, TxId};
-use beldi_walk::{Heard, Query, Walk};
+use crate::end::{EndOutput, EndState, end_query, end_told};
+use beldi_query::{Query, QueryReplyRef, Walk};
+use beldi_value::{Boxed, TxId};
 use std::alloc::{AllocError, Global};
 
 /// A walk that ends a transaction for its owner: it keeps the decision, and then visits the owner and all whom it led to call, each
@@ -15,25 +15,25 @@ pub struct EndWalk {
     tx: TxId,
     end: u32,
     commit: bool,
-    visit: Visit,
+    visit: EndState,
 }
 
 impl Walk for EndWalk {
-    ghost use Rattle.beldi_txn.specs.End.{walk_asks, walk_next, walk_says};
+    ghost use Rattle.beldi_txn.specs.End.{walk_asks, walk_next, walk_output};
 
-    type Says = EndSays;
+    type Output = EndOutput;
 
     ghost asks = { walk_asks };
 
     ghost next = { walk_next };
 
-    ghost says = { walk_says };
+    ghost output = { walk_output };
 
-    fn ask(&self, alloc: Global) -> Result<Apart<Query>, AllocError> {
+    fn ask(&self, alloc: Global) -> Result<Boxed<Query>, AllocError> {
         end_query(alloc, &self.tx, self.end, self.commit, &self.visit)
     }
 
-    fn told(&mut self, alloc: Global, heard: Heard<'_>) -> Result<EndSays, AllocError> {
+    fn resume(&mut self, alloc: Global, heard: QueryReplyRef<'_>) -> Result<EndOutput, AllocError> {
         let goes = end_told(alloc, &self.tx, self.end, self.commit, &self.visit, heard)?;
         Ok(self.visit.go(self.commit, goes))
     }
@@ -48,7 +48,7 @@ impl EndWalk {
             tx,
             end,
             commit,
-            visit: Visit::first(alloc),
+            visit: EndState::first(alloc),
         }
     }
 }

@@ -1,14 +1,14 @@
 // The calls of an intent, one after another.
 ghost use Rattle.std.specs.Prelude.{◌≡◌, IfOk};
-ghost use Rattle.beldi_walk.specs.Query.{told_of};
+ghost use Rattle.beldi_query.specs.Query.{query_reply_of};
 ghost use Rattle.beldi_txn.specs.Invokes.{invokes_after, invokes_asks, invokes_found, call_of, func_called as called_by};
 
-use crate::way::Called;
+use crate::call_path::Called;
 use beldi_invokelog::invoke_key;
 use beldi_lock::id_before;
+use beldi_query::{Query, QueryReplyRef};
 use beldi_row::{Kind, Row, RowKey};
-use beldi_value::{Apart, IntentId, Place};
-use beldi_walk::{Heard, Query};
+use beldi_value::{Boxed, IntentId, Place};
 use std::alloc::{AllocError, Global};
 
 // The key that the row asked for comes after.
@@ -37,18 +37,18 @@ pub fn invokes_query(
     home: u16,
     id: IntentId,
     after: Option<u32>,
-) -> Result<Apart<Query>, AllocError>
+) -> Result<Boxed<Query>, AllocError>
     ensures { IfOk result (λ q. q ≡ invokes_asks home id after) }
 {
     Query::after(alloc, after_key(alloc, home, id, after)?)
 }
 
 /// The call of the row that was found; None where no row was, or it is of no call of this intent.
-pub fn invokes_told(home: u16, id: &IntentId, heard: Heard<'_>) -> Option<Called>
-    ensures { result ≡ invokes_found home id.now (told_of heard.entry) }
+pub fn invokes_told(home: u16, id: &IntentId, heard: QueryReplyRef<'_>) -> Option<Called>
+    ensures { result ≡ invokes_found home id.now (query_reply_of heard.entry) }
 {
     match heard {
-        Heard::Found(Some((key, row))) => call_in(home, id, key, row),
+        QueryReplyRef::Found(Some((key, row))) => call_in(home, id, key, row),
         _ => None,
     }
 }

@@ -3,7 +3,7 @@
 //! `beldi_invokelog` and `beldi_intent`.
 //! Its definitions: `specs/Tx` (what an operation asks, and what follows from what it is told) and `specs/TxWalk`; `specs/TxTurn`
 //! (what its turn leaves, and that what it answers is so of the rows); `specs/Invokes` (the calls of an intent, one after another) and
-//! `specs/Way` (the calls that lead to a participant); `specs/End` (the end, and its walk) and `specs/Visited` (that it visits all who
+//! `specs/CallPath` (the calls that lead to a participant); `specs/End` (the end, and its walk) and `specs/Visited` (that it visits all who
 //! took part), `specs/Closed` (that it may pass over who is closed). The transaction's own copy of an item is called its shadow there.
 //!
 //! The end keeps the decision, and then visits the owner. To visit an intent is to visit each of its callees, in the order of its
@@ -17,7 +17,7 @@
 //!   `tx_goes`, `visit_asks`, `end_goes`); after a call they are out of memory only where what lies in a row was lent.
 //! - `TxWalk::turn` and `EndWalk::turn` ask what the definition asks, in at most one call of the table, and go and say by what was
 //!   told, whatever the table tells; at an error they stand where they stood (`Turned`), and the rows are as before, but for a death
-//!   that it was out of memory to tell (`an_error_leaves_the_rows` of `beldi_walk`).
+//!   that it was out of memory to tell (`an_error_leaves_the_rows` of `beldi_query`).
 //! - Laws of an operation: where the rows of the item and of the transaction's copy are linked, nobody owns the copy, and the
 //!   operation sees what it has to where it stands, a turn leaves that so, and all rows but the one, or those of the one item, that it asks for. The item changes only by the lock. The copy changes
 //!   only by this operation, where its place had no note, or by a first row with the value that was found in the item. What is
@@ -40,21 +40,22 @@
 //!
 //! Files:
 //! - Code (`src/`): `tx` what an operation of a transaction asks, and what follows, for walks and runs; `tx_walk` its walk,
-//!   for calls; `end` the end of a transaction, which visits the owner and all that took part, `end_walk` its walk, `way` the
+//!   for calls; `end` the end of a transaction, which visits the owner and all that took part, `end_walk` its walk, `call_path` the
 //!   calls on the way to who is visited, `invokes` the calls of an intent; `laws`.
-//! - Lemmas (`proofs/`): `TxTurn`; `Visited`, `Freeing`, `Levels`, `Calls`, `Locks`; `Beside` another walk of the same end; `Closed` who is passed over.
+//! - Lemmas (`proofs/`): `TxTurn`; `Visited`, `Freeing`, `Levels`, `InvokedInside`, `LocksetRows`; `BesideRows` another walk of the same end; `Closed` who is passed over.
 #![tactic(auto)]
 
+mod call_path;
 mod end;
 mod end_walk;
 mod invokes;
 mod laws;
 mod tx;
 mod tx_walk;
-mod way;
 
+pub use call_path::{CallPath, Called};
 pub use end::{
-    EndAt, EndGoes, EndSays, Visit, decide_query, decide_told, end_query, end_told, free_place,
+    EndAt, EndGoes, EndOutput, EndState, decide_query, decide_told, end_query, end_told, free_place,
 };
 pub use end_walk::EndWalk;
 pub use invokes::{invokes_query, invokes_told};
@@ -62,6 +63,5 @@ pub use laws::{
     a_free_stands_further, a_visit_begins, a_visit_stands, an_end_is_a_visit, an_operation_begins,
     an_operation_is_so, another_walk_leaves_the_end, the_closed_are_passed, the_next_call_is_found,
 };
-pub use tx::{TxAt, TxGoes, TxSays, tx_query, tx_told};
+pub use tx::{TxAt, TxGoes, TxOutput, tx_query, tx_told};
 pub use tx_walk::TxWalk;
-pub use way::{Called, Way};

@@ -2,8 +2,8 @@
 ghost use Rattle.std.specs.Prelude.{◌≡◌, None, true, IfOk, OnErr};
 ghost use Rattle.beldi_value.specs.declared.place.Owner.TheVariants as Owner;
 ghost use Rattle.beldi_row.specs.declared.act.Act.TheVariants as Act;
-ghost use Rattle.beldi_walk.specs.declared.query.Query.TheVariants as Query;
-ghost use Rattle.beldi_walk.specs.Query.{told_of, lends};
+ghost use Rattle.beldi_query.specs.declared.query.Query.TheVariants as Query;
+ghost use Rattle.beldi_query.specs.Query.{query_reply_of, lends};
 ghost use Rattle.beldi_row.specs.Key.{at_row};
 ghost use Rattle.beldi_row.specs.Log.{blank};
 ghost use Rattle.beldi_daal.specs.Cell.{write_asks, cell_key as cell_key_of, shadow_key as shadow_key_of};
@@ -11,17 +11,17 @@ ghost use Rattle.beldi_lock.specs.Lock.{lock_goes};
 ghost use Rattle.beldi_lock.specs.Lockset.{item_lent};
 ghost use Rattle.beldi_txn.specs.Tx.{tx_first, item_of as item_of_effect, op_of, done_of, tx_asks, item_asks, given_goes, locked_goes, lock_leads, shadow_read, seek_goes, item_leads, item_goes, keep_goes, head_made, note_goes, write_leads, died_goes, tx_goes};
 ghost use Rattle.beldi_txn.specs.declared.tx.TxAt.TheVariants as TxAt;
-ghost use Rattle.beldi_txn.specs.TxWalk.{gone, put_says, said_of};
+ghost use Rattle.beldi_txn.specs.TxWalk.{gone, put_output, output_of};
 
 use beldi_daal::{
     CellOp, ReadGoes, WriteAt, WriteGoes, cell_key, read_told, shadow_key, write_query, write_told,
 };
 use beldi_lang::Effect;
 use beldi_lock::{LockAt, LockGoes, lock_query, lock_told};
+use beldi_query::{Query, QueryReplyRef};
 use beldi_readlog::{given_told, log_key};
-use beldi_row::{Act, Blank, Note, RowKey, Said, copy_tx};
-use beldi_value::{Apart, Cause, IntentId, Owner, Place, Str, TxId, Value, or_drop};
-use beldi_walk::{Heard, Query};
+use beldi_row::{Act, ActReplyRef, Blank, Note, RowKey, copy_tx};
+use beldi_value::{Boxed, Cause, IntentId, Owner, Place, Str, TxId, Value, or_drop};
 use std::alloc::{AllocError, Global};
 use std::mem::replace;
 
@@ -69,7 +69,7 @@ pub enum TxGoes {
 
 /// What a turn of an operation of a transaction says.
 #[derive(Drop)]
-pub enum TxSays {
+pub enum TxOutput {
     /// The operation goes on.
     Going,
     /// The place died of the owner with the age in the cause, in this turn or before: the transaction is to be aborted.
@@ -98,33 +98,33 @@ impl TxAt {
 
     /// Goes on so; it says what the turn did. What kept a value tells it, and looks for it next; unless it says `Going`, any other
     /// stands where it stood.
-    pub fn go(&mut self, goes: TxGoes) -> TxSays
+    pub fn go(&mut self, goes: TxGoes) -> TxOutput
         ensures now { self.new ≡ gone self.old goes }
-        ensures says { result ≡ said_of self.old goes }
+        ensures output { result ≡ output_of self.old goes }
     {
         match goes {
             TxGoes::On(at) => {
                 drop(replace(self, at));
-                TxSays::Going
+                TxOutput::Going
             }
             TxGoes::Put => put(replace(self, TxAt::Log)),
-            TxGoes::Stays => TxSays::Going,
-            TxGoes::Died(cause) => TxSays::Died(cause),
-            TxGoes::Held(owner) => TxSays::Held(owner),
-            TxGoes::Worn => TxSays::Worn,
-            TxGoes::Value(value) => TxSays::Value(value),
-            TxGoes::Done => TxSays::Done,
+            TxGoes::Stays => TxOutput::Going,
+            TxGoes::Died(cause) => TxOutput::Died(cause),
+            TxGoes::Held(owner) => TxOutput::Held(owner),
+            TxGoes::Worn => TxOutput::Worn,
+            TxGoes::Value(value) => TxOutput::Value(value),
+            TxGoes::Done => TxOutput::Done,
         }
     }
 }
 
 // The value that was kept, as the answer.
-fn put(at: TxAt) -> TxSays
-    ensures { result ≡ put_says at }
+fn put(at: TxAt) -> TxOutput
+    ensures { result ≡ put_output at }
 {
     match at {
-        TxAt::Keep(value) => TxSays::Value(value),
-        _ => TxSays::Going,
+        TxAt::Keep(value) => TxOutput::Value(value),
+        _ => TxOutput::Going,
     }
 }
 
@@ -183,7 +183,7 @@ pub fn tx_query(
     tx: &TxId,
     effect: &Effect,
     at: &TxAt,
-) -> Result<Apart<Query>, AllocError>
+) -> Result<Boxed<Query>, AllocError>
     ensures { IfOk result (λ q. q ≡ tx_asks home place tx.now effect.now at.now) }
 {
     match item_of(effect) {
@@ -201,7 +201,7 @@ fn item_query(
     at: &TxAt,
     table: u16,
     key: &Str,
-) -> Result<Apart<Query>, AllocError>
+) -> Result<Boxed<Query>, AllocError>
     ensures { IfOk result (λ q. q ≡ item_asks home place tx.now effect.now table key.now at.now) }
 {
     match at {
@@ -242,7 +242,7 @@ fn look_aside(
     table: u16,
     key: &Str,
     row: u32,
-) -> Result<Apart<Query>, AllocError>
+) -> Result<Boxed<Query>, AllocError>
     ensures { IfOk result (λ q. q ≡ Query.Act (at_row (shadow_key_of home tx.now table key.now) row) Act.Look) }
 {
     Query::look(alloc, shadow_key(alloc, home, tx, table, key, row)?)
@@ -255,7 +255,7 @@ fn look_at(
     table: u16,
     key: &Str,
     row: u32,
-) -> Result<Apart<Query>, AllocError>
+) -> Result<Boxed<Query>, AllocError>
     ensures { IfOk result (λ q. q ≡ Query.Act (at_row (cell_key_of home table key.now) row) Act.Look) }
 {
     Query::look(alloc, cell_key(alloc, home, table, key, row)?)
@@ -269,7 +269,7 @@ fn head_query(
     table: u16,
     key: &Str,
     value: &Value,
-) -> Result<Apart<Query>, AllocError>
+) -> Result<Boxed<Query>, AllocError>
     ensures { IfOk result (λ q. q ≡ Query.Act (shadow_key_of home tx.now table key.now) (Act.MakeCell value.now None blank)) }
 {
     let row = shadow_key(alloc, home, tx, table, key, 0)?;
@@ -293,7 +293,7 @@ fn aside_query(
     table: u16,
     key: &Str,
     at: &WriteAt,
-) -> Result<Apart<Query>, AllocError>
+) -> Result<Boxed<Query>, AllocError>
     ensures { IfOk result (λ q. q ≡ item_asks home place tx.now effect.now table key.now (TxAt.Write at.now)) }
 {
     let row = or_drop!(shadow_key(alloc, home, tx, table, key, 0); place);
@@ -314,7 +314,7 @@ pub(crate) fn own_query(
     tx: &TxId,
     op: CellOp,
     at: &WriteAt,
-) -> Result<Apart<Query>, AllocError>
+) -> Result<Boxed<Query>, AllocError>
     ensures { IfOk result (λ q. q ≡ write_asks row place (Owner.Tx tx.now) op at.now) }
 {
     let who = Owner::Tx(or_drop!(copy_tx(tx, alloc); row, place, op));
@@ -328,10 +328,10 @@ pub fn tx_told(
     begin: u32,
     effect: &Effect,
     at: &TxAt,
-    heard: Heard<'_>,
+    heard: QueryReplyRef<'_>,
 ) -> Result<TxGoes, AllocError>
-    ensures ok { IfOk result (λ g. g ≡ tx_goes place.now begin effect.now at.now (told_of heard.entry)) }
-    ensures err { OnErr result (lends (told_of heard.entry) ≡ true) }
+    ensures ok { IfOk result (λ g. g ≡ tx_goes place.now begin effect.now at.now (query_reply_of heard.entry)) }
+    ensures err { OnErr result (lends (query_reply_of heard.entry) ≡ true) }
 {
     match at {
         TxAt::Log => Ok(given(begin, given_told(alloc, heard)?)),
@@ -360,10 +360,10 @@ fn hear_lock(
     place: &Place,
     effect: &Effect,
     at: &LockAt,
-    heard: Heard<'_>,
+    heard: QueryReplyRef<'_>,
 ) -> Result<TxGoes, AllocError>
-    ensures ok { IfOk result (λ g. g ≡ lock_leads place.now effect.now (lock_goes at.now (told_of heard.entry))) }
-    ensures err { OnErr result (lends (told_of heard.entry) ≡ true) }
+    ensures ok { IfOk result (λ g. g ≡ lock_leads place.now effect.now (lock_goes at.now (query_reply_of heard.entry))) }
+    ensures err { OnErr result (lends (query_reply_of heard.entry) ≡ true) }
 {
     match lock_told(alloc, at, heard)? {
         LockGoes::On(at) => Ok(TxGoes::On(TxAt::Lock(at))),
@@ -391,8 +391,8 @@ fn died(alloc: Global, place: &Place, holder: IntentId) -> Result<TxGoes, AllocE
     ensures { IfOk result (λ g. g ≡ died_goes place.now holder) }
 {
     let place = or_drop!(place.copy(alloc); holder);
-    let place = or_drop!(Apart::new(alloc, place); holder);
-    let holder = or_drop!(Apart::new(alloc, holder); place);
+    let place = or_drop!(Boxed::new(alloc, place); holder);
+    let holder = or_drop!(Boxed::new(alloc, holder); place);
     Ok(TxGoes::Died(Cause {
         place,
         holder: Some(holder),
@@ -412,12 +412,12 @@ fn shadow_said(said: ReadGoes) -> TxGoes
 }
 
 // A condition is tested on the copy, if there is one.
-fn seek_said(heard: Heard<'_>) -> TxGoes
-    ensures { result ≡ seek_goes (told_of heard.entry) }
+fn seek_said(heard: QueryReplyRef<'_>) -> TxGoes
+    ensures { result ≡ seek_goes (query_reply_of heard.entry) }
 {
     match heard {
-        Heard::Said(Said::Absent) => TxGoes::On(TxAt::Item(0)),
-        Heard::Said(Said::Row(_)) => TxGoes::On(TxAt::Write(WriteAt::Try(0))),
+        QueryReplyRef::Act(ActReplyRef::Absent) => TxGoes::On(TxAt::Item(0)),
+        QueryReplyRef::Act(ActReplyRef::Row(_)) => TxGoes::On(TxAt::Write(WriteAt::Try(0))),
         _ => TxGoes::Stays,
     }
 }
@@ -445,23 +445,23 @@ fn item_found(effect: &Effect, value: Value) -> TxGoes
 }
 
 // A value that is there is the answer in place of this one. A row of another kind, which no session writes there, reads as null.
-fn hear_keep(alloc: Global, heard: Heard<'_>) -> Result<TxGoes, AllocError>
-    ensures ok { IfOk result (λ g. g ≡ keep_goes (told_of heard.entry)) }
-    ensures err { OnErr result (lends (told_of heard.entry) ≡ true) }
+fn hear_keep(alloc: Global, heard: QueryReplyRef<'_>) -> Result<TxGoes, AllocError>
+    ensures ok { IfOk result (λ g. g ≡ keep_goes (query_reply_of heard.entry)) }
+    ensures err { OnErr result (lends (query_reply_of heard.entry) ≡ true) }
 {
     match heard {
-        Heard::Said(Said::Added) => Ok(TxGoes::Put),
-        Heard::Said(Said::Kept(value)) => Ok(TxGoes::Value(value.copy(alloc)?)),
+        QueryReplyRef::Act(ActReplyRef::Added) => Ok(TxGoes::Put),
+        QueryReplyRef::Act(ActReplyRef::Kept(value)) => Ok(TxGoes::Value(value.copy(alloc)?)),
         _ => Ok(TxGoes::Value(Value::Null)),
     }
 }
 
 // Once the copy is there, it is written.
-fn hear_head(heard: Heard<'_>) -> TxGoes
-    ensures { result ≡ head_made (told_of heard.entry) }
+fn hear_head(heard: QueryReplyRef<'_>) -> TxGoes
+    ensures { result ≡ head_made (query_reply_of heard.entry) }
 {
     match heard {
-        Heard::Said(Said::Added) | Heard::Said(Said::Present) => {
+        QueryReplyRef::Act(ActReplyRef::Added) | QueryReplyRef::Act(ActReplyRef::Present) => {
             TxGoes::On(TxAt::Write(WriteAt::Try(0)))
         }
         _ => TxGoes::Stays,

@@ -3,10 +3,10 @@ ghost use Rattle.std.specs.Prelude.{◌≡◌, true};
 ghost use Rattle.beldi_txn.specs.Tx.{is_operation};
 ghost use Rattle.beldi_txn.specs.TxWalk.{first_tx};
 
-use crate::tx::{TxAt, TxSays, tx_query, tx_told};
+use crate::tx::{TxAt, TxOutput, tx_query, tx_told};
 use beldi_lang::Effect;
-use beldi_value::{Apart, Place, TxId};
-use beldi_walk::{Heard, Query, Walk};
+use beldi_query::{Query, QueryReplyRef, Walk};
+use beldi_value::{Boxed, Place, TxId};
 use std::alloc::{AllocError, Global};
 
 /// A walk for an operation of a transaction on an item: a read, a write or a conditional write. It takes the item's lock, and then works
@@ -22,22 +22,22 @@ pub struct TxWalk {
 }
 
 impl Walk for TxWalk {
-    ghost use Rattle.beldi_txn.specs.TxWalk.{walk_asks, walk_next, walk_says};
+    ghost use Rattle.beldi_txn.specs.TxWalk.{walk_asks, walk_next, walk_output};
 
-    type Says = TxSays;
+    type Output = TxOutput;
 
     ghost asks = { walk_asks };
 
     ghost next = { walk_next };
 
-    ghost says = { walk_says };
+    ghost output = { walk_output };
 
-    fn ask(&self, alloc: Global) -> Result<Apart<Query>, AllocError> {
+    fn ask(&self, alloc: Global) -> Result<Boxed<Query>, AllocError> {
         let place = self.place.copy(alloc)?;
         tx_query(alloc, self.home, place, &self.tx, &self.effect, &self.at)
     }
 
-    fn told(&mut self, alloc: Global, heard: Heard<'_>) -> Result<TxSays, AllocError> {
+    fn resume(&mut self, alloc: Global, heard: QueryReplyRef<'_>) -> Result<TxOutput, AllocError> {
         let goes = tx_told(
             alloc,
             &self.place,

@@ -2,16 +2,16 @@
 use Rattle.std.proofs.Common.{Bool, ap, List, None, Option, Some, [], false, refl, sym, true, ℕ, ◌-◌, ◌∙◌, ◌∷◌, ◌≡◌}
 use Rattle.beldi_value.specs.{Id.has_callees, declared.id.IntentId.IntentId, declared.place.Caller.Caller, declared.place.Owner.Owner, declared.place.Place.Place, declared.place.TxId.TxId, declared.value.Value.Value}
 use Rattle.beldi_lang.specs.declared.effect.Effect.{Effect}
-use Rattle.beldi_order.proofs.Called.{not_root}
+use Rattle.beldi_plain_laws.proofs.Called.{not_root}
 use Rattle.beldi_row.specs.{Key.RowKey, Key.at_row, Log.blank, declared.act.Act.Act, declared.key.Kind.Kind}
-use Rattle.beldi_walk.specs.declared.query.Query.{Query}
+use Rattle.beldi_query.specs.declared.query.Query.{Query}
 use Rattle.beldi_daal.specs.{Cell.cell_key, Cell.op_act, Cell.shadow_key, Cell.write_asks, declared.cell.CellOp.CellOp, declared.cell.WriteAt.WriteAt}
 use Rattle.beldi_lock.specs.{Lock.asks_at, declared.lock.LockAt.LockAt}
 use Rattle.beldi_intent.specs.Intent.{root_key}
-use Rattle.beldi_txn.specs.{End.free_asks, End.first_visit, End.free_place, End.shadow_asks, End.visit_asks, End.visited_by, Tx.aside_asks, Tx.asks_of, Tx.item_asks, Tx.item_of, Tx.op_of, Way.Member, declared.end.EndAt.EndAt, declared.end.Visit.Visit, declared.tx.TxAt.TxAt, declared.way.Called.Called}
+use Rattle.beldi_txn.specs.{End.free_asks, End.first_visit, End.free_place, End.shadow_asks, End.visit_asks, End.visited_by, Tx.aside_asks, Tx.asks_of, Tx.item_asks, Tx.item_of, Tx.op_of, CallPath.Member, declared.end.EndAt.EndAt, declared.end.EndState.EndState, declared.tx.TxAt.TxAt, declared.call_path.Called.Called}
 use Rattle.beldi_call.specs.{Async.async_asks, declared.async_call.AsyncAt.AsyncAt, declared.call.CallAt.CallAt}
-use Rattle.beldi_step.specs.{declared.run.RunTx.RunTx, declared.run.Stage.Stage, Run.OnCell, Run.async_here_asks, Run.back_to_asks, Run.call_here_asks, Run.callee_body, Run.cell_op, Run.close_asks, Run.end_by_asks, Run.end_here_asks, Run.place_of, Run.put_asks, Run.stage_asks, Run.own_tx, Run.tell_asks, Run.tx_here_asks, Run.tx_of, Run.walk_asks}
-use Rattle.beldi_laws.proofs.Moves.{if_plan}
+use Rattle.beldi_step.specs.{declared.run.RunTx.RunTx, declared.run.Stage.Stage, Run.OnCell, Run.async_here_asks, Run.back_to_asks, Run.call_here_asks, Run.callee_body, Run.cell_op, Run.close_asks, Run.end_by_asks, Run.end_here_asks, Run.place_of, Run.put_asks, Run.stage_asks, Run.own_tx, Run.notify_asks, Run.tx_here_asks, Run.tx_of, Run.walk_asks}
+use Rattle.beldi_invariant.proofs.Moves.{if_plan}
 
 -- an act that may give a row a body
 abbrev pub sets_body : Act → Bool
@@ -102,12 +102,12 @@ module _ (id : IntentId) (func : ℕ) (c : Option Caller) (o : Option RunTx) (st
   here_tame e at None = λ s t e. cc
   here_tame e at (Some x) = tx_tame func (place_of id step) (tx_of id func x) e at (item_of e)
 
-  end_tame : (commit : Bool) (v : Visit) (x : Option RunTx) → Tame (end_by_asks id func step commit v x)
+  end_tame : (commit : Bool) (v : EndState) (x : Option RunTx) → Tame (end_by_asks id func step commit v x)
   end_tame commit v None = λ s t e. cc
   end_tame commit v (Some (RunTx.Inherited x)) = λ s t e. cc
-  end_tame commit v (Some (RunTx.Own x)) = visit_tame (own_tx id func x) step commit v.way v.after v.item v.value v.at
+  end_tame commit v (Some (RunTx.Own x)) = visit_tame (own_tx id func x) step commit v.path v.after v.item v.value v.at
 
-  end_here_tame : (e : Effect) (v : Visit) → Tame (end_here_asks id func step e v o)
+  end_here_tame : (e : Effect) (v : EndState) → Tame (end_here_asks id func step e v o)
   end_here_tame (Effect.End commit) v = end_tame commit v o
   end_here_tame e v = λ s t e. cc
 
@@ -125,7 +125,7 @@ module _ (id : IntentId) (func : ℕ) (c : Option Caller) (o : Option RunTx) (st
       by_at AsyncAt.Note = λ s t e. cc
   async_tame e at = λ s t e. cc
 
-  tell_tame : (x : Option Caller) → Tame (tell_asks id func x)
+  tell_tame : (x : Option Caller) → Tame (notify_asks id func x)
   tell_tame None = λ s t e. cc
   tell_tame (Some x) = λ s t e. cc
 
@@ -140,7 +140,7 @@ module _ (id : IntentId) (func : ℕ) (c : Option Caller) (o : Option RunTx) (st
   pub stage_tame : (e : Effect) (s : Stage) → Tame (stage_asks id func c o step e s)
   stage_tame e Stage.Ask = λ s t e. cc
   stage_tame e (Stage.Walk i) = walk_tame i e
-  stage_tame e (Stage.Keep v seen) = λ s t e. cc
+  stage_tame e (Stage.Keep v version) = λ s t e. cc
   stage_tame e (Stage.Write at) = put_tame at (cell_op e)
   stage_tame e (Stage.Tx at) = here_tame e at o
   stage_tame e (Stage.Decide m) = end_here_tame e first_visit
@@ -148,5 +148,5 @@ module _ (id : IntentId) (func : ℕ) (c : Option Caller) (o : Option RunTx) (st
   stage_tame e (Stage.Call at) = call_tame e at
   stage_tame e (Stage.Async at) = async_tame e at
   stage_tame e Stage.Back = back_tame c e
-  stage_tame e Stage.Tell = tell_tame c
+  stage_tame e Stage.Notify = tell_tame c
   stage_tame e Stage.Close = close_tame e

@@ -3,17 +3,17 @@ use Rattle.std.proofs.Common.{◌≡◌, ◌⊎◌, inl, inr, ℕ, ◌-◌, Bool
 use Rattle.beldi_value.specs.{Id.has_callees, declared.id.IntentId.IntentId, declared.place.Caller.Caller, declared.place.Owner.Owner, declared.place.Place.Place, declared.place.TxId.TxId}
 use Rattle.beldi_lang.specs.declared.effect.Effect.{Effect}
 use Rattle.beldi_row.specs.{Key.RowKey, Key.at_row}
-use Rattle.beldi_walk.specs.declared.query.Query.{Query}
+use Rattle.beldi_query.specs.declared.query.Query.{Query}
 use Rattle.beldi_daal.specs.{Cell.cell_key, Cell.shadow_key, Cell.write_asks, declared.cell.CellOp.CellOp, declared.cell.WriteAt.WriteAt}
 use Rattle.beldi_invokelog.specs.InvokeLog.{invoke_key}
 use Rattle.beldi_lock.specs.{Lock.asks_at, declared.lock.LockAt.LockAt}
-use Rattle.beldi_txn.specs.{End.first_visit, End.free_asks, End.free_place, End.shadow_asks, End.visit_asks, End.visited_by, Tx.aside_asks, Tx.asks_of, Tx.item_asks, Tx.item_of, Tx.op_of, declared.end.EndAt.EndAt, declared.end.Visit.Visit, declared.tx.TxAt.TxAt}
+use Rattle.beldi_txn.specs.{End.first_visit, End.free_asks, End.free_place, End.shadow_asks, End.visit_asks, End.visited_by, Tx.aside_asks, Tx.asks_of, Tx.item_asks, Tx.item_of, Tx.op_of, declared.end.EndAt.EndAt, declared.end.EndState.EndState, declared.tx.TxAt.TxAt}
 use Rattle.beldi_call.specs.{Async.async_asks, declared.async_call.AsyncAt.AsyncAt, declared.call.CallAt.CallAt}
-use Rattle.beldi_step.specs.Run.{OnCell, async_here_asks, asks_at as run_asks_at, back_to_asks, call_here_asks, callee_body, cell_op, close_asks, end_here_asks, own_tx, place_of, put_asks, stage_asks, tell_asks, tx_here_asks, tx_of, walk_asks}
+use Rattle.beldi_step.specs.Run.{OnCell, async_here_asks, asks_at as run_asks_at, back_to_asks, call_here_asks, callee_body, cell_op, close_asks, end_here_asks, own_tx, place_of, put_asks, stage_asks, notify_asks, tx_here_asks, tx_of, walk_asks}
 use Rattle.beldi_step.specs.declared.run.{OpenTx.OpenTx, Run.Run, RunAt.TheVariants.Looks, RunAt.TheVariants.Registers, RunAt.TheVariants.Begins, RunTx.RunTx, RunTx.TheVariants.Own, RunTx.TheVariants.Inherited, Stage.Stage}
 use Rattle.beldi_step.specs.declared.run.RunAt as standing
-use Rattle.beldi_step.proofs.Runs.{either, same_some}
-use Rattle.beldi_upkeep.specs.{Callees.belongs_to, Checked.is_visit, Work.AsksSo, Work.IsCallOf, Work.IsOfOther, Work.IsOwner, Work.IsRegistered, Work.RunsAskForWork, Work.called_in}
+use Rattle.beldi_step.proofs.StepRuns.{either, same_some}
+use Rattle.beldi_upkeep.specs.{Callees.belongs_to, Checked.is_visit, WorksFor.AsksSo, WorksFor.IsCallOf, WorksFor.IsOfOther, WorksFor.IsOwner, WorksFor.IsRegistered, WorksFor.RunsAskForWork, WorksFor.called_in}
 
 module _ (r : Run) (c : Option Caller) (step : ℕ) where
   -- ---- rows of the run's own intent, or of the owner of the transaction that it was called in; or of an item
@@ -117,27 +117,27 @@ module _ (r : Run) (c : Option Caller) (step : ℕ) where
   itself : (e : Effect) (o : Option RunTx) (s : Stage) (i : IntentId) → Some r.id ≡ Some i → {B : Type 0} → Works e o s i ⊎ B
   itself e o s i of = inl (inl (sym (same_some of)))
 
-  module _ (e : Effect) (o : OpenTx) (v : Visit) where
+  module _ (e : Effect) (o : OpenTx) (v : EndState) where
     abbrev t : TxId
     t = own_tx r.id r.func o
 
-    visits : (end : ℕ) (commit : Bool) (at : EndAt) → v.at ≡ at → Suits e (Some (Own o)) (Stage.End v) (visit_asks t end commit v.way v.after v.item v.value at)
+    visits : (end : ℕ) (commit : Bool) (at : EndAt) → v.at ≡ at → Suits e (Some (Own o)) (Stage.End v) (visit_asks t end commit v.path v.after v.item v.value at)
     visits end commit EndAt.Decide is = λ i of. itself e (Some (Own o)) (Stage.End v) i of
     visits end commit EndAt.Callees is = refl
     visits end commit EndAt.Next is = refl
     visits end commit (EndAt.Shadow n) is = by_item v.item
       where
-        by_item : (x : Option (ℕ × List ℕ)) → Suits e (Some (Own o)) (Stage.End v) (shadow_asks t (visited_by t v.way) n x)
+        by_item : (x : Option (ℕ × List ℕ)) → Suits e (Some (Own o)) (Stage.End v) (shadow_asks t (visited_by t v.path) n x)
         by_item None = refl
         by_item (Some x) = λ i of. itself e (Some (Own o)) (Stage.End v) i of
     visits end commit (EndAt.Free w) is = by_item v.item
       where
-        by_item : (x : Option (ℕ × List ℕ)) → Suits e (Some (Own o)) (Stage.End v) (free_asks t (visited_by t v.way) (free_place t end v.way) v.value w x)
+        by_item : (x : Option (ℕ × List ℕ)) → Suits e (Some (Own o)) (Stage.End v) (free_asks t (visited_by t v.path) (free_place t end v.path) v.value w x)
         by_item None = refl
-        by_item (Some x) = suits e (Some (Own o)) (Stage.End v) _ (cell_mine (Some (Own o)) (visited_by t v.way).1 x.0 x.1 (free_place t end v.way) (Owner.Tx t) (CellOp.Free v.value) w)
+        by_item (Some x) = suits e (Some (Own o)) (Stage.End v) _ (cell_mine (Some (Own o)) (visited_by t v.path).1 x.0 x.1 (free_place t end v.path) (Owner.Tx t) (CellOp.Free v.value) w)
     visits end commit EndAt.Stamp is = λ i of. inr (is, refl)
 
-  end_suits : (e : Effect) (v : Visit) (o : Option RunTx) → Suits e o (Stage.End v) (end_here_asks r.id r.func step e v o)
+  end_suits : (e : Effect) (v : EndState) (o : Option RunTx) → Suits e o (Stage.End v) (end_here_asks r.id r.func step e v o)
   end_suits (Effect.End commit) v None = λ i of. itself (Effect.End commit) None (Stage.End v) i of
   end_suits (Effect.End commit) v (Some (Own o)) = visits (Effect.End commit) o v step commit v.at refl
   end_suits (Effect.End commit) v (Some (Inherited x)) = λ i of. itself (Effect.End commit) (Some (Inherited x)) (Stage.End v) i of
@@ -156,14 +156,14 @@ module _ (r : Run) (c : Option Caller) (step : ℕ) where
   back_suits o (Some z) (Effect.Return u) is = λ i of. inr (subst (λ w. IsCallOf w (invoke_key z.func z.place)) (sym is) refl)
   back_suits o z e is = λ i of. itself e o Stage.Back i of
 
-  tell_suits : (o : Option RunTx) (z : Option Caller) (e : Effect) → c ≡ z → Suits e o Stage.Tell (tell_asks r.id r.func z)
-  tell_suits o None e is = λ i of. itself e o Stage.Tell i of
+  tell_suits : (o : Option RunTx) (z : Option Caller) (e : Effect) → c ≡ z → Suits e o Stage.Notify (notify_asks r.id r.func z)
+  tell_suits o None e is = λ i of. itself e o Stage.Notify i of
   tell_suits o (Some z) e is = λ i of. inr (subst (λ w. IsCallOf w (invoke_key z.func z.place)) (sym is) refl)
 
   by_stage : (o : Option RunTx) (e : Effect) (s : Stage) → Suits e o s (stage_asks r.id r.func c o step e s)
   by_stage o e Stage.Ask = λ i of. itself e o Stage.Ask i of
   by_stage o e (Stage.Walk n) = suits e o (Stage.Walk n) _ (walk_mine o n e)
-  by_stage o e (Stage.Keep v seen) = λ i of. itself e o (Stage.Keep v seen) i of
+  by_stage o e (Stage.Keep v version) = λ i of. itself e o (Stage.Keep v version) i of
   by_stage o e (Stage.Write at) = suits e o (Stage.Write at) _ (write_mine o at (cell_op e))
   by_stage o e (Stage.Tx at) = suits e o (Stage.Tx at) _ (here_mine e at o)
   by_stage o e (Stage.Decide m) = suits e o (Stage.Decide m) _ (decide_mine e o)
@@ -171,7 +171,7 @@ module _ (r : Run) (c : Option Caller) (step : ℕ) where
   by_stage o e (Stage.Call at) = suits e o (Stage.Call at) _ (call_mine o e at)
   by_stage o e (Stage.Async at) = async_suits o e at
   by_stage o e Stage.Back = back_suits o c e refl
-  by_stage o e Stage.Tell = tell_suits o c e refl
+  by_stage o e Stage.Notify = tell_suits o c e refl
   by_stage o e Stage.Close = suits e o Stage.Close _ (close_mine o e)
 
 by_at : (r : Run) (at : standing.RunAt) → AsksSo r at (run_asks_at r at)

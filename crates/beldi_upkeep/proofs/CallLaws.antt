@@ -1,20 +1,20 @@
--- What the rows tell of calls and owners, where they are right and have their seats.
+-- What the rows tell of calls and owners, where they have the invariant and have their seats.
 use Rattle.beldi_value.proofs.Callees.{no_root}
-use Rattle.beldi_known.proofs.Instances.{row_of}
-use Rattle.beldi_laws.proofs.Names.{Body, Bool, ByTx, CallMatches, CalleeBodyMatches, CalleeMatches, Caller, Core, Deployment, FinishMatches, Instance, IntentId, IntentMatches, IntentRow, InvokeRow, IsBodyOf, Item, None, Option, Outcome, Right, RootMatches, Row, RowKey, Rows, Some, TxId, ap, body_of, call_in, called_by, child_of, content_of, eq-eqb, false, has_ended, has_finish, has_no_hops, if◌then◌else◌, invoke_key, is_some, is_waited, key_in, none_by, owed_call, place_of, refl, result_in, result_of, same_some, subst, sym, true, tx_in, ℕ, ◌==◌, ◌∙◌, ◌≡◌}
-use Rattle.beldi_laws.proofs.Names.map
-use Rattle.beldi_laws.proofs.Returns.{HasCaller, has_caller}
+use Rattle.beldi_histories.proofs.Instances.{row_of}
+use Rattle.beldi_invariant.proofs.Names.{Body, Bool, ByTx, CallMatches, CalleeBodyMatches, CalleeMatches, Caller, Core, Deployment, FinishMatches, Instance, IntentId, IntentMatches, IntentRow, InvokeRow, IsBodyOf, Item, None, Option, Outcome, Invariant, RootMatches, Row, RowKey, Rows, Some, TxId, ap, body_of, call_in, called_by, child_of, content_of, eq-eqb, false, has_ended, has_finish, has_no_hops, if◌then◌else◌, invoke_key, is_some, is_waited, key_in, none_by, expected_call, place_of, refl, result_in, result_of, same_some, subst, sym, true, tx_in, ℕ, ◌==◌, ◌∙◌, ◌≡◌}
+use Rattle.beldi_invariant.proofs.Names.map
+use Rattle.beldi_invariant.proofs.Returns.{HasCaller, has_caller}
 use Rattle.beldi_invokelog.specs.InvokeLog.{registered_in}
 use Rattle.beldi_upkeep.specs.Callees.{EndedHaveTold, HasBody, HasCallee, HasToldCaller, OwnersAreOpen, RegisteredHaveCallees, Seats, owner_key}
-use Rattle.beldi_upkeep.proofs.{FromRight.body_known, FromRight.call_is, FromRight.row_at, FromRight.was_called, PastOwn.WasOwner, PastOwn.got_owner}
+use Rattle.beldi_upkeep.proofs.{FromInvariant.body_recorded, FromInvariant.call_is, FromInvariant.row_at, FromInvariant.was_called, PastOwn.WasOwner, PastOwn.got_owner}
 
-module _ (d : Deployment) (c : Core) (m : Rows) (h : Right d c m) (seats : Seats m) where
+module _ (d : Deployment) (c : Core) (m : Rows) (h : Invariant d c m) (seats : Seats m) where
   -- ---- a registered call
   module _ (f : ℕ) (i : IntentId) (n : ℕ) (x : InvokeRow) (at : map.get m (invoke_key f (place_of i n)) ≡ Some (Row.Invoke x)) where
     abbrev callee : IntentId
     callee = child_of i n
 
-    by_body : (r : IntentRow) → map.get m (key_in x.func callee) ≡ Some (Row.Intent r) → (o : Option Body) → r.body ≡ o → CalleeBodyMatches x.func o r.outcome (map.get h.known callee) → HasCallee m f i n x
+    by_body : (r : IntentRow) → map.get m (key_in x.func callee) ≡ Some (Row.Intent r) → (o : Option Body) → r.body ≡ o → CalleeBodyMatches x.func o r.outcome (map.get h.histories callee) → HasCallee m f i n x
     by_body r is None bare g = absurd g
     by_body r is (Some b) body g =
         let has : HasBody m x.func callee r b = record { there = is; body = body } in
@@ -25,41 +25,41 @@ module _ (d : Deployment) (c : Core) (m : Rows) (h : Right d c m) (seats : Seats
           body = b;
           has = has;
           caller = record { place = place_of i n; func = w.caller.func; waits = w.called.waits };
-          from = ap (λ (z : Body). z.from) w.its ∙ w.called.from;
+          parent = ap (λ (z : Body). z.parent) w.its ∙ w.called.parent;
           place = refl;
           func = ap (λ (z : Instance). z.func) (same_some (sym w.made ∙ q.made)) ∙ q.func;
         }
 
-    by_row : (o : Option Row) → map.get m (key_in x.func callee) ≡ o → is_some o ≡ true → CalleeMatches (has_ended d h.known) x.func o (map.get h.known callee) → HasCallee m f i n x
+    by_row : (o : Option Row) → map.get m (key_in x.func callee) ≡ o → is_some o ≡ true → CalleeMatches (has_ended d h.histories) x.func o (map.get h.histories callee) → HasCallee m f i n x
     by_row None is there g = cc
     by_row (Some (Row.Intent r)) is there g = by_body r is r.body refl g.body
     by_row (Some w) is there g = absurd g
 
     have : x.registered ≡ true → HasCallee m f i n x
     have is = by_row (map.get m (key_in x.func callee)) refl (seats.enrolled f i n x at is)
-        (subst (λ b. IntentMatches (has_ended d h.known) b x.func (map.get m (key_in x.func callee)) (map.get h.known callee)) (no_root i n) (h.rows.keys (key_in x.func callee)))
+        (subst (λ b. IntentMatches (has_ended d h.histories) b x.func (map.get m (key_in x.func callee)) (map.get h.histories callee)) (no_root i n) (h.rows.keys (key_in x.func callee)))
 
   -- ---- who has its outcome
-  module _ (home : ℕ) (i : IntentId) (r : IntentRow) (b : Body) (z : Caller) (o : Outcome) (body : HasBody m home i r b) (from : b.from ≡ Some z) (out : r.outcome ≡ Some o) where
-    k : IsBodyOf b (map.get h.known i)
-    k = body_known d c m h home i r b body
+  module _ (home : ℕ) (i : IntentId) (r : IntentRow) (b : Body) (z : Caller) (o : Outcome) (body : HasBody m home i r b) (from : b.parent ≡ Some z) (out : r.outcome ≡ Some o) where
+    k : IsBodyOf b (map.get h.histories i)
+    k = body_recorded d c m h home i r b body
 
-    w : HasCaller d h.known i k.instance z
-    w = has_caller d h.known i k.instance z h.sane k.made (ap (λ (y : Body). y.from) (sym k.body) ∙ from)
+    w : HasCaller d h.histories i k.instance z
+    w = has_caller d h.histories i k.instance z h.well_formed k.made (ap (λ (y : Body). y.parent) (sym k.body) ∙ from)
 
     abbrev key : RowKey
     key = invoke_key z.func z.place
 
-    callee_is : map.get h.known (child_of z.place.intent z.place.step) ≡ Some k.instance
-    callee_is = ap (map.get h.known) (sym w.is_callee) ∙ k.made
+    callee_is : map.get h.histories (child_of z.place.intent z.place.step) ≡ Some k.instance
+    callee_is = ap (map.get h.histories) (sym w.is_callee) ∙ k.made
 
-    owed : (t : Bool) → z.waits ≡ t → owed_call h.known z.func z.place ≡ Some (k.instance.func, (if t then k.instance.outcome else None))
+    owed : (t : Bool) → z.waits ≡ t → expected_call h.histories z.func z.place ≡ Some (k.instance.func, (if t then k.instance.outcome else None))
     owed t waits =
         (λ j. called_by z.func (w.made j) (callee_is j)) ∙ ap (λ u. if u then Some (k.instance.func, result_of k.instance) else None) (eq-eqb w.caller.func z.func w.func)
-        ∙ ap (λ u. Some (k.instance.func, (if u then k.instance.outcome else None))) (ap is_waited (ap (λ (y : Body). y.from) (sym k.body) ∙ from) ∙ waits)
+        ∙ ap (λ u. Some (k.instance.func, (if u then k.instance.outcome else None))) (ap is_waited (ap (λ (y : Body). y.parent) (sym k.body) ∙ from) ∙ waits)
 
     outcome : k.instance.outcome ≡ Some o
-    outcome = (row_of (has_ended d h.known) (has_no_hops i.hops) home r (map.get h.known i) (row_at d c m h home i (Some (Row.Intent r)) body.there)).outcome b o k.instance body.body out k.made
+    outcome = (row_of (has_ended d h.histories) (has_no_hops i.hops) home r (map.get h.histories i) (row_at d c m h home i (Some (Row.Intent r)) body.there)).outcome b o k.instance body.body out k.made
 
     by_mark : (x : InvokeRow) (t : Bool) → x.registered ≡ t → map.get m key ≡ Some (Row.Invoke x) → z.waits ≡ false → t ≡ true
     by_mark x true e at waits = refl
@@ -78,8 +78,8 @@ module _ (d : Deployment) (c : Core) (m : Rows) (h : Right d c m) (seats : Seats
 
   -- ---- owners
   module _ (t : TxId) (x : Item) (r : IntentRow) (owned : (content_of m x).owner ≡ Some (ByTx t)) (at : map.get m (owner_key t) ≡ Some (Row.Intent r)) where
-    its : WasOwner d h.known t
-    its = got_owner d h.known h.sane t h.locked x ((h.rows.txs x).owned_is_got t owned)
+    its : WasOwner d h.histories t
+    its = got_owner d h.histories h.well_formed t h.lock_ahead x ((h.rows.txs x).owned_is_got t owned)
 
     unfinished : r.finish ≡ None
     unfinished = none_by r.finish (λ f e. absurd (seats.owns_none t x (ap has_finish at ∙ ap is_some e) owned))
@@ -88,17 +88,17 @@ module _ (d : Deployment) (c : Core) (m : Rows) (h : Right d c m) (seats : Seats
     by_root true g = g.finishes
     by_root false g = cc
 
-    by_callee : (b : Option Body) → CalleeBodyMatches (owner_key t).home b r.outcome (Some its.owner) → FinishMatches (has_ended d h.known) (tx_in b) r.finish r.outcome → is_some r.finish ≡ is_some r.outcome
+    by_callee : (b : Option Body) → CalleeBodyMatches (owner_key t).home b r.outcome (Some its.owner) → FinishMatches (has_ended d h.histories) (tx_in b) r.finish r.outcome → is_some r.finish ≡ is_some r.outcome
     by_callee None g f = absurd g
-    by_callee (Some b) g f = subst (λ w. FinishMatches (has_ended d h.known) w r.finish r.outcome) (ap (λ (z : Body). z.tx) (g.0.body ∙ ap body_of (same_some (sym g.0.made))) ∙ its.outside) f
+    by_callee (Some b) g f = subst (λ w. FinishMatches (has_ended d h.histories) w r.finish r.outcome) (ap (λ (z : Body). z.tx) (g.0.body ∙ ap body_of (same_some (sym g.0.made))) ∙ its.outside) f
 
-    both : (b : Bool) → IntentMatches (has_ended d h.known) b (owner_key t).home (Some (Row.Intent r)) (Some its.owner) → is_some r.finish ≡ is_some r.outcome
+    both : (b : Bool) → IntentMatches (has_ended d h.histories) b (owner_key t).home (Some (Row.Intent r)) (Some its.owner) → is_some r.finish ≡ is_some r.outcome
     both true g = by_root ((owner_key t).home == 0) g
     both false g = by_callee r.body g.body g.finishes
 
     is_open : (r.outcome ≡ None) × (r.finish ≡ None)
     is_open = (
-      none_by r.outcome (λ o e. let clash = sym (ap is_some unfinished) ∙ both (has_no_hops t.intent.hops) (subst (IntentMatches (has_ended d h.known) (has_no_hops t.intent.hops) (owner_key t).home (Some (Row.Intent r))) its.made (row_at d c m h (owner_key t).home t.intent (Some (Row.Intent r)) at)) ∙ ap is_some e in cc),
+      none_by r.outcome (λ o e. let clash = sym (ap is_some unfinished) ∙ both (has_no_hops t.intent.hops) (subst (IntentMatches (has_ended d h.histories) (has_no_hops t.intent.hops) (owner_key t).home (Some (Row.Intent r))) its.made (row_at d c m h (owner_key t).home t.intent (Some (Row.Intent r)) at)) ∙ ap is_some e in cc),
       unfinished,
     )
 

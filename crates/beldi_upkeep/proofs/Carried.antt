@@ -6,17 +6,17 @@ use Rattle.std.proofs.Common.{Bool, List, None, Option, Some, [], ap, false, if�
 use Rattle.std.specs.Ordering.{is_eq}
 use Rattle.std.proofs.lemmas.Bool.{false_from_ne_true, or_cases, or_parts}
 use Rattle.beldi_value.specs.{declared.id.IntentId.IntentId, declared.place.TxId.TxId, declared.value.Value.Value}
-use Rattle.beldi_tree.specs.{Command.Command, Command.async, Command.lock, declared.deployment.Deployment.Deployment, declared.deployment.Func.Func}
-use Rattle.beldi_lang.specs.{Locks.is_held, Wants.is_inside, Wants.wants, declared.effect.Answer.Answer, declared.effect.Effect.Effect}
-use Rattle.beldi_check.specs.{Calls.blocks, Calls.reaches, Keeps.KeepsRules, Rules.is_async, Rules.is_lock, Rules.some_if, declared.calls.Link.TheVariants.Call, declared.rules.Rule.Rule}
+use Rattle.beldi_tree.specs.{StatementCommand.Command, StatementCommand.async, StatementCommand.lock, declared.deployment.Deployment.Deployment, declared.deployment.Func.Func}
+use Rattle.beldi_lang.specs.{HeldLocks.is_held, Wants.is_inside, Wants.wants, declared.effect.Answer.Answer, declared.effect.Effect.Effect}
+use Rattle.beldi_check.specs.{CallGraph.blocks, CallGraph.reaches, Keeps.KeepsRules, Rules.is_async, Rules.is_lock, Rules.some_if, declared.calls.Link.TheVariants.Call, declared.rules.Rule.Rule}
 use Rattle.beldi_plain.specs.{Holds.held_along, Holds.held_if, Item.Item, Item.item_cmp, Operation.op_of, Plain.Instance, Plain.item_of}
-use Rattle.beldi_order.specs.Sane.{call_of}
-use Rattle.beldi_order.specs.Txs.{effect_after, txs_after}
+use Rattle.beldi_plain_laws.specs.WellFormedState.{call_of}
+use Rattle.beldi_plain_laws.specs.Txs.{effect_after, txs_after}
 use Rattle.beldi_call.specs.declared.{async_call.AsyncAt.AsyncAt, call.CallAt.CallAt}
-use Rattle.beldi_step.specs.{declared.run.OpenTx.OpenTx, declared.run.RunTx.RunTx, declared.run.RunTx.TheVariants.Inherited, declared.run.RunTx.TheVariants.Own, Run.answer_at_once, Run.first_stage, declared.run.Stage.Stage}
-use Rattle.beldi_known.specs.{Known.Known, Sane.Sane}
-use Rattle.beldi_known.proofs.{Begins.is_begun, Begins.is_leaving, Cases.by_cases, Cases.by_option, Cases.if_same, Flows.Phase, Flows.leaving, Phases.at, Phases.begin_is, Phases.end_is, Phases.inside_is, Phases.is_locking, Phases.none_begun_inside}
-use Rattle.beldi_laws.specs.Right.{open_of}
+use Rattle.beldi_step.specs.{declared.run.OpenTx.OpenTx, declared.run.RunTx.RunTx, declared.run.RunTx.TheVariants.Inherited, declared.run.RunTx.TheVariants.Own, Run.local_answer, Run.first_stage, declared.run.Stage.Stage}
+use Rattle.beldi_histories.specs.{Histories.Histories, WellFormedHistories.WellFormedHistories}
+use Rattle.beldi_histories.proofs.{Begins.is_begun, Begins.is_leaving, Cases.by_cases, Cases.by_option, Cases.if_same, Flows.Phase, Flows.leaving, Phases.at, Phases.begin_is, Phases.end_is, Phases.inside_is, Phases.is_locking, Phases.none_begun_inside}
+use Rattle.beldi_invariant.specs.Invariant.{open_of}
 use Rattle.beldi_upkeep.specs.Checked.{BoundsAreOwn, CallersAreShort, EffectsAreCarriedOut, NoneIsInside, has_func, is_for_outside}
 use Rattle.beldi_upkeep.specs.Written.{IsOf, IsWritten, Written}
 use Rattle.beldi_upkeep.proofs.{Chains.called_within, Chains.may_call, Frees.frees_what_it_holds, Functions.calls, Functions.instances_of_it, Open.Agrees, Open.agrees, Open.own_begin, Sites.wants_written}
@@ -58,9 +58,9 @@ none_locked x func (Effect.Lock t k) h = cc
 none_locked x func (Effect.Unlock t k) h = if_same (is_eq (item_cmp (record { func = func; table = t; key = k }) x)) false
 none_locked x func e h = refl
 
-none_held : (d : Deployment) (q : Instance) (x : Item) → ((given : List Answer) → is_locking (effect_after d q given) ≡ false) → (given rest : List Answer) → held_along d x q.func q.args (is_some q.within) given rest false ≡ false
+none_held : (d : Deployment) (q : Instance) (x : Item) → ((given : List Answer) → is_locking (effect_after d q given) ≡ false) → (given rest : List Answer) → held_along d x q.func q.args (is_some q.enclosing) given rest false ≡ false
 none_held d q x never given [] = refl
-none_held d q x never given (a ∷ rest) = ap (held_along d x q.func q.args (is_some q.within) (given ++ a ∷ []) rest) (none_locked x q.func (effect_after d q given) (never given)) ∙ none_held d q x never (given ++ a ∷ []) rest
+none_held d q x never given (a ∷ rest) = ap (held_along d x q.func q.args (is_some q.enclosing) (given ++ a ∷ []) rest) (none_locked x q.func (effect_after d q given) (never given)) ∙ none_held d q x never (given ++ a ∷ []) rest
 
 begun_stands : (p : Phase) → is_begun p ≡ true → is_leaving p ≡ false
 begun_stands (leaving o) h = cc
@@ -68,19 +68,19 @@ begun_stands p h = refl
 
 -- who is to end a transaction is in its own
 ends_own : (d : Deployment) (q : Instance) (given : List Answer) (commit : Bool) → effect_after d q given ≡ Effect.End commit → (x : OpenTx) × (open_of d q given ≡ Some (Own x))
-ends_own d q given commit is = by_within q.within refl (agrees d q given)
+ends_own d q given commit is = by_within q.enclosing refl (agrees d q given)
   where
     begun : is_some (txs_after d q given).begun ≡ true
     begun = end_is d q given commit is
 
-    by_within : (w : Option TxId) → q.within ≡ w → Agrees w (txs_after d q given).begun (open_of d q given) → (x : OpenTx) × (open_of d q given ≡ Some (Own x))
+    by_within : (w : Option TxId) → q.enclosing ≡ w → Agrees w (txs_after d q given).begun (open_of d q given) → (x : OpenTx) × (open_of d q given ≡ Some (Own x))
     by_within None e h = own_open (txs_after d q given).begun (open_of d q given) begun h.0
     by_within (Some s) e h = let clash = sym (none_begun_inside d q given (ap is_some e)) ∙ begun in cc
 
--- ---- an instance that is known
-module _ (d : Deployment) (rules : KeepsRules d.funcs) (known : Known) (sane : Sane d known) (there : (id : IntentId) (q : Instance) → map.get known id ≡ Some q → has_func d q.func ≡ true) (id : IntentId) (q : Instance) (made : map.get known id ≡ Some q) where
+-- ---- an instance that has a history
+module _ (d : Deployment) (rules : KeepsRules d.funcs) (histories : Histories) (well_formed : WellFormedHistories d histories) (there : (id : IntentId) (q : Instance) → map.get histories id ≡ Some q → has_func d q.func ≡ true) (id : IntentId) (q : Instance) (made : map.get histories id ≡ Some q) where
   abbrev i : Bool
-  i = is_some q.within
+  i = is_some q.enclosing
 
   -- its function, which the first block of a transaction leads to where it was called in one
   record Mine : Type 0 where
@@ -100,7 +100,7 @@ module _ (d : Deployment) (rules : KeepsRules d.funcs) (known : Known) (sane : S
   reached = reaches Call d.funcs (blocks d.funcs) mine.number
 
   inherits : i ≡ true → reached ≡ true
-  inherits inner = by_option q.within (λ e. let clash = sym (ap is_some e) ∙ inner in cc) (λ s e. called_within d rules known sane there s id q made e mine.number mine.is)
+  inherits inner = by_option q.enclosing (λ e. let clash = sym (ap is_some e) ∙ inner in cc) (λ s e. called_within d rules histories well_formed there s id q made e mine.number mine.is)
 
   written : (given : List Answer) → IsWritten d mine.func.body i (is_inside d q.func q.args i given) (effect_after d q given)
   written given = subst (λ f. IsWritten d mine.func.body i (is_inside d f q.args i given) (wants d f q.args i given)) (sym mine.is) (wants_written d mine.number mine.func q.args i given mine.at)
@@ -168,14 +168,14 @@ module _ (d : Deployment) (rules : KeepsRules d.funcs) (known : Known) (sane : S
     o = open_of d q given
 
     out : is_inside d q.func q.args i given ≡ false → o ≡ None
-    out none = not_open q.within (txs_after d q given).begun o (sym (inside_is d q given) ∙ none) (agrees d q given)
+    out none = not_open q.enclosing (txs_after d q given).begun o (sym (inside_is d q given) ∙ none) (agrees d q given)
 
-    by_effect : (e : Effect) → effect_after d q given ≡ e → (is_some (answer_at_once id (length given) e) || is_some (first_stage id q.from o (length given) e)) ≡ true
-    by_effect (Effect.Lock t k) is = ap (λ z. is_some (first_stage id q.from z (length given) (Effect.Lock t k))) (out (lock_outside given t k is))
-    by_effect (Effect.Unlock t k) is = ap (λ z. is_some (first_stage id q.from z (length given) (Effect.Unlock t k))) (out (unlock_outside given t k is))
-    by_effect (Effect.Call f v) is = ap (λ b. is_some (if b then Some (Stage.Call CallAt.Open) else None)) (may_call d rules known sane there id q made given f (ap calls is))
-    by_effect (Effect.Async f v) is = ap (λ z. is_some (first_stage id q.from z (length given) (Effect.Async f v))) (out (async_outside given f v is)) ∙ ap (λ b. is_some (if b then Some (Stage.Async AsyncAt.Open) else None)) (may_call d rules known sane there id q made given f (ap calls is))
-    by_effect (Effect.End commit) is = let x = ends_own d q given commit is in ap (λ z. is_some (first_stage id q.from z (length given) (Effect.End commit))) x.1
+    by_effect : (e : Effect) → effect_after d q given ≡ e → (is_some (local_answer id (length given) e) || is_some (first_stage id q.parent o (length given) e)) ≡ true
+    by_effect (Effect.Lock t k) is = ap (λ z. is_some (first_stage id q.parent z (length given) (Effect.Lock t k))) (out (lock_outside given t k is))
+    by_effect (Effect.Unlock t k) is = ap (λ z. is_some (first_stage id q.parent z (length given) (Effect.Unlock t k))) (out (unlock_outside given t k is))
+    by_effect (Effect.Call f v) is = ap (λ b. is_some (if b then Some (Stage.Call CallAt.Open) else None)) (may_call d rules histories well_formed there id q made given f (ap calls is))
+    by_effect (Effect.Async f v) is = ap (λ z. is_some (first_stage id q.parent z (length given) (Effect.Async f v))) (out (async_outside given f v is)) ∙ ap (λ b. is_some (if b then Some (Stage.Async AsyncAt.Open) else None)) (may_call d rules histories well_formed there id q made given f (ap calls is))
+    by_effect (Effect.End commit) is = let x = ends_own d q given commit is in ap (λ z. is_some (first_stage id q.parent z (length given) (Effect.End commit))) x.1
     by_effect e is = refl
 
     by_outside : (z : Effect) → effect_after d q given ≡ z → is_for_outside z ≡ true → o ≡ None
@@ -185,21 +185,21 @@ module _ (d : Deployment) (rules : KeepsRules d.funcs) (known : Known) (sane : S
     by_outside z is on = cc
 
 pub carried_out : EffectsAreCarriedOut
-carried_out d c m h id q given made = by_effect d h.rules h.right.known h.right.sane (instances_of_it d c m h) id q made given (effect_after d q given) refl
+carried_out d c m h id q given made = by_effect d h.rules h.invariant.histories h.invariant.well_formed (instances_of_it d c m h) id q made given (effect_after d q given) refl
 
 -- ---- the parts of it
 pub none_inside : NoneIsInside
-none_inside d c m h id q given made on = by_outside d h.rules h.right.known h.right.sane (instances_of_it d c m h) id q made given (effect_after d q given) refl on
+none_inside d c m h id q given made on = by_outside d h.rules h.invariant.histories h.invariant.well_formed (instances_of_it d c m h) id q made given (effect_after d q given) refl on
 
 called_by : (w : Bool) (f : ℕ) (a : Value) → calls (call_of w f a) ≡ Some f
 called_by true f a = refl
 called_by false f a = refl
 
 pub callers_short : CallersAreShort
-callers_short d c m h id q given w f a made is = may_call d h.rules h.right.known h.right.sane (instances_of_it d c m h) id q made given f (ap calls is ∙ called_by w f a)
+callers_short d c m h id q given w f a made is = may_call d h.rules h.invariant.histories h.invariant.well_formed (instances_of_it d c m h) id q made given f (ap calls is ∙ called_by w f a)
 
 pub bounds_own : BoundsAreOwn
 bounds_own d q given = record {
-  begins = λ is. let k = begin_is d q given is in not_open q.within (txs_after d q given).begun (open_of d q given) ((λ i. is_some (txs_after d q given).begun || is_some (k.0 i)) ∙ ap (λ b. b || false) k.1) (agrees d q given);
+  begins = λ is. let k = begin_is d q given is in not_open q.enclosing (txs_after d q given).begun (open_of d q given) ((λ i. is_some (txs_after d q given).begun || is_some (k.0 i)) ∙ ap (λ b. b || false) k.1) (agrees d q given);
   ends = ends_own d q given;
 }

@@ -7,12 +7,12 @@ use Rattle.std.specs.FinMap as map
 use Rattle.beldi_value.specs.{Id.has_callees, declared.id.IntentId.IntentId, declared.place.TxId.TxId, declared.value.Value.Value}
 use Rattle.beldi_tree.specs.declared.deployment.Deployment.{Deployment}
 use Rattle.beldi_lang.specs.{Wants.is_inside, declared.effect.Answer.Answer}
-use Rattle.beldi_check.specs.{Calls.blocks, Calls.edge, Calls.reaches, Keeps.KeepsRules, declared.calls.Link.TheVariants.Call, declared.calls.Link.TheVariants.Start}
+use Rattle.beldi_check.specs.{CallGraph.blocks, CallGraph.edge, CallGraph.reaches, Keeps.KeepsRules, declared.calls.Link.TheVariants.Call, declared.calls.Link.TheVariants.Start}
 use Rattle.beldi_plain.specs.Plain.{Instance, effect_before}
-use Rattle.beldi_order.proofs.Line.{longer}
-use Rattle.beldi_order.specs.{Sane.call_of, Txs.effect_after, Txs.txs_after}
-use Rattle.beldi_known.specs.{Known.Known, Sane.Sane}
-use Rattle.beldi_known.proofs.{Callers.CallerOf, Callers.WasCalled, Callers.all_called, Callers.root_or_called, OwnTx.Own, Phases.tx_is}
+use Rattle.beldi_plain_laws.proofs.CallStack.{longer}
+use Rattle.beldi_plain_laws.specs.{WellFormedState.call_of, Txs.effect_after, Txs.txs_after}
+use Rattle.beldi_histories.specs.{Histories.Histories, WellFormedHistories.WellFormedHistories}
+use Rattle.beldi_histories.proofs.{Callers.CallerOf, Callers.WasCalled, Callers.all_called, Callers.root_or_called, OwnTx.Own, Phases.tx_is}
 use Rattle.beldi_upkeep.specs.Checked.{has_func}
 use Rattle.beldi_upkeep.proofs.{Edges.Edge, Edges.edge_of, Edges.is_call, Edges.reach_more, Edges.reach_one, Functions.calls}
 
@@ -53,14 +53,14 @@ module _ (d : Deployment) (rules : KeepsRules d.funcs) where
   effect_calls true f a = refl
   effect_calls false f a = refl
 
-  module _ (known : Known) (sane : Sane d known) (there : (id : IntentId) (q : Instance) → map.get known id ≡ Some q → has_func d q.func ≡ true) where
+  module _ (histories : Histories) (well_formed : WellFormedHistories d histories) (there : (id : IntentId) (q : Instance) → map.get histories id ≡ Some q → has_func d q.func ≡ true) where
     same_at : (x y : ℕ) → suc x ≡ suc y → x ≡ y
     same_at x y e = omega (arith, e)
 
-    chained : (n : ℕ) (id : IntentId) (q : Instance) → length id.hops < n → map.get known id ≡ Some q → Chain id q
+    chained : (n : ℕ) (id : IntentId) (q : Instance) → length id.hops < n → map.get histories id ≡ Some q → Chain id q
     unfolding IsDistinct
     chained zero id q few made = absurd (omega (arith, few))
-    chained (suc n) id q few made = elim (root_or_called d known sane id q made) [
+    chained (suc n) id q few made = elim (root_or_called d histories well_formed id q made) [
       | inl root ↦ let f = numbered q.func (there id q made) in record {
         at = f.0;
         func = f.1;
@@ -71,9 +71,9 @@ module _ (d : Deployment) (rules : KeepsRules d.funcs) where
       | inr c ↦ by_caller c (chained n c.caller c.waiter (let m = longer c.caller c.step in let k = ap (λ (z : IntentId). length z.hops) c.is in omega (arith, few, m, k)) c.made)
     ]
       where
-        by_caller : (c : WasCalled d known id q) → Chain c.caller c.waiter → Chain id q
+        by_caller : (c : WasCalled d histories id q) → Chain c.caller c.waiter → Chain id q
         by_caller c h =
-            let e = edge_of d rules c.waiter.func c.waiter.args (is_some c.waiter.within) (take c.step c.waiter.answers) q.func (ap calls c.called.call ∙ effect_calls c.called.waits q.func q.args) in
+            let e = edge_of d rules c.waiter.func c.waiter.args (is_some c.waiter.enclosing) (take c.step c.waiter.answers) q.func (ap calls c.called.call ∙ effect_calls c.called.waits q.func q.args) in
             let same : e.from ≡ h.at = same_at e.from h.at (sym e.caller ∙ h.func) in
             let step = subst (λ z. edge Start d.funcs z e.to ≡ true) same e.starts in
             record {
@@ -85,11 +85,11 @@ module _ (d : Deployment) (rules : KeepsRules d.funcs) where
             }
 
     -- who calls may: its id has fewer than 63 hops
-    pub may_call : (id : IntentId) (q : Instance) → map.get known id ≡ Some q → (given : List Answer) (g : ℕ) → calls (effect_after d q given) ≡ Some g → has_callees id ≡ true
+    pub may_call : (id : IntentId) (q : Instance) → map.get histories id ≡ Some q → (given : List Answer) (g : ℕ) → calls (effect_after d q given) ≡ Some g → has_callees id ≡ true
     unfolding IsDistinct
     may_call id q made given g is =
         let h = chained (suc (length id.hops)) id q (omega arith) made in
-        let e = edge_of d rules q.func q.args (is_some q.within) given g is in
+        let e = edge_of d rules q.func q.args (is_some q.enclosing) given g is in
         let same : e.from ≡ h.at = same_at e.from h.at (sym e.caller ∙ h.func) in
         let step = subst (λ z. edge Start d.funcs z e.to ≡ true) same e.starts in
         let on = more h.at e.to h.callers (subst (λ z. z < length d.funcs) same e.from_there) (reach_one Start d.funcs h.at e.to step) (λ a r. reach_more Start d.funcs a h.at e.to r step) h.before in
@@ -103,26 +103,26 @@ module _ (d : Deployment) (rules : KeepsRules d.funcs) where
 
     -- ---- in transactions
     -- who was called in one is of a function that the first block of one leads to
-    pub called_within : (s : TxId) (id : IntentId) (q : Instance) → map.get known id ≡ Some q → q.within ≡ Some s → (n : ℕ) → q.func ≡ suc n → reaches Call d.funcs (blocks d.funcs) n ≡ true
-    called_within s = all_called d known sane s (λ i z. (n : ℕ) → z.func ≡ suc n → reaches Call d.funcs (blocks d.funcs) n ≡ true) first later
+    pub called_within : (s : TxId) (id : IntentId) (q : Instance) → map.get histories id ≡ Some q → q.enclosing ≡ Some s → (n : ℕ) → q.func ≡ suc n → reaches Call d.funcs (blocks d.funcs) n ≡ true
+    called_within s = all_called d histories well_formed s (λ i z. (n : ℕ) → z.func ≡ suc n → reaches Call d.funcs (blocks d.funcs) n ≡ true) first later
       where
-        edge_at : (i : IntentId) (z : Instance) (c : CallerOf d known s i z) → Edge d (is_some c.waiter.within) (is_inside d c.waiter.func c.waiter.args (is_some c.waiter.within) (take c.step c.waiter.answers)) (effect_before d c.waiter c.step) c.waiter.func z.func
-        edge_at i z c = edge_of d rules c.waiter.func c.waiter.args (is_some c.waiter.within) (take c.step c.waiter.answers) z.func (ap calls c.call)
+        edge_at : (i : IntentId) (z : Instance) (c : CallerOf d histories s i z) → Edge d (is_some c.waiter.enclosing) (is_inside d c.waiter.func c.waiter.args (is_some c.waiter.enclosing) (take c.step c.waiter.answers)) (effect_before d c.waiter c.step) c.waiter.func z.func
+        edge_at i z c = edge_of d rules c.waiter.func c.waiter.args (is_some c.waiter.enclosing) (take c.step c.waiter.answers) z.func (ap calls c.call)
 
-        called : (i : IntentId) (z : Instance) (c : CallerOf d known s i z) → is_call (effect_before d c.waiter c.step) ≡ true
+        called : (i : IntentId) (z : Instance) (c : CallerOf d histories s i z) → is_call (effect_before d c.waiter c.step) ≡ true
         called i z c = ap is_call c.call
 
-        inside : (i : IntentId) (z : Instance) (c : CallerOf d known s i z) → is_inside d c.waiter.func c.waiter.args (is_some c.waiter.within) (take c.step c.waiter.answers) ≡ true
-        inside i z c = sym (tx_is d c.waiter c.caller (take c.step c.waiter.answers) (λ begin. let clash = sym c.call ∙ begin in cc)) ∙ ap is_some c.within
+        inside : (i : IntentId) (z : Instance) (c : CallerOf d histories s i z) → is_inside d c.waiter.func c.waiter.args (is_some c.waiter.enclosing) (take c.step c.waiter.answers) ≡ true
+        inside i z c = sym (tx_is d c.waiter c.caller (take c.step c.waiter.answers) (λ begin. let clash = sym c.call ∙ begin in cc)) ∙ ap is_some c.enclosing
 
-        first : (i : IntentId) (z : Instance) → z.within ≡ Some s → (c : CallerOf d known s i z) → c.waiter.within ≡ None → Own c.caller c.waiter.func (txs_after d c.waiter (take c.step c.waiter.answers)).begun s → (n : ℕ) → z.func ≡ suc n → reaches Call d.funcs (blocks d.funcs) n ≡ true
+        first : (i : IntentId) (z : Instance) → z.enclosing ≡ Some s → (c : CallerOf d histories s i z) → c.waiter.enclosing ≡ None → Own c.caller c.waiter.func (txs_after d c.waiter (take c.step c.waiter.answers)).begun s → (n : ℕ) → z.func ≡ suc n → reaches Call d.funcs (blocks d.funcs) n ≡ true
         first i z inner c out own n is =
             let e = edge_at i z c in
             let same : e.to ≡ n = same_at e.to n (sym e.callee ∙ is) in
             let block : e.in_block ≡ true = ap (λ w. is_some w || e.in_block) (sym out) ∙ sym e.inner ∙ inside i z c in
-            subst (λ y. reaches Call d.funcs (blocks d.funcs) y ≡ true) same (reach_one Call d.funcs (blocks d.funcs) e.to (e.within (called i z c) block))
+            subst (λ y. reaches Call d.funcs (blocks d.funcs) y ≡ true) same (reach_one Call d.funcs (blocks d.funcs) e.to (e.enclosing (called i z c) block))
 
-        later : (i : IntentId) (z : Instance) → z.within ≡ Some s → (c : CallerOf d known s i z) → c.waiter.within ≡ Some s → ((n : ℕ) → c.waiter.func ≡ suc n → reaches Call d.funcs (blocks d.funcs) n ≡ true) → (n : ℕ) → z.func ≡ suc n → reaches Call d.funcs (blocks d.funcs) n ≡ true
+        later : (i : IntentId) (z : Instance) → z.enclosing ≡ Some s → (c : CallerOf d histories s i z) → c.waiter.enclosing ≡ Some s → ((n : ℕ) → c.waiter.func ≡ suc n → reaches Call d.funcs (blocks d.funcs) n ≡ true) → (n : ℕ) → z.func ≡ suc n → reaches Call d.funcs (blocks d.funcs) n ≡ true
         later i z inner c on up n is =
             let e = edge_at i z c in
             let same : e.to ≡ n = same_at e.to n (sym e.callee ∙ is) in

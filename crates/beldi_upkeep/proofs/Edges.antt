@@ -4,11 +4,11 @@ use Rattle.std.proofs.Common.{Bool, List, Some, [], ap, arith, eq-eqb, eqb-true,
 use Rattle.std.proofs.{lemmas.Bool.false_from_ne_true, lemmas.List.Folds.list_any_at, lemmas.Option.get_or_from_slice_get, lemmas.Option.slice_get_within, lemmas.Slice.Eq.slice_eq-Decides}
 use Rattle.std.specs.Cmp.{unsigned_Decides}
 use Rattle.beldi_value.specs.{declared.value.Value.Value}
-use Rattle.beldi_tree.specs.{Bindings.is_name, Command.Command, Command.async, Command.call, declared.deployment.Deployment.Deployment, declared.deployment.Func.Func}
+use Rattle.beldi_tree.specs.{Bindings.is_name, StatementCommand.Command, StatementCommand.async, StatementCommand.call, declared.deployment.Deployment.Deployment, declared.deployment.Func.Func}
 use Rattle.beldi_lang.specs.{Wants.is_inside, Wants.wants, declared.effect.Answer.Answer, declared.effect.Effect.Effect}
-use Rattle.beldi_check.specs.{Calls.IsPath, Calls.blocks, Calls.edge, Calls.edge_to, Calls.leads, Calls.leads_to, Calls.leads_within, Calls.reaches, Keeps.KeepsRules, Rules.func_in, Site.Spot, Site.sites_of, declared.calls.Link.Link, declared.calls.Link.TheVariants.Call, declared.calls.Link.TheVariants.Start}
+use Rattle.beldi_check.specs.{CallGraph.IsPath, CallGraph.blocks, CallGraph.edge, CallGraph.edge_to, CallGraph.leads, CallGraph.leads_to, CallGraph.leads_within, CallGraph.reaches, Keeps.KeepsRules, Rules.func_in, Site.Spot, Site.sites_of, declared.calls.Link.Link, declared.calls.Link.TheVariants.Call, declared.calls.Link.TheVariants.Start}
 use Rattle.beldi_check.proofs.Paths.{reached, reaches_by_paths}
-use Rattle.beldi_order.proofs.Maps.{same_some}
+use Rattle.beldi_plain_laws.proofs.Maps.{same_some}
 use Rattle.beldi_upkeep.specs.Written.{IsOf}
 use Rattle.beldi_upkeep.proofs.Functions.{callee_named, calls, site_of}
 
@@ -76,7 +76,7 @@ pub record Edge (d : Deployment) (inherited inside : Bool) (e : Effect) (func g 
   -- in the first block of a transaction, or not
   pub in_block : Bool
   pub inner : inside ≡ (inherited || in_block)
-  pub within : is_call e ≡ true → in_block ≡ true → edge Call d.funcs (blocks d.funcs) to ≡ true
+  pub enclosing : is_call e ≡ true → in_block ≡ true → edge Call d.funcs (blocks d.funcs) to ≡ true
 
 pub edge_of : (d : Deployment) → KeepsRules d.funcs → (func : ℕ) (args : Value) (inherited : Bool) (answers : List Answer) (g : ℕ) → calls (wants d func args inherited answers) ≡ Some g
     → Edge d inherited (is_inside d func args inherited answers) (wants d func args inherited answers) func g
@@ -97,5 +97,5 @@ edge_of d rules func args inherited answers g is =
       goes = λ it. edge_there Call d.funcs s.0 w.number k.place s.2.func k.func w.spot s.2.there k.there w.there (calls_by d e w.spot.1 s.2.names.name k.func.name it w.is s.2.names.named_in same);
       in_block = w.spot.0.in_transaction;
       inner = w.inner;
-      within = λ it inner. blocks_there d.funcs s.0 w.number k.place s.2.func k.func w.spot s.2.there k.there w.there inner (calls_by d e w.spot.1 s.2.names.name k.func.name it w.is s.2.names.named_in same);
+      enclosing = λ it inner. blocks_there d.funcs s.0 w.number k.place s.2.func k.func w.spot s.2.there k.there w.there inner (calls_by d e w.spot.1 s.2.names.name k.func.name it w.is s.2.names.named_in same);
     }

@@ -5,14 +5,14 @@ use Rattle.std.proofs.{lemmas.Bool.or_parts, lemmas.Cmp.tied_itself, lemmas.Slic
 use Rattle.std.specs.Cmp.{unsigned_Decides}
 use Rattle.std.specs.Ordering.{is_eq}
 use Rattle.beldi_value.specs.declared.{outcome.Code.Code, outcome.Outcome.Outcome, value.Value.Value, value.Value.TheVariants.Null}
-use Rattle.beldi_tree.specs.Command.{Command, Commands, abort, async, break, call, choose, command, condwrite, lock, no_commands, read, repeat, return, set, transaction, unlock, write}
+use Rattle.beldi_tree.specs.StatementCommand.{Command, Commands, abort, async, break, call, choose, command, condwrite, lock, no_commands, read, repeat, return, set, transaction, unlock, write}
 use Rattle.beldi_tree.specs.{Bindings.Bindings, Bindings.is_name, Evaluate.and_then, Evaluate.term_value, Evaluate.truth, Names.func_at, declared.deployment.Deployment.Deployment, declared.deployment.TableHead.TableHead}
 use Rattle.beldi_lang.specs.Wants.{Does, Leads, Local, answered, asks, body, body_of, breaks, closed, closes, counted, does, effect_of, effect_to, ends, fault, first_local, followed, func_number, goes, inside_of, key_value, locks, looped, most_effects, or_fault, releases, run_block, set_to, table_number, tables_of, takes, transact, turns, unlocks, wants}
-use Rattle.beldi_lang.specs.{Locks.is_held, Locks.is_lock, Locks.is_none_held, Locks.without, declared.effect.Answer.Answer, declared.effect.Effect.Effect, declared.state.HeldLock.HeldLock}
+use Rattle.beldi_lang.specs.{HeldLocks.is_held, HeldLocks.is_lock, HeldLocks.is_none_held, HeldLocks.without, declared.effect.Answer.Answer, declared.effect.Effect.Effect, declared.state.HeldLock.HeldLock}
 use Rattle.beldi_plain.specs.{Holds.held_along, Holds.held_by, Holds.held_if, Holds.holds, Item.Item, Item.item_cmp, Item.item_total, Operation.OnItem, Operation.item_in, Operation.op_of, Plain.Instance}
-use Rattle.beldi_order.proofs.Operations.{held_pushed, item_same}
-use Rattle.beldi_known.proofs.{Cases.by_cases, Cases.if_same, Flows.asked, Flows.held_after}
-use Rattle.beldi_laws.proofs.Cases.{false_by}
+use Rattle.beldi_plain_laws.proofs.PlainOperations.{held_pushed, item_same}
+use Rattle.beldi_histories.proofs.{Cases.by_cases, Cases.if_same, Flows.asked, Flows.held_after}
+use Rattle.beldi_invariant.proofs.Cases.{false_by}
 use Rattle.beldi_upkeep.specs.Freed.{FreesWhatItHolds, ReturnsHoldNone}
 
 -- ---- no lock is held twice
@@ -324,7 +324,7 @@ steps _ _ (returned hs F j o none is) i e at = subst (Steps hs F) (ap effect_of 
 -- ---- an instance after some of its answers
 module _ (d : Deployment) (q : Instance) where
   abbrev i : Bool
-  i = is_some q.within
+  i = is_some q.enclosing
 
   abbrev F : List Answer → List Answer → Leads
   F given ts = asked i (body d (func_at d q.func) q.args i (given ++ ts))

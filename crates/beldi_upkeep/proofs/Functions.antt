@@ -5,16 +5,16 @@ use Rattle.std.proofs.Common.{Bool, List, None, Option, Some, [], add-one, ap, a
 use Rattle.std.proofs.{Math.Nat.min-eq_left, lemmas.Bool.lt-ltb, lemmas.List.Sums.position_or_len_is, lemmas.Option.slice_get-get_or}
 use Rattle.std.specs.FinMap as map
 use Rattle.beldi_value.specs.{declared.outcome.Outcome.Outcome, declared.value.Value.Value}
-use Rattle.beldi_tree.specs.{Bindings.is_name, Command.call, Command.async, Command.Command, Names.func_place, declared.deployment.Deployment.Deployment, declared.deployment.Func.Func}
+use Rattle.beldi_tree.specs.{Bindings.is_name, StatementCommand.call, StatementCommand.async, StatementCommand.Command, Names.func_place, declared.deployment.Deployment.Deployment, declared.deployment.Func.Func}
 use Rattle.beldi_lang.specs.{Wants.body, Wants.effect_of, Wants.func_number, Wants.or_past, Wants.wants, Wants.is_inside, declared.effect.Answer.Answer, declared.effect.Effect.Effect}
 use Rattle.beldi_check.specs.{Keeps.KeepsRules, Rules.func_in, Rules.has_function, Rules.some_if, declared.rules.Rule.Rule}
 use Rattle.beldi_plain.specs.Plain.{Instance}
-use Rattle.beldi_order.proofs.Maps.{same_some}
-use Rattle.beldi_order.specs.Sane.{call_of}
+use Rattle.beldi_plain_laws.proofs.Maps.{same_some}
+use Rattle.beldi_plain_laws.specs.WellFormedState.{call_of}
 use Rattle.beldi_row.specs.declared.row.{Body.Body, Row.Row}
 use Rattle.beldi_intent.specs.Intent.{root_key}
-use Rattle.beldi_known.specs.Rows.{BodyMatches, RootMatches}
-use Rattle.beldi_known.proofs.Callers.{root_or_called}
+use Rattle.beldi_histories.specs.RowMatching.{BodyMatches, RootMatches}
+use Rattle.beldi_histories.proofs.Callers.{root_or_called}
 use Rattle.beldi_upkeep.specs.Checked.{InstancesAreOfIt, body_at, has_func}
 use Rattle.beldi_upkeep.specs.Written.{IsOf, IsWritten, Written}
 use Rattle.beldi_upkeep.proofs.Sites.{wants_written}
@@ -23,7 +23,7 @@ use Rattle.beldi_upkeep.proofs.Sites.{wants_written}
 -- the first of a list that passes a test
 record First (p : Func → Bool) (d : Func) (fs : List Func) : Type 0 where
   place : ℕ
-  within : place < length fs
+  in_range : place < length fs
   passes : p (get_or fs place d) ≡ true
   before : (k : ℕ) → k < place → p (get_or fs k d) ≡ false
 
@@ -36,10 +36,10 @@ first_of p d (f ∷ fs) h = by_test (p f) refl (first_of p d fs)
     shifted e r (suc k) less = r.before k (omega (arith, less))
 
     by_test : (b : Bool) → p f ≡ b → (list_any p fs ≡ true → First p d fs) → First p d (f ∷ fs)
-    by_test true e later = record { place = 0; within = omega arith; passes = e; before = λ k less. absurd (omega (arith, less)) }
+    by_test true e later = record { place = 0; in_range = omega arith; passes = e; before = λ k less. absurd (omega (arith, less)) }
     by_test false e later =
         let r = later (sym (ap (λ b. b || list_any p fs) e) ∙ h) in
-        record { place = suc r.place; within = let w = r.within in omega (arith, w); passes = r.passes; before = shifted e r }
+        record { place = suc r.place; in_range = let w = r.in_range in omega (arith, w); passes = r.passes; before = shifted e r }
 
 -- the deployment's function of this name, at a place and with a number
 pub record Named (fs : List Func) (name : List ℕ) : Type 0 where
@@ -53,13 +53,13 @@ pub named_so : (fs : List Func) (d : Func) (name : List ℕ) → length fs ≤ 6
 named_so fs d name few has =
     let p : Func → Bool = λ f. is_name f.name name in
     let r = first_of p d fs has in
-    let w = r.within in
+    let w = r.in_range in
     let place : position_or_len p fs ≡ r.place = position_or_len_is p fs r.place d (omega (arith, w)) r.before (λ less. r.passes) in
-    let found : func_place fs name ≡ Some r.place = ap (λ i. cond (nat_lt i (length fs)) (Some i) None) place ∙ ap (λ b. cond b (Some r.place) None) (lt-ltb r.place (length fs) r.within) in
+    let found : func_place fs name ≡ Some r.place = ap (λ i. cond (nat_lt i (length fs)) (Some i) None) place ∙ ap (λ b. cond b (Some r.place) None) (lt-ltb r.place (length fs) r.in_range) in
     record {
       place = r.place;
       func = get_or fs r.place d;
-      there = slice_get-get_or fs r.place d r.within;
+      there = slice_get-get_or fs r.place d r.in_range;
       is = r.passes;
       number = ap (λ o. min (or_past o (length fs) + 1) 65535) found ∙ min-eq_left (omega (arith, w, few)) ∙ add-one r.place;
     }
@@ -128,7 +128,7 @@ called_is_there d rules func args inherited answers g is =
     let k = callee_named d rules s.0 inherited _ _ g s.2 in
     ap (has_func d) (s.2.names.number ∙ k.number) ∙ ap is_some k.there
 
--- ---- what is known
+-- ---- what the histories have
 calls_it : (w : Bool) (f : ℕ) (a : Value) → calls (call_of w f a) ≡ Some f
 calls_it true f a = refl
 calls_it false f a = refl
@@ -143,10 +143,10 @@ root_body (Some (Row.Intent i)) q h = body_so i.body i.outcome q h.body
 root_body (Some r) q h = absurd h
 
 pub instances_of_it : InstancesAreOfIt
-instances_of_it d c m h id q made = elim (root_or_called d h.right.known h.right.sane id q made) [
+instances_of_it d c m h id q made = elim (root_or_called d h.invariant.histories h.invariant.well_formed id q made) [
   | inl root ↦
       let t = id.ticket in
-      let b = root_body (map.get m (root_key t)) q (subst (RootMatches true (map.get m (root_key t))) (ap (map.get h.right.known) (sym root) ∙ made) (h.right.rows.keys (root_key t))) in
+      let b = root_body (map.get m (root_key t)) q (subst (RootMatches true (map.get m (root_key t))) (ap (map.get h.invariant.histories) (sym root) ∙ made) (h.invariant.rows.keys (root_key t))) in
       ap (has_func d) (sym b.2) ∙ h.roots t b.0 b.1
-  | inr c ↦ called_is_there d h.rules c.waiter.func c.waiter.args (is_some c.waiter.within) (take c.step c.waiter.answers) q.func (ap calls c.called.call ∙ calls_it c.called.waits q.func q.args)
+  | inr c ↦ called_is_there d h.rules c.waiter.func c.waiter.args (is_some c.waiter.enclosing) (take c.step c.waiter.answers) q.func (ap calls c.called.call ∙ calls_it c.called.waits q.func q.args)
 ]

@@ -1,16 +1,16 @@
 -- What an act leaves of the rows, and of what live runs have done.
 use Rattle.beldi_row.specs.declared.act.Act.TheVariants.{LinkCell}
-use Rattle.beldi_walk.specs.declared.query.Query.TheVariants.{Act}
+use Rattle.beldi_query.specs.declared.query.Query.TheVariants.{Act}
 use Rattle.beldi_chain.{specs.Chain.ChangedAlone, specs.Chain.chain, specs.Chain.content, proofs.Heads.chain_other}
 use Rattle.beldi_links.specs.Links.{SeesAt}
-use Rattle.beldi_daal.{proofs.Logged.by_op, specs.Logged.LoggedTurn, specs.Logged.Logs, specs.Logged.at_of, specs.Walk.walk_asks, specs.Walk.walk_next, specs.Walk.walk_says, specs.declared.walk.Item.TheVariants.Plain, specs.declared.walk.WriteSays.WriteSays, specs.declared.walk.WriteWalk.WriteWalk}
-use Rattle.beldi_known.proofs.{Acts.is_data}
-use Rattle.beldi_known.specs.Contents.{IsLinkedItem}
-use Rattle.beldi_laws.proofs.Names.{Begins, Begun, Bool, CellOp, Core, Item, IntentId, Look, MakeCell, None, Null, Owner, Place, RowAct, RowKey, Rows, Run, Some, TxId, WriteAt, act, after_act, ap, at_row, blank, content_of, false, head_key, inl, inr, is_eq, is_some, key_cmp, key_same, looked, op_act, refl, rows_after, set_others, subst, sym, told_by, true, write_asks, ℕ, ◌-◌, ◌∙◌, ◌≡◌, ◌⊎◌, Content, note_at, intent_key}
-use Rattle.beldi_laws.proofs.Names.map
-use Rattle.beldi_laws.proofs.Frames.{is_intent, is_invoke}
+use Rattle.beldi_daal.{proofs.Logged.by_op, specs.Logged.LoggedTurn, specs.Logged.Logs, specs.Logged.at_of, specs.WriteWalk.walk_asks, specs.WriteWalk.walk_next, specs.WriteWalk.walk_output, specs.declared.walk.Item.TheVariants.Plain, specs.declared.walk.WriteOutput.WriteOutput, specs.declared.walk.WriteWalk.WriteWalk}
+use Rattle.beldi_histories.proofs.{Acts.is_data}
+use Rattle.beldi_histories.specs.Contents.{IsLinkedItem}
+use Rattle.beldi_invariant.proofs.Names.{Begins, Begun, Bool, CellOp, Core, Item, IntentId, Look, MakeCell, None, Null, Owner, Place, RowAct, RowKey, Rows, Run, Some, TxId, WriteAt, act, after_act, ap, at_row, blank, content_of, false, head_key, inl, inr, is_eq, is_some, key_cmp, key_same, looked, op_act, refl, rows_after, set_others, subst, sym, query_reply, true, write_asks, ℕ, ◌-◌, ◌∙◌, ◌≡◌, ◌⊎◌, Content, note_at, intent_key}
+use Rattle.beldi_invariant.proofs.Names.map
+use Rattle.beldi_invariant.proofs.Frames.{is_intent, is_invoke}
 use Rattle.beldi_row.specs.Act.{prunes}
-use Rattle.beldi_walk.proofs.Promises.{rows_there}
+use Rattle.beldi_query.proofs.Promises.{rows_there}
 use Rattle.beldi_daal.proofs.Spares.{write_spares}
 use Rattle.beldi_upkeep.specs.Callees.{AllFinished, IsNoted, IsPassed, Seats, belongs_to, seat_of}
 use Rattle.beldi_upkeep.proofs.{CellActs.OwnedIn, CellActs.op_noted, CellActs.op_owner, SeatRows.MayOwn, SeatRows.Onward, SeatRows.contents_off, SeatRows.finished_off, SeatRows.quiet_on, SeatRows.quiet_seats}
@@ -108,11 +108,11 @@ module _ (c : Core) (m : Rows) (h : Seats m) where
       by_at (WriteAt.Link i) alone owners notes = leaves_item (i - 1) (LinkCell i) refl alone owners notes
 
       -- its place is of an intent that has its row
-      pub leaves_walk : (w : WriteAt) → SeesAt (chain m (head_key y)) p (at_of w) → is_some (map.get m (intent_key p.intent y.func)) ≡ true → ((o : Owner) (s : WriteSays) → Logs p who op s (content_of m y) (content_of (after w) y) → OwnedIn o (content_of (after w) y) → OwnedIn o (content_of m y) ⊎ MayOwn m o) → Leaves c m (after w)
+      pub leaves_walk : (w : WriteAt) → SeesAt (chain m (head_key y)) p (at_of w) → is_some (map.get m (intent_key p.intent y.func)) ≡ true → ((o : Owner) (s : WriteOutput) → Logs p who op s (content_of m y) (content_of (after w) y) → OwnedIn o (content_of (after w) y) → OwnedIn o (content_of m y) ⊎ MayOwn m o) → Leaves c m (after w)
       leaves_walk w sees there owners =
           let x : WriteWalk = record { home = y.func; item = Plain y.table y.key; place = p; who = who; op = op; at = w } in
-          let s : WriteSays = walk_says x (told_by (walk_asks x) now m) in
-          let turn : LoggedTurn x (walk_next x (told_by (walk_asks x) now m)) m (after w) s = by_op x m (after w) now linked sees refl in
+          let s : WriteOutput = walk_output x (query_reply (walk_asks x) now m) in
+          let turn : LoggedTurn x (walk_next x (query_reply (walk_asks x) now m)) m (after w) s = by_op x m (after w) now linked sees refl in
           by_at w turn.others (λ o owned. owners o s turn.logs owned) (λ q noted. elim (op_noted p (content_of m y) (content_of (after w) y) who op s turn.logs q noted) [
             | inl was ↦ inl was
             | inr same ↦ inr (subst (λ (z : Place). is_some (map.get m (intent_key z.intent y.func)) ≡ true) (sym same) there)

@@ -11,10 +11,10 @@ mod Finishes
 mod FirstTurns
 mod Firsts
 pub mod Frees
-pub mod FromRight
+pub mod FromInvariant
 mod Functions
 pub mod GivenBack
-pub mod Kept
+pub mod UpkeepKept
 mod Leaving
 pub mod Nearness
 pub mod NewWork
@@ -31,18 +31,18 @@ mod PastGaps
 pub mod PastLaws
 pub mod PastOwn
 mod PastRows
-mod PastSays
+mod PastOutputs
 mod PastStages
 mod PastTurns
 pub mod Quiet
 mod Roots
 pub mod RowNotes
 mod RowSets
-mod SaysOwe
+mod OutputOwes
 mod SeatRows
 pub mod Shapes
 pub mod Sites
-mod StageSays
+mod StageOutputs
 pub mod Started
 pub mod Still
 mod Stranded

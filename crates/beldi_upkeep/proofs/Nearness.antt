@@ -5,20 +5,20 @@ use Rattle.std.proofs.Common.{inl, inr, ℕ, ◌+◌, ◌≤◌, Result, refl, s
 use Rattle.beldi_value.specs.declared.id.IntentId.{IntentId}
 use Rattle.beldi_tree.specs.declared.deployment.Deployment.{Deployment}
 use Rattle.beldi_row.specs.Table.{Rows}
-use Rattle.beldi_step.specs.Host.{Core, EventBy, Plan, asks, at_once, counted, plan, reads_all}
-use Rattle.beldi_step.specs.declared.{event.Event.Event, event.Seen.Seen}
-use Rattle.beldi_known.specs.Stands.{key_in}
-use Rattle.beldi_upkeep.specs.{Deadlines.BeginsNear, Deadlines.IsNear, Deadlines.KeepsNear, Work.finish_in}
-use Rattle.beldi_step.proofs.{Given.IsSoon, Given.begins_soon, Given.last_ahead, Given.last_later, Given.no_run, Given.soon_turn, Runs.adds_by, Runs.after_event}
+use Rattle.beldi_step.specs.HostStep.{Core, EventBy, Plan, asks, immediate, counted, plan, reads_all}
+use Rattle.beldi_step.specs.declared.{event.Event.Event, event.EventReply.EventReply}
+use Rattle.beldi_histories.specs.Stands.{key_in}
+use Rattle.beldi_upkeep.specs.{Deadlines.BeginsNear, Deadlines.IsNear, Deadlines.KeepsNear, WorksFor.finish_in}
+use Rattle.beldi_step.proofs.{Given.IsSoon, Given.begins_soon, Given.last_ahead, Given.last_later, Given.no_run, Given.soon_turn, StepRuns.adds_by, StepRuns.after_event}
 use Rattle.beldi_upkeep.proofs.{Finishes.came, NewWork.new_work, Workers.ToldSo}
 
 pub begins_near : BeginsNear
 begins_near d newest now = record { soon = begins_soon d newest now; near = λ n r i home live. absurd (no_run n r live) }
 
 -- a deadline that was near a finish is so after an event
-rows_near : (d : Deployment) (room old new : ℕ) (e : Event) (c b : Core) (m n : Rows) (x : Result Seen AllocError) (p : Plan) → EventBy d room old new e c p m b n x
+rows_near : (d : Deployment) (room old new : ℕ) (e : Event) (c b : Core) (m n : Rows) (x : Result EventReply AllocError) (p : Plan) → EventBy d room old new e c p m b n x
     → (deadline : ℕ) → deadline ≤ c.now + d.life → (home : ℕ) (i : IntentId) → IsNear d.life deadline (finish_in (map.get m (key_in home i))) → IsNear d.life deadline (finish_in (map.get n (key_in home i)))
-rows_near d room old new e c b m n x (at_once k y) s deadline soon home i near = subst (λ l. IsNear d.life deadline (finish_in (map.get l (key_in home i)))) (sym s.1) near
+rows_near d room old new e c b m n x (immediate k y) s deadline soon home i near = subst (λ l. IsNear d.life deadline (finish_in (map.get l (key_in home i)))) (sym s.1) near
 rows_near d room old new e c b m n x (asks q) s deadline soon home i near = came c.now d.life deadline soon q room s.0 m n s.2 home i near
 rows_near d room old new e c b m n x reads_all s deadline soon home i near = subst (λ l. IsNear d.life deadline (finish_in (map.get l (key_in home i)))) (sym s.2.0) near
 

@@ -7,14 +7,14 @@ use Rattle.beldi_value.specs.declared.{place.Owner.Owner, place.Place.Place, pla
 use Rattle.beldi_tree.specs.declared.deployment.Deployment.{Deployment}
 use Rattle.beldi_lang.{proofs.Resumes.at_effect, proofs.Spends.few_answers, specs.Wants.wants, specs.Wants.wants_answer, specs.declared.effect.Answer.Answer, specs.declared.effect.Effect.Effect}
 use Rattle.beldi_plain.specs.{Holds.holds, Item.Item, Item.item_cmp, Item.item_total, Operation.cond, Operation.op_of, Operation.write, Plain.Instance, Plain.item_of}
-use Rattle.beldi_order.proofs.Maps.{same_some}
-use Rattle.beldi_order.specs.{Sane.IsAnswer, Txs.effect_after, Txs.tx_after, Txs.txs_after}
+use Rattle.beldi_plain_laws.proofs.Maps.{same_some}
+use Rattle.beldi_plain_laws.specs.{WellFormedState.IsAnswer, Txs.effect_after, Txs.tx_after, Txs.txs_after}
 use Rattle.beldi_row.specs.{Log.note_at, Table.Rows, declared.notes.Note.Note, declared.row.Row.Row}
 use Rattle.beldi_readlog.specs.ReadLog.{log_key}
-use Rattle.beldi_step.specs.{declared.run.Begun.Begun, declared.run.Run.Run, declared.run.RunTx.RunTx, Host.Core, Run.answer_noted, Run.place_of, Run.tx_at, Run.tx_of}
-use Rattle.beldi_known.specs.{Beside.is_begin, Contents.content_of, Contents.is_owner, Contents.shadow_of, Known.ahead_by, Known.commit_in, Known.is_tx, Known.last_step, Known.note_by, Known.owed_note, Known.owed_shadow, Known.shadow_by, Known.write_op, Owed.note_of, Owed.noted, Sane.SaneInstance}
-use Rattle.beldi_known.proofs.{AtFront.no_decision, AtFront.no_shadow_note, AtFront.note_is_ahead, Behind.behind_decided, Behind.front, Behind.note_there, Behind.shadow_there, Behind.stepped, Behind.there as answer_there, FrameAt.no_mark_at}
-use Rattle.beldi_laws.specs.{OneAnswer.IsBegun, Right.Inside, Right.Knows, Right.KnowsAt, Right.Right, Right.RunAt, Right.open_of}
+use Rattle.beldi_step.specs.{declared.run.Begun.Begun, declared.run.Run.Run, declared.run.RunTx.RunTx, HostStep.Core, Run.answer_noted, Run.place_of, Run.tx_at, Run.tx_of}
+use Rattle.beldi_histories.specs.{Extends.is_begin, Contents.content_of, Contents.is_owner, Contents.shadow_of, Histories.ahead_by, Histories.commit_in, Histories.is_tx, Histories.last_step, Histories.note_by, Histories.expected_note, Histories.expected_shadow, Histories.shadow_by, Histories.write_op, Expected.note_of, Expected.noted, WellFormedHistories.WellFormedHistory}
+use Rattle.beldi_histories.proofs.{AtPending.no_decision, AtPending.no_shadow_note, AtPending.note_is_ahead, Behind.behind_decided, Behind.front, Behind.note_there, Behind.shadow_there, Behind.stepped, Behind.there as answer_there, FrameAt.no_mark_at}
+use Rattle.beldi_invariant.specs.{OneAnswer.IsBegun, Invariant.Inside, Invariant.Knows, Invariant.KnowsAt, Invariant.Invariant, Invariant.RunAt, Invariant.open_of}
 use Rattle.beldi_upkeep.specs.Checked.{DecisionsAreOwn, NotesAreOwn, ShadowNotesAreOwn, ShadowsAreFree, UnlocksAreOwned, is_of_lock, is_own_note, is_shadow_note, works_on}
 use Rattle.beldi_upkeep.proofs.{Frees.frees_what_it_holds, Open.agrees, Open.begun_own, Open.tx_open}
 
@@ -23,10 +23,10 @@ pub shadows_are_free : ShadowsAreFree
 shadows_are_free d c m t x h = (h.rows.asides t x).unowned
 
 -- ---- a live run
-pub knows : (d : Deployment) (c : Core) (m : Rows) (h : Right d c m) (r : Run) (g : Begun) → IsBegun c r.id r g → (k : Knows d h.known r g) × Inside m h.plain c.book k g.stage
-knows d c m h r g b = subst (KnowsAt d m h.plain c.book h.known r) b.begun (subst (RunAt d m h.plain c.book h.known) b.live (h.runs.runs b.number))
+pub knows : (d : Deployment) (c : Core) (m : Rows) (h : Invariant d c m) (r : Run) (g : Begun) → IsBegun c r.id r g → (k : Knows d h.histories r g) × Inside m h.plain c.book k g.stage
+knows d c m h r g b = subst (KnowsAt d m h.plain c.book h.histories r) b.begun (subst (RunAt d m h.plain c.book h.histories) b.live (h.runs.runs b.number))
 
-module _ (d : Deployment) (c : Core) (m : Rows) (r : Run) (g : Begun) (h : Right d c m) (k : Knows d h.known r g) where
+module _ (d : Deployment) (c : Core) (m : Rows) (r : Run) (g : Begun) (h : Invariant d c m) (k : Knows d h.histories r g) where
   abbrev pub q : Instance
   q = k.instance
 
@@ -35,19 +35,19 @@ module _ (d : Deployment) (c : Core) (m : Rows) (r : Run) (g : Begun) (h : Right
 
   -- its effect and its step
   pub effect_is : e ≡ g.machine.effect
-  effect_is = ap (λ f. wants d f q.args (is_some q.within) k.answers) k.func ∙ sym (at_effect d r.func q.args (is_some q.within) g.machine k.answers k.machine).0
+  effect_is = ap (λ f. wants d f q.args (is_some q.enclosing) k.answers) k.func ∙ sym (at_effect d r.func q.args (is_some q.enclosing) g.machine k.answers k.machine).0
 
   pub step_is : g.machine.steps ≡ length k.answers
-  step_is = (at_effect d r.func q.args (is_some q.within) g.machine k.answers k.machine).1
+  step_is = (at_effect d r.func q.args (is_some q.enclosing) g.machine k.answers k.machine).1
 
   pub at_place : place_of r.id g.machine.steps ≡ place_of r.id (length k.answers)
   at_place = ap (place_of r.id) step_is
 
-  pub sane : SaneInstance d r.id q
-  sane = h.sane.each r.id q k.made
+  pub well_formed : WellFormedHistory d r.id q
+  well_formed = h.well_formed.each r.id q k.made
 
   pub short : IsTrue (wants_answer e) → length k.answers < last_step
-  short wants_it = let n = few_answers d q.func q.args (is_some q.within) k.answers wants_it in omega (arith, n)
+  short wants_it = let n = few_answers d q.func q.args (is_some q.enclosing) k.answers wants_it in omega (arith, n)
 
   -- at the front all answers are its own
   pub all_here : k.later ≡ [] → k.answers ≡ q.answers
@@ -60,11 +60,11 @@ module _ (d : Deployment) (c : Core) (m : Rows) (r : Run) (g : Begun) (h : Right
   tx_is apart = tx_open d r.id q k.answers apart ∙ ap (tx_at r.id q.func) (sym k.run_open) ∙ ap (λ f. tx_at r.id f g.tx) k.func
 
   module _ (a : Answer) (rest : List Answer) (left : k.later ≡ a ∷ rest) where
-    pub known_answers : k.answers ++ a ∷ rest ≡ q.answers
-    known_answers = ap (λ ys. k.answers ++ ys) (sym left) ∙ k.run_answers
+    pub recorded_answers : k.answers ++ a ∷ rest ≡ q.answers
+    recorded_answers = ap (λ ys. k.answers ++ ys) (sym left) ∙ k.run_answers
 
     pub answers_so : IsAnswer (place_of r.id (length k.answers)) tx e a
-    answers_so = subst (λ ts. IsAnswer (place_of r.id (length k.answers)) (tx_after d r.id q ts) (effect_after d q ts) a) (front d r.id q k.answers a rest known_answers) (sane.past (length k.answers) a (answer_there d r.id q k.answers a rest known_answers))
+    answers_so = subst (λ ts. IsAnswer (place_of r.id (length k.answers)) (tx_after d r.id q ts) (effect_after d q ts) a) (front d r.id q k.answers a rest recorded_answers) (well_formed.past (length k.answers) a (answer_there d r.id q k.answers a rest recorded_answers))
 
   -- ---- the note that an item has at its place
   -- that of its answer, or of a lock that is ahead
@@ -73,22 +73,22 @@ module _ (d : Deployment) (c : Core) (m : Rows) (r : Run) (g : Begun) (h : Right
     is : note_by x q.func tx e a ≡ Some w
 
   abbrev Noted : Item → Note → Type 0
-  Noted x w = ((a : Answer) × NoteIs x w a) ⊎ (ahead_by x q.func tx e (h.locked r.id) ≡ Some w)
+  Noted x w = ((a : Answer) × NoteIs x w a) ⊎ (ahead_by x q.func tx e (h.lock_ahead r.id) ≡ Some w)
 
   noted_by : (x : Item) (w : Note) → IsTrue (wants_answer e) → commit_in e ≡ None → note_at (content_of m x).notes (place_of r.id (length k.answers)) ≡ Some w → (later : List Answer) → k.later ≡ later → Noted x w
   noted_by x w wants_it apart there [] left =
       let all = all_here left in
       let few = short wants_it in
-      inr (ap (λ ts. ahead_by x q.func (tx_after d r.id q ts) (effect_after d q ts) (h.locked r.id)) all
-      ∙ sym (note_is_ahead d m h.known h.locked h.rows r.id q k.made (subst (λ (ts : List Answer). length ts < last_step) all few) x) ∙ ap (λ (ts : List Answer). note_at (content_of m x).notes (place_of r.id (length ts))) (sym all) ∙ there)
+      inr (ap (λ ts. ahead_by x q.func (tx_after d r.id q ts) (effect_after d q ts) (h.lock_ahead r.id)) all
+      ∙ sym (note_is_ahead d m h.histories h.lock_ahead h.rows r.id q k.made (subst (λ (ts : List Answer). length ts < last_step) all few) x) ∙ ap (λ (ts : List Answer). note_at (content_of m x).notes (place_of r.id (length ts))) (sym all) ∙ there)
   noted_by x w wants_it apart there (a ∷ rest) left =
-      let known = known_answers a rest left in
-      let none = no_mark_at d h.known r.id q (length k.answers) k.made (short wants_it) (stepped d r.id q k.answers a rest known (λ ts b. commit_in (effect_after d q ts)) ∙ apart) in
+      let histories = recorded_answers a rest left in
+      let none = no_mark_at d h.histories r.id q (length k.answers) k.made (short wants_it) (stepped d r.id q k.answers a rest histories (λ ts b. commit_in (effect_after d q ts)) ∙ apart) in
       inl (
         a,
         record {
           so = answers_so a rest left;
-          is = sym (note_there d r.id q k.answers a rest known x (h.locked r.id)) ∙ ap (owed_note d x r.id (h.locked r.id) (length k.answers)) (sym k.made)
+          is = sym (note_there d r.id q k.answers a rest histories x (h.lock_ahead r.id)) ∙ ap (expected_note d x r.id (h.lock_ahead r.id) (length k.answers)) (sym k.made)
               ∙ sym ((h.rows.items x).notes (place_of r.id (length k.answers)) none) ∙ there;
         },
       )
@@ -114,7 +114,7 @@ inside_ahead x func t e b w is = grind arith
 pub notes_are_own : NotesAreOwn
 notes_are_own d c m r g x w h b works there = by_tx g.tx refl
   where
-    k : Knows d h.known r g
+    k : Knows d h.histories r g
     k = (knows d c m h r g b).0
 
     e : Effect
@@ -131,14 +131,14 @@ notes_are_own d c m r g x w h b works there = by_tx g.tx refl
         let none : tx_after d r.id k.instance k.answers ≡ None = tx_is d c m r g h k facts.2 ∙ ap (tx_at r.id r.func) out in
         ap (λ o. is_own_note o g.machine.effect w) out ∙ ap (λ z. is_some (answer_noted z w)) (sym (effect_is d c m r g h k)) ∙ elim found [
           | inl a ↦ outside_note x k.instance.func (place_of r.id (length k.answers)) e a.0 w (subst (λ o. IsAnswer (place_of r.id (length k.answers)) o e a.0) none a.1.so) (ap (λ o. note_by x k.instance.func o e a.0) (sym none) ∙ a.1.is)
-          | inr a ↦ absurd (none_ahead x k.instance.func e (h.locked r.id) w (ap (λ o. ahead_by x k.instance.func o e (h.locked r.id)) (sym none) ∙ a))
+          | inr a ↦ absurd (none_ahead x k.instance.func e (h.lock_ahead r.id) w (ap (λ o. ahead_by x k.instance.func o e (h.lock_ahead r.id)) (sym none) ∙ a))
         ]
     by_tx (Some o) in_it =
         let own = tx_of r.id r.func o in
         let some : tx_after d r.id k.instance k.answers ≡ Some own = tx_is d c m r g h k facts.2 ∙ ap (tx_at r.id r.func) in_it in
         ap (λ z. is_own_note z g.machine.effect w) in_it ∙ elim found [
           | inl a ↦ inside_note x k.instance.func own e a.0 w (ap (λ z. note_by x k.instance.func z e a.0) (sym some) ∙ a.1.is)
-          | inr a ↦ inside_ahead x k.instance.func own e (h.locked r.id) w (ap (λ z. ahead_by x k.instance.func z e (h.locked r.id)) (sym some) ∙ a)
+          | inr a ↦ inside_ahead x k.instance.func own e (h.lock_ahead r.id) w (ap (λ z. ahead_by x k.instance.func z e (h.lock_ahead r.id)) (sym some) ∙ a)
         ]
 
 -- ---- shadows
@@ -163,7 +163,7 @@ shadow_note t x func s z a w is = aside_note x func z a w (if_some (is_tx t s) (
 pub shadow_notes_are_own : ShadowNotesAreOwn
 shadow_notes_are_own d c m r g t x w h b there = ap (λ z. is_shadow_note z w) (sym (effect_is d c m r g h k)) ∙ by_later k.later refl
   where
-    k : Knows d h.known r g
+    k : Knows d h.histories r g
     k = (knows d c m h r g b).0
 
     here : note_at (shadow_of m t x).notes (place_of r.id (length k.answers)) ≡ Some w
@@ -171,16 +171,16 @@ shadow_notes_are_own d c m r g t x w h b there = ap (λ z. is_shadow_note z w) (
 
     by_later : (later : List Answer) → k.later ≡ later → is_shadow_note (effect_after d k.instance k.answers) w ≡ true
     by_later [] left =
-        let clash = sym here ∙ ap (λ (ts : List Answer). note_at (shadow_of m t x).notes (place_of r.id (length ts))) (all_here d c m r g h k left) ∙ no_shadow_note d m h.known h.locked h.rows r.id k.instance k.made t x in cc
+        let clash = sym here ∙ ap (λ (ts : List Answer). note_at (shadow_of m t x).notes (place_of r.id (length ts))) (all_here d c m r g h k left) ∙ no_shadow_note d m h.histories h.lock_ahead h.rows r.id k.instance k.made t x in cc
     by_later (a ∷ rest) left =
         shadow_note t x k.instance.func (tx_after d r.id k.instance k.answers) (effect_after d k.instance k.answers) a w
-        (sym (shadow_there d r.id k.instance k.answers a rest (known_answers d c m r g h k a rest left) t x) ∙ ap (owed_shadow d t x r.id (length k.answers)) (sym k.made) ∙ sym (h.rows.shadows t x (place_of r.id (length k.answers))) ∙ here)
+        (sym (shadow_there d r.id k.instance k.answers a rest (recorded_answers d c m r g h k a rest left) t x) ∙ ap (expected_shadow d t x r.id (length k.answers)) (sym k.made) ∙ sym (h.rows.shadows t x (place_of r.id (length k.answers))) ∙ here)
 
 -- ---- decisions
 pub decisions_are_own : DecisionsAreOwn
 decisions_are_own d c m r g o commit w h b in_it ends there = by_later k.later refl
   where
-    k : Knows d h.known r g
+    k : Knows d h.histories r g
     k = (knows d c m h r g b).0
 
     q : Instance
@@ -190,7 +190,7 @@ decisions_are_own d c m r g o commit w h b in_it ends there = by_later k.later r
     open_is = sym k.run_open ∙ in_it
 
     begun : (txs_after d q k.answers).begun ≡ Some o.begin
-    begun = begun_own q.within (txs_after d q k.answers).begun (open_of d q k.answers) o (agrees d q k.answers) open_is
+    begun = begun_own q.enclosing (txs_after d q k.answers).begun (open_of d q k.answers) o (agrees d q k.answers) open_is
 
     ends_here : effect_after d q k.answers ≡ Effect.End commit
     ends_here = effect_is d c m r g h k ∙ ends
@@ -200,9 +200,9 @@ decisions_are_own d c m r g o commit w h b in_it ends there = by_later k.later r
 
     by_later : (later : List Answer) → k.later ≡ later → w ≡ Row.ReadLog (Value.Bool commit)
     by_later [] left =
-        let clash = sym here ∙ no_decision d m h.known h.locked h.rows r.id q k.made o.begin (ap (λ ts. (txs_after d q ts).begun) (sym (all_here d c m r g h k left)) ∙ begun) in cc
+        let clash = sym here ∙ no_decision d m h.histories h.lock_ahead h.rows r.id q k.made o.begin (ap (λ ts. (txs_after d q ts).begun) (sym (all_here d c m r g h k left)) ∙ begun) in cc
     by_later (a ∷ rest) left =
-        same_some (sym here ∙ behind_decided d m h.known h.locked h.rows r.id q k.made (sane d c m r g h k) k.answers a rest (known_answers d c m r g h k a rest left)
+        same_some (sym here ∙ behind_decided d m h.histories h.lock_ahead h.rows r.id q k.made (well_formed d c m r g h k) k.answers a rest (recorded_answers d c m r g h k a rest left)
         (short d c m r g h k (subst (λ z. IsTrue (wants_answer z)) (sym ends_here) refl)) o.begin commit ends_here begun)
 
 -- ---- locks
@@ -215,7 +215,7 @@ unlock_answer p (Some s) x func t k a so same = absurd so
 pub unlocks_are_owned : UnlocksAreOwned
 unlocks_are_owned d c m r g t key h b frees none = by_later k.later refl
   where
-    k : Knows d h.known r g
+    k : Knows d h.histories r g
     k = (knows d c m h r g b).0
 
     q : Instance
@@ -235,9 +235,9 @@ unlocks_are_owned d c m r g t key h b frees none = by_later k.later refl
         (h.rows.items x).owner r.id ∙ ap (holds d x) k.made ∙ ap (λ z. holds d z (Some q)) (sym same)
         ∙ frees_what_it_holds d q t key (ap (effect_after d q) (sym (all_here d c m r g h k left)) ∙ frees_here)
     by_later (a ∷ rest) left =
-        let known = known_answers d c m r g h k a rest left in
-        let mark = no_mark_at d h.known r.id q (length k.answers) k.made (short d c m r g h k (subst (λ z. IsTrue (wants_answer z)) (sym frees_here) refl)) (stepped d r.id q k.answers a rest known (λ ts b. commit_in (effect_after d q ts)) ∙ ap commit_in frees_here) in
-        let there = (h.rows.items x).notes (place_of r.id (length k.answers)) mark ∙ ap (owed_note d x r.id (h.locked r.id) (length k.answers)) k.made ∙ note_there d r.id q k.answers a rest known x (h.locked r.id) in
+        let histories = recorded_answers d c m r g h k a rest left in
+        let mark = no_mark_at d h.histories r.id q (length k.answers) k.made (short d c m r g h k (subst (λ z. IsTrue (wants_answer z)) (sym frees_here) refl)) (stepped d r.id q k.answers a rest histories (λ ts b. commit_in (effect_after d q ts)) ∙ ap commit_in frees_here) in
+        let there = (h.rows.items x).notes (place_of r.id (length k.answers)) mark ∙ ap (expected_note d x r.id (h.lock_ahead r.id) (length k.answers)) k.made ∙ note_there d r.id q k.answers a rest histories x (h.lock_ahead r.id) in
         let noted = ap (λ z. note_by x q.func (tx_after d r.id q k.answers) z a) frees_here
         ∙ unlock_answer (place_of r.id (length k.answers)) (tx_after d r.id q k.answers) x q.func t key a (subst (λ z. IsAnswer (place_of r.id (length k.answers)) (tx_after d r.id q k.answers) z a) frees_here (answers_so d c m r g h k a rest left))
         (ap (λ z. is_eq (item_cmp z x)) same ∙ ap is_eq (tied_itself item_total x)) in

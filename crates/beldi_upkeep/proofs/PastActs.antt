@@ -2,7 +2,7 @@
 use Rattle.beldi_value.specs.{Id.child_of, declared.id.IntentId.IntentId, declared.place.Place.Place}
 use Rattle.beldi_value.specs.{Id.age_of, Passes.passes, declared.place.Owner.Owner}
 use Rattle.beldi_row.proofs.Logs.{place_same}
-use Rattle.beldi_row.specs.Act.{removes, stays_unless, Tell, act, at_tail, cond_at, dangle_by, died, entered, free_at, held, held_or, if_owned, if_room, is_full, leads_from, link_to, lock_at, mark_by, next, next_or, no_row, not_full, not_owner, noted_or, off, on, on_cell, other_owner, owned_or, owns, packed, skip_by, waits_for, write_at}
+use Rattle.beldi_row.specs.Act.{removes, stays_unless, ActReply, act, at_tail, cond_at, dangle_by, died, entered, free_at, held, held_or, if_owned, if_room, is_full, leads_from, link_to, lock_at, mark_by, next, next_or, no_row, not_full, not_owner, noted_or, off, on, on_cell, other_owner, owned_or, owns, packed, skip_by, waits_for, write_at}
 use Rattle.beldi_row.specs.{Log.note_at, Log.place_eq, declared.act.Act.Act, declared.key.Kind.Kind, declared.notes.Note.Note, declared.row.Cell.Cell, declared.row.Row.Row}
 use Rattle.beldi_chain.specs.Content.{content_in}
 use Rattle.std.specs.Prelude.{is_none, nat_lt, not}
@@ -67,7 +67,7 @@ pushed (e ∷ es) p a w h = by_test (place_eq e.0 a) h (pushed es p a w)
     by_test true h rest = inl refl
     by_test false h rest = rest h
 
-tail_adds : (p : Place) (c : Cell) (r : Cell × Tell) → Adds p c r.0 → Adds p c (at_tail p c r).0
+tail_adds : (p : Place) (c : Cell) (r : Cell × ActReply) → Adds p c r.0 → Adds p c (at_tail p c r).0
 tail_adds p c r h = by_note (note_at c.log p)
   where
     by_next : (o : Option ℕ) → Adds p c (next_or c o r).0
@@ -78,29 +78,29 @@ tail_adds p c r h = by_note (note_at c.log p)
     by_note None = by_next c.next
     by_note (Some n) = inl refl
 
-held_adds : (p : Place) (c : Cell) (o : Option Owner) (r : Cell × Tell) → Adds p c r.0 → Adds p c (held_or c o r).0
+held_adds : (p : Place) (c : Cell) (o : Option Owner) (r : Cell × ActReply) → Adds p c r.0 → Adds p c (held_or c o r).0
 held_adds p c None r h = h
 held_adds p c (Some o) r h = inl refl
 
-room_adds : (p : Place) (c : Cell) (r : Cell × Tell) → Adds p c r.0 → Adds p c (if_room c r).0
+room_adds : (p : Place) (c : Cell) (r : Cell × ActReply) → Adds p c r.0 → Adds p c (if_room c r).0
 room_adds p c r h = by_test (is_full c)
   where
-    by_test : (b : Bool) → Adds p c (if◌then◌else◌ {A = Cell × Tell} b (c, packed c.value c.owner) r).0
+    by_test : (b : Bool) → Adds p c (if◌then◌else◌ {A = Cell × ActReply} b (c, packed c.value c.owner) r).0
     by_test true = inl refl
     by_test false = h
 
-owned_adds : (p : Place) (w : Owner) (c : Cell) (o : Option Owner) (r : Cell × Tell) → Adds p c r.0 → Adds p c (owned_or p w c o r).0
+owned_adds : (p : Place) (w : Owner) (c : Cell) (o : Option Owner) (r : Cell × ActReply) → Adds p c r.0 → Adds p c (owned_or p w c o r).0
 owned_adds p w c None r h = h
 owned_adds p w c (Some o) r h = by_test (waits_for w o)
   where
-    by_test : (b : Bool) → Adds p c (if◌then◌else◌ {A = Cell × Tell} b (c, held o) (if_room c (entered p (Note.Died (age_of o)) c.value c.owner c, died (age_of o)))).0
+    by_test : (b : Bool) → Adds p c (if◌then◌else◌ {A = Cell × ActReply} b (c, held o) (if_room c (entered p (Note.Died (age_of o)) c.value c.owner c, died (age_of o)))).0
     by_test true = inl refl
     by_test false = room_adds p c (entered p (Note.Died (age_of o)) c.value c.owner c, died (age_of o)) (inr (Note.Died (age_of o), refl))
 
-free_adds : (p : Place) (w : Owner) (c : Cell) (r : Cell × Tell) → Adds p c r.0 → Adds p c (if_owned w c r).0
+free_adds : (p : Place) (w : Owner) (c : Cell) (r : Cell × ActReply) → Adds p c r.0 → Adds p c (if_owned w c r).0
 free_adds p w c r h = by_test (owns w c.owner)
   where
-    by_test : (b : Bool) → Adds p c (if◌then◌else◌ {A = Cell × Tell} b r (c, not_owner)).0
+    by_test : (b : Bool) → Adds p c (if◌then◌else◌ {A = Cell × ActReply} b r (c, not_owner)).0
     by_test true = h
     by_test false = inl refl
 
@@ -111,7 +111,7 @@ added p a c x (inr more) h = elim (pushed c.log p a more.0 (ap (λ es. is_some (
   | inr here ↦ inr (ap Some here)
 ]
 
-cell_by : (p a : Place) (f : Cell → Cell × Tell) (t : Tell) (r : Row) → ((c : Cell) → Adds p c (f c).0) → has_note a (Some (on_cell f t r).0) ≡ true → (has_note a (Some r) ≡ true) ⊎ (Some p ≡ Some a)
+cell_by : (p a : Place) (f : Cell → Cell × ActReply) (t : ActReply) (r : Row) → ((c : Cell) → Adds p c (f c).0) → has_note a (Some (on_cell f t r).0) ≡ true → (has_note a (Some r) ≡ true) ⊎ (Some p ≡ Some a)
 cell_by p a f t (Row.Cell c) adds h = added p a c (f c).0 (adds c) h
 cell_by p a f t (Row.Intent i) adds h = inl h
 cell_by p a f t (Row.ReadLog v) adds h = inl h
@@ -122,7 +122,7 @@ cell_by p a f t Row.Lockset adds h = inl h
 linked_log : (n : ℕ) (c : Cell) → (link_to n c).0.log ≡ c.log
 linked_log n c = by_next c.next
   where
-    by_test : (b : Bool) → (if◌then◌else◌ {A = Cell × Tell} b (record c { next = Some n }, next n) (c, not_full)).0.log ≡ c.log
+    by_test : (b : Bool) → (if◌then◌else◌ {A = Cell × ActReply} b (record c { next = Some n }, next n) (c, not_full)).0.log ≡ c.log
     by_test true = refl
     by_test false = refl
 

@@ -2,17 +2,17 @@
 use Rattle.std.proofs.Common.{Bool, arith, List, None, Option, Some, [], false, inl, inr, refl, subst, sym, true, ℕ, ◌-◌, ◌∙◌, ◌<◌, ◌∷◌, ◌≡◌}
 use Rattle.beldi_value.specs.{Id.child_of, Id.has_callees, declared.id.IntentId.IntentId, declared.outcome.Outcome.Outcome, declared.place.Caller.Caller, declared.place.Owner.Owner, declared.place.Place.Place, declared.place.TxId.TxId, declared.value.Value.Value}
 use Rattle.beldi_lang.specs.declared.effect.Effect.{Effect}
-use Rattle.beldi_order.specs.Sane.{call_of}
-use Rattle.beldi_order.proofs.Maps.{same_some}
+use Rattle.beldi_plain_laws.specs.WellFormedState.{call_of}
+use Rattle.beldi_plain_laws.proofs.Maps.{same_some}
 use Rattle.beldi_row.specs.{Key.RowKey, Key.at_row, Log.blank, Table.Rows, declared.act.Act.Act, declared.key.Kind.Kind}
-use Rattle.beldi_walk.specs.declared.query.Query.{Query}
+use Rattle.beldi_query.specs.declared.query.Query.{Query}
 use Rattle.beldi_daal.specs.{Cell.cell_key, Cell.op_act, Cell.shadow_key, Cell.write_asks, declared.cell.CellOp.CellOp, declared.cell.WriteAt.WriteAt}
 use Rattle.beldi_invokelog.specs.InvokeLog.{invoke_key}
 use Rattle.beldi_lock.specs.{Lock.asks_at, declared.lock.LockAt.LockAt}
-use Rattle.beldi_txn.specs.{End.free_asks, End.first_visit, End.free_place, End.shadow_asks, End.visit_asks, End.visited_by, Tx.aside_asks, Tx.asks_of, Tx.item_asks, Tx.item_of, Tx.op_of, Way.Member, declared.end.EndAt.EndAt, declared.end.Visit.Visit, declared.tx.TxAt.TxAt, declared.way.Called.Called}
+use Rattle.beldi_txn.specs.{End.free_asks, End.first_visit, End.free_place, End.shadow_asks, End.visit_asks, End.visited_by, Tx.aside_asks, Tx.asks_of, Tx.item_asks, Tx.item_of, Tx.op_of, CallPath.Member, declared.end.EndAt.EndAt, declared.end.EndState.EndState, declared.tx.TxAt.TxAt, declared.call_path.Called.Called}
 use Rattle.beldi_call.specs.{Async.async_asks, declared.async_call.AsyncAt.AsyncAt, declared.call.CallAt.CallAt}
-use Rattle.beldi_step.specs.{declared.run.OpenTx.OpenTx, declared.run.RunTx.RunTx, declared.run.Stage.Stage, Run.OnCell, Run.async_here_asks, Run.back_to_asks, Run.call_here_asks, Run.callee_body, Run.cell_op, Run.close_asks, Run.end_by_asks, Run.end_here_asks, Run.place_of, Run.put_asks, Run.stage_asks, Run.own_tx, Run.tell_asks, Run.tx_here_asks, Run.tx_of, Run.walk_asks}
-use Rattle.beldi_laws.proofs.Moves.{if_plan}
+use Rattle.beldi_step.specs.{declared.run.OpenTx.OpenTx, declared.run.RunTx.RunTx, declared.run.Stage.Stage, Run.OnCell, Run.async_here_asks, Run.back_to_asks, Run.call_here_asks, Run.callee_body, Run.cell_op, Run.close_asks, Run.end_by_asks, Run.end_here_asks, Run.place_of, Run.put_asks, Run.stage_asks, Run.own_tx, Run.notify_asks, Run.tx_here_asks, Run.tx_of, Run.walk_asks}
+use Rattle.beldi_invariant.proofs.Moves.{if_plan}
 use Rattle.beldi_upkeep.specs.Passed.{IsLater, MayPass}
 use Rattle.beldi_upkeep.proofs.PastActs.{Does, calls_back, ends_intent, notes_at, opens_call, puts_read}
 
@@ -166,12 +166,12 @@ module _ (m : Rows) (id : IntentId) (func : ℕ) (c : Option Caller) (o : Option
     here_suits e at None = looked _
     here_suits e at (Some x) = tx_suits (place_of id step) own (tx_of id func x) e at (item_of e)
 
-    end_suits : (commit : Bool) (v : Visit) (x : Option RunTx) → o ≡ x → Suits (end_by_asks id func step commit v x)
+    end_suits : (commit : Bool) (v : EndState) (x : Option RunTx) → o ≡ x → Suits (end_by_asks id func step commit v x)
     end_suits commit v None is = looked _
     end_suits commit v (Some (RunTx.Inherited x)) is = looked _
-    end_suits commit v (Some (RunTx.Own x)) is = visit_suits x is commit v.way v.after v.item v.value v.at
+    end_suits commit v (Some (RunTx.Own x)) is = visit_suits x is commit v.path v.after v.item v.value v.at
 
-    end_here_suits : (e : Effect) (v : Visit) → Suits (end_here_asks id func step e v o)
+    end_here_suits : (e : Effect) (v : EndState) → Suits (end_here_asks id func step e v o)
     end_here_suits (Effect.End commit) v = end_suits commit v o refl
     end_here_suits e v = looked _
 
@@ -196,7 +196,7 @@ module _ (m : Rows) (id : IntentId) (func : ℕ) (c : Option Caller) (o : Option
         by_at AsyncAt.Note = quiet _ Act.NoteRegistered (record { read = refl; opens = refl; back = refl; ends = refl; notes = refl })
     async_suits e is at = looked _
 
-    tell_suits : (x : Option Caller) → Suits (tell_asks id func x)
+    tell_suits : (x : Option Caller) → Suits (notify_asks id func x)
     tell_suits None = looked _
     tell_suits (Some x) = quiet _ Act.NoteRegistered (record { read = refl; opens = refl; back = refl; ends = refl; notes = refl })
 
@@ -216,7 +216,7 @@ module _ (m : Rows) (id : IntentId) (func : ℕ) (c : Option Caller) (o : Option
     pub stage_suits : (s : Stage) → Suits (stage_asks id func c o step effect s)
     stage_suits Stage.Ask = looked _
     stage_suits (Stage.Walk r) = walk_suits r effect
-    stage_suits (Stage.Keep v seen) = (λ i n does. own i n does.0, λ e. cc)
+    stage_suits (Stage.Keep v version) = (λ i n does. own i n does.0, λ e. cc)
     stage_suits (Stage.Write at) = put_suits at (cell_op effect)
     stage_suits (Stage.Tx at) = here_suits effect at o
     stage_suits (Stage.Decide x) = end_here_suits effect first_visit
@@ -224,5 +224,5 @@ module _ (m : Rows) (id : IntentId) (func : ℕ) (c : Option Caller) (o : Option
     stage_suits (Stage.Call at) = call_suits effect refl at
     stage_suits (Stage.Async at) = async_suits effect refl at
     stage_suits Stage.Back = back_suits c refl effect refl
-    stage_suits Stage.Tell = tell_suits c
+    stage_suits Stage.Notify = tell_suits c
     stage_suits Stage.Close = close_suits effect refl

@@ -1,13 +1,13 @@
 -- Where a run goes on to past what takes no turn: a transaction that has ended by then had its End before.
 use Rattle.std.proofs.lemmas.List.{take_more}
-use Rattle.beldi_order.proofs.Ends.{fits_at}
-use Rattle.beldi_known.proofs.{Phases.at, Phases.begin_is, Phases.inside_is, Begins.going_now, Cases.by_option}
-use Rattle.beldi_laws.proofs.Names.{Answer, Body, Bool, Caller, Core, Deployment, Effect, Instance, IntentId, IntentRow, IsTrue, List, Machine, None, Option, Right, Rows, RunTx, Some, StandsAt, TxId, Txs, [], and_once, answer_at_once, ap, arith, drop, effect_after, false, get_or, inl, inr, is_inherited, is_some, length, length-take-le, ltb-true, ltb-false, nat_lt, none_by, open_after, open_of, place_of, refl, run_on, run_once, same_some, subst, sym, take, take-append-drop, takes_if, true, txs_after, wants_answer, txs_by, txs_pushed, with_cause, ℕ, ◌++◌, ◌+◌, ◌<◌, ◌∙◌, ◌∷◌, ◌≡◌, ◌≤◌, ◌⊎◌, ◌||◌}
-use Rattle.beldi_laws.proofs.Names.map
-use Rattle.beldi_laws.proofs.Names.step
-use Rattle.beldi_laws.proofs.{Ended.EndedAt, OpenOf.open_begun, OpenOf.open_in, OpenOf.open_out, OpenOf.own_begin, Turns.MachineAt, Turns.at_once_there, Turns.at_steps, Turns.effect_there, Turns.steps_there, Turns.takes_there}
+use Rattle.beldi_plain_laws.proofs.Ends.{fits_at}
+use Rattle.beldi_histories.proofs.{Phases.at, Phases.begin_is, Phases.inside_is, Begins.going_now, Cases.by_option}
+use Rattle.beldi_invariant.proofs.Names.{Answer, Body, Bool, Caller, Core, Deployment, Effect, Instance, IntentId, IntentRow, IsTrue, List, Machine, None, Option, Invariant, Rows, RunTx, Some, StandsAt, TxId, Txs, [], and_local, local_answer, ap, arith, drop, effect_after, false, get_or, inl, inr, is_inherited, is_some, length, length-take-le, ltb-true, ltb-false, nat_lt, none_by, open_after, open_of, place_of, refl, run_on, run_local, same_some, subst, sym, take, take-append-drop, takes_if, true, txs_after, wants_answer, txs_by, txs_pushed, with_cause, ℕ, ◌++◌, ◌+◌, ◌<◌, ◌∙◌, ◌∷◌, ◌≡◌, ◌≤◌, ◌⊎◌, ◌||◌}
+use Rattle.beldi_invariant.proofs.Names.map
+use Rattle.beldi_invariant.proofs.Names.step
+use Rattle.beldi_invariant.proofs.{Ended.EndedAt, OpenOf.open_begun, OpenOf.open_in, OpenOf.open_out, OpenOf.own_begin, StageTurns.MachineAt, StageTurns.local_steps_there, StageTurns.at_steps, StageTurns.effect_there, StageTurns.steps_there, StageTurns.takes_there}
 use Rattle.beldi_upkeep.specs.Callees.{HasBody, IsPassed, open_begin}
-use Rattle.beldi_upkeep.proofs.{FromRight.body_known, PastOwn.WasOwner, PastOwn.called_owner, PastOwn.ended_there, PastOwn.ends_there, PastOwn.open_before}
+use Rattle.beldi_upkeep.proofs.{FromInvariant.body_recorded, PastOwn.WasOwner, PastOwn.called_owner, PastOwn.ended_there, PastOwn.ends_there, PastOwn.open_before}
 
 pub begin_same : (o : Option RunTx) → open_begin o ≡ own_begin o
 begin_same o = grind arith
@@ -19,22 +19,22 @@ IsLow n s = (s.0.steps ≡ n) ⊎ ((v : ℕ) × ((own_begin s.1 ≡ Some v) × (
 cause_begin : (a : Answer) (o : Option RunTx) → own_begin (with_cause a o) ≡ own_begin o
 cause_begin a o = grind arith
 
-wanted_at_once : (id : IntentId) (n : ℕ) (e : Effect) (a : Answer) → answer_at_once id n e ≡ Some a → IsTrue (wants_answer e)
-wanted_at_once id n e a h = grind arith
+wanted_local_steps : (id : IntentId) (n : ℕ) (e : Effect) (a : Answer) → local_answer id n e ≡ Some a → IsTrue (wants_answer e)
+wanted_local_steps id n e a h = grind arith
 
-once_there : (d : Deployment) (func : ℕ) (q : Instance) (same : q.func ≡ func) (given : List Answer) (s : Machine × Option RunTx) → MachineAt d func q given s → (id : IntentId) → MachineAt d func q (run_once d id q given) (step.once d id s)
-once_there d func q same given s h id = subst (λ ts. MachineAt d func q ts (step.once d id s)) (λ i. and_once given (answer_at_once id (steps_there d func q same given s h i) (effect_there d func q same given s h i))) (by_answer (answer_at_once id s.0.steps s.0.effect) refl)
+once_there : (d : Deployment) (func : ℕ) (q : Instance) (same : q.func ≡ func) (given : List Answer) (s : Machine × Option RunTx) → MachineAt d func q given s → (id : IntentId) → MachineAt d func q (run_local d id q given) (step.local_step d id s)
+once_there d func q same given s h id = subst (λ ts. MachineAt d func q ts (step.local_step d id s)) (λ i. and_local given (local_answer id (steps_there d func q same given s h i) (effect_there d func q same given s h i))) (by_answer (local_answer id s.0.steps s.0.effect) refl)
   where
-    by_answer : (o : Option Answer) → answer_at_once id s.0.steps s.0.effect ≡ o → MachineAt d func q (and_once given o) (takes_if d s.0 s.1 o)
+    by_answer : (o : Option Answer) → local_answer id s.0.steps s.0.effect ≡ o → MachineAt d func q (and_local given o) (takes_if d s.0 s.1 o)
     by_answer None e = h
-    by_answer (Some a) e = takes_there d func q same given s h a (wanted_at_once id s.0.steps s.0.effect a e)
+    by_answer (Some a) e = takes_there d func q same given s h a (wanted_local_steps id s.0.steps s.0.effect a e)
 
-module _ (d : Deployment) (func : ℕ) (q : Instance) (same : q.func ≡ func) (out : q.within ≡ None) (id : IntentId) (n : ℕ) where
+module _ (d : Deployment) (func : ℕ) (q : Instance) (same : q.func ≡ func) (out : q.enclosing ≡ None) (id : IntentId) (n : ℕ) where
   -- an Abort stands in a transaction of one's own
   abort_open : (ts : List Answer) → effect_after d q ts ≡ Effect.Abort → is_some (txs_after d q ts).begun ≡ true
   abort_open ts is =
       let g = at d q ts in
-      let b = (going_now d q.func q.args (is_some q.within) ts g.going).at_abort is in
+      let b = (going_now d q.func q.args (is_some q.enclosing) ts g.going).at_abort is in
       by_or (is_some (txs_after d q ts).begun) (ap (λ w. is_some (txs_after d q ts).begun || is_some w) (sym out) ∙ sym (inside_is d q ts) ∙ b)
     where
       by_or : (b : Bool) → (b || false) ≡ true → b ≡ true
@@ -45,7 +45,7 @@ module _ (d : Deployment) (func : ℕ) (q : Instance) (same : q.func ≡ func) (
   abbrev aborted : ℕ → Answer
   aborted n = Answer.Aborted (record { place = place_of id n; holder = None })
 
-  low_once : (ts : List Answer) (s : Machine × Option RunTx) → MachineAt d func q ts s → IsLow n s → IsLow n (step.once d id s)
+  low_once : (ts : List Answer) (s : Machine × Option RunTx) → MachineAt d func q ts s → IsLow n s → IsLow n (step.local_step d id s)
   low_once ts s h low = by_effect s.0.effect refl
     where
       begun : (txs_after d q ts).begun ≡ own_begin s.1
@@ -63,28 +63,28 @@ module _ (d : Deployment) (func : ℕ) (q : Instance) (same : q.func ≡ func) (
       now_aborts a is (inl e) = by_option (own_begin s.1) (λ none. let clash = sym (ap is_some (begun ∙ none)) ∙ abort_open ts (sym effect ∙ is) in cc)
           (λ v some. let b = (fits_at d q ts).before v (begun ∙ some) in let l = steps_there d func q same ts s h in (v, (cause_begin a s.1 ∙ some, omega (arith, b, l, e))))
 
-      by_effect : (e : Effect) → s.0.effect ≡ e → IsLow n (step.once d id s)
-      by_effect Effect.Begin is = subst (λ e. IsLow n (takes_if d s.0 s.1 (answer_at_once id s.0.steps e))) (sym is) (inr (subst (λ e. (v : ℕ) × ((own_begin (open_after s.0.steps e Answer.Done s.1) ≡ Some v) × (v ≤ n))) (sym is) (now_begins is low)))
-      by_effect Effect.Abort is = subst (λ e. IsLow n (takes_if d s.0 s.1 (answer_at_once id s.0.steps e))) (sym is) (inr (subst (λ e. (v : ℕ) × ((own_begin (open_after s.0.steps e (aborted s.0.steps) s.1) ≡ Some v) × (v ≤ n))) (sym is) (now_aborts (aborted s.0.steps) is low)))
-      by_effect e is = subst (λ e. IsLow n (takes_if d s.0 s.1 (answer_at_once id s.0.steps e))) (sym is) low
+      by_effect : (e : Effect) → s.0.effect ≡ e → IsLow n (step.local_step d id s)
+      by_effect Effect.Begin is = subst (λ e. IsLow n (takes_if d s.0 s.1 (local_answer id s.0.steps e))) (sym is) (inr (subst (λ e. (v : ℕ) × ((own_begin (open_after s.0.steps e Answer.Done s.1) ≡ Some v) × (v ≤ n))) (sym is) (now_begins is low)))
+      by_effect Effect.Abort is = subst (λ e. IsLow n (takes_if d s.0 s.1 (local_answer id s.0.steps e))) (sym is) (inr (subst (λ e. (v : ℕ) × ((own_begin (open_after s.0.steps e (aborted s.0.steps) s.1) ≡ Some v) × (v ≤ n))) (sym is) (now_aborts (aborted s.0.steps) is low)))
+      by_effect e is = subst (λ e. IsLow n (takes_if d s.0 s.1 (local_answer id s.0.steps e))) (sym is) low
 
   -- a Begin that is open stays so
   abbrev OpenThen : Machine × Option RunTx → ℕ → Effect → Type 0
-  OpenThen s v e = own_begin (takes_if d s.0 s.1 (answer_at_once id s.0.steps e)).1 ≡ Some v
+  OpenThen s v e = own_begin (takes_if d s.0 s.1 (local_answer id s.0.steps e)).1 ≡ Some v
 
-  open_once : (ts : List Answer) (s : Machine × Option RunTx) (v : ℕ) → MachineAt d func q ts s → own_begin s.1 ≡ Some v → own_begin (step.once d id s).1 ≡ Some v
+  open_once : (ts : List Answer) (s : Machine × Option RunTx) (v : ℕ) → MachineAt d func q ts s → own_begin s.1 ≡ Some v → own_begin (step.local_step d id s).1 ≡ Some v
   open_once ts s v h is_open = by_effect s.0.effect refl
     where
-      by_effect : (e : Effect) → s.0.effect ≡ e → own_begin (step.once d id s).1 ≡ Some v
+      by_effect : (e : Effect) → s.0.effect ≡ e → own_begin (step.local_step d id s).1 ≡ Some v
       by_effect Effect.Begin is = let clash = sym (ap is_some (open_begun d q ts ∙ ap own_begin (sym h.open_there) ∙ is_open)) ∙ (begin_is d q ts (sym (effect_there d func q same ts s h) ∙ is)).1 in cc
       by_effect Effect.Abort is = subst (OpenThen s v) (sym is) (subst (λ e. own_begin (open_after s.0.steps e (aborted s.0.steps) s.1) ≡ Some v) (sym is) (cause_begin (aborted s.0.steps) s.1 ∙ is_open))
       by_effect e is = subst (OpenThen s v) (sym is) is_open
 
-  pub open_on : (ts : List Answer) (s : Machine × Option RunTx) (v : ℕ) → MachineAt d func q ts s → own_begin s.1 ≡ Some v → own_begin (step.at_once d id s).1 ≡ Some v
-  open_on ts s v h is_open = open_once (run_once d id q ts) (step.once d id s) v (once_there d func q same ts s h id) (open_once ts s v h is_open)
+  pub open_on : (ts : List Answer) (s : Machine × Option RunTx) (v : ℕ) → MachineAt d func q ts s → own_begin s.1 ≡ Some v → own_begin (step.local_steps d id s).1 ≡ Some v
+  open_on ts s v h is_open = open_once (run_local d id q ts) (step.local_step d id s) v (once_there d func q same ts s h id) (open_once ts s v h is_open)
 
-  pub low_on : (ts : List Answer) (s : Machine × Option RunTx) → MachineAt d func q ts s → s.0.steps ≡ n → IsLow n (step.at_once d id s)
-  low_on ts s h is = low_once (run_once d id q ts) (step.once d id s) (once_there d func q same ts s h id) (low_once ts s h (inl is))
+  pub low_on : (ts : List Answer) (s : Machine × Option RunTx) → MachineAt d func q ts s → s.0.steps ≡ n → IsLow n (step.local_steps d id s)
+  low_on ts s h is = low_once (run_local d id q ts) (step.local_step d id s) (once_there d func q same ts s h id) (low_once ts s h (inl is))
 
 -- what ended by these answers, of a run that stands so, ended among so many
 pub ended_low : (d : Deployment) (q : Instance) (ts : List Answer) (s : Machine × Option RunTx) (n b : ℕ) (z : ℕ × Bool) → EndedAt d q ts b z → s.0.steps ≡ length ts → s.1 ≡ open_of d q ts → IsLow n s → z.0 < n
@@ -107,22 +107,22 @@ ended_low d q ts s n b z at steps is_open (inr w) = by_test (nat_lt z.0 n) refl
     by_test false e = absurd (late (ltb-false z.0 n e))
 
 -- ---- a run that goes on from a machine, which stands after so many steps
-module _ (d : Deployment) (b : Core) (n : Rows) (h : Right d b n) (id : IntentId) (func : ℕ) (q : Instance) (same : q.func ≡ func) (ts : List Answer) (s : Machine × Option RunTx) (at : MachineAt d func q ts s)
-    (c : Option Caller) (k : StandsAt d h.known id func c (step.at_once d id s).0 (step.at_once d id s).1) (t : TxId) (passed : IsPassed id (step.at_once d id s).0.steps (step.at_once d id s).1 t)
+module _ (d : Deployment) (b : Core) (n : Rows) (h : Invariant d b n) (id : IntentId) (func : ℕ) (q : Instance) (same : q.func ≡ func) (ts : List Answer) (s : Machine × Option RunTx) (at : MachineAt d func q ts s)
+    (c : Option Caller) (k : StandsAt d h.histories id func c (step.local_steps d id s).0 (step.local_steps d id s).1) (t : TxId) (passed : IsPassed id (step.local_steps d id s).0.steps (step.local_steps d id s).1 t)
     (home : ℕ) (i : IntentId) (r : IntentRow) (body : Body) (there : HasBody n home i r body) (in_it : body.tx ≡ Some t) where
-  pub w : WasOwner d h.known t
-  w = let z = body_known d b n h home i r body there in called_owner d h.known h.sane t i z.instance z.made (ap (λ (y : Body). y.tx) (sym z.body) ∙ in_it)
+  pub w : WasOwner d h.histories t
+  w = let z = body_recorded d b n h home i r body there in called_owner d h.histories h.well_formed t i z.instance z.made (ap (λ (y : Body). y.tx) (sym z.body) ∙ in_it)
 
   owner_is : w.owner ≡ k.instance
-  owner_is = same_some (sym w.made ∙ ap (map.get h.known) passed.own ∙ k.made)
+  owner_is = same_some (sym w.made ∙ ap (map.get h.histories) passed.own ∙ k.made)
 
-  outside_then : k.instance.within ≡ None
-  outside_then = ap (λ (y : Instance). y.within) (sym owner_is) ∙ w.outside
+  outside_then : k.instance.enclosing ≡ None
+  outside_then = ap (λ (y : Instance). y.enclosing) (sym owner_is) ∙ w.outside
 
-  pub outside : q.within ≡ None
-  outside = none_by q.within (λ x e.
+  pub outside : q.enclosing ≡ None
+  outside = none_by q.enclosing (λ x e.
       let inherits = open_in d q x (run_on d id q ts) e in
-      let clash = sym (open_out d k.instance k.answers outside_then) ∙ ap is_inherited (sym k.run_open ∙ (at_once_there d func q same ts s id at).open_there ∙ inherits) in cc)
+      let clash = sym (open_out d k.instance k.answers outside_then) ∙ ap is_inherited (sym k.run_open ∙ (local_steps_there d func q same ts s id at).open_there ∙ inherits) in cc)
 
   pub rest_all : k.answers ++ k.later ≡ w.owner.answers
   rest_all = k.run_answers ∙ ap (λ (y : Instance). y.answers) (sym owner_is)
@@ -131,17 +131,17 @@ module _ (d : Deployment) (b : Core) (n : Rows) (h : Right d b n) (id : IntentId
   begun_there = let p = passed.begun in let l = at_steps k in omega (arith, p, l)
 
   pub not_open : (txs_after d w.owner k.answers).begun ≡ Some t.begin → ⊥
-  not_open is_open = passed.ended (begin_same (step.at_once d id s).1 ∙ ap own_begin k.run_open ∙ sym (open_begun d k.instance k.answers) ∙ subst (λ (y : Instance). (txs_after d y k.answers).begun ≡ Some t.begin) owner_is is_open)
+  not_open is_open = passed.ended (begin_same (step.local_steps d id s).1 ∙ ap own_begin k.run_open ∙ sym (open_begun d k.instance k.answers) ∙ subst (λ (y : Instance). (txs_after d y k.answers).begun ≡ Some t.begin) owner_is is_open)
 
   abbrev pub ended : ℕ × Bool
-  ended = (ends_there d h.known t w k.answers k.later rest_all begun_there not_open).0
+  ended = (ends_there d h.histories t w k.answers k.later rest_all begun_there not_open).0
 
   ended_then : EndedAt d k.instance k.answers t.begin ended
-  ended_then = subst (λ (y : Instance). EndedAt d y k.answers t.begin ended) owner_is (ended_there d h.known t w k.answers k.later rest_all begun_there not_open)
+  ended_then = subst (λ (y : Instance). EndedAt d y k.answers t.begin ended) owner_is (ended_there d h.histories t w k.answers k.later rest_all begun_there not_open)
 
   -- its End was before
   pub ended_before : ended.0 < s.0.steps
-  ended_before = ended_low d k.instance k.answers (step.at_once d id s) s.0.steps t.begin ended ended_then (at_steps k) k.run_open (low_on d func q same outside id s.0.steps ts s at refl)
+  ended_before = ended_low d k.instance k.answers (step.local_steps d id s) s.0.steps t.begin ended ended_then (at_steps k) k.run_open (low_on d func q same outside id s.0.steps ts s at refl)
 
   -- .. and so was its Begin
   pub begun_first : t.begin < ended.0

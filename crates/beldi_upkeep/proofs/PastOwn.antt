@@ -1,28 +1,28 @@
 -- Owners of transactions: a Begin that an instance is past was answered by its End.
-use Rattle.beldi_known.specs.Known.{Got}
-use Rattle.beldi_order.proofs.Ends.{ended_stays}
-use Rattle.beldi_known.proofs.{Callers.all_called, ReadLists.asked_for, ReadLists.asked_own, ReadLists.member_tx, Cases.by_option}
-use Rattle.beldi_laws.proofs.Names.{Answer, Bool, Deployment, Effect, Instance, IntentId, Item, Known, List, None, Option, Sane, Some, TxId, Txs, [], ap, append-nil, append_assoc, arith, begin_is, drop, effect_after, ended_by, false, got_by, if◌then◌else◌, inl, inr, is_at, is_some, length, length-append, refl, subst, sym, take, take-append-drop, true, true_false, tx_end, txs_after, txs_by, txs_pushed, ℕ, ◌++◌, ◌<◌, ◌∙◌, ◌∷◌, ◌≡◌, ◌⊎◌}
-use Rattle.beldi_laws.proofs.{Ended.EndedAt, Ended.ended_at}
-use Rattle.beldi_laws.proofs.Names.map
+use Rattle.beldi_histories.specs.Histories.{Got}
+use Rattle.beldi_plain_laws.proofs.Ends.{ended_stays}
+use Rattle.beldi_histories.proofs.{Callers.all_called, ReadLists.asked_for, ReadLists.asked_own, ReadLists.member_tx, Cases.by_option}
+use Rattle.beldi_invariant.proofs.Names.{Answer, Bool, Deployment, Effect, Instance, IntentId, Item, Histories, List, None, Option, WellFormedHistories, Some, TxId, Txs, [], ap, append-nil, append_assoc, arith, begin_is, drop, effect_after, ended_by, false, got_by, if◌then◌else◌, inl, inr, is_at, is_some, length, length-append, refl, subst, sym, take, take-append-drop, true, true_false, tx_end, txs_after, txs_by, txs_pushed, ℕ, ◌++◌, ◌<◌, ◌∙◌, ◌∷◌, ◌≡◌, ◌⊎◌}
+use Rattle.beldi_invariant.proofs.{Ended.EndedAt, Ended.ended_at}
+use Rattle.beldi_invariant.proofs.Names.map
 
 -- ---- the owner of a transaction, after some answers, by which it was begun
-pub record WasOwner (d : Deployment) (known : Known) (t : TxId) : Type 0 where
+pub record WasOwner (d : Deployment) (histories : Histories) (t : TxId) : Type 0 where
   pub owner : Instance
-  pub made : map.get known t.intent ≡ Some owner
+  pub made : map.get histories t.intent ≡ Some owner
   pub func_is : t.func ≡ owner.func
-  pub outside : owner.within ≡ None
+  pub outside : owner.enclosing ≡ None
   pub given : List Answer
   pub later : List Answer
   pub all : given ++ later ≡ owner.answers
   pub begun : (txs_after d owner given).begun ≡ Some t.begin
 
-module _ (d : Deployment) (known : Known) (sane : Sane d known) (t : TxId) where
+module _ (d : Deployment) (histories : Histories) (well_formed : WellFormedHistories d histories) (t : TxId) where
   -- .. of one that somebody was called in
-  pub called_owner : (j : IntentId) (z : Instance) → map.get known j ≡ Some z → z.within ≡ Some t → WasOwner d known t
-  called_owner j z = all_called d known sane t (λ i q. WasOwner d known t) (λ i q inner c outside o. record {
+  pub called_owner : (j : IntentId) (z : Instance) → map.get histories j ≡ Some z → z.enclosing ≡ Some t → WasOwner d histories t
+  called_owner j z = all_called d histories well_formed t (λ i q. WasOwner d histories t) (λ i q inner c outside o. record {
     owner = c.waiter;
-    made = ap (map.get known) o.intent ∙ c.made;
+    made = ap (map.get histories) o.intent ∙ c.made;
     func_is = o.func_is;
     outside = outside;
     given = take c.step c.waiter.answers;
@@ -32,15 +32,15 @@ module _ (d : Deployment) (known : Known) (sane : Sane d known) (t : TxId) where
   }) (λ i q inner c up o. o) j z
 
   -- .. and of one that got an item
-  pub got_owner : (locked : IntentId → Bool) (x : Item) → Got d known locked t x → WasOwner d known t
-  got_owner locked x g = by_option (map.get known g.member) (λ e. absurd (true_false (sym (sym (ap (got_by d t x g.member (locked g.member)) e) ∙ g.got))))
-      (λ z e. by_within z e (sym (ap (got_by d t x g.member (locked g.member)) e) ∙ g.got))
+  pub got_owner : (lock_ahead : IntentId → Bool) (x : Item) → Got d histories lock_ahead t x → WasOwner d histories t
+  got_owner lock_ahead x g = by_option (map.get histories g.member) (λ e. absurd (true_false (sym (sym (ap (got_by d t x g.member (lock_ahead g.member)) e) ∙ g.got))))
+      (λ z e. by_within z e (sym (ap (got_by d t x g.member (lock_ahead g.member)) e) ∙ g.got))
     where
-      by_within : (z : Instance) → map.get known g.member ≡ Some z → got_by d t x g.member (locked g.member) (Some z) ≡ true → WasOwner d known t
-      by_within z is got = by_option z.within
-          (λ none. let a = asked_for d t x g.member z (locked g.member) got in let o = asked_own d t x g.member z none a.given a.on in
-          record { owner = z; made = ap (map.get known) o.intent ∙ is; func_is = o.func_is; outside = none; given = a.given; later = a.later; all = a.all; begun = o.begun })
-          (λ u in_it. called_owner g.member z is (in_it ∙ ap Some (sym (member_tx d t x g.member z u in_it (locked g.member) got))))
+      by_within : (z : Instance) → map.get histories g.member ≡ Some z → got_by d t x g.member (lock_ahead g.member) (Some z) ≡ true → WasOwner d histories t
+      by_within z is got = by_option z.enclosing
+          (λ none. let a = asked_for d t x g.member z (lock_ahead g.member) got in let o = asked_own d t x g.member z none a.given a.on in
+          record { owner = z; made = ap (map.get histories) o.intent ∙ is; func_is = o.func_is; outside = none; given = a.given; later = a.later; all = a.all; begun = o.begun })
+          (λ u in_it. called_owner g.member z is (in_it ∙ ap Some (sym (member_tx d t x g.member z u in_it (lock_ahead g.member) got))))
 
 -- ---- a Begin that was open is open, or was answered by its End
 module _ (d : Deployment) (q : Instance) (b : ℕ) where
@@ -97,7 +97,7 @@ fronts (x ∷ xs) us (y ∷ ys) vs h =
       | inr k ↦ inr (k.0, λ i. first i ∷ k.1 i)
     ]
 
-module _ (d : Deployment) (known : Known) (t : TxId) (w : WasOwner d known t) (ts rest : List Answer) (all : ts ++ rest ≡ w.owner.answers) (begun : t.begin < length ts) (closed : (txs_after d w.owner ts).begun ≡ Some t.begin → ⊥) where
+module _ (d : Deployment) (histories : Histories) (t : TxId) (w : WasOwner d histories t) (ts rest : List Answer) (all : ts ++ rest ≡ w.owner.answers) (begun : t.begin < length ts) (closed : (txs_after d w.owner ts).begun ≡ Some t.begin → ⊥) where
   -- so one that is not open has ended
   pub ends_there : (z : ℕ × Bool) × ((txs_after d w.owner ts).ends t.begin ≡ Some z)
   unfolding Begins
@@ -113,5 +113,5 @@ module _ (d : Deployment) (known : Known) (t : TxId) (w : WasOwner d known t) (t
   pub ended_there : EndedAt d w.owner ts t.begin ends_there.0
   ended_there = let e = ended_at d (record w.owner { answers = ts }) t.begin ends_there.0 ends_there.1 in record { before = e.before; ends = e.ends; begun = e.begun }
 
-  pub tx_ended : tx_end d known t ≡ Some ends_there.0
+  pub tx_ended : tx_end d histories t ≡ Some ends_there.0
   tx_ended = ap (ended_by d t.begin) w.made ∙ ended_stays d w.owner ts rest t.begin ends_there.0 all ends_there.1

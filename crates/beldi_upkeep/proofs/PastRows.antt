@@ -6,7 +6,7 @@ use Rattle.beldi_value.specs.declared.{id.IntentId.IntentId, place.Place.Place}
 use Rattle.beldi_row.specs.{Act.act, Key.RowKey, Key.key_cmp, Table.Rows, Table.after_act, declared.act.Act.Act, declared.key.Kind.Kind, declared.row.Row.Row}
 use Rattle.beldi_invokelog.specs.InvokeLog.{invoke_key}
 use Rattle.beldi_step.specs.Run.{place_of}
-use Rattle.beldi_laws.proofs.Names.{key_same, set_others}
+use Rattle.beldi_invariant.proofs.Names.{key_same, set_others}
 use Rattle.beldi_upkeep.specs.Passed.{MayPass, PastCalls, ShowsPast, may_pass}
 use Rattle.beldi_upkeep.proofs.{PastActs.Does, PastActs.calls_back, PastActs.may_by, PastActs.opens_call, PastActs.or_parts, PastActs.shows_by, RowSets.set_here}
 

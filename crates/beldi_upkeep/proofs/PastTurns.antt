@@ -1,11 +1,11 @@
 -- The turn of a run that has begun: what it shows in the rows, it is past.
-use Rattle.beldi_order.proofs.Ends.{fits_at}
-use Rattle.beldi_laws.proofs.Names.{Answer, Begins, Begun, Bool, Caller, Core, Deployment, Inside, Instance, IntentId, InvokeRow, IsCalled, Kind, Knows, List, None, OpenTx, Option, Outcome, Own, Place, Query, Return, Right, Row, RowAct, RowKey, Rows, Run, Some, Value, [], ap, arith, call_of, child_of, effect_before, false, invoke_key, IsTrue, func_called, option_map, wants_answer, is_some, length, length-append, ltb-false, ltb-true, nat_lt, place_of, refl, rows_after, same_some, stage_asks, subst, sym, true, ℕ, ◌<◌, ◌∙◌, ◌∷◌, ◌≡◌}
-use Rattle.beldi_laws.proofs.Names.map
-use Rattle.beldi_known.proofs.Cases.{by_option}
-use Rattle.beldi_laws.proofs.{Cases.by_list, Members.call_there, OpenOf.open_begun, OpenOf.own_begin, Returns.at_end, Returns.has_caller, Turns.at_steps, Turns.effect_here, Turns.not_over, Turns.step_here}
+use Rattle.beldi_plain_laws.proofs.Ends.{fits_at}
+use Rattle.beldi_invariant.proofs.Names.{Answer, Begins, Begun, Bool, Caller, Core, Deployment, Inside, Instance, IntentId, InvokeRow, IsCalled, Kind, Knows, List, None, OpenTx, Option, Outcome, Own, Place, Query, Return, Invariant, Row, RowAct, RowKey, Rows, Run, Some, Value, [], ap, arith, call_of, child_of, effect_before, false, invoke_key, IsTrue, func_called, option_map, wants_answer, is_some, length, length-append, ltb-false, ltb-true, nat_lt, place_of, refl, rows_after, same_some, stage_asks, subst, sym, true, ℕ, ◌<◌, ◌∙◌, ◌∷◌, ◌≡◌}
+use Rattle.beldi_invariant.proofs.Names.map
+use Rattle.beldi_histories.proofs.Cases.{by_option}
+use Rattle.beldi_invariant.proofs.{Cases.by_list, Members.call_there, OpenOf.open_begun, OpenOf.own_begin, Returns.at_end, Returns.has_caller, StageTurns.at_steps, StageTurns.effect_here, StageTurns.not_over, StageTurns.step_here}
 use Rattle.beldi_upkeep.specs.Passed.{MayPass, PastCalls, RunsPast, ShowsPast, may_pass}
-use Rattle.beldi_upkeep.proofs.{FromRight.call_is, FromRight.called_here, PastAsks.Suits, PastAsks.stage_suits, PastFront.none_past, PastRows.OpensNow, PastRows.past_on}
+use Rattle.beldi_upkeep.proofs.{FromInvariant.call_is, FromInvariant.called_here, PastAsks.Suits, PastAsks.stage_suits, PastFront.none_past, PastRows.OpensNow, PastRows.past_on}
 
 no_return : (w : Bool) (f : ℕ) (v : Value) (u : Outcome) → call_of w f v ≡ Return u → ⊥
 no_return true f v u e = cc
@@ -16,10 +16,10 @@ place_in p (Kind.Invoke q) = q
 place_in p z = p
 
 -- ---- the row of a call of an instance: it was called there, in the home of its function
-module _ (d : Deployment) (c : Core) (m : Rows) (h : Right d c m) (id : IntentId) (q : Instance) (made : map.get h.known id ≡ Some q) (f n : ℕ) (x : InvokeRow) (at : map.get m (invoke_key f (place_of id n)) ≡ Some (Row.Invoke x)) where
+module _ (d : Deployment) (c : Core) (m : Rows) (h : Invariant d c m) (id : IntentId) (q : Instance) (made : map.get h.histories id ≡ Some q) (f n : ℕ) (x : InvokeRow) (at : map.get m (invoke_key f (place_of id n)) ≡ Some (Row.Invoke x)) where
   pub record CalledAt : Type 0 where
     pub callee : Instance
-    pub there : map.get h.known (child_of id n) ≡ Some callee
+    pub there : map.get h.histories (child_of id n) ≡ Some callee
     pub called : IsCalled d id q n callee
     pub func : q.func ≡ f
 
@@ -40,7 +40,7 @@ by_call None h = refl
 by_call (Some (Row.Invoke x)) h = h x refl
 by_call (Some w) h = refl
 
-module _ (d : Deployment) (c : Core) (m : Rows) (h : Right d c m) (r : Run) (g : Begun) (k : Knows d h.known r g) where
+module _ (d : Deployment) (c : Core) (m : Rows) (h : Invariant d c m) (r : Run) (g : Begun) (k : Knows d h.histories r g) where
   -- a step at which no call is has none
   pub no_call : ((w : Bool) (f : ℕ) (v : Value) → g.machine.effect ≡ call_of w f v → ⊥) → MayPass m r.id g.machine.steps
   no_call none f = by_call (map.get m (invoke_key f (place_of r.id g.machine.steps))) (λ x is.
@@ -55,9 +55,9 @@ module _ (d : Deployment) (c : Core) (m : Rows) (h : Right d c m) (r : Run) (g :
       call_wants true f v = refl
       call_wants false f v = refl
 
-      not_made : (j : Instance) → map.get h.known (child_of r.id g.machine.steps) ≡ Some j → ⊥
+      not_made : (j : Instance) → map.get h.histories (child_of r.id g.machine.steps) ≡ Some j → ⊥
       not_made j there =
-          let row = call_there d m h.known h.locked h.rows (r.id, r.func) (record { step = g.machine.steps; func = j.func }) (record { caller = k.instance; made = k.made; func = k.func; callee = j; there = there; its = refl }) in
+          let row = call_there d m h.histories h.lock_ahead h.rows (r.id, r.func) (record { step = g.machine.steps; func = j.func }) (record { caller = k.instance; made = k.made; func = k.func; callee = j; there = there; its = refl }) in
           let clash = sym (ap (option_map func_called) absent) ∙ row in cc
 
       later_none : (a : Answer) (rest : List Answer) → k.later ≡ a ∷ rest → ⊥
@@ -66,8 +66,8 @@ module _ (d : Deployment) (c : Core) (m : Rows) (h : Right d c m) (r : Run) (g :
           let cut = length-append k.answers k.later in
           let len = ap length more in
           let at = at_steps k in
-          let there = h.sane.callees r.id k.instance g.machine.steps w f v k.made (omega (arith, all, cut, len, at)) (effect_here k ∙ is) in
-          by_option (map.get h.known (child_of r.id g.machine.steps)) (λ e. let clash = sym (ap is_some e) ∙ there in cc) (λ j e. not_made j e)
+          let there = h.well_formed.callees r.id k.instance g.machine.steps w f v k.made (omega (arith, all, cut, len, at)) (effect_here k ∙ is) in
+          by_option (map.get h.histories (child_of r.id g.machine.steps)) (λ e. let clash = sym (ap is_some e) ∙ there in cc) (λ j e. not_made j e)
 
       left : k.later ≡ []
       left = by_list k.later (λ e. e) (λ a rest more. absurd (later_none a rest more))
@@ -76,16 +76,16 @@ module _ (d : Deployment) (c : Core) (m : Rows) (h : Right d c m) (r : Run) (g :
   pub front_only : (l : RowKey) → k.later ≡ [] → k.instance.outcome ≡ None → ShowsPast l.kind (map.get m l) r.id g.machine.steps → ⊥
   front_only l left none shows = none_past d c m h r.id k.instance k.made none l (subst (ShowsPast l.kind (map.get m l) r.id) (step_here k left) shows)
 
-  pub none_before : (s : Run) (z : Begun) → Knows d h.known s z → s.id ≡ r.id → k.later ≡ [] → g.machine.steps < z.machine.steps → ⊥
+  pub none_before : (s : Run) (z : Begun) → Knows d h.histories s z → s.id ≡ r.id → k.later ≡ [] → g.machine.steps < z.machine.steps → ⊥
   none_before s z y same left less =
-      let one : y.instance ≡ k.instance = same_some (sym y.made ∙ ap (map.get h.known) same ∙ k.made) in
+      let one : y.instance ≡ k.instance = same_some (sym y.made ∙ ap (map.get h.histories) same ∙ k.made) in
       let all = ap length y.run_answers in
       let cut = length-append y.answers y.later in
       let l = ap (λ (q : Instance). length q.answers) one in
       let at = at_steps y in
       let here = step_here k left in omega (arith, all, cut, l, at, here, less)
 
-module _ (d : Deployment) (c : Core) (m : Rows) (h : Right d c m) (past : PastCalls m) (runs : RunsPast c m) (i : ℕ) (r : Run) (live : map.get c.runs i ≡ Some r) (g : Begun) (at_is : r.at ≡ Begins g) (k : Knows d h.known r g) (finds : Inside m h.plain c.book k g.stage) where
+module _ (d : Deployment) (c : Core) (m : Rows) (h : Invariant d c m) (past : PastCalls m) (runs : RunsPast c m) (i : ℕ) (r : Run) (live : map.get c.runs i ≡ Some r) (g : Begun) (at_is : r.at ≡ Begins g) (k : Knows d h.histories r g) (finds : Inside m h.plain c.book k g.stage) where
   pub passes : (n : ℕ) → n < g.machine.steps → MayPass m r.id n
   passes = runs.each i r g live at_is
 
@@ -109,7 +109,7 @@ module _ (d : Deployment) (c : Core) (m : Rows) (h : Right d c m) (past : PastCa
           absurd (no_return w.called.waits w.callee.func w.callee.args u (sym w.called.call ∙ ap (effect_before d k.instance) same ∙ effect_here k ∙ is)))
 
   backs : (z : Caller) → g.caller ≡ Some z → child_of z.place.intent z.place.step ≡ r.id
-  backs z from = sym (has_caller d h.known r.id k.instance z h.sane k.made (sym k.caller ∙ from)).is_callee
+  backs z from = sym (has_caller d h.histories r.id k.instance z h.well_formed k.made (sym k.caller ∙ from)).is_callee
 
   -- ---- what it asks
   abbrev pub Fits : Query → Type 0

@@ -5,19 +5,19 @@ use Rattle.std.specs.FinMap.{get-empty}
 use Rattle.std.specs.FinMap as map
 use Rattle.beldi_value.specs.{Id.has_no_hops, Id.root_of, declared.id.IntentId.IntentId, declared.value.Value.Value}
 use Rattle.beldi_tree.specs.declared.deployment.Deployment.{Deployment}
-use Rattle.beldi_order.proofs.Maps.{same_some}
+use Rattle.beldi_plain_laws.proofs.Maps.{same_some}
 use Rattle.beldi_row.proofs.Removed.{act_stays, spares}
-use Rattle.beldi_walk.specs.Query.{may_remove}
+use Rattle.beldi_query.specs.Query.{may_remove}
 use Rattle.beldi_step.proofs.Spares.{stage_spares}
 use Rattle.beldi_row.specs.{Act.act, Act.prunes, Act.on, Act.bind_to, Act.bound, Key.RowKey, Key.key_cmp, Table.Rows, declared.act.Act.Act, declared.row.Body.Body, declared.row.IntentRow.IntentRow, declared.row.Row.Row}
-use Rattle.beldi_walk.specs.declared.query.Query.{Query}
+use Rattle.beldi_query.specs.declared.query.Query.{Query}
 use Rattle.beldi_intent.specs.Intent.{root_key}
-use Rattle.beldi_step.proofs.Runs.{of_plan}
-use Rattle.beldi_step.specs.{declared.event.Event.Event, declared.run.Run.Run, declared.run.RunAt.RunAt, Host.Core, Host.counted, Host.crash_plan, Host.is_crowded, Host.last_moment, Host.plan, Host.plan_of, Host.run_plan, Run.asks_at, Run.stage_asks}
-use Rattle.beldi_laws.specs.Right.{KnowsAt, Right, RunAt as Knows}
-use Rattle.beldi_laws.proofs.Moves.{if_plan}
+use Rattle.beldi_step.proofs.StepRuns.{of_plan}
+use Rattle.beldi_step.specs.{declared.event.Event.Event, declared.run.Run.Run, declared.run.RunAt.RunAt, HostStep.Core, HostStep.counted, HostStep.crash_plan, HostStep.is_crowded, HostStep.last_moment, HostStep.plan, HostStep.plan_of, HostStep.run_plan, Run.asks_at, Run.stage_asks}
+use Rattle.beldi_invariant.specs.Invariant.{KnowsAt, Invariant, RunAt as Knows}
+use Rattle.beldi_invariant.proofs.Moves.{if_plan}
 use Rattle.beldi_upkeep.specs.Checked.{IsOfIt, NoRootAtFirst, RootsStayOfIt, body_at, has_func}
-use Rattle.beldi_upkeep.proofs.{Asked.Tame, Asked.id_or, Asked.sets_body, Asked.stage_tame, Kept.KeepsAt, Kept.PlanKeeps, Kept.event_keeps}
+use Rattle.beldi_upkeep.proofs.{Asked.Tame, Asked.id_or, Asked.sets_body, Asked.stage_tame, UpkeepKept.KeepsAt, UpkeepKept.PlanKeeps, UpkeepKept.event_keeps}
 
 -- an act that sets no body leaves it
 body_kept : (a : Act) (now : ℕ) (r : Option Row) → prunes a ≡ false → sets_body a ≡ false → body_at (act a now r).0 ≡ body_at r
@@ -64,13 +64,13 @@ module _ (d : Deployment) (O : ℕ → ℕ → Type 0) where
   no_hops : (id : IntentId) (t : ℕ) → has_no_hops id.hops ≡ false → id ≡ root_of t → ⊥
   no_hops id t hops same = let clash = sym (ap (λ (z : IntentId). has_no_hops z.hops) same) ∙ hops in cc
 
-  run_keeps : (c : Core) (m : Rows) (h : Right d c m) (r : Run) (at : RunAt) → KnowsAt d m h.plain c.book h.known r at → KeepsAt P c.now (asks_at r at)
+  run_keeps : (c : Core) (m : Rows) (h : Invariant d c m) (r : Run) (at : RunAt) → KnowsAt d m h.plain c.book h.histories r at → KeepsAt P c.now (asks_at r at)
   run_keeps c m h r RunAt.Looks k = mild_keeps c.now _ Act.Look refl refl
   run_keeps c m h r (RunAt.Registers b) k = λ v w t same. absurd (no_hops r.id t k.callee (ap (λ (z : RowKey). id_or r.id z.kind) same))
   run_keeps c m h r (RunAt.Begins g) k = tame_keeps c.now (stage_asks r.id r.func g.caller g.tx g.machine.steps g.machine.effect g.stage) (stage_spares r.id r.func g.caller g.tx g.machine.steps g.machine.effect g.stage) (stage_tame r.id r.func g.caller g.tx g.machine.steps g.machine.effect g.stage)
 
   -- ---- an event
-  turn_keeps : (c b : Core) (m : Rows) (h : Right d c m) (i : ℕ) (o : Option Run) → b.now ≡ c.now → Knows d m h.plain c.book h.known o → PlanKeeps P b (run_plan b i o)
+  turn_keeps : (c b : Core) (m : Rows) (h : Invariant d c m) (i : ℕ) (o : Option Run) → b.now ≡ c.now → Knows d m h.plain c.book h.histories o → PlanKeeps P b (run_plan b i o)
   turn_keeps c b m h i None now k = tt
   turn_keeps c b m h i (Some r) now k = if_plan (PlanKeeps P b) (nat_lt r.deadline b.now) _ _ (λ t. tt) (λ t. subst (λ n. KeepsAt P n (asks_at r r.at)) (sym now) (run_keeps c m h r r.at k))
 
@@ -78,7 +78,7 @@ module _ (d : Deployment) (O : ℕ → ℕ → Type 0) where
   crash_keeps b i None = tt
   crash_keeps b i (Some r) = if_plan (PlanKeeps P b) (nat_lt r.deadline b.now) _ _ (λ t. tt) (λ t. tt)
 
-  module _ (c : Core) (m : Rows) (h : Right d c m) where
+  module _ (c : Core) (m : Rows) (h : Invariant d c m) where
     abbrev IsSo : Event → Type 0
     IsSo (Event.Request t f a) = O t f
     IsSo e = Unit {0}
@@ -97,7 +97,7 @@ module _ (d : Deployment) (O : ℕ → ℕ → Type 0) where
     pub plan_keeps : (e : Event) → IsSo e → PlanKeeps P (counted c) (plan d e c)
     plan_keeps e of = of_plan d e c (PlanKeeps P (counted c)) (λ few. plan_of_keeps e of) (λ shut. tt) tt
 
-so_of : (d : Deployment) (c : Core) (m : Rows) (h : Right d c m) (e : Event) → IsOfIt d e → IsSo d (λ u f. has_func d f ≡ true) c m h e
+so_of : (d : Deployment) (c : Core) (m : Rows) (h : Invariant d c m) (e : Event) → IsOfIt d e → IsSo d (λ u f. has_func d f ≡ true) c m h e
 so_of d c m h (Event.Request t f a) of = of
 so_of d c m h e of = tt
 

@@ -50,8 +50,8 @@ module _ (f : Chain) (p : Place) where
 
   -- ---- of rows that are linked
   module _ (l : Linked f) where
-    notes_are : (content f).notes ≡ before f 0 l.way.0 ++ l.tail.log
-    notes_are = ap (λ (c : Content). c.notes) (content_is f l.way.0 l.last l.tail l.way.1 l.there l.ends l.few)
+    notes_are : (content f).notes ≡ before f 0 l.path.0 ++ l.tail.log
+    notes_are = ap (λ (c : Content). c.notes) (content_is f l.path.0 l.last l.tail l.path.1 l.there l.ends l.few)
 
     -- a note is that of a row on the way
     before_noted : (r : ℕ) (ks : List ℕ) → is_noted p (before f r ks) ≡ true → (i : ℕ) × (has_note p (f i) ≡ true)
@@ -62,16 +62,16 @@ module _ (f : Chain) (p : Place) where
     ]
 
     linked_noted : is_noted p (content f).notes ≡ true → (i : ℕ) × (has_note p (f i) ≡ true)
-    linked_noted h = elim (noted_in (before f 0 l.way.0) l.tail.log p (ap (is_noted p) (sym notes_are) ∙ h)) [
-      | inl there ↦ before_noted 0 l.way.0 there
+    linked_noted h = elim (noted_in (before f 0 l.path.0) l.tail.log p (ap (is_noted p) (sym notes_are) ∙ h)) [
+      | inl there ↦ before_noted 0 l.path.0 there
       | inr last ↦ (l.last, ap (has_note p) l.there ∙ last)
     ]
 
     -- the note of a row on the way is one of the item
     on_way : (i : ℕ) (c : Cell) → f i ≡ Some (Row.Cell c) → is_noted p c.log ≡ true → (js : List ℕ) → Steps f 0 js i → (ks : List ℕ) → Steps f i ks l.last → is_noted p (content f).notes ≡ true
     on_way i c is h js to ks further =
-        let way : (content f).notes ≡ before f 0 (js ++ ks) ++ l.tail.log = ap (λ (z : Content). z.notes) (content_is f (js ++ ks) l.last l.tail (join f 0 js i ks l.last to further) l.there l.ends l.few) in
-        ap (is_noted p) way ∙ by_rest ks further
+        let path : (content f).notes ≡ before f 0 (js ++ ks) ++ l.tail.log = ap (λ (z : Content). z.notes) (content_is f (js ++ ks) l.last l.tail (join f 0 js i ks l.last to further) l.there l.ends l.few) in
+        ap (is_noted p) path ∙ by_rest ks further
       where
         by_rest : (ks : List ℕ) → Steps f i ks l.last → is_noted p (before f 0 (js ++ ks) ++ l.tail.log) ≡ true
         by_rest [] at =
@@ -86,7 +86,7 @@ module _ (f : Chain) (p : Place) where
     -- .. and the row that is to follow the last has none
     cell_noted : (i : ℕ) (c : Cell) → f i ≡ Some (Row.Cell c) → is_noted p c.log ≡ true → (i ≡ l.last + 1) ⊎ (LeadsTo f 0 i × LeadsTo f i l.last) → is_noted p (content f).notes ≡ true
     cell_noted i c is h (inl after) = let clash = sym h ∙ ap (is_noted p) (l.spare c (ap f (sym after) ∙ is)).log in cc
-    cell_noted i c is h (inr way) = on_way i c is h way.0.0 way.0.1 way.1.0 way.1.1
+    cell_noted i c is h (inr path) = on_way i c is h path.0.0 path.0.1 path.1.0 path.1.1
 
     by_row : (i : ℕ) (r : Option Row) → f i ≡ r → has_note p r ≡ true → is_noted p (content f).notes ≡ true
     by_row i (Some (Row.Cell c)) is h = cell_noted i c is h (l.rest i c is)

@@ -1,8 +1,8 @@
 -- What an act on the row of an intent, or of a call, leaves.
 use Rattle.beldi_value.proofs.Callees.{no_root}
 use Rattle.beldi_row.specs.declared.act.Act.TheVariants.{Bind, CallBack, Issue, NoteRegistered, OpenInvoke, Register}
-use Rattle.beldi_laws.proofs.Names.{Body, Bool, ByTx, Core, IntentId, IntentRow, InvokeRow, Item, None, Option, Outcome, Row, RowKey, Rows, Some, TxId, Value, act, after_act, ap, bind_to, call_back_to, call_in, child_of, cond, content_of, false, got, has_finish, intent_key, invoke_key, is_eq, is_some, is_waited, issued_at, key_cmp, key_in, key_self, opened, place_of, refl, register_to, root_key, root_of, same_some, set_others, set_row, subst, sym, true, unchanged, ℕ, ◌∙◌, ◌≡◌}
-use Rattle.beldi_laws.proofs.Names.map
+use Rattle.beldi_invariant.proofs.Names.{Body, Bool, ByTx, Core, IntentId, IntentRow, InvokeRow, Item, None, Option, Outcome, Row, RowKey, Rows, Some, TxId, Value, act, after_act, ap, bind_to, call_back_to, call_in, child_of, cond, content_of, false, got, has_finish, intent_key, invoke_key, is_eq, is_some, is_waited, issued_at, key_cmp, key_in, key_self, opened, place_of, refl, register_to, root_key, root_of, same_some, set_others, set_row, subst, sym, true, unchanged, ℕ, ◌∙◌, ◌≡◌}
+use Rattle.beldi_invariant.proofs.Names.map
 use Rattle.beldi_invokelog.specs.InvokeLog.{call_at, registered_in}
 use Rattle.beldi_upkeep.specs.Callees.{AllFinished, HasBody, Seats, owner_key}
 use Rattle.beldi_upkeep.proofs.{Leaving.IsPassedBy, Leaving.Leaves, Leaving.leaves_still, SeatRows.call_on, SeatRows.call_seats, SeatRows.finished_off, SeatRows.finished_set, SeatRows.intent_on, SeatRows.intent_seats}
@@ -39,7 +39,7 @@ module _ (c : Core) (m : Rows) (h : Seats m) where
     call_now x at = invoke_of (sym (set_here m call (Some (Row.Invoke y))) ∙ at)
 
     pub call_put : is_some (map.get m (intent_key i f)) ≡ true
-        → ((home : ℕ) (r : IntentRow) (b : Body) → y.registered ≡ false → HasBody m home (child_of i p) r b → is_waited b.from ≡ false → r.outcome ≡ None)
+        → ((home : ℕ) (r : IntentRow) (b : Body) → y.registered ≡ false → HasBody m home (child_of i p) r b → is_waited b.parent ≡ false → r.outcome ≡ None)
         → (y.registered ≡ true → is_some (map.get m (key_in y.func (child_of i p))) ≡ true)
         → (registered_in (call_at m call) ≡ true → y.registered ≡ true) → Leaves c m (set_row m call (Some (Row.Invoke y)))
     call_put seat is_open enrolls marks = record {
@@ -120,7 +120,7 @@ module _ (c : Core) (m : Rows) (h : Seats m) where
         -- where it took part in one, it has its finish, or the owner has none, and is not past it
         → ((t : TxId) (b : Body) → s.body ≡ Some b → b.tx ≡ Some t → is_some s.finish ≡ false → (has_finish (map.get m (owner_key t)) ≡ true → ⊥) × (IsPassedBy c t → ⊥))
         -- and its outcome only where its call says that it is registered
-        → ((f : ℕ) (i : IntentId) (p : ℕ) (x : InvokeRow) (b : Body) → map.get m (invoke_key f (place_of i p)) ≡ Some (Row.Invoke x) → x.registered ≡ false → child_of i p ≡ id → s.body ≡ Some b → is_waited b.from ≡ false → s.outcome ≡ None)
+        → ((f : ℕ) (i : IntentId) (p : ℕ) (x : InvokeRow) (b : Body) → map.get m (invoke_key f (place_of i p)) ≡ Some (Row.Invoke x) → x.registered ≡ false → child_of i p ≡ id → s.body ≡ Some b → is_waited b.parent ≡ false → s.outcome ≡ None)
         → Leaves c m (set_row m own (Some row))
     intent_put seat ends part outcome = record {
       seats = intent_seats m n home id same stay seated h
@@ -179,7 +179,7 @@ module _ (c : Core) (m : Rows) (h : Seats m) where
       where
         by_body : (i : IntentRow) (b : Option Body) → i.body ≡ b → map.get m root ≡ Some (Row.Intent i) → Leaves c m (set_row m root (Some (Row.Intent (bind_to func a i b).0)))
         by_body i (Some b) is at = unmoved root (Some (Row.Intent i)) (sym at)
-        by_body i None is at = intent_put 0 (root_of t) (record i { body = Some (record { func = func; args = a; tx = None; from = None }) }) refl
+        by_body i None is at = intent_put 0 (root_of t) (record i { body = Some (record { func = func; args = a; tx = None; parent = None }) }) refl
             (λ over before s one. let clash = sym over ∙ sym (ap has_finish at) ∙ before in cc)
             (λ s b is in_it. let clash = ap (λ (z : Body). z.tx) (same_some is) ∙ in_it in cc)
             (λ f j p x b at is_open child is. let clash = sym (no_root j p) ∙ ap (λ (z : IntentId). has_no_hops z.hops) child in cc)

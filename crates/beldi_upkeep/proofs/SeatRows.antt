@@ -1,10 +1,10 @@
 -- Rows that keep their seats when one row is set, by the kind of that row.
-use Rattle.beldi_laws.proofs.Names.{AsyncAt, Body, Bool, ByTx, Caller, Effect, IntentId, IntentRow, InvokeRow, Item, Kind, None, Option, Owner, Place, Row, RowKey, Rows, Begun, Some, Stage, TxId, ap, arith, call_in, child_of, content_of, false, has_finish, head_key, invoke_key, is_eq, is_some, is_waited, key_cmp, key_in, key_same, place_of, refl, subst, sym, true, ℕ, ◌∙◌, ◌≡◌, ◌⊎◌, inl, inr, Content, note_at, intent_key}
-use Rattle.beldi_laws.proofs.Names.map
+use Rattle.beldi_invariant.proofs.Names.{AsyncAt, Body, Bool, ByTx, Caller, Effect, IntentId, IntentRow, InvokeRow, Item, Kind, None, Option, Owner, Place, Row, RowKey, Rows, Begun, Some, Stage, TxId, ap, arith, call_in, child_of, content_of, false, has_finish, head_key, invoke_key, is_eq, is_some, is_waited, key_cmp, key_in, key_same, place_of, refl, subst, sym, true, ℕ, ◌∙◌, ◌≡◌, ◌⊎◌, inl, inr, Content, note_at, intent_key}
+use Rattle.beldi_invariant.proofs.Names.map
 use Rattle.beldi_value.specs.declared.place.Owner.TheVariants.{Intent as ByIntent}
-use Rattle.beldi_laws.proofs.Frames.{is_intent, is_invoke}
+use Rattle.beldi_invariant.proofs.Frames.{is_intent, is_invoke}
 use Rattle.beldi_chain.{specs.Chain.content, proofs.Heads.chain_off}
-use Rattle.beldi_known.proofs.{Acts.is_data, Acts.kind_off, Acts.kinds_apart, Acts.same_data}
+use Rattle.beldi_histories.proofs.{Acts.is_data, Acts.kind_off, Acts.kinds_apart, Acts.same_data}
 use Rattle.beldi_invokelog.specs.InvokeLog.{call_at, registered_in}
 use Rattle.beldi_upkeep.specs.Callees.{AllFinished, HasBody, HasIntentRow, HasPut, HasTold, IsNoted, IsPassed, RunOwes, Seats, belongs_to, owner_key, seat_of}
 
@@ -111,7 +111,7 @@ module _ (m n : Rows) (f : ℕ) (i : IntentId) (p : ℕ) (same : (l : RowKey) �
   k = invoke_key f (place_of i p)
 
   pub call_seats : IsSeated m n k same → Seats m
-      → ((c : InvokeRow) (home : ℕ) (r : IntentRow) (b : Body) → map.get n k ≡ Some (Row.Invoke c) → c.registered ≡ false → HasBody m home (child_of i p) r b → is_waited b.from ≡ false → r.outcome ≡ None)
+      → ((c : InvokeRow) (home : ℕ) (r : IntentRow) (b : Body) → map.get n k ≡ Some (Row.Invoke c) → c.registered ≡ false → HasBody m home (child_of i p) r b → is_waited b.parent ≡ false → r.outcome ≡ None)
       → ((c : InvokeRow) → map.get n k ≡ Some (Row.Invoke c) → c.registered ≡ true → is_some (map.get m (key_in c.func (child_of i p))) ≡ true) → Seats n
   call_seats seated h is_open enrolls = record {
     has_seat = seats_on m n k same rows seated h;
@@ -131,7 +131,7 @@ module _ (m n : Rows) (f : ℕ) (i : IntentId) (p : ℕ) (same : (l : RowKey) �
       child_is g j q e = ap (λ (z : RowKey). let a = place_in (place_of i p) z.kind in child_of a.intent a.step) e
 
       by_open : (g : ℕ) (j : IntentId) (q : ℕ) (c : InvokeRow) (home : ℕ) (r : IntentRow) (b : Body) → map.get n (invoke_key g (place_of j q)) ≡ Some (Row.Invoke c) → c.registered ≡ false → HasBody m home (child_of j q) r b → (t : Bool) → is_eq (key_cmp (invoke_key g (place_of j q)) k) ≡ t
-          → is_waited b.from ≡ false → r.outcome ≡ None
+          → is_waited b.parent ≡ false → r.outcome ≡ None
       by_open g j q c home r b at none body true e idle = let one = key_same (invoke_key g (place_of j q)) k e in is_open c home r b (ap (map.get n) (sym one) ∙ at) none (subst (λ z. HasBody m home z r b) (child_is g j q one) body) idle
       by_open g j q c home r b at none body false e idle = h.registered g j q c home r b (sym (same (invoke_key g (place_of j q)) e) ∙ at) none body idle
 
@@ -192,7 +192,7 @@ module _ (m n : Rows) (home : ℕ) (id : IntentId) (same : (l : RowKey) → is_e
       -- one that took part has its finish where the owner had it before, or gets it now
       → ((t : TxId) (r : IntentRow) (b : Body) → has_finish (map.get n (owner_key t)) ≡ true → HasBody n home id r b → b.tx ≡ Some t → is_some r.finish ≡ true)
       -- and its outcome only where its call says that it is registered
-      → ((f : ℕ) (i : IntentId) (p : ℕ) (c : InvokeRow) (r : IntentRow) (b : Body) → map.get m (invoke_key f (place_of i p)) ≡ Some (Row.Invoke c) → c.registered ≡ false → child_of i p ≡ id → HasBody n home id r b → is_waited b.from ≡ false → r.outcome ≡ None)
+      → ((f : ℕ) (i : IntentId) (p : ℕ) (c : InvokeRow) (r : IntentRow) (b : Body) → map.get m (invoke_key f (place_of i p)) ≡ Some (Row.Invoke c) → c.registered ≡ false → child_of i p ≡ id → HasBody n home id r b → is_waited b.parent ≡ false → r.outcome ≡ None)
       → Seats n
   intent_seats seated h ends part outcome = record {
     has_seat = seats_on m n own same rows seated h;
@@ -226,7 +226,7 @@ module _ (m n : Rows) (home : ℕ) (id : IntentId) (same : (l : RowKey) → is_e
       last t f i r b over in_it (inl s) = part t r b over s.2 in_it
       last t f i r b over in_it (inr was) = was_last t f i r b was in_it (over_by t over)
 
-      by_body : (f : ℕ) (i : IntentId) (p : ℕ) (c : InvokeRow) (g : ℕ) (r : IntentRow) (b : Body) → map.get m (invoke_key f (place_of i p)) ≡ Some (Row.Invoke c) → c.registered ≡ false → is_waited b.from ≡ false → IsSet g (child_of i p) r b → r.outcome ≡ None
+      by_body : (f : ℕ) (i : IntentId) (p : ℕ) (c : InvokeRow) (g : ℕ) (r : IntentRow) (b : Body) → map.get m (invoke_key f (place_of i p)) ≡ Some (Row.Invoke c) → c.registered ≡ false → is_waited b.parent ≡ false → IsSet g (child_of i p) r b → r.outcome ≡ None
       by_body f i p c g r b at is_open idle (inl s) = outcome f i p c r b at is_open s.1 s.2 idle
       by_body f i p c g r b at is_open idle (inr was) = h.registered f i p c g r b at is_open was idle
 

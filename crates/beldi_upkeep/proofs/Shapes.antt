@@ -1,12 +1,12 @@
 -- What one event does to the rows, and where the runs that live after it come from.
 use Rattle.beldi_collect.specs.declared.cursor.Found.{Found}
-use Rattle.beldi_step.proofs.Runs.{of_plan}
-use Rattle.beldi_step.specs.{declared.run.RunAt.RunAt, Run.callee_of, Host.at_once}
+use Rattle.beldi_step.proofs.StepRuns.{of_plan}
+use Rattle.beldi_step.specs.{declared.run.RunAt.RunAt, Run.callee_of, HostStep.immediate}
 use Rattle.std.proofs.Common.{ltb-false}
-use Rattle.beldi_laws.proofs.Names.{AllocError, Begins, Binding, Bool, CameOn, Core, Crash, Deployment, Err, Event, EventBy, EventOn, FinMap, Followed, Full, Halt, Ic, IntentId, Lost, None, Ok, Option, OutOfMemory, Plan, Query, Request, Restart, Result, Rows, Run, Seen, Some, TableErr, Tick, Ticket, Told, Turn, TurnSays, Turned, Value, Wait, after_turn, ap, arith, asks, bind_asks, binding_of, collect_next, collect_says, collect_asks, cond, count_changes, counted, crash_plan, false, get-empty, get-insert, get-remove, halt_next, has_run, heard, if◌then◌else◌, inl, inr, is_added, is_crowded, is_eq, last_moment, lends, may_start, nat_cmp, nat_cmp_total, nat_lt, new_run, no_memory, plan, plan_of, put_got, put_run, reads_all, refl, refused, refused_stand, request_next, root_of, rows_after, run_asks, run_next, run_plan, run_told, same_some, says_of, started, subst, sym, ticket_next, told_by, true, turn_next, turned_core, unheard_next, with_run, ℕ, ◌+◌, ◌-◌, ◌==◌, ◌^◌, ◌||◌, ◌∙◌, ◌≡◌, ◌⊎◌, ◌≤◌}
-use Rattle.beldi_laws.proofs.{Moves.if_plan, OneEvent.lent_only}
+use Rattle.beldi_invariant.proofs.Names.{AllocError, Begins, Binding, Bool, CameOn, Core, Crash, Deployment, Err, Event, EventBy, EventOn, FinMap, Followed, Full, Halt, Ic, IntentId, Lost, None, Ok, Option, OutOfMemory, Plan, Query, Request, Restart, Result, Rows, Run, EventReply, Some, TableErr, Tick, Ticket, QueryReply, Turn, TurnOutput, Turned, Value, Wait, after_turn, ap, arith, asks, bind_asks, binding_of, collect_next, collect_output, collect_asks, cond, count_changes, counted, crash_plan, false, get-empty, get-insert, get-remove, halt_next, has_run, on_reply, if◌then◌else◌, inl, inr, is_added, is_crowded, is_eq, last_moment, lends, may_start, nat_cmp, nat_cmp_total, nat_lt, new_run, no_memory, plan, plan_of, put_got, put_run, reads_all, refl, refused, refused_stand, request_next, root_of, rows_after, run_asks, run_next, run_plan, run_told, same_some, output_of, started, subst, sym, ticket_next, query_reply, true, turn_next, turned_core, unheard_next, with_run, ℕ, ◌+◌, ◌-◌, ◌==◌, ◌^◌, ◌||◌, ◌∙◌, ◌≡◌, ◌⊎◌, ◌≤◌}
+use Rattle.beldi_invariant.proofs.{Moves.if_plan, OneEvent.lent_only}
 use Rattle.beldi_intent.specs.Intent.{issue_asks}
-use Rattle.beldi_laws.proofs.Names.map
+use Rattle.beldi_invariant.proofs.Names.map
 
 -- ---- the live runs
 abbrev pub has_begun : RunAt → Bool
@@ -62,11 +62,11 @@ module _ (live : FinMap nat_cmp Run) (next : Option Run) where
   opened_from c None new from = from
   opened_from c (Some s) new from = if_plan (λ (q : Core × Option ℕ). From q.0) (has_run c.runs s.id || is_crowded c) _ _ (λ t. from) (λ t. started_from c (Some s) new from)
 
-  after_from : (c : Core) (o : Option Run) (id : IntentId) (x : TurnSays) (w : Option Wait) → ((s : Run) → o ≡ Some s → has_begun s.at ≡ false) → From c → From (after_turn c o id x w).0
+  after_from : (c : Core) (o : Option Run) (id : IntentId) (x : TurnOutput) (w : Option Wait) → ((s : Run) → o ≡ Some s → has_begun s.at ≡ false) → From c → From (after_turn c o id x w).0
   after_from c o id x None new from = if_plan (λ (q : Core × Option ℕ). From q.0) x.starts _ _ (λ t. opened_from c o new from) (λ t. from)
   after_from c o id x (Some (Wait.Held u)) new from = from
   after_from c o id x (Some Wait.Worn) new from = from
-  after_from c o id x (Some (Wait.Result j)) new from = if_plan (λ (q : Core × Seen). From q.0) (has_run c.runs j) _ _ (λ t. from) (λ t. if_plan (λ (q : Core × Seen). From q.0) (is_crowded c) _ _ (λ t. from) (λ t. started_from c o new from))
+  after_from c o id x (Some (Wait.Result j)) new from = if_plan (λ (q : Core × EventReply). From q.0) (has_run c.runs j) _ _ (λ t. from) (λ t. if_plan (λ (q : Core × EventReply). From q.0) (is_crowded c) _ _ (λ t. from) (λ t. started_from c o new from))
 
 -- who is called has not begun
 callee_new : (r s : Run) → callee_of r ≡ Some s → has_begun s.at ≡ false
@@ -93,7 +93,7 @@ module _ (d : Deployment) (live : FinMap nat_cmp Run) (now changes : ℕ) (after
     pub live_there : map.get live number ≡ Some run
     pub in_time : now ≤ run.deadline
     pub rows : n ≡ rows_after (run_asks run) now m
-    pub runs : RunsFrom live (run_told d changes run (told_by (run_asks run) now m)).next after
+    pub runs : RunsFrom live (run_told d changes run (query_reply (run_asks run) now m)).next after
 
   abbrev pub Shape : Type 0
   Shape = Still ⊎ (Rooted ⊎ TurnOf)
@@ -111,7 +111,7 @@ module _ (d : Deployment) (c : Core) where
 
   -- at once
   abbrev PlanFrom : Plan → Type 0
-  PlanFrom (at_once b y) = FromNone b
+  PlanFrom (immediate b y) = FromNone b
   PlanFrom (asks q) = Unit {0}
   PlanFrom reads_all = Unit {0}
 
@@ -146,13 +146,13 @@ module _ (d : Deployment) (c : Core) where
   collect_from : (o : Found) → FromNone (collect_next d c o).0
   collect_from Found.Round = same_none
   collect_from (Found.Passed k) = same_none
-  collect_from (Found.Unended k id f) = if_plan (λ (y : Core × Seen). FromNone y.0) (has_run c.runs id) _ _ (λ t. same_none)
-      (λ t. if_plan (λ (y : Core × Seen). FromNone y.0) (is_crowded c) _ _ (λ u. same_none) (λ u. new_none id f))
+  collect_from (Found.Unended k id f) = if_plan (λ (y : Core × EventReply). FromNone y.0) (has_run c.runs id) _ _ (λ t. same_none)
+      (λ t. if_plan (λ (y : Core × EventReply). FromNone y.0) (is_crowded c) _ _ (λ u. same_none) (λ u. new_none id f))
 
   -- of a turn
   module _ (i : ℕ) (r : Run) (s : Turned) where
     turn_from : RunsFrom c.runs s.next (turn_next c i r s).0.runs
-    turn_from = after_from c.runs s.next (turned_core c i r.id s) (callee_of r) r.id (says_of s) s.wait (callee_new r) (put_runs c.runs s.next i)
+    turn_from = after_from c.runs s.next (turned_core c i r.id s) (callee_of r) r.id (output_of s) s.wait (callee_new r) (put_runs c.runs s.next i)
 
     unheard_from : RunsFrom c.runs s.next (map.remove c.runs i)
     unheard_from = less_runs c.runs s.next i
@@ -171,20 +171,20 @@ module _ (d : Deployment) (c : Core) (m n : Rows) where
   roots b q asked rows runs = inr (inl (record { query = q; asked = asked; rows = rows; runs = runs }))
 
   -- a turn
-  turns : (b : Core) (i : ℕ) (r : Run) → map.get c.runs i ≡ Some r → c.now ≤ r.deadline → n ≡ rows_after (run_asks r) c.now m → RunsFrom c.runs (run_told d (count_changes c.book) r (told_by (run_asks r) c.now m)).next b.runs → ShapeOf b
+  turns : (b : Core) (i : ℕ) (r : Run) → map.get c.runs i ≡ Some r → c.now ≤ r.deadline → n ≡ rows_after (run_asks r) c.now m → RunsFrom c.runs (run_told d (count_changes c.book) r (query_reply (run_asks r) c.now m)).next b.runs → ShapeOf b
   turns b i r live in_time rows runs = inr (inr (record { number = i; run = r; live_there = live; in_time = in_time; rows = rows; runs = runs }))
 
 -- ---- by what an event asks, and what it came to
 module _ (d : Deployment) (e : Event) (c : Core) (m : Rows) where
-  abbrev Heard : Query → Type 0
-  Heard q = ShapeOf d c m (rows_after q c.now m) (heard d e c (told_by q c.now m)).0
+  abbrev OnReply : Query → Type 0
+  OnReply q = ShapeOf d c m (rows_after q c.now m) (on_reply d e c (query_reply q c.now m)).0
 
-  abbrev Unheard : Query → Type 0
-  Unheard q = (b : Core) → no_memory d e c (told_by q c.now m) ≡ Some b → ShapeOf d c m (rows_after q c.now m) b
+  abbrev OnNoReply : Query → Type 0
+  OnNoReply q = (b : Core) → no_memory d e c (query_reply q c.now m) ≡ Some b → ShapeOf d c m (rows_after q c.now m) b
 
   abbrev ShapePlan : Plan → Type 0
-  ShapePlan (at_once b y) = FromNone d c b
-  ShapePlan (asks q) = Heard q × Unheard q
+  ShapePlan (immediate b y) = FromNone d c b
+  ShapePlan (asks q) = OnReply q × OnNoReply q
   ShapePlan reads_all = Unit {0}
 
   -- after a halt none lives
@@ -204,32 +204,32 @@ module _ (d : Deployment) (e : Event) (c : Core) (m : Rows) where
       by_event (Lost i) v = less_runs c.runs None i
       by_event e v = same_none d c
 
-shape_no_run : (d : Deployment) (e : Event) (c : Core) (m : Rows) (b : Bool) (x y : Seen) → ShapePlan d e c m (at_once c (if b then x else y))
+shape_no_run : (d : Deployment) (e : Event) (c : Core) (m : Rows) (b : Bool) (x y : EventReply) → ShapePlan d e c m (immediate c (if b then x else y))
 shape_no_run d e c m b x y = same_none d c
 
 shape_of : (d : Deployment) (e : Event) (c : Core) (m : Rows) → ShapePlan d e c m (plan_of d e c)
 shape_of d Ticket c m = if_plan (ShapePlan d Ticket c m) (c.newest == 2 ^ 32 - 1) _ _ (λ t. same_none d c)
-    (λ t. (roots d c m _ (ticket_next c (is_added (told_by (issue_asks (c.newest + 1)) c.now m))).0 (issue_asks (c.newest + 1)) (inl (c.newest + 1, refl)) refl (ticket_from d c (is_added (told_by (issue_asks (c.newest + 1)) c.now m))), λ b w. cc))
+    (λ t. (roots d c m _ (ticket_next c (is_added (query_reply (issue_asks (c.newest + 1)) c.now m))).0 (issue_asks (c.newest + 1)) (inl (c.newest + 1, refl)) refl (ticket_from d c (is_added (query_reply (issue_asks (c.newest + 1)) c.now m))), λ b w. cc))
 shape_of d (Request t f a) c m = if_plan (ShapePlan d (Request t f a) c m) ((t == 0) || nat_lt c.newest t) _ _ (λ u. same_none d c)
     (λ u. if_plan (ShapePlan d (Request t f a) c m) (is_crowded c) _ _ (λ u. same_none d c) (λ u. (
-      roots d c m _ (request_next d c t f a (binding_of (told_by (bind_asks t f a) c.now m))).0 (bind_asks t f a) (inr (t, (f, (a, refl)))) refl (request_from d c t f a (binding_of (told_by (bind_asks t f a) c.now m))),
-      λ b w. roots d c m _ b (bind_asks t f a) (inr (t, (f, (a, refl)))) refl (subst (λ z. FromNone d c z) (sym (lent_only (lends (told_by (bind_asks t f a) c.now m)) c b w).0) (same_none d c)),
+      roots d c m _ (request_next d c t f a (binding_of (query_reply (bind_asks t f a) c.now m))).0 (bind_asks t f a) (inr (t, (f, (a, refl)))) refl (request_from d c t f a (binding_of (query_reply (bind_asks t f a) c.now m))),
+      λ b w. roots d c m _ b (bind_asks t f a) (inr (t, (f, (a, refl)))) refl (subst (λ z. FromNone d c z) (sym (lent_only (lends (query_reply (bind_asks t f a) c.now m)) c b w).0) (same_none d c)),
     )))
 shape_of d (Turn i) c m = by_run (map.get c.runs i) refl
   where
     by_run : (o : Option Run) → map.get c.runs i ≡ o → ShapePlan d (Turn i) c m (run_plan c i o)
     by_run None gone = same_none d c
     by_run (Some r) live = if_plan (ShapePlan d (Turn i) c m) (nat_lt r.deadline c.now) _ _ (λ late. less_runs c.runs None i)
-        (λ alive. let q = run_asks r in let s = run_told d (count_changes c.book) r (told_by q c.now m) in
-        subst (λ o. ShapeOf d c m (rows_after q c.now m) (run_next d c i (told_by q c.now m) o).0 × ((b : Core) → Some (unheard_next d c i (told_by q c.now m) o) ≡ Some b → ShapeOf d c m (rows_after q c.now m) b)) (sym live)
-        (turns d c m (rows_after q c.now m) (turn_next c i r s).0 i r live (ltb-false r.deadline c.now alive) refl (turn_from d c i r s), λ b w. subst (λ z. ShapeOf d c m (rows_after q c.now m) z) (same_some w) (turns d c m (rows_after q c.now m) (unheard_next d c i (told_by q c.now m) (Some r)) i r live (ltb-false r.deadline c.now alive) refl (unheard_from d c i r s))))
+        (λ alive. let q = run_asks r in let s = run_told d (count_changes c.book) r (query_reply q c.now m) in
+        subst (λ o. ShapeOf d c m (rows_after q c.now m) (run_next d c i (query_reply q c.now m) o).0 × ((b : Core) → Some (unheard_next d c i (query_reply q c.now m) o) ≡ Some b → ShapeOf d c m (rows_after q c.now m) b)) (sym live)
+        (turns d c m (rows_after q c.now m) (turn_next c i r s).0 i r live (ltb-false r.deadline c.now alive) refl (turn_from d c i r s), λ b w. subst (λ z. ShapeOf d c m (rows_after q c.now m) z) (same_some w) (turns d c m (rows_after q c.now m) (unheard_next d c i (query_reply q c.now m) (Some r)) i r live (ltb-false r.deadline c.now alive) refl (unheard_from d c i r s))))
 shape_of d (Lost i) c m = by_run (map.get c.runs i) refl
   where
     by_run : (o : Option Run) → map.get c.runs i ≡ o → ShapePlan d (Lost i) c m (run_plan c i o)
     by_run None gone = same_none d c
     by_run (Some r) live = if_plan (ShapePlan d (Lost i) c m) (nat_lt r.deadline c.now) _ _ (λ late. less_runs c.runs None i)
-        (λ alive. let q = run_asks r in let s = run_told d (count_changes c.book) r (told_by q c.now m) in
-        (subst (λ o. ShapeOf d c m (rows_after q c.now m) (unheard_next d c i (told_by q c.now m) o)) (sym live) (turns d c m (rows_after q c.now m) (unheard_next d c i (told_by q c.now m) (Some r)) i r live (ltb-false r.deadline c.now alive) refl (unheard_from d c i r s)), λ b w. cc))
+        (λ alive. let q = run_asks r in let s = run_told d (count_changes c.book) r (query_reply q c.now m) in
+        (subst (λ o. ShapeOf d c m (rows_after q c.now m) (unheard_next d c i (query_reply q c.now m) o)) (sym live) (turns d c m (rows_after q c.now m) (unheard_next d c i (query_reply q c.now m) (Some r)) i r live (ltb-false r.deadline c.now alive) refl (unheard_from d c i r s)), λ b w. cc))
 shape_of d (Crash i) c m = by_run (map.get c.runs i)
   where
     by_run : (o : Option Run) → ShapePlan d (Crash i) c m (crash_plan c i o)
@@ -237,8 +237,8 @@ shape_of d (Crash i) c m = by_run (map.get c.runs i)
     by_run (Some r) = if_plan (ShapePlan d (Crash i) c m) (nat_lt r.deadline c.now) _ _ (λ late. less_runs c.runs None i) (λ alive. less_runs c.runs None i)
 shape_of d (Restart id f) c m = if_plan (ShapePlan d (Restart id f) c m) (is_crowded c) _ _ (λ u. same_none d c) (λ u. new_none d c id f)
 shape_of d Ic c m = (
-  stands d c m _ (collect_next d c (collect_says (told_by (collect_asks c.cursor) c.now m))).0 refl (collect_from d c (collect_says (told_by (collect_asks c.cursor) c.now m))),
-  λ b w. stands d c m _ b refl (subst (λ z. FromNone d c z) (sym (lent_only (lends (told_by (collect_asks c.cursor) c.now m)) c b w).0) (same_none d c)),
+  stands d c m _ (collect_next d c (collect_output (query_reply (collect_asks c.cursor) c.now m))).0 refl (collect_from d c (collect_output (query_reply (collect_asks c.cursor) c.now m))),
+  λ b w. stands d c m _ b refl (subst (λ z. FromNone d c z) (sym (lent_only (lends (query_reply (collect_asks c.cursor) c.now m)) c b w).0) (same_none d c)),
 )
 shape_of d (Tick n) c m = if_plan (ShapePlan d (Tick n) c m) (nat_lt last_moment (c.now + n)) _ _ (λ u. same_none d c) (λ u. same_none d c)
 shape_of d Halt c m = tt
@@ -247,16 +247,16 @@ shape_plan : (d : Deployment) (e : Event) (c : Core) (m : Rows) → ShapePlan d 
 shape_plan d e c m = of_plan d e c (ShapePlan d e (counted c) m) (λ few. shape_of d e (counted c) m) (λ shut. same_none d (counted c)) (same_none d (counted c))
 
 module _ (d : Deployment) (room old new : ℕ) (e : Event) (c b : Core) (m n : Rows) where
-  came : (q : Query) (w : Result Told TableErr) (r : Result Seen AllocError) → ShapePlan d e c m (asks q) → Followed d e c w b r → CameOn q c.now room w m n → ShapeOf d c m n b
-  came q (Ok t) (Ok x) g s p = subst (λ l. ShapeOf d c m l b) (sym p.0) (subst (λ (z : Core × Seen). ShapeOf d c m (rows_after q c.now m) z.0) (sym (s ∙ ap (heard d e c) p.1)) g.0)
+  came : (q : Query) (w : Result QueryReply TableErr) (r : Result EventReply AllocError) → ShapePlan d e c m (asks q) → Followed d e c w b r → CameOn q c.now room w m n → ShapeOf d c m n b
+  came q (Ok t) (Ok x) g s p = subst (λ l. ShapeOf d c m l b) (sym p.0) (subst (λ (z : Core × EventReply). ShapeOf d c m (rows_after q c.now m) z.0) (sym (s ∙ ap (on_reply d e c) p.1)) g.0)
   came q (Ok t) (Err w) g s p = subst (λ l. ShapeOf d c m l b) (sym p.0) (g.1 b (ap (no_memory d e c) (sym p.1) ∙ s))
-  came q (Err v) r g s p = stands d c m n b (refused_stand q c.now room v m n p) (subst (λ (z : Core × Result Seen AllocError). FromNone d c z.0) (sym s) (refused_from d e c m v))
+  came q (Err v) r g s p = stands d c m n b (refused_stand q c.now room v m n p) (subst (λ (z : Core × Result EventReply AllocError). FromNone d c z.0) (sym s) (refused_from d e c m v))
 
-  by_plan : (p : Plan) (r : Result Seen AllocError) → ShapePlan d e c m p → EventBy d room old new e c p m b n r → ShapeOf d c m n b
-  by_plan (at_once k y) (Ok x) g s = stands d c m n b s.1 (subst (λ z. FromNone d c z) (sym s.0.0) g)
-  by_plan (at_once k y) (Err w) g s = stands d c m n b s.1 (subst (λ z. FromNone d c z) (sym s.0.0) (same_none d c))
+  by_plan : (p : Plan) (r : Result EventReply AllocError) → ShapePlan d e c m p → EventBy d room old new e c p m b n r → ShapeOf d c m n b
+  by_plan (immediate k y) (Ok x) g s = stands d c m n b s.1 (subst (λ z. FromNone d c z) (sym s.0.0) g)
+  by_plan (immediate k y) (Err w) g s = stands d c m n b s.1 (subst (λ z. FromNone d c z) (sym s.0.0) (same_none d c))
   by_plan (asks q) r g s = came q s.0 r g s.1 s.2
-  by_plan reads_all r g s = stands d c m n b s.2.0 (subst (λ (z : Core × Result Seen AllocError). FromNone d c z.0) (sym s.1) (halt_from d e c m s.0))
+  by_plan reads_all r g s = stands d c m n b s.2.0 (subst (λ (z : Core × Result EventReply AllocError). FromNone d c z.0) (sym s.1) (halt_from d e c m s.0))
 
-pub shape : (d : Deployment) (room old new : ℕ) (e : Event) (c b : Core) (m n : Rows) (r : Result Seen AllocError) → EventOn d room old new e c m b n r → ShapeOf d c m n b
+pub shape : (d : Deployment) (room old new : ℕ) (e : Event) (c b : Core) (m n : Rows) (r : Result EventReply AllocError) → EventOn d room old new e c m b n r → ShapeOf d c m n b
 shape d room old new e c b m n r s = by_plan d room old new e (counted c) b m n (plan d e c) r (shape_plan d e c m) s

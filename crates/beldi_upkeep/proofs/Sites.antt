@@ -2,10 +2,10 @@
 use Rattle.std.specs.Prelude.{nat_lt}
 use Rattle.std.proofs.Common.{Bool, Err, List, None, Ok, Option, Result, Some, [], ap, append_assoc, false, if◌then◌else◌, length, refl, slice_get, subst, suc, sym, true, zero, ℕ, ◌++◌, ◌+◌, ◌||◌, ◌∙◌, ◌∷◌, ◌≡◌}
 use Rattle.beldi_value.specs.declared.{outcome.Code.Code, outcome.Outcome.Outcome, value.Value.Value}
-use Rattle.beldi_tree.specs.Command.{Command, Commands, abort, async, break, call, choose, command, commands_of, condwrite, lock, no_commands, read, repeat, return, set, transaction, unlock, write}
+use Rattle.beldi_tree.specs.StatementCommand.{Command, Commands, abort, async, break, call, choose, command, commands_of, condwrite, lock, no_commands, read, repeat, return, set, transaction, unlock, write}
 use Rattle.beldi_tree.specs.{Bindings.Bindings, Evaluate.and_then, Evaluate.term_value, Evaluate.truth, declared.deployment.Deployment.Deployment, declared.deployment.Func.Func, declared.deployment.TableHead.TableHead}
 use Rattle.beldi_lang.specs.Wants.{Does, Leads, Local, answered, asks, body, breaks, closed, closes, counted, does, effect_of, effect_to, ends, fault, first_local, followed, func_number, goes, inside_of, key_value, locks, looped, most_effects, or_fault, releases, run_block, set_to, table_number, takes, transact, turns, unlocks}
-use Rattle.beldi_lang.specs.{Locks.is_held, Locks.is_none_held, Locks.without, declared.effect.Answer.Answer, declared.effect.Effect.Effect, declared.state.HeldLock.HeldLock}
+use Rattle.beldi_lang.specs.{HeldLocks.is_held, HeldLocks.is_none_held, HeldLocks.without, declared.effect.Answer.Answer, declared.effect.Effect.Effect, declared.state.HeldLock.HeldLock}
 use Rattle.beldi_check.specs.Site.{Spot, inside, outside, repeated, sites, sites_of, transacted}
 use Rattle.beldi_check.specs.declared.site.Place.{Place}
 use Rattle.beldi_upkeep.specs.Written.{IsOf, IsWritten, WantsAreWritten, Written}

@@ -5,22 +5,22 @@ use Rattle.beldi_daal.specs.Logged.{at_of}
 use Rattle.beldi_row.specs.declared.act.Act.TheVariants.{LinkCell}
 use Rattle.beldi_row.specs.Act.{prunes}
 use Rattle.beldi_daal.proofs.Spares.{write_spares}
-use Rattle.beldi_known.proofs.{Acts.is_data, Callers.all_called, Participants.open_owner}
-use Rattle.beldi_laws.proofs.Names.{Async, AsyncAt, Begun, Body, Bool, ByTx, CallAt, Caller, CellOp, Core, Deployment, Effect, Inherited, Inside, Instance, IntentId, IntentMatches, InvokeRow, Item, Kind, Knows, List, Look, MakeCell, None, Null, Option, Outcome, Own, Place, PutLockset, PutRead, Register, Return, Right, RootMatches, Row, RowAct, RowKey, Rows, Run, RunTx, Some, Stage, TxAt, TxId, Value, WriteAt, after_act, ap, at_row, behind_locks, call_of, child_of, content_of, effect_before, length, false, func_called, has_ended, has_finish, has_no_hops, head_key, if◌then◌else◌, inl, intent_key, invoke_key, is_some, key_in, log_key, op_act, note_at, place_of, refl, rows_after, same_some, shadow_key, subst, sym, touched, true, tx_after, tx_of, ℕ, ◌∙◌, ◌≡◌, AtItem, Lockset, async_asks, back_to_asks, blank, call_asks, callee_body, register_asks, tell_asks, write_asks, ◌-◌}
-use Rattle.beldi_laws.proofs.Names.map
-use Rattle.beldi_laws.proofs.Names.txn
-use Rattle.beldi_laws.proofs.InTx as in_tx
-use Rattle.beldi_laws.proofs.{Frames.is_intent, Frames.is_invoke, Members.call_there, OpenOf.called_in, Returns.has_caller, Turns.at_steps, Turns.by_answer, Turns.effect_here, Turns.sane_instance}
-use Rattle.beldi_laws.specs.Inside.{SeesBoth, SeesPut}
+use Rattle.beldi_histories.proofs.{Acts.is_data, Callers.all_called, Participants.open_owner}
+use Rattle.beldi_invariant.proofs.Names.{Async, AsyncAt, Begun, Body, Bool, ByTx, CallAt, Caller, CellOp, Core, Deployment, Effect, Inherited, Inside, Instance, IntentId, IntentMatches, InvokeRow, Item, Kind, Knows, List, Look, MakeCell, None, Null, Option, Outcome, Own, Place, PutLockset, PutRead, Register, Return, Invariant, RootMatches, Row, RowAct, RowKey, Rows, Run, RunTx, Some, Stage, TxAt, TxId, Value, WriteAt, after_act, ap, at_row, behind_locks, call_of, child_of, content_of, effect_before, length, false, func_called, has_ended, has_finish, has_no_hops, head_key, if◌then◌else◌, inl, intent_key, invoke_key, is_some, key_in, log_key, op_act, note_at, place_of, refl, rows_after, same_some, shadow_key, subst, sym, touched, true, tx_after, tx_of, ℕ, ◌∙◌, ◌≡◌, AtItem, Lockset, async_asks, back_to_asks, blank, call_asks, callee_body, register_asks, notify_asks, write_asks, ◌-◌}
+use Rattle.beldi_invariant.proofs.Names.map
+use Rattle.beldi_invariant.proofs.Names.txn
+use Rattle.beldi_invariant.proofs.InTx as in_tx
+use Rattle.beldi_invariant.proofs.{Frames.is_intent, Frames.is_invoke, Members.call_there, OpenOf.called_in, Returns.has_caller, StageTurns.at_steps, StageTurns.by_answer, StageTurns.effect_here, StageTurns.well_formed_instance}
+use Rattle.beldi_invariant.specs.FoundInside.{SeesBoth, SeesPut}
 use Rattle.beldi_upkeep.specs.Callees.{HasPut, Seats, belongs_to, owner_key, seat_of}
-use Rattle.beldi_upkeep.proofs.{CellActs.owner_noted, CellActs.told_note, FromRight.below_key, FromRight.call_absent, FromRight.call_is, FromRight.called_here, FromRight.child_key, FromRight.open_unfinished, Leaving.IsPassedBy, Leaving.Leaves, Leaving.leaves_looked, Leaving.leaves_op, Leaving.leaves_quiet, Leaving.leaves_walk, RowSets.marks, RowSets.opens, RowSets.registers, RowSets.returns}
+use Rattle.beldi_upkeep.proofs.{CellActs.owner_noted, CellActs.told_note, FromInvariant.below_key, FromInvariant.call_absent, FromInvariant.call_is, FromInvariant.called_here, FromInvariant.child_key, FromInvariant.open_unfinished, Leaving.IsPassedBy, Leaving.Leaves, Leaving.leaves_looked, Leaving.leaves_op, Leaving.leaves_quiet, Leaving.leaves_walk, RowSets.marks, RowSets.opens, RowSets.registers, RowSets.returns}
 use Rattle.beldi_invokelog.specs.InvokeLog.{open_asks}
 use Rattle.beldi_step.specs.Run.{OnCell, put_asks}
 use Rattle.beldi_value.specs.{Id.home_of, declared.place.Owner.Owner}
 use Rattle.std.specs.Option.{option_map}
 
 -- ---- a live run that has begun
-module _ (d : Deployment) (c : Core) (m : Rows) (h : Right d c m) (seats : Seats m) (r : Run) (g : Begun) (k : Knows d h.known r g) (finds : Inside m h.plain c.book k g.stage) where
+module _ (d : Deployment) (c : Core) (m : Rows) (h : Invariant d c m) (seats : Seats m) (r : Run) (g : Begun) (k : Knows d h.histories r g) (finds : Inside m h.plain c.book k g.stage) where
   abbrev Leave : Rows → Type 0
   Leave n = Leaves c m n
 
@@ -37,15 +37,15 @@ module _ (d : Deployment) (c : Core) (m : Rows) (h : Right d c m) (seats : Seats
 
       by_root : (b : Bool) → has_no_hops r.id.hops ≡ b → is_some (map.get m (intent_key r.id r.func)) ≡ true
       by_root true e = ap (λ q. is_some (map.get m q)) (λ i. record { home = if e i then 0 else r.func; kind = Kind.Intent r.id })
-          ∙ root_there (map.get m (key_in 0 r.id)) (subst (λ o. RootMatches true (map.get m (key_in 0 r.id)) o) k.made (subst (λ b. IntentMatches (has_ended d h.known) b 0 (map.get m (key_in 0 r.id)) (map.get h.known r.id)) e (h.rows.keys (key_in 0 r.id))))
+          ∙ root_there (map.get m (key_in 0 r.id)) (subst (λ o. RootMatches true (map.get m (key_in 0 r.id)) o) k.made (subst (λ b. IntentMatches (has_ended d h.histories) b 0 (map.get m (key_in 0 r.id)) (map.get h.histories r.id)) e (h.rows.keys (key_in 0 r.id))))
       by_root false e = ap (λ q. is_some (map.get m q)) (below_key r.id r.func e) ∙ finds.row e
 
   -- the row of the owner of the transaction that it is in: by the call that leads to it
   pub tx_row : (o : RunTx) → g.tx ≡ Some o → is_some (map.get m (owner_key (tx_of r.id r.func o))) ≡ true
   tx_row (Own o) is = own_row
-  tx_row (Inherited t) is = all_called d h.known h.sane t (λ i z. is_some (map.get m (owner_key t)) ≡ true)
+  tx_row (Inherited t) is = all_called d h.histories h.well_formed t (λ i z. is_some (map.get m (owner_key t)) ≡ true)
       (λ i z inner q outside own.
-      let there = call_there d m h.known h.locked h.rows (q.caller, q.waiter.func) (record { step = q.step; func = z.func }) (record { caller = q.waiter; made = q.made; func = refl; callee = z; there = ap (map.get h.known) (sym q.is) ∙ q.there; its = refl }) in
+      let there = call_there d m h.histories h.lock_ahead h.rows (q.caller, q.waiter.func) (record { step = q.step; func = z.func }) (record { caller = q.waiter; made = q.made; func = refl; callee = z; there = ap (map.get h.histories) (sym q.is) ∙ q.there; its = refl }) in
       (λ i. is_some (map.get m (intent_key (own.intent i) (own.func_is i)))) ∙ seats.has_seat (invoke_key q.waiter.func (place_of q.caller q.step)) q.caller refl (row_there (map.get m (invoke_key q.waiter.func (place_of q.caller q.step))) there))
       (λ i z inner q up there. there) r.id k.instance k.made (called_in d k.instance t k.answers (sym k.run_open ∙ is))
     where
@@ -89,10 +89,10 @@ module _ (d : Deployment) (c : Core) (m : Rows) (h : Right d c m) (seats : Seats
         (λ left. leaves_op c m seats c.now item (h.rows.chains item) place (ByTx own) CellOp.Lock w sees own_row (λ lock. (
           tx_row o tx,
           open_unfinished d c m h own
-              (open_owner d h.known h.sane r.id k.instance own k.made (in_tx.open_still d c m r g h k o here e is x touch left) (in_tx.apart d c m r g h k o here e is x touch left) (in_tx.tx_is d c m r g h k o here e is x touch left)),
+              (open_owner d h.histories h.well_formed r.id k.instance own k.made (in_tx.open_still d c m r g h k o here e is x touch left) (in_tx.apart d c m r g h k o here e is x touch left) (in_tx.tx_is d c m r g h k o here e is x touch left)),
         )))
         (λ a rest left.
-        let locks = behind_locks d m h.known h.locked h.rows r.id k.instance k.made (sane_instance h k) k.answers a rest (in_tx.known_answers d c m r g h k o here e is x touch a rest left) (in_tx.short d c m r g h k o here e is x touch) own here x (ap touched (in_tx.effect_so d c m r g h k o here e is x touch) ∙ touch) in
+        let locks = behind_locks d m h.histories h.lock_ahead h.rows r.id k.instance k.made (well_formed_instance h k) k.answers a rest (in_tx.recorded_answers d c m r g h k o here e is x touch a rest left) (in_tx.short d c m r g h k o here e is x touch) own here x (ap touched (in_tx.effect_so d c m r g h k o here e is x touch) ∙ touch) in
         let told = told_note (place_of r.id (length k.answers)) own (content_of m its_item) (content_of m its_item) _ locks.0 in
         leaves_walk c m seats c.now item (h.rows.chains item) place (ByTx own) CellOp.Lock w sees own_row (λ t s logs owned. inl (owner_noted t place (content_of m item) _ (ByTx own) CellOp.Lock s _ ((λ i. note_at (content_of m (sym (in_tx.same_item d c m r g h k o here e is x touch) i)).notes (place_of r.id ((at_steps k) i))) ∙ told) logs owned)))
 
@@ -154,12 +154,12 @@ module _ (d : Deployment) (c : Core) (m : Rows) (h : Right d c m) (seats : Seats
   back_leaves (Some b) u = returns c m seats c.now b.func b.place.intent b.place.step u
 
   -- its call says its function, and has its own row
-  pub tell_leaves : (b : Option Caller) → g.caller ≡ b → Leave (rows_after (tell_asks r.id r.func b) c.now m)
+  pub tell_leaves : (b : Option Caller) → g.caller ≡ b → Leave (rows_after (notify_asks r.id r.func b) c.now m)
   tell_leaves None from = look (intent_key r.id r.func)
   tell_leaves (Some b) from = marks c m seats c.now b.func b.place.intent b.place.step (λ x at.
       let i = call_is d c m h b.func b.place.intent b.place.step x at in
-      let w = has_caller d h.known r.id k.instance b h.sane k.made (sym k.caller ∙ from) in
-      let same : i.callee ≡ k.instance = same_some (sym i.there ∙ ap (map.get h.known) (sym w.is_callee) ∙ k.made) in
+      let w = has_caller d h.histories r.id k.instance b h.well_formed k.made (sym k.caller ∙ from) in
+      let same : i.callee ≡ k.instance = same_some (sym i.there ∙ ap (map.get h.histories) (sym w.is_callee) ∙ k.made) in
       let func : r.func ≡ x.func = sym k.func ∙ ap (λ (q : Instance). q.func) (sym same) ∙ i.its in
       let key : intent_key r.id r.func ≡ key_in x.func (child_of b.place.intent b.place.step) = ap (λ z. intent_key z r.func) w.is_callee ∙ child_key b.place.intent b.place.step r.func ∙ ap (λ z. key_in z (child_of b.place.intent b.place.step)) func in
       ap (λ q. is_some (map.get m q)) (sym key) ∙ own_row)

@@ -11,9 +11,9 @@ use Rattle.beldi_invokelog.specs.InvokeLog.{invoke_key, call_at, registered_in, 
 use Rattle.beldi_intent.specs.Intent.{intent_key}
 use Rattle.beldi_call.specs.declared.async_call.AsyncAt.{AsyncAt}
 pub use Rattle.beldi_prune.specs.Seat.{belongs_to, seat_of}
-use Rattle.beldi_step.specs.{Host.Core, Host.EventOn, Host.first_core, Run.is_waited, Run.place_of, declared.event.Event.Event, declared.event.Seen.Seen, declared.run.Run.Run, declared.run.RunAt.TheVariants.Begins, declared.run.RunTx.RunTx, declared.run.RunTx.TheVariants.Inherited, declared.run.RunTx.TheVariants.Own, declared.run.Begun.Begun, declared.run.Stage.Stage}
-use Rattle.beldi_known.specs.{Contents.content_of, Stands.key_in}
-use Rattle.beldi_laws.specs.{Inside.has_finish, Right.Right}
+use Rattle.beldi_step.specs.{HostStep.Core, HostStep.EventOn, HostStep.first_core, Run.is_waited, Run.place_of, declared.event.Event.Event, declared.event.EventReply.EventReply, declared.run.Run.Run, declared.run.RunAt.TheVariants.Begins, declared.run.RunTx.RunTx, declared.run.RunTx.TheVariants.Inherited, declared.run.RunTx.TheVariants.Own, declared.run.Begun.Begun, declared.run.Stage.Stage}
+use Rattle.beldi_histories.specs.{Contents.content_of, Stands.key_in}
+use Rattle.beldi_invariant.specs.{FoundInside.has_finish, Invariant.Invariant}
 
 -- the row of the owner of a transaction: a root's stands in the host's home
 abbrev pub owner_key : TxId → RowKey
@@ -46,7 +46,7 @@ pub record Seats (m : Rows) : Type 0 where
   pub noted_has_row : (x : Item) (p : Place) → IsNoted m x p → is_some (map.get m (intent_key p.intent x.func)) ≡ true
   -- who nobody waits for has its outcome only once its call says that it is registered
   pub registered : (f : ℕ) (i : IntentId) (n : ℕ) (c : InvokeRow) (home : ℕ) (r : IntentRow) (b : Body) → map.get m (invoke_key f (place_of i n)) ≡ Some (Row.Invoke c) → c.registered ≡ false
-      → HasBody m home (child_of i n) r b → is_waited b.from ≡ false → r.outcome ≡ None
+      → HasBody m home (child_of i n) r b → is_waited b.parent ≡ false → r.outcome ≡ None
   -- .. and a call that says so has its callee's row
   pub enrolled : (f : ℕ) (i : IntentId) (n : ℕ) (c : InvokeRow) → map.get m (invoke_key f (place_of i n)) ≡ Some (Row.Invoke c) → c.registered ≡ true → is_some (map.get m (key_in c.func (child_of i n))) ≡ true
 
@@ -95,7 +95,7 @@ BeginsSeated = (now : ℕ) → Seats map.empty × RunsOwe (first_core 0 now) map
 
 -- an event keeps them, whatever it came to
 abbrev pub KeepsSeats : Type 0
-KeepsSeats = (d : Deployment) (room old new : ℕ) (e : Event) (c b : Core) (m n : Rows) (r : Result Seen AllocError) → Right d c m → Seats m → RunsOwe c m → EventOn d room old new e c m b n r → Seats n × RunsOwe b n
+KeepsSeats = (d : Deployment) (room old new : ℕ) (e : Event) (c b : Core) (m n : Rows) (r : Result EventReply AllocError) → Invariant d c m → Seats m → RunsOwe c m → EventOn d room old new e c m b n r → Seats n × RunsOwe b n
 
 -- the row of the callee of a call, with its body, which says who called it
 pub record HasCallee (m : Rows) (f : ℕ) (i : IntentId) (n : ℕ) (c : InvokeRow) : Type 0 where
@@ -103,13 +103,13 @@ pub record HasCallee (m : Rows) (f : ℕ) (i : IntentId) (n : ℕ) (c : InvokeRo
   pub body : Body
   pub has : HasBody m c.func (child_of i n) row body
   pub caller : Caller
-  pub from : body.from ≡ Some caller
+  pub parent : body.parent ≡ Some caller
   pub place : caller.place ≡ place_of i n
   pub func : caller.func ≡ f
 
 -- a call that says that it is registered has its callee's row, in the home of the function called
 abbrev pub RegisteredHaveCallees : Type 0
-RegisteredHaveCallees = (d : Deployment) (c : Core) (m : Rows) → Right d c m → Seats m → (f : ℕ) (i : IntentId) (n : ℕ) (x : InvokeRow) → map.get m (invoke_key f (place_of i n)) ≡ Some (Row.Invoke x) → x.registered ≡ true → HasCallee m f i n x
+RegisteredHaveCallees = (d : Deployment) (c : Core) (m : Rows) → Invariant d c m → Seats m → (f : ℕ) (i : IntentId) (n : ℕ) (x : InvokeRow) → map.get m (invoke_key f (place_of i n)) ≡ Some (Row.Invoke x) → x.registered ≡ true → HasCallee m f i n x
 
 -- who has its outcome has told its caller: that it is registered, or, where the caller waits, the outcome
 abbrev pub HasToldCaller : Rows → Caller → Bool → Outcome → Type 0
@@ -117,8 +117,8 @@ HasToldCaller m z false o = registered_in (call_at m (invoke_key z.func z.place)
 HasToldCaller m z true o = result_in (call_at m (invoke_key z.func z.place)) ≡ Some o
 
 abbrev pub EndedHaveTold : Type 0
-EndedHaveTold = (d : Deployment) (c : Core) (m : Rows) → Right d c m → Seats m → (home : ℕ) (i : IntentId) (r : IntentRow) (b : Body) (z : Caller) (o : Outcome) → HasBody m home i r b → b.from ≡ Some z → r.outcome ≡ Some o → HasToldCaller m z z.waits o
+EndedHaveTold = (d : Deployment) (c : Core) (m : Rows) → Invariant d c m → Seats m → (home : ℕ) (i : IntentId) (r : IntentRow) (b : Body) (z : Caller) (o : Outcome) → HasBody m home i r b → b.parent ≡ Some z → r.outcome ≡ Some o → HasToldCaller m z z.waits o
 
 -- where a transaction owns an item, its owner's row, if it is there, has neither outcome nor finish
 abbrev pub OwnersAreOpen : Type 0
-OwnersAreOpen = (d : Deployment) (c : Core) (m : Rows) → Right d c m → Seats m → (t : TxId) (x : Item) (r : IntentRow) → (content_of m x).owner ≡ Some (ByTx t) → map.get m (owner_key t) ≡ Some (Row.Intent r) → (r.outcome ≡ None) × (r.finish ≡ None)
+OwnersAreOpen = (d : Deployment) (c : Core) (m : Rows) → Invariant d c m → Seats m → (t : TxId) (x : Item) (r : IntentRow) → (content_of m x).owner ≡ Some (ByTx t) → map.get m (owner_key t) ≡ Some (Row.Intent r) → (r.outcome ≡ None) × (r.finish ≡ None)

@@ -6,20 +6,20 @@ use Rattle.beldi_value.specs.{Id.has_callees, declared.id.IntentId.IntentId, dec
 use Rattle.beldi_tree.specs.{declared.deployment.Deployment.Deployment, Names.func_at}
 use Rattle.beldi_check.specs.Keeps.{KeepsRules}
 use Rattle.beldi_lang.specs.{Wants.wants_answer, declared.effect.Answer.Answer, declared.effect.Effect.Effect, declared.machine.Machine.Machine, Machine.begun as machine_begun}
-use Rattle.beldi_book.specs.{Order.count_changes, declared.entry.Entry.Entry}
+use Rattle.beldi_book.specs.{LinearOrder.count_changes, declared.entry.Entry.Entry}
 use Rattle.beldi_plain.specs.{Item.Item, Plain.Instance, Replies.starts_of}
-use Rattle.beldi_order.specs.{Sane.call_of, Txs.effect_after}
+use Rattle.beldi_plain_laws.specs.{WellFormedState.call_of, Txs.effect_after}
 use Rattle.beldi_row.specs.{Log.note_at, Table.Rows, declared.notes.Note.Note, declared.row.Body.Body, declared.row.Row.Row}
-use Rattle.beldi_walk.specs.Query.{told_by}
+use Rattle.beldi_query.specs.Query.{query_reply}
 use Rattle.beldi_intent.specs.Intent.{root_key}
-use Rattle.beldi_step.specs.{declared.event.Event.Event, declared.event.Seen.Seen, declared.run.Begun.Begun, declared.run.OpenTx.OpenTx, declared.run.Run.Run, declared.run.RunAt.RunAt, declared.run.RunTx.RunTx, declared.run.Says.Says, declared.run.Stage.Stage, Host.Core, Host.EventOn, Run.answer_at_once, Run.answer_noted, Run.at_once, Run.body_found, Run.first_stage, Run.own_tx, Run.place_of, Run.run_asks, Run.run_told, Run.stage_asks, Run.stage_says, Run.takes, Run.Turned, Run.within, Tables.decision_key}
-use Rattle.beldi_known.specs.{Contents.content_of, Contents.is_owner, Contents.shadow_of, Rows.IsBodyOf}
-use Rattle.beldi_laws.specs.{OneAnswer.IsBegun, Right.Right, Right.open_of}
+use Rattle.beldi_step.specs.{declared.event.Event.Event, declared.event.EventReply.EventReply, declared.run.Begun.Begun, declared.run.OpenTx.OpenTx, declared.run.Run.Run, declared.run.RunAt.RunAt, declared.run.RunTx.RunTx, declared.run.StageOutput.StageOutput, declared.run.Stage.Stage, HostStep.Core, HostStep.EventOn, Run.local_answer, Run.answer_noted, Run.local_steps, Run.body_found, Run.first_stage, Run.own_tx, Run.place_of, Run.run_asks, Run.run_told, Run.stage_asks, Run.stage_output, Run.takes, Run.Turned, Run.inherited_tx, Tables.decision_key}
+use Rattle.beldi_histories.specs.{Contents.content_of, Contents.is_owner, Contents.shadow_of, RowMatching.IsBodyOf}
+use Rattle.beldi_invariant.specs.{OneAnswer.IsBegun, Invariant.Invariant, Invariant.open_of}
 
 -- ---- shadows
--- where the host is right, nobody owns a shadow
+-- where the host has the invariant, nobody owns a shadow
 abbrev pub ShadowsAreFree : Type 0
-ShadowsAreFree = (d : Deployment) (c : Core) (m : Rows) (t : TxId) (x : Item) → Right d c m → (shadow_of m t x).owner ≡ None
+ShadowsAreFree = (d : Deployment) (c : Core) (m : Rows) (t : TxId) (x : Item) → Invariant d c m → (shadow_of m t x).owner ≡ None
 
 -- ---- roots
 -- the deployment has the function of this number
@@ -40,9 +40,9 @@ body_at r = None
 abbrev pub RootsAreOfIt : Deployment → Rows → Type 0
 RootsAreOfIt d m = (t : ℕ) (b : Body) → body_at (map.get m (root_key t)) ≡ Some b → has_func d b.func ≡ true
 
--- where the host is right, every event keeps it whose request is of such a function
+-- where the host has the invariant, every event keeps it whose request is of such a function
 abbrev pub RootsStayOfIt : Type 0
-RootsStayOfIt = (d : Deployment) (room old new : ℕ) (e : Event) (c b : Core) (m n : Rows) (r : Result Seen AllocError) → Right d c m → IsOfIt d e → RootsAreOfIt d m → EventOn d room old new e c m b n r → RootsAreOfIt d n
+RootsStayOfIt = (d : Deployment) (room old new : ℕ) (e : Event) (c b : Core) (m n : Rows) (r : Result EventReply AllocError) → Invariant d c m → IsOfIt d e → RootsAreOfIt d m → EventOn d room old new e c m b n r → RootsAreOfIt d n
 
 -- .. and whatever is requested, the book starts it
 pub record Starts (book : List Entry) (t f : ℕ) : Type 0 where
@@ -54,7 +54,7 @@ abbrev pub RootsAreStarted : Core → Rows → Type 0
 RootsAreStarted c m = (t : ℕ) (b : Body) → body_at (map.get m (root_key t)) ≡ Some b → Starts c.book t b.func
 
 abbrev pub RootsStayStarted : Type 0
-RootsStayStarted = (d : Deployment) (room old new : ℕ) (e : Event) (c b : Core) (m n : Rows) (r : Result Seen AllocError) → Right d c m → RootsAreStarted c m → EventOn d room old new e c m b n r → RootsAreStarted b n
+RootsStayStarted = (d : Deployment) (room old new : ℕ) (e : Event) (c b : Core) (m n : Rows) (r : Result EventReply AllocError) → Invariant d c m → RootsAreStarted c m → EventOn d room old new e c m b n r → RootsAreStarted b n
 
 -- over no rows both are so
 abbrev pub NoRootAtFirst : Type 0
@@ -68,15 +68,15 @@ abbrev pub StartedRootsAreOfIt : Type 0
 StartedRootsAreOfIt = (d : Deployment) (c : Core) (m : Rows) → RootsAreStarted c m → StartsAreOfIt d c.book → RootsAreOfIt d m
 
 -- ---- a deployment that passed the checks
--- the host is right, and runs such a deployment, on requests of its functions
+-- the host has the invariant, and runs such a deployment, on requests of its functions
 pub record Checked (d : Deployment) (c : Core) (m : Rows) : Type 0 where
-  pub right : Right d c m
+  pub invariant : Invariant d c m
   pub rules : KeepsRules d.funcs
   pub roots : RootsAreOfIt d m
 
--- what is known is of its functions
+-- what the histories have is of its functions
 abbrev pub InstancesAreOfIt : Type 0
-InstancesAreOfIt = (d : Deployment) (c : Core) (m : Rows) (h : Checked d c m) (id : IntentId) (q : Instance) → map.get h.right.known id ≡ Some q → has_func d q.func ≡ true
+InstancesAreOfIt = (d : Deployment) (c : Core) (m : Rows) (h : Checked d c m) (id : IntentId) (q : Instance) → map.get h.invariant.histories id ≡ Some q → has_func d q.func ≡ true
 
 -- ---- what a run finds at its place
 -- an effect that works on an item
@@ -107,23 +107,23 @@ is_shadow_note e w = false
 
 -- an item has no note at the place of a live run but that of the effect that the run is at ..
 abbrev pub NotesAreOwn : Type 0
-NotesAreOwn = (d : Deployment) (c : Core) (m : Rows) (r : Run) (g : Begun) (x : Item) (w : Note) → Right d c m → IsBegun c r.id r g → works_on g.machine.effect ≡ true
+NotesAreOwn = (d : Deployment) (c : Core) (m : Rows) (r : Run) (g : Begun) (x : Item) (w : Note) → Invariant d c m → IsBegun c r.id r g → works_on g.machine.effect ≡ true
     → note_at (content_of m x).notes (place_of r.id g.machine.steps) ≡ Some w → is_own_note g.tx g.machine.effect w ≡ true
 
 -- .. and neither has a shadow
 abbrev pub ShadowNotesAreOwn : Type 0
-ShadowNotesAreOwn = (d : Deployment) (c : Core) (m : Rows) (r : Run) (g : Begun) (t : TxId) (x : Item) (w : Note) → Right d c m → IsBegun c r.id r g
+ShadowNotesAreOwn = (d : Deployment) (c : Core) (m : Rows) (r : Run) (g : Begun) (t : TxId) (x : Item) (w : Note) → Invariant d c m → IsBegun c r.id r g
     → note_at (shadow_of m t x).notes (place_of r.id g.machine.steps) ≡ Some w → is_shadow_note g.machine.effect w ≡ true
 
 -- the decision that is kept where a live run is at the end of its transaction is the run's own
 abbrev pub DecisionsAreOwn : Type 0
-DecisionsAreOwn = (d : Deployment) (c : Core) (m : Rows) (r : Run) (g : Begun) (o : OpenTx) (commit : Bool) (w : Row) → Right d c m → IsBegun c r.id r g → g.tx ≡ Some (RunTx.Own o) → g.machine.effect ≡ Effect.End commit
+DecisionsAreOwn = (d : Deployment) (c : Core) (m : Rows) (r : Run) (g : Begun) (o : OpenTx) (commit : Bool) (w : Row) → Invariant d c m → IsBegun c r.id r g → g.tx ≡ Some (RunTx.Own o) → g.machine.effect ≡ Effect.End commit
     → map.get m (decision_key (own_tx r.id r.func o)) ≡ Some w → w ≡ Row.ReadLog (Value.Bool commit)
 
 -- ---- locks outside transactions
 -- a live run that is to free a lock owns it, unless it was freed at its place
 abbrev pub UnlocksAreOwned : Type 0
-UnlocksAreOwned = (d : Deployment) (c : Core) (m : Rows) (r : Run) (g : Begun) (t : ℕ) (k : List ℕ) → let x : Item = record { func = r.func; table = t; key = k } in Right d c m → IsBegun c r.id r g → g.machine.effect ≡ Effect.Unlock t k
+UnlocksAreOwned = (d : Deployment) (c : Core) (m : Rows) (r : Run) (g : Begun) (t : ℕ) (k : List ℕ) → let x : Item = record { func = r.func; table = t; key = k } in Invariant d c m → IsBegun c r.id r g → g.machine.effect ≡ Effect.Unlock t k
     → note_at (content_of m x).notes (place_of r.id g.machine.steps) ≡ None → is_owner (content_of m x).owner (Owner.Intent r.id) ≡ true
 
 -- ---- where effects stand
@@ -136,7 +136,7 @@ is_for_outside e = false
 
 -- an instance that wants it is in none, neither its own nor one that it was called in
 abbrev pub NoneIsInside : Type 0
-NoneIsInside = (d : Deployment) (c : Core) (m : Rows) (h : Checked d c m) (id : IntentId) (q : Instance) (given : List Answer) → map.get h.right.known id ≡ Some q → is_for_outside (effect_after d q given) ≡ true → open_of d q given ≡ None
+NoneIsInside = (d : Deployment) (c : Core) (m : Rows) (h : Checked d c m) (id : IntentId) (q : Instance) (given : List Answer) → map.get h.invariant.histories id ≡ Some q → is_for_outside (effect_after d q given) ≡ true → open_of d q given ≡ None
 
 -- one that is to begin a transaction is in none, and one that is to end one is in its own; that needs no checks
 pub record BoundsStand (d : Deployment) (q : Instance) (given : List Answer) : Type 0 where
@@ -148,20 +148,20 @@ BoundsAreOwn = (d : Deployment) (q : Instance) (given : List Answer) → BoundsS
 
 -- who calls has an id that is short enough
 abbrev pub CallersAreShort : Type 0
-CallersAreShort = (d : Deployment) (c : Core) (m : Rows) (h : Checked d c m) (id : IntentId) (q : Instance) (given : List Answer) (waits : Bool) (f : ℕ) (a : Value) → map.get h.right.known id ≡ Some q → effect_after d q given ≡ call_of waits f a → has_callees id ≡ true
+CallersAreShort = (d : Deployment) (c : Core) (m : Rows) (h : Checked d c m) (id : IntentId) (q : Instance) (given : List Answer) (waits : Bool) (f : ℕ) (a : Value) → map.get h.invariant.histories id ≡ Some q → effect_after d q given ≡ call_of waits f a → has_callees id ≡ true
 
 -- ---- what an instance wants next is carried out
 -- it has a stage in which it begins, or takes no turn
 abbrev pub IsCarriedOut : Deployment → IntentId → Instance → List Answer → Type 0
-IsCarriedOut d id q given = (is_some (answer_at_once id (length given) (effect_after d q given)) || is_some (first_stage id q.from (open_of d q given) (length given) (effect_after d q given))) ≡ true
+IsCarriedOut d id q given = (is_some (local_answer id (length given) (effect_after d q given)) || is_some (first_stage id q.parent (open_of d q given) (length given) (effect_after d q given))) ≡ true
 
--- so it is of all that is known, whatever it was answered
+-- so it is of all that the histories have, whatever it was answered
 abbrev pub EffectsAreCarriedOut : Type 0
-EffectsAreCarriedOut = (d : Deployment) (c : Core) (m : Rows) (h : Checked d c m) (id : IntentId) (q : Instance) (given : List Answer) → map.get h.right.known id ≡ Some q → IsCarriedOut d id q given
+EffectsAreCarriedOut = (d : Deployment) (c : Core) (m : Rows) (h : Checked d c m) (id : IntentId) (q : Instance) (given : List Answer) → map.get h.invariant.histories id ≡ Some q → IsCarriedOut d id q given
 
 -- where a machine stands in this transaction, past what takes no turn, there is such a stage
 abbrev pub Begins : Deployment → IntentId → Option Caller → Machine × Option RunTx → Type 0
-Begins d id c s = let z = at_once d id s in is_some (first_stage id c z.1 z.0.steps z.0.effect) ≡ true
+Begins d id c s = let z = local_steps d id s in is_some (first_stage id c z.1 z.0.steps z.0.effect) ≡ true
 
 -- so a live run that has begun goes on from any answer
 abbrev pub NoRunIsStranded : Type 0
@@ -169,12 +169,12 @@ NoRunIsStranded = (d : Deployment) (c : Core) (m : Rows) (r : Run) (g : Begun) (
 
 -- .. and a body that is known of its instance begins
 abbrev pub NoBodyIsStranded : Type 0
-NoBodyIsStranded = (d : Deployment) (c : Core) (m : Rows) (h : Checked d c m) (r : Run) (b : Body) → IsBodyOf b (map.get h.right.known r.id) → b.func ≡ r.func → (has_func d r.func ≡ true) × Begins d r.id b.from (machine_begun d r.func b.args (is_some b.tx), within b.tx)
+NoBodyIsStranded = (d : Deployment) (c : Core) (m : Rows) (h : Checked d c m) (r : Run) (b : Body) → IsBodyOf b (map.get h.invariant.histories r.id) → b.func ≡ r.func → (has_func d r.func ≡ true) × Begins d r.id b.parent (machine_begun d r.func b.args (is_some b.tx), inherited_tx b.tx)
 
 -- ---- a turn
 -- how a live run that has begun stands after its next turn, over these rows
 abbrev pub next_turn : Deployment → Core → Rows → Run → Turned
-next_turn d c m r = run_told d (count_changes c.book) r (told_by (run_asks r) c.now m)
+next_turn d c m r = run_told d (count_changes c.book) r (query_reply (run_asks r) c.now m)
 
 abbrev pub is_close : Stage → Bool
 is_close Stage.Close = true
@@ -185,13 +185,13 @@ abbrev pub NoTurnIsOver : Type 0
 NoTurnIsOver = (d : Deployment) (c : Core) (m : Rows) (r : Run) (g : Begun) → Checked d c m → IsBegun c r.id r g → (next_turn d c m r).next ≡ None → is_close g.stage ≡ true
 
 -- what the stage of a live run says of the next turn
-abbrev pub next_says : Core → Rows → Run → Begun → Says
-next_says c m r g = stage_says r.id r.func g.caller g.tx (count_changes c.book) g.machine.steps g.machine.effect g.stage (told_by (stage_asks r.id r.func g.caller g.tx g.machine.steps g.machine.effect g.stage) c.now m)
+abbrev pub next_output : Core → Rows → Run → Begun → StageOutput
+next_output c m r g = stage_output r.id r.func g.caller g.tx (count_changes c.book) g.machine.steps g.machine.effect g.stage (query_reply (stage_asks r.id r.func g.caller g.tx g.machine.steps g.machine.effect g.stage) c.now m)
 
 -- it stays where it stood
-abbrev pub IsStill : Stage → Says → Type 0
-IsStill s Says.Stays = Unit {0}
-IsStill s (Says.On z m) = z ≡ s
+abbrev pub IsStill : Stage → StageOutput → Type 0
+IsStill s StageOutput.Stays = Unit {0}
+IsStill s (StageOutput.On z m) = z ≡ s
 IsStill s x = ⊥
 
 -- the visits at an end, which stand at one stage
@@ -201,20 +201,20 @@ is_visit s = false
 
 -- at no other stage does a run stay where it stood; it waits, or goes on
 abbrev pub NoTurnStays : Type 0
-NoTurnStays = (d : Deployment) (c : Core) (m : Rows) (r : Run) (g : Begun) → Right d c m → IsBegun c r.id r g → is_visit g.stage ≡ false → IsStill g.stage (next_says c m r g) → ⊥
+NoTurnStays = (d : Deployment) (c : Core) (m : Rows) (r : Run) (g : Begun) → Invariant d c m → IsBegun c r.id r g → is_visit g.stage ≡ false → IsStill g.stage (next_output c m r g) → ⊥
 
 -- ---- the first turn
 -- the body that a run which has not begun finds in what it is told of the next turn: that of its row, or the one that it registers
 abbrev pub next_body : Core → Rows → Run → Option Body
-next_body c m r = body_found r.func r.at (told_by (run_asks r) c.now m)
+next_body c m r = body_found r.func r.at (query_reply (run_asks r) c.now m)
 
 abbrev pub has_begun : RunAt → Bool
 has_begun (RunAt.Begins g) = true
 has_begun at = false
 
 -- it is its instance's ..
-abbrev pub FoundBodiesAreKnown : Type 0
-FoundBodiesAreKnown = (d : Deployment) (c : Core) (m : Rows) (h : Right d c m) (n : ℕ) (r : Run) (b : Body) → map.get c.runs n ≡ Some r → has_begun r.at ≡ false → next_body c m r ≡ Some b → IsBodyOf b (map.get h.known r.id) × (b.func ≡ r.func)
+abbrev pub FoundBodiesAreRecorded : Type 0
+FoundBodiesAreRecorded = (d : Deployment) (c : Core) (m : Rows) (h : Invariant d c m) (n : ℕ) (r : Run) (b : Body) → map.get c.runs n ≡ Some r → has_begun r.at ≡ false → next_body c m r ≡ Some b → IsBodyOf b (map.get h.histories r.id) × (b.func ≡ r.func)
 
 -- .. and such a run begins with it
 abbrev pub NoFirstTurnIsOver : Type 0

@@ -5,10 +5,10 @@ use Rattle.std.specs.FinMap as map
 use Rattle.beldi_value.specs.declared.id.IntentId.{IntentId}
 use Rattle.beldi_tree.specs.declared.deployment.Deployment.{Deployment}
 use Rattle.beldi_row.specs.Table.{Rows}
-use Rattle.beldi_step.specs.{declared.event.Event.Event, declared.event.Seen.Seen, declared.run.Run.Run, Deadlines.AreSoon, Host.Core, Host.EventOn, Host.first_core}
-use Rattle.beldi_known.specs.Stands.{key_in}
-use Rattle.beldi_laws.specs.Right.{Right}
-use Rattle.beldi_upkeep.specs.{Callees.Seats, Work.WorksFor, Work.finish_in}
+use Rattle.beldi_step.specs.{declared.event.Event.Event, declared.event.EventReply.EventReply, declared.run.Run.Run, RunDeadlines.AreSoon, HostStep.Core, HostStep.EventOn, HostStep.first_core}
+use Rattle.beldi_histories.specs.Stands.{key_in}
+use Rattle.beldi_invariant.specs.Invariant.{Invariant}
+use Rattle.beldi_upkeep.specs.{Callees.Seats, WorksFor.WorksFor, WorksFor.finish_in}
 
 -- a deadline that is at most a life past a finish, where there is one
 abbrev pub IsNear : ℕ → ℕ → Option ℕ → Type 0
@@ -26,4 +26,4 @@ abbrev pub BeginsNear : Type 0
 BeginsNear = (d : Deployment) (newest now : ℕ) → Near d (first_core newest now) map.empty
 
 abbrev pub KeepsNear : Type 0
-KeepsNear = (d : Deployment) (room old new : ℕ) (e : Event) (c b : Core) (m n : Rows) (x : Result Seen AllocError) → Right d c m → Seats m → Near d c m → EventOn d room old new e c m b n x → Near d b n
+KeepsNear = (d : Deployment) (room old new : ℕ) (e : Event) (c b : Core) (m n : Rows) (x : Result EventReply AllocError) → Invariant d c m → Seats m → Near d c m → EventOn d room old new e c m b n x → Near d b n

@@ -4,5 +4,5 @@ pub mod Deadlines
 pub mod Freed
 pub mod Passed
 pub mod Upkeep
-pub mod Work
+pub mod WorksFor
 pub mod Written

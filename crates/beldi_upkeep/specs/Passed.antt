@@ -9,9 +9,9 @@ use Rattle.beldi_plain.specs.{Legal.run_of, Plain.Instance, Plain.PlainState, Pl
 use Rattle.beldi_row.specs.{Key.RowKey, Log.note_at, Table.Rows, declared.key.Kind.Kind, declared.row.InvokeRow.InvokeRow, declared.row.Row.Row}
 use Rattle.beldi_chain.specs.Content.{content_in}
 use Rattle.beldi_invokelog.specs.InvokeLog.{call_in, invoke_key, result_in}
-use Rattle.beldi_step.specs.{Host.Core, Host.EventOn, Host.first_core, Run.answer_at_once, Run.place_of, declared.event.Event.Event, declared.event.Seen.Seen, declared.run.Run.Run, declared.run.RunAt.TheVariants.Begins, declared.run.Begun.Begun}
-use Rattle.beldi_known.specs.Known.{Known, last_step}
-use Rattle.beldi_laws.specs.Right.{Right}
+use Rattle.beldi_step.specs.{HostStep.Core, HostStep.EventOn, HostStep.first_core, Run.local_answer, Run.place_of, declared.event.Event.Event, declared.event.EventReply.EventReply, declared.run.Run.Run, declared.run.RunAt.TheVariants.Begins, declared.run.Begun.Begun}
+use Rattle.beldi_histories.specs.Histories.{Histories, last_step}
+use Rattle.beldi_invariant.specs.Invariant.{Invariant}
 use Rattle.beldi_upkeep.specs.Callees.{HasCallee, Seats}
 
 -- ---- calls that may be passed
@@ -80,14 +80,14 @@ BeginsPast = (now : ℕ) → PastCalls map.empty × RunsPast (first_core 0 now) 
 
 -- .. and after every event, whatever it came to
 abbrev pub KeepsPast : Type 0
-KeepsPast = (d : Deployment) (room old new : ℕ) (e : Event) (c b : Core) (m n : Rows) (r : Result Seen AllocError) → Right d c m → PastCalls m → RunsPast c m → EventOn d room old new e c m b n r → PastCalls n × RunsPast b n
+KeepsPast = (d : Deployment) (room old new : ℕ) (e : Event) (c b : Core) (m n : Rows) (r : Result EventReply AllocError) → Invariant d c m → PastCalls m → RunsPast c m → EventOn d room old new e c m b n r → PastCalls n × RunsPast b n
 
 -- ---- so who went on past a call that nobody waits for has registered it
 -- an instance went on past a step: it was answered at a later step whose answer takes a turn, called at a later step, or has its outcome.
 -- An answer to the step itself is no sign of it: the call is answered as it is opened, and registered in later turns. Nor is a later Begin,
 -- which is answered at once.
-abbrev pub WentOn : Deployment → Known → IntentId → Instance → ℕ → Type 0
-WentOn d known i q n = ((s : ℕ) × (n < s) × (s < length q.answers) × (answer_at_once i s (effect_before d q s) ≡ None)) ⊎ (((s : ℕ) × (n < s) × (is_some (map.get known (child_of i s)) ≡ true)) ⊎ (is_some q.outcome ≡ true))
+abbrev pub WentOn : Deployment → Histories → IntentId → Instance → ℕ → Type 0
+WentOn d histories i q n = ((s : ℕ) × (n < s) × (s < length q.answers) × (local_answer i s (effect_before d q s) ≡ None)) ⊎ (((s : ℕ) × (n < s) × (is_some (map.get histories (child_of i s)) ≡ true)) ⊎ (is_some q.outcome ≡ true))
 
 -- the row of a call that is registered, and of its callee
 pub record IsEnrolled (m : Rows) (f : ℕ) (i : IntentId) (n : ℕ) : Type 0 where
@@ -96,10 +96,10 @@ pub record IsEnrolled (m : Rows) (f : ℕ) (i : IntentId) (n : ℕ) : Type 0 whe
   pub registered : call.registered ≡ true
   pub callee : HasCallee m f i n call
 
--- of all that is known, inside transactions as well ..
-abbrev pub KnownAsyncsAreRegistered : Type 0
-KnownAsyncsAreRegistered = (d : Deployment) (c : Core) (m : Rows) (h : Right d c m) → Seats m → PastCalls m → (i : IntentId) (q : Instance) (n f : ℕ) (v : Value) → map.get h.known i ≡ Some q → n < length q.answers → effect_before d q n ≡ Effect.Async f v → WentOn d h.known i q n → IsEnrolled m q.func i n
+-- of all that the histories have, inside transactions as well ..
+abbrev pub RecordedAsyncsAreRegistered : Type 0
+RecordedAsyncsAreRegistered = (d : Deployment) (c : Core) (m : Rows) (h : Invariant d c m) → Seats m → PastCalls m → (i : IntentId) (q : Instance) (n f : ℕ) (v : Value) → map.get h.histories i ≡ Some q → n < length q.answers → effect_before d q n ≡ Effect.Async f v → WentOn d h.histories i q n → IsEnrolled m q.func i n
 
 -- .. and of the run of the book
 abbrev pub AsyncsAreRegistered : Type 0
-AsyncsAreRegistered = (d : Deployment) (c : Core) (m : Rows) (p : PlainState) → Right d c m → Seats m → PastCalls m → run_of d c.book ≡ Some p → (i : IntentId) (q : Instance) (n f : ℕ) (v : Value) → map.get p.made i ≡ Some q → n < length q.answers → effect_before d q n ≡ Effect.Async f v → WentOn d p.made i q n → IsEnrolled m q.func i n
+AsyncsAreRegistered = (d : Deployment) (c : Core) (m : Rows) (p : PlainState) → Invariant d c m → Seats m → PastCalls m → run_of d c.book ≡ Some p → (i : IntentId) (q : Instance) (n f : ℕ) (v : Value) → map.get p.made i ≡ Some q → n < length q.answers → effect_before d q n ≡ Effect.Async f v → WentOn d p.made i q n → IsEnrolled m q.func i n

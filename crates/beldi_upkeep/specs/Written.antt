@@ -2,7 +2,7 @@
 use Rattle.std.specs.Prelude.{◌≡◌, ℕ, suc, ◌||◌, Bool, List, slice_get, Some}
 use Rattle.beldi_value.specs.declared.value.Value.{Value}
 use Rattle.beldi_tree.specs.{declared.deployment.Deployment.Deployment, declared.deployment.Func.Func}
-use Rattle.beldi_tree.specs.Command.{Command, call, async, lock}
+use Rattle.beldi_tree.specs.StatementCommand.{Command, call, async, lock}
 use Rattle.beldi_lang.specs.{declared.effect.Effect.Effect, declared.effect.Answer.Answer, Wants.func_number, Wants.is_inside, Wants.wants}
 use Rattle.beldi_check.specs.Site.{Spot, sites_of}
 

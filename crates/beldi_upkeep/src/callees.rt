@@ -1,6 +1,6 @@
 // The laws of calls, callees and owners.
 ghost use Rattle.beldi_upkeep.specs.Callees.{BeginsSeated, KeepsSeats, RegisteredHaveCallees, EndedHaveTold, OwnersAreOpen};
-ghost use Rattle.beldi_upkeep.specs.Passed.{AsyncsAreRegistered, BeginsPast, KeepsPast, KnownAsyncsAreRegistered};
+ghost use Rattle.beldi_upkeep.specs.Passed.{AsyncsAreRegistered, BeginsPast, KeepsPast, RecordedAsyncsAreRegistered};
 
 /// Over a table without rows each row has its seat, and a host that nothing has happened to has no run that owes anything.
 pub fn begins_seated()
@@ -45,6 +45,6 @@ pub fn asynchronous_calls_are_registered()
 {}
 
 /// So has an instance of which it is known that it went on, inside transactions as well.
-pub fn known_asynchronous_calls_are_registered()
-    ensures { KnownAsyncsAreRegistered }
+pub fn recorded_asynchronous_calls_are_registered()
+    ensures { RecordedAsyncsAreRegistered }
 {}

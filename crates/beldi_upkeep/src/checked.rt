@@ -1,9 +1,9 @@
 // Laws.
-ghost use Rattle.beldi_upkeep.specs.Checked.{BoundsAreOwn, CallersAreShort, DecisionsAreOwn, EffectsAreCarriedOut, FoundBodiesAreKnown, InstancesAreOfIt, NoBodyIsStranded, NoFirstTurnIsOver, NoRootAtFirst, NoRunIsStranded, NoTurnIsOver, NoTurnStays, NoneIsInside, NotesAreOwn, RootsStayOfIt, RootsStayStarted, ShadowNotesAreOwn, ShadowsAreFree, StartedRootsAreOfIt, UnlocksAreOwned};
+ghost use Rattle.beldi_upkeep.specs.Checked.{BoundsAreOwn, CallersAreShort, DecisionsAreOwn, EffectsAreCarriedOut, FoundBodiesAreRecorded, InstancesAreOfIt, NoBodyIsStranded, NoFirstTurnIsOver, NoRootAtFirst, NoRunIsStranded, NoTurnIsOver, NoTurnStays, NoneIsInside, NotesAreOwn, RootsStayOfIt, RootsStayStarted, ShadowNotesAreOwn, ShadowsAreFree, StartedRootsAreOfIt, UnlocksAreOwned};
 ghost use Rattle.beldi_upkeep.specs.Freed.{FreesWhatItHolds, ReturnsHoldNone};
 ghost use Rattle.beldi_upkeep.specs.Written.{WantsAreWritten};
 
-/// Where the host is right, nobody owns a shadow.
+/// Where the host has the invariant, nobody owns a shadow.
 pub fn shadows_have_no_owner()
     ensures { ShadowsAreFree }
 {}
@@ -13,12 +13,12 @@ pub fn no_root_at_first()
     ensures { NoRootAtFirst }
 {}
 
-/// Where the host is right and each request is of a function of the deployment, so is each root.
+/// Where the host has the invariant and each request is of a function of the deployment, so is each root.
 pub fn roots_are_of_the_deployment()
     ensures { RootsStayOfIt }
 {}
 
-/// Where the host is right, each root that was bound is one that the book starts.
+/// Where the host has the invariant, each root that was bound is one that the book starts.
 pub fn roots_are_started()
     ensures { RootsStayStarted }
 {}
@@ -43,7 +43,7 @@ pub fn who_returns_holds_none()
     ensures { ReturnsHoldNone }
 {}
 
-/// In a deployment that passed the checks, each instance that is known is of one of its functions.
+/// In a deployment that passed the checks, each instance that has a history is of one of its functions.
 pub fn instances_are_of_the_deployment()
     ensures { InstancesAreOfIt }
 {}
@@ -110,8 +110,8 @@ pub fn no_turn_stays()
 {}
 
 /// The body that a run finds before it has begun is that of its instance, and of its function.
-pub fn found_bodies_are_known()
-    ensures { FoundBodiesAreKnown }
+pub fn found_bodies_are_recorded()
+    ensures { FoundBodiesAreRecorded }
 {}
 
 /// In a deployment that passed the checks a run begins with the body that it finds.

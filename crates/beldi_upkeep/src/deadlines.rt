@@ -6,7 +6,7 @@ pub fn begins_near()
     ensures { BeginsNear }
 {}
 
-/// Where the host and its rows are right, an event keeps each deadline near: at most a life ahead, and at most a life past the finish
+/// Where the invariant holds of the host and its rows, an event keeps each deadline near: at most a life ahead, and at most a life past the finish
 /// of whom the run works for.
 pub fn an_event_keeps_deadlines()
     ensures { KeepsNear }

@@ -1,5 +1,5 @@
-//! What every event keeps beside `Right`, and what runs of a checked deployment never come to: facts by which what can end ends. It
-//! has no code. It stands on the laws of the step (`beldi_laws`) and on the rules of deployments (`beldi_check`).
+//! What every event keeps beside `Invariant`, and what runs of a checked deployment never come to: facts by which what can end ends. It
+//! has no code. It stands on the laws of the step (`beldi_invariant`) and on the rules of deployments (`beldi_check`).
 //!
 //! Proved of callees (`specs/Callees`):
 //! - Each row belongs to an intent that has its row; who nobody waits for has its outcome only once its call says that it is registered,
@@ -11,14 +11,14 @@
 //!
 //! Proved of calls that are past (`specs/Passed`): a call that its intent is past, by the rows, or that a live run is past, is registered,
 //! or has its result (`begins_past`, `an_event_keeps_past_calls`). So an instance that went on past a call that nobody waits for has
-//! registered it, and its callee has its row (`asynchronous_calls_are_registered`; of what is known inside transactions
-//! `known_asynchronous_calls_are_registered`).
+//! registered it, and its callee has its row (`asynchronous_calls_are_registered`; of what the histories have inside transactions
+//! `recorded_asynchronous_calls_are_registered`).
 //!
-//! Proved of deadlines (`specs/Deadlines`): where the host and its rows are right, each deadline is at most a life past the finish of
+//! Proved of deadlines (`specs/Deadlines`): where the invariant holds of the host and its rows, each deadline is at most a life past the finish of
 //! whom the run works for: its own intent, the owner of the transaction that it was called in, and the callee that it is to register
 //! (`begins_near`, `an_event_keeps_deadlines`).
 //!
-//! Proved of whom runs work for (`specs/Work`), what the deadlines stand on:
+//! Proved of whom runs work for (`specs/WorksFor`), what the deadlines stand on:
 //! - After an event each live run works for whom a run of its deadline worked for before, or for who had no finish
 //!   (`no_run_begins_to_work_for_the_finished`).
 //! - Whom a run works for, and who called it, was bound (`whom_a_run_works_for_is_bound`).
@@ -32,7 +32,7 @@
 //! - Each root is one that the book starts (`roots_are_started`), so it is of the deployment where the starts are
 //!   (`started_roots_are_of_the_deployment`), and where the requests are (`roots_are_of_the_deployment`); and so is each instance
 //!   that is known (`instances_are_of_the_deployment`).
-//! - A run begins with the body that it finds (`found_bodies_are_known`, `no_first_turn_is_over`), goes on from any answer
+//! - A run begins with the body that it finds (`found_bodies_are_recorded`, `no_first_turn_is_over`), goes on from any answer
 //!   (`no_run_is_stranded`, `no_body_is_stranded`), and its turn is over only at the stage that closes its intent (`no_turn_is_over`).
 //! - It waits or goes on, but for the visits at the end of a transaction, of which this is not said (`no_turn_stays`).
 //! - What these stand on: nobody owns a shadow (`shadows_have_no_owner`); the notes and the decision that a run finds are its own
@@ -44,12 +44,12 @@
 //! Files:
 //! - Code (`src/`): `callees`, `deadlines`, `work`, `checked`, `upkeep` one function a law, with no body.
 //! - Lemmas of callees (`proofs/`): `Shapes` what an event does to rows and runs; `CellActs`, `RowSets`, `SeatRows` what an act leaves;
-//!   `StageSays`, `SaysOwe` what a run owes by its stage; `FirstTurns`, `TurnRows`, `EndRows`, `TurnKeeps` turns; `PastEnds`, `PastOwn`,
-//!   `EndsLast` that an owner ends last; `RowNotes` that the notes of an item are those of its rows; `Leaving`, `FromRight`, `CallLaws`,
+//!   `StageOutputs`, `OutputOwes` what a run owes by its stage; `FirstTurns`, `TurnRows`, `EndRows`, `TurnKeeps` turns; `PastEnds`, `PastOwn`,
+//!   `EndsLast` that an owner ends last; `RowNotes` that the notes of an item are those of its rows; `Leaving`, `FromInvariant`, `CallLaws`,
 //!   `Upkept`; `Together` all of it.
 //! - Of work and deadlines: `Finishes` which rows have a finish; `Quiet` stages that call nobody, `Workers` what a turn leaves; `NewWork`,
 //!   `GivenBack`, `Asking`; `Nearness`.
-//! - Of deployments: `Kept` what an event keeps at each key, `Asked` what a run asks of rows, `Roots`, `Started`;
+//! - Of deployments: `UpkeepKept` what an event keeps at each key, `Asked` what a run asks of rows, `Roots`, `Started`;
 //!   `Sites` and `Frees` by induction on the body; `Functions` the function of a name, `Edges` and `Chains` that calls lead to no
 //!   function twice; `Open` and `Notes` what a run is in and finds; `Carried`, `Stranded` the next effect; `Firsts`, `Overs`, `Still` a turn.
 #![tactic(auto)]
@@ -62,12 +62,12 @@ mod work;
 
 pub use callees::{
     an_event_keeps_past_calls, an_event_keeps_seats, asynchronous_calls_are_registered,
-    begins_past, begins_seated, ended_callees_have_told, known_asynchronous_calls_are_registered,
-    owners_are_open, registered_calls_have_their_callee,
+    begins_past, begins_seated, ended_callees_have_told, owners_are_open,
+    recorded_asynchronous_calls_are_registered, registered_calls_have_their_callee,
 };
 pub use checked::{
     bounds_are_own, callers_are_short, decisions_are_own, effects_are_carried_out,
-    found_bodies_are_known, instances_are_of_the_deployment, no_body_is_stranded,
+    found_bodies_are_recorded, instances_are_of_the_deployment, no_body_is_stranded,
     no_first_turn_is_over, no_root_at_first, no_run_is_stranded, no_turn_is_over, no_turn_stays,
     notes_are_own, nothing_is_locked_inside, roots_are_of_the_deployment, roots_are_started,
     shadow_notes_are_own, shadows_have_no_owner, started_roots_are_of_the_deployment,

@@ -1,5 +1,5 @@
 // Whom live runs work for, and whose rows they ask for.
-ghost use Rattle.beldi_upkeep.specs.Work.{IsGivenToFinished, NewWorkIsUnfinished, RunsAskForWork, WorkIsBound};
+ghost use Rattle.beldi_upkeep.specs.WorksFor.{IsGivenToFinished, NewWorkIsUnfinished, RunsAskForWork, WorkIsBound};
 
 /// After an event each live run works for whom a run of its deadline worked for before, or for who had no finish.
 pub fn no_run_begins_to_work_for_the_finished()

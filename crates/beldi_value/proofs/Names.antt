@@ -19,5 +19,5 @@ pub use Rattle.beldi_value.specs.IdAt.{RefusesId, hops_at, id_at, id_from, onto_
 pub use Rattle.beldi_value.specs.Json.{int_of, json_fields, json_items, json_of, number_of, of_items, of_json, of_members, text_of}
 pub use Rattle.beldi_value.specs.Limits.{depth_of, fields_depth, is_within, items_depth, most_bytes, most_depth, text_size}
 pub use Rattle.beldi_value.specs.Number.{int_at, is_numeral, is_plain, negated, number_at, numeral_at, read_on}
-pub use Rattle.beldi_value.specs.Reading.{IsReadAgain, ReadsValue, if_shallow, if_small, json_at, read_of, ◌>>=◌}
-pub use Rattle.beldi_value.specs.{Convert.Refuses, Cut.after, Cut.before, Formed.AreFormed, Formed.HaveForm, Formed.IsFormed, Id.child_of, Id.has_no_hops, Id.id_cmp, Id.id_exact, Id.id_total, Id.is_older, Injective.pairs_back, Injective.pairs_of, Injective.same_fields, Injective.same_items, Injective.value_back, Injective.value_of, Parts.IsPlace, Parts.field_at, Parts.set_field, Same.same_value, Same.value_decides, Text.hops_text, Text.id_text, Value.datum_of, Value.fields_view, Value.items_view, declared.convert.ConvertErr.ConvertErr, declared.convert.ConvertErr.TheVariants.OutOfMemory, declared.id.IntentId.IntentId, declared.read.ValueErr.ValueErr, declared.read.ValueErr.TheVariants.NotInt, declared.read.ValueErr.TheVariants.NotJson, declared.read.ValueErr.TheVariants.TooDeep, declared.read.ValueErr.TheVariants.TooLarge, declared.read_id.IdErr.IdErr, declared.read_id.IdErr.TheVariants.BadId, declared.value.Value.Value}
+pub use Rattle.beldi_value.specs.ValueReading.{IsReadAgain, ReadsValue, if_shallow, if_small, json_at, read_of, ◌>>=◌}
+pub use Rattle.beldi_value.specs.{Convert.Refuses, ByteCut.after, ByteCut.before, Formed.AreFormed, Formed.HaveForm, Formed.IsFormed, Id.child_of, Id.has_no_hops, Id.id_cmp, Id.id_exact, Id.id_total, Id.is_older, Injective.pairs_back, Injective.pairs_of, Injective.same_fields, Injective.same_items, Injective.value_back, Injective.value_of, RecordParts.IsPlace, RecordParts.field_at, RecordParts.set_field, Same.same_value, Same.value_decides, ValueText.hops_text, ValueText.id_text, Value.datum_of, Value.fields_view, Value.items_view, declared.convert.ConvertErr.ConvertErr, declared.convert.ConvertErr.TheVariants.OutOfMemory, declared.id.IntentId.IntentId, declared.read.ValueErr.ValueErr, declared.read.ValueErr.TheVariants.NotInt, declared.read.ValueErr.TheVariants.NotJson, declared.read.ValueErr.TheVariants.TooDeep, declared.read.ValueErr.TheVariants.TooLarge, declared.read_id.IdErr.IdErr, declared.read_id.IdErr.TheVariants.BadId, declared.value.Value.Value}

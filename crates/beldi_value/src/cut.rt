@@ -1,7 +1,7 @@
 // A text cut at a byte.
 ghost use Rattle.std.specs.Prelude.{◌≡◌, option_copied, ◌==◌};
 ghost use Rattle.std.specs.List.{position};
-ghost use Rattle.beldi_value.specs.Cut.{before, after};
+ghost use Rattle.beldi_value.specs.ByteCut.{before, after};
 
 fn place_of(bytes: &[u8], mark: u8) -> Option<usize>
     ensures { result ≡ position (λ b. b == mark) bytes.now }

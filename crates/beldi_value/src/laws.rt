@@ -1,5 +1,5 @@
 // Laws of the definitions that other crates build on.
-ghost use Rattle.beldi_value.specs.Laws.{AgesAreOrdered, IdTextIsExact, IntTextIsExact, NumeralTextIsExact, TextIsReadAgain};
+ghost use Rattle.beldi_value.specs.ValueLaws.{AgesAreOrdered, IdTextIsExact, IntTextIsExact, NumeralTextIsExact, TextIsReadAgain};
 
 /// Ages are a total order on ids.
 pub fn ages_are_ordered()

@@ -1,10 +1,10 @@
 //! Values, the ids of intents and their order, and the texts of both, written and read. It stands on `serde_json`, and on
 //! `json` for the definitions of what that writes. Its own definitions: `specs/Datum` (what a value stands for),
-//! `specs/Json` (the canonical text), `specs/Reading` (the value that bytes are, or why they are none), `specs/Convert` (the
+//! `specs/Json` (the canonical text), `specs/ValueReading` (the value that bytes are, or why they are none), `specs/Convert` (the
 //! value that JSON is), `specs/Limits` (how deep a value nests and how long its text is), `specs/Formed` (what of a datum
-//! the types of values keep), `specs/Parts` (fields of records, elements of lists), `specs/Passes` (how a value stands to an
-//! operand), `specs/Id` (the order of ids), `specs/IdAt` (the id that a text is), `specs/Cut` (a text cut at a byte),
-//! `specs/Number` (numbers in decimal), `specs/Text` (the texts of ids, places, owners and outcomes), `specs/Laws` (what
+//! the types of values keep), `specs/RecordParts` (fields of records, elements of lists), `specs/Passes` (how a value stands to an
+//! operand), `specs/Id` (the order of ids), `specs/IdAt` (the id that a text is), `specs/ByteCut` (a text cut at a byte),
+//! `specs/Number` (numbers in decimal), `specs/ValueText` (the texts of ids, places, owners and outcomes), `specs/ValueLaws` (what
 //! holds of them). `proofs/Maps` has lemmas on maps that the crates above cite.
 //!
 //! Proved:
@@ -27,12 +27,12 @@
 //!   `numeral_text_is_exact`).
 //!
 //! Files:
-//! - Code (`src/`): `value` values; `early` an early return whose drops are written; `apart` a value behind a pointer, seen
+//! - Code (`src/`): `value` values; `early` an early return whose drops are written; `boxed` a value behind a pointer, seen
 //!   as itself; `text` a text as its bytes; `list` lists of small numbers; `limits` how deep and how long a value is; `parts`
 //!   fields and elements; `rel` relations; `read` and `convert` from JSON, `canonical` to JSON; `id` ids of intents;
 //!   `read_id`; `place` places and owners; `spare` room for an id, made before an act; `outcome` how an instance ends;
 //!   `number` reading numbers; `cut` a text at a byte; `write` the other texts; `laws`.
-//! - Further definitions (`specs/`): `Falls` each value in a list or a record is smaller than the list or the record;
+//! - Further definitions (`specs/`): `ValueFalls` each value in a list or a record is smaller than the list or the record;
 //!   `Injective` values that stand for one datum are one value; `Same` whether two values are equal, as a test; `Spare` room
 //!   for hops, made before an act; `Value` the value that a `Value` stands for.
 //! - Lemmas (`proofs/`): `Ages`, `Ints`, `Numbers`; `JsonText`, `Converting`, `Within`, `ReadAgain` JSON; `IdTexts`,
@@ -40,7 +40,7 @@
 //!   `Callees` ids of callees.
 #![tactic(auto)]
 
-mod apart;
+mod boxed;
 mod canonical;
 mod convert;
 mod cut;
@@ -61,7 +61,7 @@ mod text;
 mod value;
 mod write;
 
-pub use apart::Apart;
+pub use boxed::Boxed;
 pub use cut::cut_at;
 pub use id::{Hops, IntentId, older};
 pub use laws::{

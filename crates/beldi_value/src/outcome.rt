@@ -1,7 +1,7 @@
 // How an instance of a function ends.
 ghost use Rattle.std.specs.Prelude.{◌≡◌, IfOk};
 
-use crate::apart::Apart;
+use crate::boxed::Boxed;
 use crate::id::IntentId;
 use crate::place::Place;
 use crate::value::Value;
@@ -22,8 +22,8 @@ pub enum Code {
 /// Why a transaction was aborted: the place, and the older owner that stood in the way, if any.
 #[derive(Drop)]
 pub struct Cause {
-    pub place: Apart<Place>,
-    pub holder: Option<Apart<IntentId>>,
+    pub place: Boxed<Place>,
+    pub holder: Option<Boxed<IntentId>>,
 }
 
 impl Cause {
@@ -32,7 +32,7 @@ impl Cause {
         ensures { IfOk result (λ c. c ≡ self.now) }
     {
         Ok(Cause {
-            place: Apart::new(alloc, self.place.get().copy(alloc)?)?,
+            place: Boxed::new(alloc, self.place.get().copy(alloc)?)?,
             holder: copy_holder(alloc, &self.holder)?,
         })
     }
@@ -41,13 +41,13 @@ impl Cause {
 /// An equal holder.
 pub fn copy_holder(
     alloc: Global,
-    holder: &Option<Apart<IntentId>>,
-) -> Result<Option<Apart<IntentId>>, AllocError>
+    holder: &Option<Boxed<IntentId>>,
+) -> Result<Option<Boxed<IntentId>>, AllocError>
     ensures { IfOk result (λ h. h ≡ holder.now) }
 {
     match holder {
         None => Ok(None),
-        Some(holder) => Ok(Some(Apart::new(alloc, holder.get().copy(alloc)?)?)),
+        Some(holder) => Ok(Some(Boxed::new(alloc, holder.get().copy(alloc)?)?)),
     }
 }
 

@@ -2,7 +2,7 @@
 ghost use Rattle.std.specs.Prelude.{◌≡◌, [], ◌∷◌, ◌++◌, OnOk, OnErr, option_map, option_copied, slice_get};
 ghost use Rattle.beldi_value.specs.Injective.{value_of};
 ghost use Rattle.beldi_value.specs.Value.{datum_of, fields_view};
-ghost use Rattle.beldi_value.specs.Parts.{field_at, set_field, place_at as place_at_index, item_at, IsPlace};
+ghost use Rattle.beldi_value.specs.RecordParts.{field_at, set_field, place_at as place_at_index, item_at, IsPlace};
 
 use crate::text::Str;
 use crate::value::{Rec, Value, Values};

@@ -4,7 +4,7 @@ ghost use Rattle.serde_json.specs.View.{view};
 ghost use Rattle.serde_json.specs.Data.{depth};
 ghost use Rattle.beldi_value.specs.Limits.{is_within};
 ghost use Rattle.beldi_value.specs.Number.{int_at};
-ghost use Rattle.beldi_value.specs.Reading.{json_at, if_small, read_of, ReadsValue, Refuses};
+ghost use Rattle.beldi_value.specs.ValueReading.{json_at, if_small, read_of, ReadsValue, Refuses};
 ghost use Rattle.beldi_value.specs.Value.{datum_of};
 
 use crate::convert::{ConvertErr, depth_of, value_from};

@@ -47,7 +47,7 @@ impl Model for Values {
     ghost size = { datums_size };
 
     ghost use Rattle.std.proofs.Common.{arith};
-    ghost use Rattle.beldi_value.specs.Falls.{most_items};
+    ghost use Rattle.beldi_value.specs.ValueFalls.{most_items};
 
     ghost size_decreases = { λ a h. omega (arith, most_items a.items.items) };
 }
@@ -68,7 +68,7 @@ impl Model for Rec {
 
     ghost size = { fields_size };
 
-    ghost use Rattle.beldi_value.specs.Falls.{most_fields};
+    ghost use Rattle.beldi_value.specs.ValueFalls.{most_fields};
 
     ghost size_decreases = { λ a h. most_fields a.fields.items };
 }

@@ -2,7 +2,7 @@
 ghost use Rattle.std.specs.Prelude.{◌≡◌, ◌<◌, ◌^◌, ◌++◌, Some, OnOk};
 ghost use Rattle.std.specs.List.{AllByRecursion};
 ghost use Rattle.beldi_value.specs.IdAt.{id_at};
-ghost use Rattle.beldi_value.specs.Text.{hops_text, id_text, place_text, owner_text, code_text, outcome_text};
+ghost use Rattle.beldi_value.specs.ValueText.{hops_text, id_text, place_text, owner_text, code_text, outcome_text};
 
 use crate::id::IntentId;
 use crate::outcome::{Code, Outcome};

@@ -4,14 +4,14 @@ use Rattle.std.specs.FinMap as map
 use Rattle.beldi_value.specs.{Id.has_no_hops, declared.id.IntentId.IntentId, declared.outcome.Outcome.Outcome, declared.place.TxId.TxId}
 use Rattle.beldi_tree.specs.declared.deployment.Deployment.{Deployment}
 use Rattle.beldi_plain.specs.Plain.{Instance}
-use Rattle.beldi_order.proofs.Maps.{same_some}
+use Rattle.beldi_plain_laws.proofs.Maps.{same_some}
 use Rattle.beldi_row.specs.{Table.Rows, declared.row.Body.Body, declared.row.IntentRow.IntentRow, declared.row.Row.Row}
-use Rattle.beldi_step.specs.Host.{Core}
-use Rattle.beldi_known.specs.{Matches.has_ended, Rows.BodyMatches, Rows.CalleeBodyMatches, Rows.FinishMatches, Rows.IntentMatches, Rows.IsBodyOf, Rows.RootMatches, Rows.tx_in, Stands.body_of, Stands.key_in, Known.tx_end}
-use Rattle.beldi_known.proofs.{Cases.by_option, Participants.decided_over}
-use Rattle.beldi_laws.specs.{Inside.has_finish, Right.Right}
+use Rattle.beldi_step.specs.HostStep.{Core}
+use Rattle.beldi_histories.specs.{Matches.has_ended, RowMatching.BodyMatches, RowMatching.CalleeBodyMatches, RowMatching.FinishMatches, RowMatching.IntentMatches, RowMatching.IsBodyOf, RowMatching.RootMatches, RowMatching.tx_in, Stands.body_of, Stands.key_in, Histories.tx_end}
+use Rattle.beldi_histories.proofs.{Cases.by_option, Participants.decided_over}
+use Rattle.beldi_invariant.specs.{FoundInside.has_finish, Invariant.Invariant}
 use Rattle.beldi_upkeep.specs.Checked.{body_at}
-use Rattle.beldi_upkeep.proofs.FromRight.{finished_over, row_at}
+use Rattle.beldi_upkeep.proofs.FromInvariant.{finished_over, row_at}
 
 of_instance : (b : Body) (q : Instance) → IsBodyOf b (Some q) → b ≡ body_of q
 of_instance b q w = w.body ∙ ap body_of (same_some (sym w.made))
@@ -37,16 +37,16 @@ module _ (ended : TxId → Bool) where
   body_here false home (Some (Row.Intent r)) q there h = callee_body home r.body r.outcome q h.body
   body_here false home (Some r) q there h = absurd h
 
-module _ (d : Deployment) (c : Core) (m : Rows) (h : Right d c m) (i : IntentId) (q : Instance) (made : map.get h.known i ≡ Some q) where
+module _ (d : Deployment) (c : Core) (m : Rows) (h : Invariant d c m) (i : IntentId) (q : Instance) (made : map.get h.histories i ≡ Some q) where
   abbrev Fits : ℕ → Option Row → Type 0
-  Fits home r = IntentMatches (has_ended d h.known) (has_no_hops i.hops) home r (Some q)
+  Fits home r = IntentMatches (has_ended d h.histories) (has_no_hops i.hops) home r (Some q)
 
   fits : (home : ℕ) (r : Option Row) → map.get m (key_in home i) ≡ r → Fits home r
-  fits home r is = subst (IntentMatches (has_ended d h.known) (has_no_hops i.hops) home r) made (row_at d c m h home i r is)
+  fits home r is = subst (IntentMatches (has_ended d h.histories) (has_no_hops i.hops) home r) made (row_at d c m h home i r is)
 
   -- a row of it that is there has its body
   pub has_body : (home : ℕ) → is_some (map.get m (key_in home i)) ≡ true → body_at (map.get m (key_in home i)) ≡ Some (body_of q)
-  has_body home there = body_here (has_ended d h.known) (has_no_hops i.hops) home (map.get m (key_in home i)) q there (fits home (map.get m (key_in home i)) refl)
+  has_body home there = body_here (has_ended d h.histories) (has_no_hops i.hops) home (map.get m (key_in home i)) q there (fits home (map.get m (key_in home i)) refl)
 
   -- a root has its row
   root_there : (r : Option Row) → RootMatches true r (Some q) → is_some r ≡ true
@@ -54,17 +54,17 @@ module _ (d : Deployment) (c : Core) (m : Rows) (h : Right d c m) (i : IntentId)
   root_there (Some r) g = refl
 
   pub root_has_row : has_no_hops i.hops ≡ true → is_some (map.get m (key_in 0 i)) ≡ true
-  root_has_row root = root_there (map.get m (key_in 0 i)) (subst (λ b. IntentMatches (has_ended d h.known) b 0 (map.get m (key_in 0 i)) (Some q)) root (fits 0 (map.get m (key_in 0 i)) refl))
+  root_has_row root = root_there (map.get m (key_in 0 i)) (subst (λ b. IntentMatches (has_ended d h.histories) b 0 (map.get m (key_in 0 i)) (Some q)) root (fits 0 (map.get m (key_in 0 i)) refl))
 
   -- ---- the finish of who was called in a transaction
-  module _ (t : TxId) (in_it : q.within ≡ Some t) where
-    by_body : (home : ℕ) (b : Option Body) (f : Option ℕ) (o : Option Outcome) → b ≡ Some (body_of q) → FinishMatches (has_ended d h.known) (tx_in b) f o → is_some f ≡ true → has_ended d h.known t ≡ true
-    by_body home b f o is g over = subst (λ w. FinishMatches (has_ended d h.known) w f o) (ap tx_in is ∙ in_it) g over
+  module _ (t : TxId) (in_it : q.enclosing ≡ Some t) where
+    by_body : (home : ℕ) (b : Option Body) (f : Option ℕ) (o : Option Outcome) → b ≡ Some (body_of q) → FinishMatches (has_ended d h.histories) (tx_in b) f o → is_some f ≡ true → has_ended d h.histories t ≡ true
+    by_body home b f o is g over = subst (λ w. FinishMatches (has_ended d h.histories) w f o) (ap tx_in is ∙ in_it) g over
 
-    ended_over : has_ended d h.known t ≡ true → is_some q.outcome ≡ true
-    ended_over over = by_option (tx_end d h.known t) (λ none. let clash = sym (ap is_some none) ∙ over in cc) (λ e some. decided_over d h.known h.sane i q t e made in_it some)
+    ended_over : has_ended d h.histories t ≡ true → is_some q.outcome ≡ true
+    ended_over over = by_option (tx_end d h.histories t) (λ none. let clash = sym (ap is_some none) ∙ over in cc) (λ e some. decided_over d h.histories h.well_formed i q t e made in_it some)
 
-    by_row : (b : Bool) (home : ℕ) (r : IntentRow) → IntentMatches (has_ended d h.known) b home (Some (Row.Intent r)) (Some q) → is_some r.finish ≡ true → is_some q.outcome ≡ true
+    by_row : (b : Bool) (home : ℕ) (r : IntentRow) → IntentMatches (has_ended d h.histories) b home (Some (Row.Intent r)) (Some q) → is_some r.finish ≡ true → is_some q.outcome ≡ true
     by_row true home r g over = by_home (home == 0) g
       where
         by_home : (z : Bool) → RootMatches z (Some (Row.Intent r)) (Some q) → is_some q.outcome ≡ true
@@ -83,4 +83,4 @@ module _ (d : Deployment) (c : Core) (m : Rows) (h : Right d c m) (i : IntentId)
 
   -- who has its finish has its outcome
   pub over_here : (home : ℕ) → has_finish (map.get m (key_in home i)) ≡ true → is_some q.outcome ≡ true
-  over_here home over = by_option q.within (λ out. finished_over d c m h home i q made out over) (λ t in_it. inside_over t in_it home (map.get m (key_in home i)) refl over)
+  over_here home over = by_option q.enclosing (λ out. finished_over d c m h home i q made out over) (λ t in_it. inside_over t in_it home (map.get m (key_in home i)) refl over)

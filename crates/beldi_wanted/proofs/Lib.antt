@@ -1,8 +1,8 @@
 mod Bodies
+mod ExpectedNotes
 pub mod Finished
 pub mod Frees
 mod Growing
-pub mod Kept
 mod Makers
-mod Owed
 mod Spares
+pub mod WantedKept

@@ -5,27 +5,27 @@ use Rattle.beldi_value.specs.{Id.has_callees, Id.has_no_hops, declared.place.Cal
 use Rattle.beldi_tree.specs.declared.deployment.Deployment.{Deployment}
 use Rattle.beldi_lang.specs.declared.{effect.Answer.Answer, effect.Effect.Effect}
 use Rattle.beldi_plain.specs.{Item.Item, Operation.touched, Plain.Instance}
-use Rattle.beldi_order.specs.Txs.{effect_after, tx_after}
-use Rattle.beldi_order.proofs.Maps.{same_some}
+use Rattle.beldi_plain_laws.specs.Txs.{effect_after, tx_after}
+use Rattle.beldi_plain_laws.proofs.Maps.{same_some}
 use Rattle.beldi_row.specs.{Act.off, Key.RowKey, Key.at_row, Key.item_of as key_of, Key.rank_of, Key.row_of, Key.table_of, Log.note_at, Table.Rows, declared.act.Act.Act, declared.row.Cell.Cell}
-use Rattle.beldi_walk.specs.declared.query.Query.{Query}
+use Rattle.beldi_query.specs.declared.query.Query.{Query}
 use Rattle.beldi_chain.specs.{Chain.Chain, Chain.chain, Chain.content, Content.Content}
 use Rattle.beldi_links.specs.Links.{At, Linked, SeesAt}
 use Rattle.beldi_links.proofs.{Meets.none_noted, Meets.spare_is_made, Ways.content_is, Ways.one_cell}
 use Rattle.beldi_daal.specs.{Cell.cell_key, Cell.op_act, Cell.shadow_key, Cell.write_asks, Logged.at_of, declared.cell.CellOp.CellOp, declared.cell.FullRow.FullRow, declared.cell.WriteAt.WriteAt}
 use Rattle.beldi_lock.specs.{Lock.asks_at, declared.lock.LockAt.LockAt}
-use Rattle.beldi_txn.specs.{End.free_asks, End.free_place, End.shadow_asks, End.visit_asks, End.visited_by, Tx.aside_asks, Tx.asks_of, Tx.item_asks, Tx.item_of, Tx.op_of as aside_op, Visited.SeesRows, declared.end.EndAt.EndAt, declared.end.Visit.Visit, declared.tx.TxAt.TxAt}
+use Rattle.beldi_txn.specs.{End.free_asks, End.free_place, End.shadow_asks, End.visit_asks, End.visited_by, Tx.aside_asks, Tx.asks_of, Tx.item_asks, Tx.item_of, Tx.op_of as aside_op, Visited.SeesRows, declared.end.EndAt.EndAt, declared.end.EndState.EndState, declared.tx.TxAt.TxAt}
 use Rattle.beldi_call.specs.{Async.async_asks, Call.call_asks, declared.async_call.AsyncAt.AsyncAt, declared.call.CallAt.CallAt}
-use Rattle.beldi_step.specs.Host.{Core}
-use Rattle.beldi_step.specs.Run.{OnCell, asks_at as run_asks_at, back_to_asks, callee_body, cell_op, own_tx, place_of, put_asks, run_asks, stage_asks, tell_asks, tx_at as run_tx, tx_of}
+use Rattle.beldi_step.specs.HostStep.{Core}
+use Rattle.beldi_step.specs.Run.{OnCell, asks_at as run_asks_at, back_to_asks, callee_body, cell_op, own_tx, place_of, put_asks, run_asks, stage_asks, notify_asks, tx_at as run_tx, tx_of}
 use Rattle.beldi_step.specs.declared.run.{Begun.Begun, OpenTx.OpenTx, Run.Run, RunAt.TheVariants.Begins, RunAt.TheVariants.Looks, RunAt.TheVariants.Registers, RunTx.RunTx, RunTx.TheVariants.Own, Stage.Stage}
 use Rattle.beldi_step.specs.declared.run.RunAt as standing
-use Rattle.beldi_known.specs.{Beside.is_begin, Contents.content_of, Contents.head_key, Stands.body_of, Stands.held_answer, Stands.key_in}
-use Rattle.beldi_laws.specs.Inside.{InItem, SeesPut, end_walk}
-use Rattle.beldi_laws.specs.Right.{AtStage, Inside, Knows, KnowsAt, Right, RunAt}
-use Rattle.beldi_laws.proofs.{Passing.tx_is, Standing.held_here, Turns.at_steps, Turns.wanted_here}
+use Rattle.beldi_histories.specs.{Extends.is_begin, Contents.content_of, Contents.head_key, Stands.body_of, Stands.held_answer, Stands.key_in}
+use Rattle.beldi_invariant.specs.FoundInside.{InItem, SeesPut, end_walk}
+use Rattle.beldi_invariant.specs.Invariant.{AtStage, Inside, Knows, KnowsAt, Invariant, RunAt}
+use Rattle.beldi_invariant.proofs.{Passing.tx_is, Standing.held_here, StageTurns.at_steps, StageTurns.wanted_here}
 use Rattle.beldi_upkeep.specs.Checked.{body_at}
-use Rattle.beldi_wanted.specs.Wanted.{FreesAreOwned, IsHeld, IsLent, IsOwed, OwnsAt, OwnsAtStage, WasOwned, notes_of}
+use Rattle.beldi_wanted.specs.Wanted.{FreesAreOwned, IsHeld, IsLent, HasExpectedNote, OwnsAt, OwnsAtStage, WasOwned, notes_of}
 use Rattle.beldi_wanted.proofs.{Bodies.has_body, Bodies.root_has_row}
 
 -- ---- the first of a list
@@ -48,7 +48,7 @@ module _ (f : Chain) (l : Linked f) (none : f (l.last + 1) ≡ None) where
       let cell : told.cell ≡ l.tail = one_cell told.cell l.tail (sym told.there ∙ ap f here ∙ l.there) in
       record {
         lacks = none_noted f l p (λ k c less at. passed k c (subst (λ z. k < z) (sym here) less) at) (ap (λ (z : Cell). note_at z.log p) (sym cell) ∙ told.none);
-        owner = ap (λ (z : Content). z.owner) (content_is f l.way.0 l.last l.tail l.way.1 l.there l.ends l.few) ∙ sym made.1.owner;
+        owner = ap (λ (z : Content). z.owner) (content_is f l.path.0 l.last l.tail l.path.1 l.there l.ends l.few) ∙ sym made.1.owner;
       }
 
 -- ---- a query that makes the row of this number of an item
@@ -99,9 +99,9 @@ touch_begins : (e : Effect) (j : ℕ × List ℕ) → touched e ≡ Some j → i
 touch_begins e j is = grind arith
 
 -- ---- a live run
-module _ (d : Deployment) (c : Core) (m : Rows) (h : Right d c m) (x : Item) (l : Linked (chain m (head_key x))) (none : chain m (head_key x) (l.last + 1) ≡ None) (run : Run) where
+module _ (d : Deployment) (c : Core) (m : Rows) (h : Invariant d c m) (x : Item) (l : Linked (chain m (head_key x))) (none : chain m (head_key x) (l.last + 1) ≡ None) (run : Run) where
   abbrev pub IsWanted : Type 0
-  IsWanted = IsOwed d m x ⊎ IsLent m x
+  IsWanted = HasExpectedNote d m x ⊎ IsLent m x
 
   abbrev pub Wants : Query → Type 0
   Wants q = Makes x l.last c.now q → IsWanted
@@ -124,11 +124,11 @@ module _ (d : Deployment) (c : Core) (m : Rows) (h : Right d c m) (x : Item) (l 
       let (n, told, is, number, same) = walk_makes x l.last c.now func t k p w op at made in
       wants n told is same (at_last (chain m (head_key x)) l none p n told.value told.owner number (subst (λ (y : Item). SeesAt (chain m (head_key y)) p (At.Append n told.value told.owner)) same (sees n told is)))
 
-  module _ (g : Begun) (k : Knows d h.known run g) (finds : Inside m h.plain c.book k g.stage) where
+  module _ (g : Begun) (k : Knows d h.histories run g) (finds : Inside m h.plain c.book k g.stage) where
     abbrev place : Place
     place = place_of run.id g.machine.steps
 
-    -- ---- what its instance owes there, by the answers that the run was given
+    -- ---- what its instance is to leave there, by the answers that the run was given
     abbrev given : Instance
     given = record k.instance { answers = k.answers }
 
@@ -137,14 +137,14 @@ module _ (d : Deployment) (c : Core) (m : Rows) (h : Right d c m) (x : Item) (l 
         let front = front_get k.answers k.later n a at in
         let cut : take n k.instance.answers ≡ take n k.answers = ap (take n) (sym k.run_answers) ∙ front.1 in
         (λ i. held_answer m run.id k.instance.func n (tx_after d run.id k.instance (sym cut i)) (effect_after d k.instance (sym cut i)))
-        ∙ held_here d m h.known h.locked h.rows h.sane run.id k.instance k.made n a (ap (λ xs. slice_get xs n) (sym k.run_answers) ∙ front.0)
+        ∙ held_here d m h.histories h.lock_ahead h.rows h.well_formed run.id k.instance k.made n a (ap (λ xs. slice_get xs n) (sym k.run_answers) ∙ front.0)
 
     its_body : (b : Bool) → has_no_hops run.id.hops ≡ b → (home : ℕ) × (body_at (map.get m (key_in home run.id)) ≡ Some (body_of k.instance))
     its_body true root = (0, has_body d c m h run.id k.instance k.made 0 (root_has_row d c m h run.id k.instance k.made root))
     its_body false below = (run.func, has_body d c m h run.id k.instance k.made run.func (finds.row below))
 
-    owed : run.func ≡ x.func → is_begin g.machine.effect ≡ false → notes_of (run_tx run.id run.func g.tx) g.machine.effect ≡ Some (x.table, x.key) → note_at (content_of m x).notes place ≡ None → IsOwed d m x
-    owed func apart notes lacks =
+    expected : run.func ≡ x.func → is_begin g.machine.effect ≡ false → notes_of (run_tx run.id run.func g.tx) g.machine.effect ≡ Some (x.table, x.key) → note_at (content_of m x).notes place ≡ None → HasExpectedNote d m x
+    expected func apart notes lacks =
         let b = its_body (has_no_hops run.id.hops) refl in
         record {
           id = run.id;
@@ -163,21 +163,21 @@ module _ (d : Deployment) (c : Core) (m : Rows) (h : Right d c m) (x : Item) (l 
     write_wants at e (Some u) op sees is tx =
         let n = put_notes e u op in
         appended run.func u.table u.key place (ByIntent run.id) u.op at (λ n told to. subst (λ w. SeesAt (chain m (cell_key run.func u.table u.key)) place (at_of w)) to sees)
-        (λ r told to same last. inl (owed (ap (λ (y : Item). y.func) same) (ap is_begin is ∙ n.1) ((λ i. notes_of (run_tx run.id run.func (tx i)) (is i)) ∙ n.0 ∙ ap (λ (y : Item). Some (y.table, y.key)) same) last.lacks))
+        (λ r told to same last. inl (expected (ap (λ (y : Item). y.func) same) (ap is_begin is ∙ n.1) ((λ i. notes_of (run_tx run.id run.func (tx i)) (is i)) ∙ n.0 ∙ ap (λ (y : Item). Some (y.table, y.key)) same) last.lacks))
 
     -- ---- inside
     module _ (e : Effect) (o : RunTx) (is : g.machine.effect ≡ e) (tx : g.tx ≡ Some o) where
-      lock_wants : (j : ℕ × List ℕ) → touched e ≡ Some j → (at : LockAt) → InItem d m h.plain h.known run.id run.func o g.machine.steps e (TxAt.Lock at) (Some j) → Wants (asks_at run.func j.0 j.1 place (ByTx (tx_of run.id run.func o)) at)
+      lock_wants : (j : ℕ × List ℕ) → touched e ≡ Some j → (at : LockAt) → InItem d m h.plain h.histories run.id run.func o g.machine.steps e (TxAt.Lock at) (Some j) → Wants (asks_at run.func j.0 j.1 place (ByTx (tx_of run.id run.func o)) at)
       lock_wants j touch (LockAt.Lockset b) f = none_made _ refl
       lock_wants j touch (LockAt.Item at) f = appended run.func j.0 j.1 place (ByTx (tx_of run.id run.func o)) CellOp.Lock at
           (λ n told to. subst (λ w. SeesAt (chain m (cell_key run.func j.0 j.1)) place (at_of w)) to f.sees)
-          (λ r told to same last. inl (owed (ap (λ (y : Item). y.func) same) (ap is_begin is ∙ touch_begins e j touch) ((λ i. notes_of (run_tx run.id run.func (tx i)) (is i)) ∙ touch ∙ ap (λ (y : Item). Some (y.table, y.key)) same) last.lacks))
+          (λ r told to same last. inl (expected (ap (λ (y : Item). y.func) same) (ap is_begin is ∙ touch_begins e j touch) ((λ i. notes_of (run_tx run.id run.func (tx i)) (is i)) ∙ touch ∙ ap (λ (y : Item). Some (y.table, y.key)) same) last.lacks))
 
       aside_wants : (j : ℕ × List ℕ) (w : WriteAt) (op : Option CellOp) → Wants (aside_asks run.func place (tx_of run.id run.func o) (shadow_key run.func (tx_of run.id run.func o) j.0 j.1) w op)
       aside_wants j w None = none_looked _
       aside_wants j w (Some op) = λ made. absurd (aside_makes x l.last c.now run.func (tx_of run.id run.func o) j.0 j.1 place (ByTx (tx_of run.id run.func o)) op w made)
 
-      item_wants : (j : ℕ × List ℕ) → touched e ≡ Some j → (a : TxAt) → InItem d m h.plain h.known run.id run.func o g.machine.steps e a (Some j) → Wants (item_asks run.func place (tx_of run.id run.func o) e j.0 j.1 a)
+      item_wants : (j : ℕ × List ℕ) → touched e ≡ Some j → (a : TxAt) → InItem d m h.plain h.histories run.id run.func o g.machine.steps e a (Some j) → Wants (item_asks run.func place (tx_of run.id run.func o) e j.0 j.1 a)
       item_wants j touch TxAt.Log f = none_looked _
       item_wants j touch (TxAt.Lock at) f = lock_wants j touch at f
       item_wants j touch TxAt.Seek f = none_looked _
@@ -187,7 +187,7 @@ module _ (d : Deployment) (c : Core) (m : Rows) (h : Right d c m) (x : Item) (l 
       item_wants j touch (TxAt.Head v) f = none_made _ refl
       item_wants j touch (TxAt.Write w) f = aside_wants j w (aside_op e)
 
-      tx_wants : (a : TxAt) (q : Option (ℕ × List ℕ)) → touched e ≡ q → InItem d m h.plain h.known run.id run.func o g.machine.steps e a q → Wants (asks_of run.func place (tx_of run.id run.func o) e a q)
+      tx_wants : (a : TxAt) (q : Option (ℕ × List ℕ)) → touched e ≡ q → InItem d m h.plain h.histories run.id run.func o g.machine.steps e a q → Wants (asks_of run.func place (tx_of run.id run.func o) e a q)
       tx_wants a None touch f = none_looked _
       tx_wants a (Some j) touch f = item_wants j touch a f
 
@@ -196,21 +196,21 @@ module _ (d : Deployment) (c : Core) (m : Rows) (h : Right d c m) (x : Item) (l 
       abbrev y : TxId
       y = own_tx run.id run.func o
 
-      free_wants : (v : Visit) (i : Option (ℕ × List ℕ)) (w : WriteAt) → SeesRows (EndAt.Free w) (end_walk run.id run.func o g.machine.steps commit v) (visited_by y v.way).1 m i → WasOwned y (EndAt.Free w)
-          → Wants (free_asks y (visited_by y v.way) (free_place y g.machine.steps v.way) v.value w i)
+      free_wants : (v : EndState) (i : Option (ℕ × List ℕ)) (w : WriteAt) → SeesRows (EndAt.Free w) (end_walk run.id run.func o g.machine.steps commit v) (visited_by y v.path).1 m i → WasOwned y (EndAt.Free w)
+          → Wants (free_asks y (visited_by y v.path) (free_place y g.machine.steps v.path) v.value w i)
       free_wants v None w sees was = λ made. absurd made
-      free_wants v (Some i) w sees was = let p = visited_by y v.way in
-          appended p.1 i.0 i.1 (free_place y g.machine.steps v.way) (ByTx y) (CellOp.Free v.value) w
+      free_wants v (Some i) w sees was = let p = visited_by y v.path in
+          appended p.1 i.0 i.1 (free_place y g.machine.steps v.path) (ByTx y) (CellOp.Free v.value) w
           (λ n told to. subst (λ z. SeesRows (EndAt.Free z) (end_walk run.id run.func o g.machine.steps commit v) p.1 m (Some i)) to sees)
           (λ n told to same last. inr (record { tx = y; owner = last.owner ∙ subst (λ z. WasOwned y (EndAt.Free z)) to was }))
 
-      visit_wants : (v : Visit) (at : EndAt) → SeesRows at (end_walk run.id run.func o g.machine.steps commit v) (visited_by y v.way).1 m v.item → WasOwned y at → Wants (visit_asks y g.machine.steps commit v.way v.after v.item v.value at)
+      visit_wants : (v : EndState) (at : EndAt) → SeesRows at (end_walk run.id run.func o g.machine.steps commit v) (visited_by y v.path).1 m v.item → WasOwned y at → Wants (visit_asks y g.machine.steps commit v.path v.after v.item v.value at)
       visit_wants v EndAt.Decide sees was = none_made _ refl
       visit_wants v EndAt.Callees sees was = λ made. absurd made
       visit_wants v EndAt.Next sees was = λ made. absurd made
       visit_wants v (EndAt.Shadow r) sees was = shadow_wants v.item
         where
-          shadow_wants : (i : Option (ℕ × List ℕ)) → Wants (shadow_asks y (visited_by y v.way) r i)
+          shadow_wants : (i : Option (ℕ × List ℕ)) → Wants (shadow_asks y (visited_by y v.path) r i)
           shadow_wants None = λ made. absurd made
           shadow_wants (Some i) = none_looked _
       visit_wants v (EndAt.Free w) sees was = free_wants v v.item w sees was
@@ -222,7 +222,7 @@ module _ (d : Deployment) (c : Core) (m : Rows) (h : Right d c m) (x : Item) (l 
     back_wants None e = none_looked _
     back_wants (Some b) e = none_looked _
 
-    tell_wants : (b : Option Caller) → Wants (tell_asks run.id run.func b)
+    tell_wants : (b : Option Caller) → Wants (notify_asks run.id run.func b)
     tell_wants None = none_looked _
     tell_wants (Some b) = none_made _ refl
 
@@ -243,7 +243,7 @@ module _ (d : Deployment) (c : Core) (m : Rows) (h : Right d c m) (x : Item) (l 
     stage_wants (Stage.Call w) (Effect.Call f v) o is tx at was = call_wants f w
     stage_wants (Stage.Async w) (Effect.Async f v) None is tx at was = if_wants (has_callees run.id) _ _ (async_wants f v w) (none_looked _)
     stage_wants Stage.Back (Effect.Return u) o is tx at was = back_wants g.caller (Effect.Return u)
-    stage_wants Stage.Tell (Effect.Return u) None is tx at was = tell_wants g.caller
+    stage_wants Stage.Notify (Effect.Return u) None is tx at was = tell_wants g.caller
     stage_wants Stage.Close (Effect.Return u) o is tx at was = none_made _ refl
     stage_wants (Stage.Tx a) e (Some o) is tx at was = subst (λ q. Wants (asks_of run.func place (tx_of run.id run.func o) e a q)) (touched_is e) (tx_wants e o is tx a (touched e) refl at.1)
     stage_wants (Stage.Decide w) (Effect.End commit) (Some (Own o)) is tx at was = none_made _ refl
@@ -251,10 +251,10 @@ module _ (d : Deployment) (c : Core) (m : Rows) (h : Right d c m) (x : Item) (l 
     stage_wants s e o is tx at was = absurd at
 
   -- ---- whatever it stands at
-  at_wants : (at : standing.RunAt) → KnowsAt d m h.plain c.book h.known run at → OwnsAt run at → Wants (run_asks_at run at)
+  at_wants : (at : standing.RunAt) → KnowsAt d m h.plain c.book h.histories run at → OwnsAt run at → Wants (run_asks_at run at)
   at_wants Looks knows was = none_looked _
   at_wants (Registers b) knows was = none_made _ refl
   at_wants (Begins g) knows was = stage_wants g knows.0 knows.1 g.stage g.machine.effect g.tx refl refl knows.1.here was
 
   pub run_wants : (i : ℕ) → map.get c.runs i ≡ Some run → FreesAreOwned c → Wants (run_asks run)
-  run_wants i live frees = at_wants run.at (subst (RunAt d m h.plain c.book h.known) live (h.runs.runs i)) (frees i run live)
+  run_wants i live frees = at_wants run.at (subst (RunAt d m h.plain c.book h.histories) live (h.runs.runs i)) (frees i run live)

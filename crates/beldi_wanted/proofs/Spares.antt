@@ -4,7 +4,7 @@ use Rattle.std.proofs.Common.{◌≡◌, ◌⊎◌, ◌==◌, eqb-true, inl, inr
 use Rattle.beldi_row.specs.{declared.row.Cell.Cell, declared.row.Row.Row}
 use Rattle.beldi_chain.specs.{Chain.Chain, Chain.content}
 use Rattle.beldi_links.specs.Links.{FitsAt, Frozen, GrowsBy, IsLinked, IsSpare, LeadsTo, Linked, LinkedFrom, RowGrows, SetTo, behind, own}
-use Rattle.beldi_links.proofs.{Keeps.made, Meets.last_is_last, Ways.before_kept, Ways.content_is, Ways.few, Ways.kept, Ways.none_next}
+use Rattle.beldi_links.proofs.{LinkKeeps.made, Meets.last_is_last, Ways.before_kept, Ways.content_is, Ways.few, Ways.kept, Ways.none_next}
 use Rattle.beldi_wanted.specs.Wanted.{HasSpare}
 
 -- rows of which one is there begin with a first one
@@ -31,7 +31,7 @@ module _ (f : Chain) (l : Linked f) where
     where
       by_rest : (r ≡ l.last + 1) ⊎ (LeadsTo f 0 r × LeadsTo f r l.last) → (r ≡ l.last) ⊎ (r ≡ l.last + 1)
       by_rest (inl e) = inr e
-      by_rest (inr w) = inl (last_is_last f l.last l.tail l.way l.there l.ends r c (record { at = l.last; head = l.way; here = w.1 }) is none)
+      by_rest (inr w) = inl (last_is_last f l.last l.tail l.path l.there l.ends r c (record { at = l.last; head = l.path; here = w.1 }) is none)
 
   -- none is past that
   none_past : (r : ℕ) → r ≡ l.last + 2 → is_some (f r) ≡ true → ⊥
@@ -84,9 +84,9 @@ module _ (f g : Chain) (grows : (n : ℕ) → RowGrows (f n) (g n)) where
       let one : w.0 ≡ t = same_cell w.0 t (sym w.1 ∙ at) in
       let kept_it = subst (λ z. GrowsBy z l.tail w.0) l.ends w.2 full in
       let own_is : own t ≡ own l.tail = ap own (sym one) ∙ (λ i. record { value = kept_it.0 i; owner = kept_it.1 i; notes = kept_it.2 i }) in
-      content_is g l.way.0 l.last t (kept f g frozen 0 l.way.0 l.last l.way.1) at none l.few
-      ∙ (λ i. behind (before_kept f g frozen 0 l.way.0 l.last l.way.1 i) (own_is i))
-      ∙ sym (content_is f l.way.0 l.last l.tail l.way.1 l.there l.ends l.few)
+      content_is g l.path.0 l.last t (kept f g frozen 0 l.path.0 l.last l.path.1) at none l.few
+      ∙ (λ i. behind (before_kept f g frozen 0 l.path.0 l.last l.path.1 i) (own_is i))
+      ∙ sym (content_is f l.path.0 l.last l.tail l.path.1 l.there l.ends l.few)
     where
       same_cell : (a b : Cell) → Some (Row.Cell a) ≡ Some (Row.Cell b) → a ≡ b
       same_cell a b e = cc

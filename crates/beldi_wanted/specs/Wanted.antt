@@ -7,16 +7,16 @@ use Rattle.beldi_value.specs.declared.{id.IntentId.IntentId, place.Owner.TheVari
 use Rattle.beldi_tree.specs.declared.deployment.Deployment.{Deployment}
 use Rattle.beldi_lang.specs.declared.{effect.Answer.Answer, effect.Effect.Effect}
 use Rattle.beldi_plain.specs.{Item.Item, Operation.op_of, Operation.touched, Plain.Instance, Plain.effect_before, Plain.effect_of}
-use Rattle.beldi_order.specs.Txs.{tx_at, tx_now}
+use Rattle.beldi_plain_laws.specs.Txs.{tx_at, tx_now}
 use Rattle.beldi_row.specs.{Log.note_at, Table.Rows, declared.row.Cell.Cell, declared.row.IntentRow.IntentRow, declared.row.Row.Row}
 use Rattle.beldi_chain.specs.Chain.{Chain, chain}
 use Rattle.beldi_links.specs.Links.{Linked}
 use Rattle.beldi_daal.specs.declared.cell.WriteAt.{WriteAt}
 use Rattle.beldi_txn.specs.declared.end.EndAt.{EndAt}
-use Rattle.beldi_step.specs.{Host.Core, Host.EventOn, Host.first_core, Run.own_tx, Run.place_of, declared.event.Event.Event, declared.event.Seen.Seen, declared.run.Run.Run, declared.run.RunAt.TheVariants.Begins, declared.run.RunTx.RunTx, declared.run.RunTx.TheVariants.Own, declared.run.Stage.Stage}
+use Rattle.beldi_step.specs.{HostStep.Core, HostStep.EventOn, HostStep.first_core, Run.own_tx, Run.place_of, declared.event.Event.Event, declared.event.EventReply.EventReply, declared.run.Run.Run, declared.run.RunAt.TheVariants.Begins, declared.run.RunTx.RunTx, declared.run.RunTx.TheVariants.Own, declared.run.Stage.Stage}
 use Rattle.beldi_step.specs.declared.run.RunAt as standing
-use Rattle.beldi_known.specs.{Contents.content_of, Contents.head_key, Stands.body_of, Stands.held_answer, Stands.key_in}
-use Rattle.beldi_laws.specs.Right.{Right}
+use Rattle.beldi_histories.specs.{Contents.content_of, Contents.head_key, Stands.body_of, Stands.held_answer, Stands.key_in}
+use Rattle.beldi_invariant.specs.Invariant.{Invariant}
 use Rattle.beldi_upkeep.specs.{Callees.Seats, Checked.body_at}
 
 -- ---- a row that is there and has no next, though the row of the next number is there: in rows that are linked the last one
@@ -38,7 +38,7 @@ notes_of None e = option_map (λ o. (o.table, o.key)) (op_of e)
 notes_of (Some t) e = touched e
 
 -- an intent whose row is there went on by the answers that the rows hold to where it leaves a note of the item, and has not left it
-pub record IsOwed (d : Deployment) (m : Rows) (x : Item) : Type 0 where
+pub record HasExpectedNote (d : Deployment) (m : Rows) (x : Item) : Type 0 where
   pub id : IntentId
   pub instance : Instance
   pub home : ℕ
@@ -54,7 +54,7 @@ pub record IsLent (m : Rows) (x : Item) : Type 0 where
   pub owner : (content_of m x).owner ≡ Some (ByTx tx)
 
 abbrev pub SparesAreWanted : Deployment → Rows → Type 0
-SparesAreWanted d m = (x : Item) → HasSpare (chain m (head_key x)) → IsOwed d m x ⊎ IsLent m x
+SparesAreWanted d m = (x : Item) → HasSpare (chain m (head_key x)) → HasExpectedNote d m x ⊎ IsLent m x
 
 -- ---- what live runs were told for it
 -- a run that gives an item back, and makes a row, was told that its transaction owns the item
@@ -84,20 +84,20 @@ BeginsWanted = (d : Deployment) (now : ℕ) → Wanted d (first_core 0 now) map.
 
 -- .. and after every event, whatever it came to
 abbrev pub KeepsWanted : Type 0
-KeepsWanted = (d : Deployment) (room old new : ℕ) (e : Event) (c b : Core) (m n : Rows) (r : Result Seen AllocError) → Right d c m → Wanted d c m → EventOn d room old new e c m b n r → Wanted d b n
+KeepsWanted = (d : Deployment) (room old new : ℕ) (e : Event) (c b : Core) (m n : Rows) (r : Result EventReply AllocError) → Invariant d c m → Wanted d c m → EventOn d room old new e c m b n r → Wanted d b n
 
 -- ---- so where all that was bound is finished no item has such a row
 abbrev pub AllFinished : Rows → Type 0
 AllFinished m = (home : ℕ) (id : IntentId) (i : IntentRow) → map.get m (key_in home id) ≡ Some (Row.Intent i) → is_some i.body ≡ true → is_some i.finish ≡ true
 
 abbrev pub FinishedHaveNoSpare : Type 0
-FinishedHaveNoSpare = (d : Deployment) (c : Core) (m : Rows) → Right d c m → Seats m → Wanted d c m → AllFinished m → (x : Item) → HasSpare (chain m (head_key x)) → ⊥
+FinishedHaveNoSpare = (d : Deployment) (c : Core) (m : Rows) → Invariant d c m → Seats m → Wanted d c m → AllFinished m → (x : Item) → HasSpare (chain m (head_key x)) → ⊥
 
 -- .. and the last row of linked rows is the last that is there
 abbrev pub FinishedEndAtLast : Type 0
-FinishedEndAtLast = (d : Deployment) (c : Core) (m : Rows) → Right d c m → Seats m → Wanted d c m → AllFinished m → (x : Item) (l : Linked (chain m (head_key x))) → chain m (head_key x) (l.last + 1) ≡ None
+FinishedEndAtLast = (d : Deployment) (c : Core) (m : Rows) → Invariant d c m → Seats m → Wanted d c m → AllFinished m → (x : Item) (l : Linked (chain m (head_key x))) → chain m (head_key x) (l.last + 1) ≡ None
 
 -- .. so one row of an item has no next
 abbrev pub FinishedEndOnce : Type 0
-FinishedEndOnce = (d : Deployment) (c : Core) (m : Rows) → Right d c m → Seats m → Wanted d c m → AllFinished m → (x : Item) (a b : ℕ) (p q : Cell)
+FinishedEndOnce = (d : Deployment) (c : Core) (m : Rows) → Invariant d c m → Seats m → Wanted d c m → AllFinished m → (x : Item) (a b : ℕ) (p q : Cell)
     → chain m (head_key x) a ≡ Some (Row.Cell p) → p.next ≡ None → chain m (head_key x) b ≡ Some (Row.Cell q) → q.next ≡ None → a ≡ b

@@ -1,4 +1,4 @@
-use Rattle.beldi_bank.proofs.Runs.{transfers_keep}
+use Rattle.beldi_bank.proofs.BankRuns.{transfers_keep}
 use Rattle.beldi_bank.proofs.laws.transfers_keep_the_sum.Goals as goal
 
 pub returns : goal.returns

@@ -1,5 +1,5 @@
 use Rattle.beldi_book.proofs.Names.{Entry, IfOk, List, ap, ap₂, drop_all, put_all_in, subst, sym, woven, ◌∙◌, ◌≡◌}
-use Rattle.beldi_book.proofs.Places.{by_places}
+use Rattle.beldi_book.proofs.ReadPlaces.{by_places}
 use Rattle.beldi_book.proofs.order.in_order.Goals as goal
 
 pub returns : goal.returns

@@ -1,5 +1,5 @@
 use Rattle.beldi_book.proofs.Names.{ap, ap₂, into_iter_items, into_iter_len, length, option_to_list, sym, woven, ◌++◌, ◌∙◌}
-use Rattle.beldi_book.proofs.Places.{at_end, one_place, one_less}
+use Rattle.beldi_book.proofs.ReadPlaces.{at_end, one_place, one_less}
 use Rattle.beldi_book.proofs.order.woven.Goals as goal
 
 pub loop-reads-init : goal.loop-reads-init

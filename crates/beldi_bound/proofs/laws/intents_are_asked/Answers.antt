@@ -1,4 +1,4 @@
-use Rattle.beldi_bound.proofs.KnownAsked.{intents_asked}
+use Rattle.beldi_bound.proofs.HistoryAsked.{intents_asked}
 use Rattle.beldi_bound.proofs.laws.intents_are_asked.Goals as goal
 
 pub returns : goal.returns

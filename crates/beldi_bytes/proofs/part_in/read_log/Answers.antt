@@ -1,5 +1,5 @@
 use Rattle.std.proofs.Common.{[], ◌∷◌, length, length-append, ap, arith}
-use Rattle.beldi_bytes.proofs.Lists.{next_entry, all_entries, no_entry, entries_more, too_many, room_left, is_log}
+use Rattle.beldi_bytes.proofs.ByteLists.{next_entry, all_entries, no_entry, entries_more, too_many, room_left, is_log}
 use Rattle.beldi_bytes.proofs.part_in.read_log.Goals as goal
 
 pub returns-then-count-gt-MOST_ENTRIES : goal.returns-then-count-gt-MOST_ENTRIES

@@ -2,7 +2,7 @@ use Rattle.std.proofs.Common.{◌≡◌, length}
 use Rattle.beldi_value.specs.declared.place.Place.{Place}
 use Rattle.beldi_row.specs.declared.notes.Note.{Note}
 use Rattle.beldi_bytes.specs.RowBytes.{entries_bytes, AreEntries}
-use Rattle.beldi_bytes.proofs.Lists.{AreNoted}
+use Rattle.beldi_bytes.proofs.ByteLists.{AreNoted}
 use Rattle.beldi_bytes.proofs.Midway.{Midway}
 use Rattle.beldi_bytes.proofs.part_in.read_log.Given as goal
 

@@ -1,7 +1,7 @@
 use Rattle.beldi_bytes.specs.Coding.{IfThere, truth_bytes, option_bytes}
 use Rattle.beldi_bytes.specs.KeyBytes.{four}
 use Rattle.beldi_bytes.specs.RowBytes.{eight, value_bytes, owner_bytes, log_bytes, cell_bytes, IsOwner, IsLog}
-use Rattle.beldi_bytes.specs.Reading.{links_bytes, AreLinks, IsCellInTime}
+use Rattle.beldi_bytes.specs.BytesReading.{links_bytes, AreLinks, IsCellInTime}
 use Rattle.beldi_bytes.proofs.Exact.{option_exact}
 use Rattle.beldi_bytes.proofs.RowExact.{value_exact, owner_exact, log_exact}
 use Rattle.beldi_bytes.proofs.Refused.{refused, behind}

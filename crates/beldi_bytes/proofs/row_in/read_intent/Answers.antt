@@ -1,6 +1,6 @@
 use Rattle.beldi_bytes.specs.Coding.{IfThere, option_bytes}
 use Rattle.beldi_bytes.specs.RowBytes.{eight, outcome_bytes, body_bytes, intent_bytes, IsOutcome, IsMoment}
-use Rattle.beldi_bytes.specs.Reading.{IsIntentInTime}
+use Rattle.beldi_bytes.specs.BytesReading.{IsIntentInTime}
 use Rattle.beldi_bytes.proofs.Exact.{option_exact}
 use Rattle.beldi_bytes.proofs.RowExact.{eight_exact, outcome_exact, body_exact}
 use Rattle.beldi_bytes.proofs.Refused.{refused, behind}

@@ -1,7 +1,7 @@
 use Rattle.beldi_bytes.specs.Coding.{Any, IfThere, truth_bytes, option_bytes}
 use Rattle.beldi_bytes.specs.KeyBytes.{four}
 use Rattle.beldi_bytes.specs.RowBytes.{eight, IsMoment}
-use Rattle.beldi_bytes.specs.Reading.{links_bytes, AreLinks}
+use Rattle.beldi_bytes.specs.BytesReading.{links_bytes, AreLinks}
 use Rattle.beldi_bytes.proofs.Exact.{four_exact, truth_exact, option_exact}
 use Rattle.beldi_bytes.proofs.Refused.{refused, behind}
 use Rattle.beldi_bytes.proofs.row_in.read_links.Goals as goal

@@ -4,8 +4,8 @@ use Rattle.beldi_value.specs.Formed.{IsFormed}
 use Rattle.beldi_value.specs.Value.{datum_of}
 use Rattle.beldi_bytes.specs.Coding.{one, Any, truth_bytes}
 use Rattle.beldi_bytes.specs.RowBytes.{int_bytes, str_bytes, datum_bytes, IsInt}
-use Rattle.beldi_bytes.specs.Reading.{counted_items, AreItems, counted_fields, AreFields, field_bytes, IsNext}
-use Rattle.beldi_bytes.proofs.Lists.{next_item, all_items, no_item, items_more, next_field, all_fields, no_field, fields_more, datum_long, field_long, set_end}
+use Rattle.beldi_bytes.specs.BytesReading.{counted_items, AreItems, counted_fields, AreFields, field_bytes, IsNext}
+use Rattle.beldi_bytes.proofs.ByteLists.{next_item, all_items, no_item, items_more, next_field, all_fields, no_field, fields_more, datum_long, field_long, set_end}
 use Rattle.beldi_bytes.proofs.RowExact.{str_exact}
 use Rattle.beldi_bytes.proofs.Refused.{refused, behind}
 use Rattle.beldi_bytes.proofs.Values.{datum_tag, other_tag, bool_in, int_in, text_in, list_in, record_in, list_read, record_read}

@@ -1,7 +1,7 @@
 use Rattle.std.proofs.Common.{◌≡◌, ◌≤◌, ℕ, List, length}
 use Rattle.beldi_value.specs.Datum.{Datum}
-use Rattle.beldi_bytes.specs.Reading.{list_bytes, record_bytes, AreItems, AreFields}
-use Rattle.beldi_bytes.proofs.Lists.{IsList, IsFields}
+use Rattle.beldi_bytes.specs.BytesReading.{list_bytes, record_bytes, AreItems, AreFields}
+use Rattle.beldi_bytes.proofs.ByteLists.{IsList, IsFields}
 use Rattle.beldi_bytes.proofs.Midway.{Midway}
 use Rattle.beldi_bytes.proofs.value_in.+read.Given as goal
 

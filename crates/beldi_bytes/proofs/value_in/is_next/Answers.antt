@@ -1,4 +1,4 @@
-use Rattle.beldi_bytes.proofs.Lists.{is_next_lemma}
+use Rattle.beldi_bytes.proofs.ByteLists.{is_next_lemma}
 use Rattle.beldi_bytes.proofs.value_in.is_next.Goals as goal
 
 pub returns-in-Some : goal.returns-in-Some

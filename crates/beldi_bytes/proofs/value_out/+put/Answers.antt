@@ -5,8 +5,8 @@ use Rattle.beldi_value.specs.Injective.{list_back, pairs_back}
 use Rattle.beldi_value.specs.Value.{items_view, fields_view}
 use Rattle.beldi_bytes.specs.KeyBytes.{four}
 use Rattle.beldi_bytes.specs.RowBytes.{value_bytes}
-use Rattle.beldi_bytes.specs.Reading.{list_bytes, record_bytes, AreItems}
-use Rattle.beldi_bytes.proofs.Lists.{at_index, none_after, item_small, field_small}
+use Rattle.beldi_bytes.specs.BytesReading.{list_bytes, record_bytes, AreItems}
+use Rattle.beldi_bytes.proofs.ByteLists.{at_index, none_after, item_small, field_small}
 use Rattle.beldi_bytes.proofs.value_out.+put.Goals as goal
 
 pub put_list-put_value-requires : goal.put_list-put_value-requires

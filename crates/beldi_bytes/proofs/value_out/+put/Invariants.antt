@@ -2,7 +2,7 @@ use Rattle.std.proofs.Common.{◌≡◌, ℕ, List, ◌++◌, drop}
 use Rattle.beldi_value.specs.Datum.{datum_size, datums_size, fields_size, fields_of}
 use Rattle.beldi_value.specs.Formed.{HaveForm}
 use Rattle.beldi_value.specs.Value.{datum_of, items_view, fields_view}
-use Rattle.beldi_bytes.specs.Reading.{list_bytes, record_bytes, AreItems}
+use Rattle.beldi_bytes.specs.BytesReading.{list_bytes, record_bytes, AreItems}
 use Rattle.beldi_bytes.proofs.value_out.+put.Given as goal
 
 abbrev pub decreases-put_value : goal.decreases-put_value

@@ -1,5 +1,5 @@
 use Rattle.std.proofs.Common.{◌-◌, drop, length-drop, arith}
-use Rattle.beldi_bytes.proofs.Lists.{short_record}
+use Rattle.beldi_bytes.proofs.ByteLists.{short_record}
 use Rattle.beldi_bytes.proofs.value_out.rises.Goals as goal
 
 pub returns : goal.returns

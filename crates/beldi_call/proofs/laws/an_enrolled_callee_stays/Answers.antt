@@ -1,4 +1,4 @@
-use Rattle.beldi_call.proofs.Turns.{enrolled_callees_stay}
+use Rattle.beldi_call.proofs.CallTurns.{enrolled_callees_stay}
 use Rattle.beldi_call.proofs.laws.an_enrolled_callee_stays.Goals as goal
 
 pub returns : goal.returns

@@ -1,4 +1,4 @@
-use Rattle.beldi_check.{proofs.Names.IsGrid, proofs.Names.edge, proofs.Names.length, proofs.Names.◌+◌, specs.Calls.through}
+use Rattle.beldi_check.{proofs.Names.IsGrid, proofs.Names.edge, proofs.Names.length, proofs.Names.◌+◌, specs.CallGraph.through}
 use Rattle.beldi_check.proofs.calls.reach.Given as goal
 
 abbrev pub invariant-loop-by : goal.invariant-loop-by

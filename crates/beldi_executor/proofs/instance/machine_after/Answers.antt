@@ -1,5 +1,5 @@
 use Rattle.beldi_executor.proofs.Names.{Answer, IsAt, List, [], ap, arith, at_next, begun, common_steps, resumed, rules, subst, sym, take, take_all, true, wants_answer, ◌++◌, ◌+◌, ◌∙◌, ◌∷◌, ◌≡◌}
-use Rattle.beldi_executor.proofs.Kept.{stands_early, stands_there}
+use Rattle.beldi_executor.proofs.ExecutorKept.{stands_early, stands_there}
 use Rattle.beldi_executor.proofs.instance.machine_after.Goals as goal
 
 pub loop-answer-init : goal.loop-answer-init

@@ -1,4 +1,4 @@
-use Rattle.beldi_gateway.proofs.Names.{LinkWrote, Ok, Told, arith, drop, length, length-drop, subst, take, take-append-drop, take_all, ◌+◌, ◌-◌, ◌≡◌, ◌≤◌}
+use Rattle.beldi_gateway.proofs.Names.{LinkWrote, Ok, Observed, arith, drop, length, length-drop, subst, take, take-append-drop, take_all, ◌+◌, ◌-◌, ◌≡◌, ◌≤◌}
 use Rattle.beldi_gateway.proofs.Moves.{wrote_nothing, wrote_more}
 use Rattle.beldi_gateway.proofs.send.send.Goals as goal
 
@@ -16,7 +16,7 @@ returns-in-Ok-eq0-clause-sends g c =
     let bytes = c.args.bytes.now in
     let m = c.in-Ok-eq0.field-0 in
     let rest : take (length bytes - at) (drop at bytes) ≡ drop at bytes = take_all (length bytes - at) (drop at bytes) (omega (arith, length-drop at bytes)) in
-    let told = subst (λ p. Told (n.seen c.loop-at.link) (n.seen c.write.new.self) (LinkWrote p (Ok m))) rest c.in-Ok-eq0.ensures.bytes in
+    let told = subst (λ p. Observed (n.seen c.loop-at.link) (n.seen c.write.new.self) (LinkWrote p (Ok m))) rest c.in-Ok-eq0.ensures.bytes in
     (take (at + m) bytes, (drop (at + m) bytes, take-append-drop (at + m) bytes), wrote_more at m bytes (n.seen c.args.link.now) (n.seen c.loop-at.link) (n.seen c.write.new.self) c.loop-at.invariant.moves told)
 
 pub loop-at-preserved : goal.loop-at-preserved
@@ -26,7 +26,7 @@ loop-at-preserved g c =
     let bytes = c.args.bytes.now in
     let m = c.in-Ok.count in
     let rest : take (length bytes - at) (drop at bytes) ≡ drop at bytes = take_all (length bytes - at) (drop at bytes) (omega (arith, length-drop at bytes)) in
-    let told = subst (λ p. Told (n.seen c.loop-at.link) (n.seen c.write.new.self) (LinkWrote p (Ok m))) rest c.in-Ok.ensures.bytes in
+    let told = subst (λ p. Observed (n.seen c.loop-at.link) (n.seen c.write.new.self) (LinkWrote p (Ok m))) rest c.in-Ok.ensures.bytes in
     let bound = subst (λ p. m ≤ length p) rest c.in-Ok.ensures.bound in
     record {
       within = omega (arith, c.loop-at.invariant.within, bound, length-drop at bytes);

@@ -1,5 +1,5 @@
 use Rattle.beldi_gateway.proofs.Names.{Replied, [], rules, subst, ◌≡◌}
-use Rattle.beldi_gateway.proofs.Whole.{front, lost, whole}
+use Rattle.beldi_gateway.proofs.WholeResponse.{front, lost, whole}
 use Rattle.beldi_gateway.proofs.serve.exchange.Goals as goal
 
 pub returns-in-Err-answer-clause-exchanges : goal.returns-in-Err-answer-clause-exchanges

@@ -1,6 +1,6 @@
 use Rattle.std.proofs.Common.{rules, ◌∙◌, sym}
-use Rattle.beldi_script.proofs.Lines.{rest_shorter}
-use Rattle.beldi_generator.proofs.Words.{no_space, past_space}
+use Rattle.beldi_script.proofs.ScriptLines.{rest_shorter}
+use Rattle.beldi_generator.proofs.WorkWords.{no_space, past_space}
 use Rattle.beldi_generator.proofs.summary.last_word.Goals as goal
 
 pub loop-rest-smaller : goal.loop-rest-smaller

@@ -1,5 +1,5 @@
 use Rattle.std.proofs.Common.{◌≡◌, length}
-use Rattle.beldi_script.specs.Cut.{lines_of}
+use Rattle.beldi_script.specs.LineCut.{lines_of}
 use Rattle.beldi_generator.specs.Summary.{settling_in}
 use Rattle.beldi_generator.proofs.summary.settling_in.Given as goal
 

@@ -1,5 +1,5 @@
 use Rattle.std.proofs.Common.{◌≡◌, length, pos}
-use Rattle.beldi_script.specs.Cut.{lines_of}
+use Rattle.beldi_script.specs.LineCut.{lines_of}
 use Rattle.beldi_generator.specs.Summary.{summed}
 use Rattle.beldi_generator.proofs.summary.sum.Given as goal
 

@@ -1,4 +1,4 @@
-use Rattle.beldi_host.proofs.{LastRows.Follows, Steps.Surveying}
+use Rattle.beldi_host.proofs.{LastRows.Follows, HostSteps.Surveying}
 use Rattle.beldi_chain.specs.Chain.{chain}
 use Rattle.beldi_host.proofs.last_row.last_row.Given as goal
 

@@ -1,4 +1,4 @@
-use Rattle.beldi_host.proofs.{Names.rules, Right.one_answer_at}
+use Rattle.beldi_host.proofs.{Names.rules, HostInvariant.one_answer_at}
 use Rattle.beldi_host.proofs.laws.whole_has_one_answer.Goals as goal
 
 pub returns : goal.returns

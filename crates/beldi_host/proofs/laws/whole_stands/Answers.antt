@@ -1,4 +1,4 @@
-use Rattle.beldi_host.proofs.{Names.rules, Right.stands_at}
+use Rattle.beldi_host.proofs.{Names.rules, HostInvariant.stands_at}
 use Rattle.beldi_host.proofs.laws.whole_stands.Goals as goal
 
 pub returns : goal.returns

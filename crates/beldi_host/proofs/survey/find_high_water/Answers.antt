@@ -1,5 +1,5 @@
 use Rattle.beldi_host.proofs.Names.{IsHighWater, None, Option, RowKey, Some, arith, next_mark_of, next_row, rules, subst, sym, ℕ, ◌^◌, ◌≡◌, ◌≤◌}
-use Rattle.beldi_host.proofs.Steps.{Marks, marks_first, marks_next, marks_last, begins, goes, ends}
+use Rattle.beldi_host.proofs.HostSteps.{Marks, marks_first, marks_next, marks_last, begins, goes, ends}
 use Rattle.beldi_host.specs.declared.high_water.HighWater.{HighWater}
 use Rattle.beldi_host.proofs.survey.find_high_water.Goals as goal
 

@@ -1,5 +1,5 @@
 use Rattle.beldi_host.proofs.Names.{◌≤◌, ◌^◌}
-use Rattle.beldi_host.proofs.Steps.{Marks, Surveying}
+use Rattle.beldi_host.proofs.HostSteps.{Marks, Surveying}
 use Rattle.beldi_host.proofs.survey.find_high_water.Given as goal
 
 abbrev pub invariant-loop : goal.invariant-loop

@@ -1,5 +1,5 @@
 use Rattle.beldi_host.proofs.Names.{Err, TableErr, ap}
-use Rattle.beldi_host.proofs.Newest.{newest_came, newest_lost}
+use Rattle.beldi_host.proofs.HostNewest.{newest_came, newest_lost}
 use Rattle.beldi_host.proofs.survey.find_newest.Goals as goal
 
 pub returns-in-Ok : goal.returns-in-Ok

@@ -1,5 +1,5 @@
 use Rattle.beldi_host.proofs.Names.{List, None, Option, RowKey, Rows, Some, least_key, next_line_of, next_row, subst, sym, tables_text, ℕ, ◌≡◌}
-use Rattle.beldi_host.proofs.Steps.{Listed, listed_first, listed_next, listed_last, begins, goes, ends}
+use Rattle.beldi_host.proofs.HostSteps.{Listed, listed_first, listed_next, listed_last, begins, goes, ends}
 use Rattle.beldi_host.proofs.Skips.{listed_past}
 use Rattle.beldi_host.proofs.survey.list_tables.Goals as goal
 

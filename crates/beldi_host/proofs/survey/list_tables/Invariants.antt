@@ -1,4 +1,4 @@
-use Rattle.beldi_host.proofs.Steps.{Listed, Surveying}
+use Rattle.beldi_host.proofs.HostSteps.{Listed, Surveying}
 use Rattle.beldi_host.proofs.survey.list_tables.Given as goal
 
 abbrev pub invariant-loop : goal.invariant-loop

@@ -1,6 +1,6 @@
 use Rattle.beldi_host.proofs.Names.{Bool, Ok, Value, false, is_committed, owned_value, true, value_in, ◌≡◌}
 use Rattle.beldi_chain.specs.Chain.{chain, tail}
-use Rattle.beldi_host.proofs.{Steps.reads_so, Steps.reads_then, Lines.owned_committed, Lines.owned_open}
+use Rattle.beldi_host.proofs.{HostSteps.reads_so, HostSteps.reads_then, HostLines.owned_committed, HostLines.owned_open}
 use Rattle.beldi_host.proofs.Names.map
 use Rattle.beldi_host.proofs.survey.owned_value.Goals as goal
 

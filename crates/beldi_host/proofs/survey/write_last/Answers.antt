@@ -1,6 +1,6 @@
 use Rattle.beldi_host.proofs.Names.{None, Ok, Option, Some, ap, append-nil, sym, ◌++◌, ◌∙◌, ◌≡◌}
 use Rattle.beldi_chain.specs.Chain.{chain}
-use Rattle.beldi_host.proofs.{Lines.held_after, Lines.last_whole, Steps.reads_so, Steps.reads_then}
+use Rattle.beldi_host.proofs.{HostLines.held_after, HostLines.last_whole, HostSteps.reads_so, HostSteps.reads_then}
 use Rattle.beldi_host.specs.LastRow.{IsLast}
 use Rattle.beldi_host.specs.Survey.{last_line, owned_after}
 use Rattle.beldi_host.specs.declared.last_row.Held.{Held}

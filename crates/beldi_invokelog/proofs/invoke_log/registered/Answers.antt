@@ -1,6 +1,6 @@
 use Rattle.std.proofs.Common.{refl, ap, sym, Ok, Err}
 use Rattle.beldi_row.specs.{declared.table.TableErr.TheVariants.OutOfMemory, declared.act.Act.TheVariants.NoteRegistered, Key.RowKey}
-use Rattle.beldi_walk.{specs.declared.query.Query.TheVariants.Act, proofs.Queries.acted, proofs.Queries.unasked}
+use Rattle.beldi_query.{specs.declared.query.Query.TheVariants.Act, proofs.Queries.acted, proofs.Queries.unasked}
 use Rattle.beldi_invokelog.specs.InvokeLog.{registered_asks}
 use Rattle.beldi_invokelog.proofs.invoke_log.registered.Goals as goal
 

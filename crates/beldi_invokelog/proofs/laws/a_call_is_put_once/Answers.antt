@@ -1,4 +1,4 @@
-use Rattle.beldi_invokelog.proofs.Calls.{put_once}
+use Rattle.beldi_invokelog.proofs.InvokedCalls.{put_once}
 use Rattle.beldi_invokelog.proofs.laws.a_call_is_put_once.Goals as goal
 
 pub returns : goal.returns

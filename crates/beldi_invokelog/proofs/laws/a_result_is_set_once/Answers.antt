@@ -1,4 +1,4 @@
-use Rattle.beldi_invokelog.proofs.Calls.{results_set}
+use Rattle.beldi_invokelog.proofs.InvokedCalls.{results_set}
 use Rattle.beldi_invokelog.proofs.laws.a_result_is_set_once.Goals as goal
 
 pub returns : goal.returns

@@ -1,4 +1,4 @@
-use Rattle.beldi_kept.proofs.Keeps.{answers_are_of_kept}
+use Rattle.beldi_kept.proofs.KeptKeeps.{answers_are_of_kept}
 use Rattle.beldi_kept.proofs.laws.an_answer_is_of_kept_rows.Goals as goal
 
 pub returns : goal.returns

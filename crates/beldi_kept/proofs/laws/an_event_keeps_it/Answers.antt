@@ -1,4 +1,4 @@
-use Rattle.beldi_kept.proofs.Keeps.{events_keep}
+use Rattle.beldi_kept.proofs.KeptKeeps.{events_keep}
 use Rattle.beldi_kept.proofs.laws.an_event_keeps_it.Goals as goal
 
 pub returns : goal.returns

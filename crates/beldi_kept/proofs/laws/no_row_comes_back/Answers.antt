@@ -1,4 +1,4 @@
-use Rattle.beldi_kept.proofs.Keeps.{no_row_comes_back}
+use Rattle.beldi_kept.proofs.KeptKeeps.{no_row_comes_back}
 use Rattle.beldi_kept.proofs.laws.no_row_comes_back.Goals as goal
 
 pub returns : goal.returns

@@ -1,4 +1,4 @@
-use Rattle.beldi_kept.proofs.Newest.{newest_is}
+use Rattle.beldi_kept.proofs.KeptNewest.{newest_is}
 use Rattle.beldi_kept.proofs.laws.the_newest_ticket_is_read.Goals as goal
 
 pub returns : goal.returns

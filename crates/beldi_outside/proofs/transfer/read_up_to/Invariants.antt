@@ -1,5 +1,5 @@
 use Rattle.std.proofs.Common.{◌≡◌, ◌≤◌, ◌++◌, ◌-◌, length}
-use Rattle.beldi_outside.specs.Outside.{Told}
+use Rattle.beldi_outside.specs.Outside.{Observed}
 use Rattle.beldi_outside.proofs.transfer.read_up_to.Given as goal
 
 -- what was read and what is left are all the bytes
@@ -9,7 +9,7 @@ invariant-loop-piece g l =
     record {
       later : s.faults l.fn.source ≤ s.faults l.source;
       most : length l.bytes.items ≤ l.limit;
-      bytes : Told (s.left l.fn.source) (s.left l.source) (λ b c. b ≡ l.bytes.items ++ c);
+      bytes : Observed (s.left l.fn.source) (s.left l.source) (λ b c. b ≡ l.bytes.items ++ c);
     }
 
 abbrev pub decreases-loop-piece : goal.decreases-loop-piece

@@ -1,5 +1,5 @@
 use Rattle.std.proofs.Common.{◌≤◌, length}
-use Rattle.beldi_outside.specs.Outside.{Told, WroteFront}
+use Rattle.beldi_outside.specs.Outside.{Observed, WrotePrefix}
 use Rattle.beldi_outside.proofs.transfer.write_all.Given as goal
 
 abbrev pub invariant-loop-rest : goal.invariant-loop-rest
@@ -7,7 +7,7 @@ invariant-loop-rest g l =
     let k = g.K.Sink in
     record {
       later : k.faults l.fn.sink ≤ k.faults l.sink;
-      bytes : Told (k.held l.fn.sink) (k.held l.sink) (WroteFront l.bytes l.rest);
+      bytes : Observed (k.held l.fn.sink) (k.held l.sink) (WrotePrefix l.bytes l.rest);
     }
 
 abbrev pub decreases-loop-rest : goal.decreases-loop-rest

@@ -1,4 +1,4 @@
-use Rattle.beldi_command.specs.Command.{command_of}
+use Rattle.beldi_command.specs.CommandLine.{command_of}
 use Rattle.beldi_program.proofs.Names.{Rose, Serving}
 use Rattle.beldi_program.proofs.Ends.{short_words}
 use Rattle.beldi_program.proofs.program.carry_out.Goals as goal

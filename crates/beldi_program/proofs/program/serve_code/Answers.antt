@@ -1,5 +1,5 @@
 use Rattle.beldi_program.proofs.Names.{Opened, Rose, subst}
-use Rattle.beldi_host.specs.Host.{core_of}
+use Rattle.beldi_host.specs.HostCore.{core_of}
 use Rattle.beldi_program.proofs.Services.{service_ends}
 use Rattle.beldi_program.proofs.program.serve_code.Goals as goal
 

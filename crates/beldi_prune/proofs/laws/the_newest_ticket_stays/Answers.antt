@@ -1,4 +1,4 @@
-use Rattle.beldi_prune.proofs.Newest.{newest_stays}
+use Rattle.beldi_prune.proofs.PruneNewest.{newest_stays}
 use Rattle.beldi_prune.proofs.laws.the_newest_ticket_stays.Goals as goal
 
 pub returns : goal.returns

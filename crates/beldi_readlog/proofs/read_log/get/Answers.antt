@@ -1,6 +1,6 @@
 use Rattle.std.proofs.Common.{refl, Err}
 use Rattle.beldi_row.specs.declared.table.TableErr.TheVariants.{OutOfMemory}
-use Rattle.beldi_walk.proofs.Queries.{unasked}
+use Rattle.beldi_query.proofs.Queries.{unasked}
 use Rattle.beldi_readlog.specs.ReadLog.{given_asks}
 use Rattle.beldi_readlog.proofs.read_log.get.Goals as goal
 

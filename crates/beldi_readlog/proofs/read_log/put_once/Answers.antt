@@ -1,6 +1,6 @@
 use Rattle.std.proofs.Common.{rules, refl, Err}
 use Rattle.beldi_row.specs.declared.table.TableErr.TheVariants.{OutOfMemory}
-use Rattle.beldi_walk.proofs.Queries.{unasked}
+use Rattle.beldi_query.proofs.Queries.{unasked}
 use Rattle.beldi_readlog.specs.ReadLog.{keep_asks}
 use Rattle.beldi_readlog.proofs.read_log.put_once.Goals as goal
 

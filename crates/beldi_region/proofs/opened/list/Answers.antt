@@ -1,6 +1,6 @@
 use Rattle.std.proofs.Common.{◌≡◌, false, ap, sym, subst, ◌∙◌}
 use Rattle.beldi_row.specs.Table.{is_open}
-use Rattle.beldi_region.specs.{Order.IsListed, Ids.ids_of, Ids.place_of}
+use Rattle.beldi_region.specs.{SlotOrder.IsListed, Ids.ids_of, Ids.place_of}
 use Rattle.beldi_region.proofs.{Held.nowhere, Listed.room_for, Listed.listed_more, Listed.listed_less, Listed.listed_there}
 use Rattle.beldi_region.proofs.opened.list.Goals as goal
 

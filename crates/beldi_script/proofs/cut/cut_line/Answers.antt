@@ -1,5 +1,5 @@
 use Rattle.std.proofs.Common.{rules, ap, ◌∙◌, ◌∷◌}
-use Rattle.beldi_script.{specs.Cut.lines_of, proofs.Lines.cut_some, proofs.Lines.cut_none, proofs.Lines.rest_shorter}
+use Rattle.beldi_script.{specs.LineCut.lines_of, proofs.ScriptLines.cut_some, proofs.ScriptLines.cut_none, proofs.ScriptLines.rest_shorter}
 use Rattle.beldi_script.proofs.cut.cut_line.Goals as goal
 
 pub returns-in-Some-clause-lines : goal.returns-in-Some-clause-lines

@@ -1,5 +1,5 @@
 use Rattle.std.proofs.Common.{rules, arith}
-use Rattle.beldi_script.proofs.Lines.{returned, not_returned}
+use Rattle.beldi_script.proofs.ScriptLines.{returned, not_returned}
 use Rattle.beldi_script.proofs.cut.without_return.Goals as goal
 
 pub returns-in-13 : goal.returns-in-13

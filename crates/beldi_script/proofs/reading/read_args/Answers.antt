@@ -1,6 +1,6 @@
 use Rattle.std.proofs.Common.{Ok, ap, ◌∙◌}
 use Rattle.beldi_value.specs.Injective.{value_back}
-use Rattle.beldi_script.specs.Line.{value_or}
+use Rattle.beldi_script.specs.ScriptLine.{value_or}
 use Rattle.beldi_script.proofs.reading.read_args.Goals as goal
 
 pub returns-in-Ok : goal.returns-in-Ok

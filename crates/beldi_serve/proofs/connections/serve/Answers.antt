@@ -1,6 +1,6 @@
 use Rattle.std.proofs.Common.{List, [], append-nil, append_assoc, ap, arith, subst, sym, ℕ, ◌++◌, ◌+◌, ◌∙◌, ◌≡◌}
-use Rattle.beldi_outside.proofs.Told.{told_same, told_then}
-use Rattle.beldi_serve.specs.Service.{Passes, sight}
+use Rattle.beldi_outside.proofs.Observed.{told_same, told_then}
+use Rattle.beldi_serve.specs.ServedConnections.{Passes, sight}
 use Rattle.beldi_serve.proofs.Serving.{SoFar, broken_off, none_yet, one_more, untold}
 use Rattle.beldi_serve.proofs.connections.serve.Goals as goal
 

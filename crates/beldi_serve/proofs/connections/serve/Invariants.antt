@@ -1,6 +1,6 @@
 use Rattle.std.proofs.Common.{List, ℕ, ◌≤◌}
 use Rattle.beldi_session.specs.Session.{Writes}
-use Rattle.beldi_serve.specs.Service.{Passes, sight}
+use Rattle.beldi_serve.specs.ServedConnections.{Passes, sight}
 use Rattle.beldi_serve.proofs.Serving.{SoFar}
 use Rattle.beldi_serve.proofs.connections.serve.Given as goal
 

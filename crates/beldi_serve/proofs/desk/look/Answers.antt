@@ -1,6 +1,6 @@
 use Rattle.std.proofs.Common.{Err, Ok, [], subst, sym, ◌∷◌}
 use Rattle.beldi_session.specs.Script.{TellReply}
-use Rattle.beldi_gateway.specs.declared.{desk.CallSaid.CallSaid, response.Response.TheVariants.Call as Called}
+use Rattle.beldi_gateway.specs.declared.{desk.CallReply.CallReply, response.Response.TheVariants.Call as Called}
 use Rattle.beldi_serve.specs.Desk.{AnswersTo, Comes}
 use Rattle.beldi_serve.proofs.Coming.{Looked, look_failed, look_short, look_told, reply_comes}
 use Rattle.beldi_host.specs.declared.survey.OpenErr.{OpenErr}
@@ -11,7 +11,7 @@ returns-in-Ok g c =
     let e = c.in-Ok.ensures in
     let a = c.args.host.now in
     let b = c.reply.new.self in
-    subst (λ (x : CallSaid). Comes (AnswersTo (TellReply c.args.ticket ∷ []) (Called x)) a b) (sym c.reply_said.ensures)
+    subst (λ (x : CallReply). Comes (AnswersTo (TellReply c.args.ticket ∷ []) (Called x)) a b) (sym c.reply_said.ensures)
     (look_told a b c.args.ticket c.in-Ok.seen (reply_comes a b c.args.ticket (Ok c.in-Ok.seen) e.code e.core e.reads (λ w is. cc)))
 
 pub returns-in-Err-Failed : goal.returns-in-Err-Failed

@@ -1,6 +1,6 @@
 use Rattle.std.proofs.Common.{IfOk}
 use Rattle.beldi_session.proofs.Names.{Does, IsReport, LineRefused, Numbered, OnOk, Refuse, [], actions_of, and_then, ap, arith, by_done, core_of, false, is_ok, refl, report_text, said_at, sight, state_at, subst, sym, true, ◌++◌, ◌∙◌, ◌∷◌, ◌≡◌}
-use Rattle.beldi_session.proofs.{Calls.does_then, Calls.does_before, Calls.does_done, Calls.does_none, Calls.done_whole, Calls.flushed, Responses.reported, Responses.tells_same}
+use Rattle.beldi_session.proofs.{SessionCalls.does_then, SessionCalls.does_before, SessionCalls.does_done, SessionCalls.does_none, SessionCalls.done_whole, SessionCalls.flushed, Responses.reported, Responses.tells_same}
 use Rattle.beldi_session.proofs.session.do_line.Goals as goal
 
 pub returns-in-Ok-say-clause-does : goal.returns-in-Ok-say-clause-does

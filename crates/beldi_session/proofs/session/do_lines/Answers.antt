@@ -1,5 +1,5 @@
 use Rattle.beldi_session.proofs.Names.{Deployment, Numbered, [], actions_in, and_then, ap, eqb-true, false, is_ok, is_whole, length, lines_of, next, nil_from_length, numbered, refl, said_at, sight, sym, ◌++◌, ◌∙◌, ◌∷◌, ◌≡◌}
-use Rattle.beldi_session.proofs.{Calls.does_nothing, Calls.does_then, Calls.does_before, Calls.does_so, Calls.lines_then, Calls.all_whole, Lines.after_line, Lines.goes_on, Lines.is_refused, Lines.stops, Lines.whole_on, Lines.not_whole}
+use Rattle.beldi_session.proofs.{SessionCalls.does_nothing, SessionCalls.does_then, SessionCalls.does_before, SessionCalls.does_so, SessionCalls.lines_then, SessionCalls.all_whole, SessionLines.after_line, SessionLines.goes_on, SessionLines.is_refused, SessionLines.stops, SessionLines.whole_on, SessionLines.not_whole}
 use Rattle.beldi_session.proofs.session.do_lines.Goals as goal
 
 pub loop-rest-init : goal.loop-rest-init

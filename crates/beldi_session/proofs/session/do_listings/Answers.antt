@@ -1,5 +1,5 @@
 use Rattle.beldi_session.proofs.Names.{Does, ListBook, ListTables, Ok, [], core_of, refl, sight, subst, sym, true, ◌∷◌}
-use Rattle.beldi_session.proofs.Calls.{does_then, does_before, does_done, flushed}
+use Rattle.beldi_session.proofs.SessionCalls.{does_then, does_before, does_done, flushed}
 use Rattle.beldi_session.proofs.session.do_listings.Goals as goal
 
 pub returns-in-Ok-flush_if_long-clause-does : goal.returns-in-Ok-flush_if_long-clause-does

@@ -1,5 +1,5 @@
 use Rattle.beldi_session.proofs.Names.{[], arith, refl, sight, times, turn_of, ◌++◌, ◌+◌, ◌-◌, ◌∷◌}
-use Rattle.beldi_session.proofs.{Calls.does_nothing, Calls.does_then, Calls.does_before, Calls.times_more, Calls.times_left}
+use Rattle.beldi_session.proofs.{SessionCalls.does_nothing, SessionCalls.does_then, SessionCalls.does_before, SessionCalls.times_more, SessionCalls.times_left}
 use Rattle.beldi_session.proofs.session.give_turns.Goals as goal
 
 pub loop-turn-init : goal.loop-turn-init

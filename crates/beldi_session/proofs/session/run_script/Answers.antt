@@ -1,6 +1,6 @@
 use Rattle.std.proofs.Common.{IfOk}
 use Rattle.beldi_session.proofs.Names.{Does, actions_in, append-nil, core_of, is_whole, lines_of, numbered, sight, subst, sym, ◌≡◌}
-use Rattle.beldi_session.proofs.Calls.{does_then, does_done, done_whole, flushed}
+use Rattle.beldi_session.proofs.SessionCalls.{does_then, does_done, done_whole, flushed}
 use Rattle.beldi_session.proofs.session.run_script.Goals as goal
 
 pub returns-in-Ok-clause-does : goal.returns-in-Ok-clause-does

@@ -1,4 +1,4 @@
-use Rattle.beldi_session.proofs.{Names.actions_of, Names.ap, Names.sight, Calls.does_no_action}
+use Rattle.beldi_session.proofs.{Names.actions_of, Names.ap, Names.sight, SessionCalls.does_no_action}
 use Rattle.beldi_session.proofs.session.say.Goals as goal
 
 pub returns-in-Blank : goal.returns-in-Blank

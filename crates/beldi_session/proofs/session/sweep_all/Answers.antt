@@ -1,4 +1,4 @@
-use Rattle.beldi_session.proofs.Calls.{does_so, does_stop}
+use Rattle.beldi_session.proofs.SessionCalls.{does_so, does_stop}
 use Rattle.beldi_session.proofs.session.sweep_all.Goals as goal
 
 pub returns-in-Ok : goal.returns-in-Ok

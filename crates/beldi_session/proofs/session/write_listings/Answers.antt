@@ -1,5 +1,5 @@
 use Rattle.beldi_session.proofs.Names.{ListBook, ListTables, [], append-nil, core_of, ◌∷◌}
-use Rattle.beldi_session.proofs.Calls.{does_then, flushed}
+use Rattle.beldi_session.proofs.SessionCalls.{does_then, flushed}
 use Rattle.beldi_session.proofs.session.write_listings.Goals as goal
 
 pub returns-in-Ok-clause-does : goal.returns-in-Ok-clause-does

@@ -1,8 +1,8 @@
 use Rattle.beldi_row.specs.Key.{least_key}
 use Rattle.beldi_step.specs.Next.{at_key}
 use Rattle.beldi_schedule.specs.Settles.{MaySkip}
-use Rattle.beldi_session.proofs.Names.{Goes, Settle, [], ap, core_of, refl, sight, subst, sym, ◌∙◌, ◌∷◌}
-use Rattle.beldi_session.proofs.{Calls.does_on, Led.after_reset, Led.if_collected, SettleEvents.begun_collects, SettleEvents.collects_so, SettleEvents.went_back}
+use Rattle.beldi_session.proofs.Names.{Working, Settle, [], ap, core_of, refl, sight, subst, sym, ◌∙◌, ◌∷◌}
+use Rattle.beldi_session.proofs.{SessionCalls.does_on, Led.after_reset, Led.if_collected, SettleEvents.begun_collects, SettleEvents.collects_so, SettleEvents.went_back}
 use Rattle.beldi_session.proofs.settling.advance.Goals as goal
 
 pub returns-in-Reset-clause-does : goal.returns-in-Reset-clause-does
@@ -12,7 +12,7 @@ returns-in-Reset-clause-does g c = λ held faults.
     let e = c.ic_reset.ensures in
     let begins = c.begun.ensures in
     let b = c.begun.result in
-    does_on {gs = Settle c.args.budget (Goes b) ∷ []}
+    does_on {gs = Settle c.args.budget (Working b) ∷ []}
     (went_back c.args.budget (sight c.args.host.now out held faults) (sight c.ic_reset.new.self out held faults) refl refl e.code (ap t.state e.table) refl c.args.at b c.in-Reset.at (sym c.next_of.ensures.next ∙ c.in-Reset.is) begins e.core)
     (c.collect-in-Reset.ensures.does b out held faults (begun_collects (core_of c.ic_reset.new.self) b c.in-Reset.at begins))
 

@@ -1,5 +1,5 @@
-use Rattle.beldi_session.proofs.Names.{DoesTo, Goes, None, Over, Settle, Standing, [], ap, core_of, first_at, go_on, sight, subst, sym, ◌∙◌, ◌∷◌}
-use Rattle.beldi_session.proofs.{Calls.does_nothing, Calls.does_on, Calls.does_so, Calls.does_stop, Went.fine}
+use Rattle.beldi_session.proofs.Names.{DoesTo, Working, None, Over, Settle, Standing, [], ap, core_of, first_at, go_on, sight, subst, sym, ◌∙◌, ◌∷◌}
+use Rattle.beldi_session.proofs.{SessionCalls.does_nothing, SessionCalls.does_on, SessionCalls.does_so, SessionCalls.does_stop, Went.fine}
 use Rattle.beldi_session.specs.Settling.{Led}
 use Rattle.beldi_joined.specs.Joined.{behind}
 use Rattle.beldi_session.proofs.Led.{if_sound, led_nowhere, led_on, promised, promised_after}
@@ -18,18 +18,18 @@ loop-standing-init g c = record {
 
 pub loop-standing-preserved : goal.loop-standing-preserved
 loop-standing-preserved g c = record {
-  did = λ held faults. does_so tt (does_on {gs = Settle c.args.budget (Goes c.in-Goes.at) ∷ []} (rw c.in-Goes.is at c.loop-standing.invariant.did held faults) (c.in-Ok.ensures.does held faults));
+  did = λ held faults. does_so tt (does_on {gs = Settle c.args.budget (Working c.in-Working.at) ∷ []} (rw c.in-Working.is at c.loop-standing.invariant.did held faults) (c.in-Ok.ensures.does held faults));
   turns = c.in-Ok.ensures.turns;
   led =
       let t = g.T.Table in
       let did = c.loop-standing.invariant.did None 0 in
       let here = c.loop-standing.host in
-      led_on c.args.host.now.code c.args.budget (go_on c.args.budget first_at) (core_of c.args.host.now) (t.state c.args.host.now.table) c.in-Goes.at c.in-Ok.next (core_of here) (core_of c.advance.new.host) (t.state here.table) (t.state c.advance.new.host.table)
-      here.code did.code did.room (rw c.in-Goes.is at c.loop-standing.invariant.led) c.in-Ok.ensures.led;
+      led_on c.args.host.now.code c.args.budget (go_on c.args.budget first_at) (core_of c.args.host.now) (t.state c.args.host.now.table) c.in-Working.at c.in-Ok.next (core_of here) (core_of c.advance.new.host) (t.state here.table) (t.state c.advance.new.host.table)
+      here.code did.code did.room (rw c.in-Working.is at c.loop-standing.invariant.led) c.in-Ok.ensures.led;
 }
 
 pub returns-in-Err-clause-does : goal.returns-in-Err-clause-does
-returns-in-Err-clause-does g c = λ held faults. does_stop (does_on {gs = Settle c.args.budget (Goes c.in-Goes.at) ∷ []} (rw c.in-Goes.is at c.loop-standing.invariant.did held faults) (c.in-Err.ensures.does held faults))
+returns-in-Err-clause-does g c = λ held faults. does_stop (does_on {gs = Settle c.args.budget (Working c.in-Working.at) ∷ []} (rw c.in-Working.is at c.loop-standing.invariant.did held faults) (c.in-Err.ensures.does held faults))
 
 pub returns-in-Ok-tell_settled-clause-does : goal.returns-in-Ok-tell_settled-clause-does
 returns-in-Ok-tell_settled-clause-does g c = λ held faults. does_so c.in-Over.settled (does_on {gs = Settle c.args.budget (Over c.in-Over.settled) ∷ []} (rw c.in-Over.is at c.loop-standing.invariant.did held faults) (c.in-Ok-tell_settled.ensures held faults))

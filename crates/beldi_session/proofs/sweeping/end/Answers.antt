@@ -1,4 +1,4 @@
-use Rattle.beldi_session.proofs.Calls.{does_so, does_stop}
+use Rattle.beldi_session.proofs.SessionCalls.{does_so, does_stop}
 use Rattle.beldi_session.proofs.sweeping.end.Goals as goal
 
 pub returns-in-Ok-clause-does : goal.returns-in-Ok-clause-does

@@ -1,8 +1,8 @@
 use Rattle.beldi_session.proofs.Names.{None, [], core_of, sight, subst, ◌∷◌, ◌≡◌}
 use Rattle.std.proofs.Common.{◌+◌, arith}
-use Rattle.beldi_session.specs.{Sweeps.Goes, Sweeps.KeepsSweepPromises, declared.sweeping.Swept.TheVariants.All, declared.sweeping.Swept.TheVariants.Unswept}
+use Rattle.beldi_session.specs.{Sweeps.GivesTurns, Sweeps.KeepsSweepPromises, declared.sweeping.Swept.TheVariants.All, declared.sweeping.Swept.TheVariants.Unswept}
 use Rattle.beldi_session.specs.Script.{Sweep}
-use Rattle.beldi_session.proofs.{Calls.does_nothing, Calls.does_on, Calls.does_so, Calls.does_stop, Sweeps.goes_on, Sweeps.is_over, SweepTurns.goes_further, SweepTurns.goes_nowhere, SweepTurns.goes_over, SweepTurns.if_so, SweepTurns.sweep_promised}
+use Rattle.beldi_session.proofs.{SessionCalls.does_nothing, SessionCalls.does_on, SessionCalls.does_so, SessionCalls.does_stop, Sweeps.goes_on, Sweeps.is_over, SweepTurns.goes_further, SweepTurns.goes_nowhere, SweepTurns.goes_over, SweepTurns.if_so, SweepTurns.sweep_promised}
 use Rattle.beldi_session.proofs.sweeping.sweep.Goals as goal
 
 pub loop-turns-init : goal.loop-turns-init
@@ -64,4 +64,4 @@ returns-clause-promises g c = λ right.
     let same : l.turns ≡ b = omega (arith, most, over) in
     if_so c.end-2.result (Unswept b) (KeepsSweepPromises old.code c.args.number (core_of old) (core_of l.host) (t.state old.table) (t.state l.host.table)) c.end-2.ensures.so
     (sweep_promised old.code c.args.number (core_of old) (t.state old.table) c.sweeps_are_as_promised.ensures c.keeps_rules.ensures.eight right (core_of l.host) (t.state l.host.table) (Unswept b)
-    (subst (λ n. Goes old.code c.args.number n (core_of old) (core_of l.host) (t.state old.table) (t.state l.host.table)) same l.invariant.goes))
+    (subst (λ n. GivesTurns old.code c.args.number n (core_of old) (core_of l.host) (t.state old.table) (t.state l.host.table)) same l.invariant.goes))

@@ -1,4 +1,4 @@
-use Rattle.beldi_step.proofs.Late.{expires}
+use Rattle.beldi_step.proofs.PastDeadline.{expires}
 use Rattle.beldi_step.proofs.laws.a_run_expires_past_its_deadline.Goals as goal
 
 pub returns : goal.returns

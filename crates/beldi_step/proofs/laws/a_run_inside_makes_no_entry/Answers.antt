@@ -1,4 +1,4 @@
-use Rattle.beldi_step.proofs.Inside.{makes_no_entry}
+use Rattle.beldi_step.proofs.CalledInside.{makes_no_entry}
 use Rattle.beldi_step.proofs.laws.a_run_inside_makes_no_entry.Goals as goal
 
 pub returns : goal.returns

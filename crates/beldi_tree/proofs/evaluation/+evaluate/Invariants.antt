@@ -1,4 +1,4 @@
-use Rattle.beldi_tree.proofs.Names.{[], drop, ended, fields_value, items_of, items_value, items_view, members_of, members_size, members_view, seen_value, term_of, term_size, term_value, terms_size, ◌*◌, ◌+◌, ◌≡◌}
+use Rattle.beldi_tree.proofs.Names.{[], drop, ended, fields_value, items_of, items_value, items_view, members_of, members_size, members_view, cow_value, term_of, term_size, term_value, terms_size, ◌*◌, ◌+◌, ◌≡◌}
 use Rattle.beldi_tree.proofs.Evaluated.{onto, step_size}
 use Rattle.beldi_tree.proofs.evaluation.+evaluate.Given as goal
 
@@ -6,8 +6,8 @@ use Rattle.beldi_tree.proofs.evaluation.+evaluate.Given as goal
 abbrev pub decreases-walk : goal.decreases-walk
 decreases-walk l = 4 * term_size l.chain.now
 
-abbrev pub decreases-seen : goal.decreases-seen
-decreases-seen l = 4 * term_size (term_of l.expr.now) + 1
+abbrev pub decreases-evaluated : goal.decreases-evaluated
+decreases-evaluated l = 4 * term_size (term_of l.expr.now) + 1
 
 abbrev pub decreases-evaluate : goal.decreases-evaluate
 decreases-evaluate l = 4 * term_size (term_of l.expr.now) + 2
@@ -67,4 +67,4 @@ invariant-record-loop-member l = fields_value l.variables l.fields (members_of (
 
 -- what the steps that are left make of the value so far is the value of the chain
 abbrev pub invariant-walk-loop-step : goal.invariant-walk-loop-step
-invariant-walk-loop-step l = ended l.variables (seen_value l.value) (drop l.step-index l.step-items) ≡ term_value l.variables l.chain
+invariant-walk-loop-step l = ended l.variables (cow_value l.value) (drop l.step-index l.step-items) ≡ term_value l.variables l.chain

@@ -1,7 +1,7 @@
 use Rattle.std.proofs.Common.{None, refl, ap, subst, ◌≡◌, ◌∙◌}
 use Rattle.beldi_step.specs.Run.{followed, goes_to}
 use Rattle.beldi_step.specs.declared.run.{Begun.Begun, RunAt.TheVariants.Begins}
-use Rattle.beldi_turn.proofs.Turns.{same_begun}
+use Rattle.beldi_turn.proofs.RunTurns.{same_begun}
 use Rattle.beldi_turn.proofs.turn.enter.Goals as goal
 
 pub returns-in-Ok-clause-begun : goal.returns-in-Ok-clause-begun

@@ -1,6 +1,6 @@
 use Rattle.std.proofs.Common.{rules, ◌≡◌}
 use Rattle.beldi_step.specs.Run.{at_state, takes}
-use Rattle.beldi_turn.proofs.Turns.{answered}
+use Rattle.beldi_turn.proofs.RunTurns.{answered}
 use Rattle.beldi_turn.proofs.turn.go_on.Goals as goal
 
 pub returns-clause-goes : goal.returns-clause-goes

@@ -1,4 +1,4 @@
-use Rattle.beldi_wanted.proofs.Kept.{keeps_wanted}
+use Rattle.beldi_wanted.proofs.WantedKept.{keeps_wanted}
 use Rattle.beldi_wanted.proofs.laws.an_event_keeps_spares_wanted.Goals as goal
 
 pub returns : goal.returns

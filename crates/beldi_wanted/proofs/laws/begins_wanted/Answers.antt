@@ -1,4 +1,4 @@
-use Rattle.beldi_wanted.proofs.Kept.{begins_wanted}
+use Rattle.beldi_wanted.proofs.WantedKept.{begins_wanted}
 use Rattle.beldi_wanted.proofs.laws.begins_wanted.Goals as goal
 
 pub returns : goal.returns

@@ -2,8 +2,8 @@ use Rattle.std.proofs.Common.{subst, refl}
 use Rattle.sqlite.specs.Held.{state}
 use Rattle.sqlite.specs.Steps.{over_memory}
 use Rattle.sqlite.proofs.Callers.{memory_is_clean}
-use Rattle.beldi_blobs.specs.Entries.{entries_in}
-use Rattle.beldi_blobs.specs.Calls.{Puts}
+use Rattle.beldi_blobs.specs.BlobEntries.{entries_in}
+use Rattle.beldi_blobs.specs.BlobCalls.{Puts}
 use Rattle.beldi_blobs.proofs.Answered.{put_table, put_entries}
 use Rattle.beldi_blobs.proofs.memory.MemoryBlobsBlobs.put.Goals as goal
 

@@ -2,4 +2,4 @@ use Rattle.beldi_core.proofs.{Names.core_in, Plans.plain_turn}
 use Rattle.beldi_core.proofs.host_core.HostCore.tell.Goals as goal
 
 pub returns-in-Some : goal.returns-in-Some
-returns-in-Some c = plain_turn (core_in c.args.self.now) c.args.run c.args.copies c.args.says c.in-Some.over c.in-Some.ensures
+returns-in-Some c = plain_turn (core_in c.args.self.now) c.args.run c.args.copies c.args.output c.in-Some.over c.in-Some.ensures

@@ -1,5 +1,5 @@
 use Rattle.beldi_executor.proofs.Names.{None, ap, get_made, id_exact, id_total, option_copied_mut, rules, set_made, sym, ◌∙◌, ◌≡◌}
-use Rattle.beldi_executor.proofs.{Kept.acted_at, Made.one_short}
+use Rattle.beldi_executor.proofs.{ExecutorKept.acted_at, Made.one_short}
 use Rattle.beldi_executor.proofs.Names.map
 use Rattle.beldi_executor.proofs.instances.Instances.make.Goals as goal
 

@@ -1,4 +1,4 @@
-use Rattle.beldi_executor.proofs.{Names.Executor, Names.IsReady, Names.subst, Names.sym, Kept.back_stand}
+use Rattle.beldi_executor.proofs.{Names.Executor, Names.IsReady, Names.subst, Names.sym, ExecutorKept.back_stand}
 use Rattle.beldi_executor.proofs.plain.Plain.keep.Goals as goal
 
 pub invariant_of-self : goal.invariant_of-self

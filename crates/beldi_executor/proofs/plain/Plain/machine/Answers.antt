@@ -8,7 +8,7 @@ returns-clause-stands c =
     let q = r.instance in
     let e = c.wants.result.now in
     let same = ap (λ (x : Executor). x.state) (c.self.view_is ∙ c.open.ensures.same) in
-    let number : IsNumber c.steps.result q e = λ w. c.steps.ensures.number c.args.self.now.code q.func q.args (is_some q.within) q.answers (r.stands.1 (sym (ap wants_answer c.wants.ensures.effect) ∙ w)) in
+    let number : IsNumber c.steps.result q e = λ w. c.steps.ensures.number c.args.self.now.code q.func q.args (is_some q.enclosing) q.answers (r.stands.1 (sym (ap wants_answer c.wants.ensures.effect) ∙ w)) in
     record {
       ready = r;
       free =

@@ -1,4 +1,4 @@
-use Rattle.beldi_executor.proofs.{Names.rules, Kept.none_stand}
+use Rattle.beldi_executor.proofs.{Names.rules, ExecutorKept.none_stand}
 use Rattle.beldi_executor.proofs.plain.Plain.new.Goals as goal
 
 pub invariant_of-result : goal.invariant_of-result

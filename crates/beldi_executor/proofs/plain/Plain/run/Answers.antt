@@ -1,5 +1,5 @@
 use Rattle.beldi_executor.proofs.Names.{Err, OutOfMemory, PlainErr, Ran, Result, linear, rules, subst, sym, ◌≡◌}
-use Rattle.beldi_executor.proofs.Runs.{none_done}
+use Rattle.beldi_executor.proofs.ExecutorRuns.{none_done}
 use Rattle.beldi_executor.proofs.plain.Plain.run.Goals as goal
 
 pub returns-in_err-order-clause-ran : goal.returns-in_err-order-clause-ran

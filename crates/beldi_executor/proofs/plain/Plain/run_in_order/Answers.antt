@@ -1,5 +1,5 @@
 use Rattle.beldi_executor.proofs.Names.{Deployment, Did, Err, Ok, arith, rules, subst, ◌∙◌}
-use Rattle.beldi_executor.proofs.Runs.{goes_on, stops, within}
+use Rattle.beldi_executor.proofs.ExecutorRuns.{goes_on, stops, within}
 use Rattle.beldi_executor.proofs.plain.Plain.run_in_order.Goals as goal
 
 pub returns-in-Err-clause-ran : goal.returns-in-Err-clause-ran

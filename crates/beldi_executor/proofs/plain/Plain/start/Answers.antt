@@ -1,4 +1,4 @@
-use Rattle.beldi_executor.proofs.{Names.rules, Kept.started}
+use Rattle.beldi_executor.proofs.{Names.rules, ExecutorKept.started}
 use Rattle.beldi_executor.proofs.plain.Plain.start.Goals as goal
 
 pub invariant_of-self-2 : goal.invariant_of-self-2

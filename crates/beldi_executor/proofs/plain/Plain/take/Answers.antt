@@ -1,4 +1,4 @@
-use Rattle.beldi_executor.proofs.{Names.Executor, Names.IfSome, Names.IsReady, Names.subst, Kept.rest_stand, Kept.taken_so}
+use Rattle.beldi_executor.proofs.{Names.Executor, Names.IfSome, Names.IsReady, Names.subst, ExecutorKept.rest_stand, ExecutorKept.taken_so}
 use Rattle.beldi_executor.proofs.plain.Plain.take.Goals as goal
 
 pub invariant_of-self : goal.invariant_of-self

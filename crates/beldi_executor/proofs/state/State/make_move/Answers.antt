@@ -3,12 +3,12 @@ use Rattle.beldi_executor.proofs.{Entered.call_room, Entered.entered_result, Ret
 use Rattle.beldi_executor.proofs.state.State.make_move.Goals as goal
 
 pub enter-requires : goal.enter-requires
-enter-requires c = call_room c.args.draft.now.tx c.args.self.now.made c.args.front.id c.args.front.machine.steps c.in-Call.func c.in-Call.args c.args.front.machine.effect (sym c.wants.ensures.effect ∙ c.in-Call.is) c.requires
+enter-requires c = call_room c.args.draft.now.tx c.args.self.now.made c.args.active.id c.args.active.machine.steps c.in-Call.func c.in-Call.args c.args.active.machine.effect (sym c.wants.ensures.effect ∙ c.in-Call.is) c.requires
 
 -- the callee is made, and its caller waits
 pub returns-in-Ok : goal.returns-in-Ok
 returns-in-Ok c = λ t p q g.
-    let a = c.args.front in
+    let a = c.args.active in
     let can = ap (λ (t : TxId). can_move t c.args.self.now.made a.id a.machine.steps a.machine.effect) (sym g.draft.tx) ∙ c.requires in
     entered_result c.args.code.now t p q c.args.self.now c.args.draft.now a c.in-Call.func c.in-Call.args g (sym c.wants.ensures.effect ∙ c.in-Call.is) can c.enter.new.self c.enter.new.draft c.wait.new.draft c.in-Ok.callee c.wait.result
     c.in-Ok.ensures.ok.0 c.in-Ok.ensures.ok.1 c.in-Ok.ensures.ok.2 c.wait.ensures.ok c.wait.ensures.err
@@ -19,7 +19,7 @@ returns-in-Some c = λ t p q g.
     let d = c.args.code.now in
     let r = c.args.self.now in
     let h = c.args.draft.now in
-    let a = c.args.front in
+    let a = c.args.active in
     let w = c.in-Some.caller in
     let ws = c.pop.new.self in
     let o = c.in-Return.outcome in
@@ -32,7 +32,7 @@ returns-in-Some c = λ t p q g.
 
 pub returns-in-None : goal.returns-in-None
 returns-in-None c = λ t p q g.
-    let a = c.args.front in
+    let a = c.args.active in
     let can = ap (λ (t : TxId). can_move t c.args.self.now.made a.id a.machine.steps a.machine.effect) (sym g.draft.tx) ∙ c.requires in
     absurd (awaited c.args.code.now t p q c.args.self.now c.args.draft.now a c.in-Return.outcome g (sym c.wants.ensures.effect ∙ c.in-Return.is) c.in-None.ensures can)
 
@@ -42,7 +42,7 @@ returns-in-Ok-Some c = λ t p q g.
     let d = c.args.code.now in
     let r : PlainState = record { items = c.self.inside.items; made = c.self.inside.made } in
     let h = c.args.draft.now in
-    let a = c.args.front in
+    let a = c.args.active in
     let y = c.in-Ok-Some.answer in
     let k : Draft = record h { undo = c.make.new.self } in
     let from = subst (λ (r : PlainState). GoesOn d t p q r h a) (sym c.self.view_is) g in
@@ -56,7 +56,7 @@ returns-in-Ok-Some c = λ t p q g.
 
 pub returns-in-Ok-None : goal.returns-in-Ok-None
 returns-in-Ok-None c = λ t p q g.
-    let a = c.args.front in
+    let a = c.args.active in
     let x = g.acts.instance in
     let made = subst (λ (o : Option Answer). MadeIn c.self.inside.items c.make.new.items c.args.draft.now.undo c.make.new.self x c.wants.result.now (Ok o)) c.in-Ok-None.field-0-is (c.in-Ok-None.ensures x g.acts.func) in
     let some = can_touch c.args.draft.now.tx c.args.self.now.made a.id a.machine.steps a.machine.effect c.requires (λ f v e. c.in_default.not-Call f v (c.wants.ensures.effect ∙ e)) (λ o e. c.in_default.not-Return o (c.wants.ensures.effect ∙ e)) in

@@ -1,4 +1,4 @@
-use Rattle.beldi_host.proofs.{Names.core_of, Names.rules, Right.stands_at, Right.stands_less_at}
+use Rattle.beldi_host.proofs.{Names.core_of, Names.rules, HostInvariant.stands_at, HostInvariant.stands_less_at}
 use Rattle.beldi_host.proofs.host.Host.close.Goals as goal
 
 pub returns-clause-stands : goal.returns-clause-stands

@@ -1,4 +1,4 @@
-use Rattle.beldi_host.proofs.{Names.core_of, Names.rules, Right.event_keeps, Right.event_stays, Right.never_gone, Right.ends_late}
+use Rattle.beldi_host.proofs.{Names.core_of, Names.rules, HostInvariant.event_keeps, HostInvariant.event_stays, HostInvariant.never_gone, HostInvariant.ends_late}
 use Rattle.beldi_host.proofs.host.Host.event.Goals as goal
 
 pub returns-clause-right : goal.returns-clause-right

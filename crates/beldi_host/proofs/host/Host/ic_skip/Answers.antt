@@ -1,4 +1,4 @@
-use Rattle.beldi_host.proofs.{Names.core_of, Right.moved_cursor}
+use Rattle.beldi_host.proofs.{Names.core_of, HostInvariant.moved_cursor}
 use Rattle.beldi_host.proofs.host.Host.ic_skip.Goals as goal
 
 pub returns-in-Some-clause-right : goal.returns-in-Some-clause-right

@@ -1,4 +1,4 @@
-use Rattle.beldi_host.proofs.{Names.arith, Names.refl, Names.rules, Newest.newest_at, Right.opened, Right.opened_rows}
+use Rattle.beldi_host.proofs.{Names.arith, Names.refl, Names.rules, HostNewest.newest_at, HostInvariant.opened, HostInvariant.opened_rows}
 use Rattle.beldi_host.proofs.host.Host.open.Goals as goal
 
 pub returns-in-Ok-clause-ok : goal.returns-in-Ok-clause-ok

@@ -1,4 +1,4 @@
-use Rattle.beldi_host.proofs.{Names.core_of, Right.pruning_keeps, Right.pruning_keeps_whole}
+use Rattle.beldi_host.proofs.{Names.core_of, HostInvariant.pruning_keeps, HostInvariant.pruning_keeps_whole}
 use Rattle.beldi_host.proofs.host.Host.prune.Goals as goal
 
 pub returns-clause-right : goal.returns-clause-right

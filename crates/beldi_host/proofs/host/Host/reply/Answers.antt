@@ -1,4 +1,4 @@
-use Rattle.beldi_host.proofs.{Names.core_of, Right.not_gone, Right.said}
+use Rattle.beldi_host.proofs.{Names.core_of, HostInvariant.not_gone, HostInvariant.said}
 use Rattle.beldi_host.proofs.host.Host.reply.Goals as goal
 
 pub returns-clause-plain : goal.returns-clause-plain

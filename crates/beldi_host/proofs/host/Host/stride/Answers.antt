@@ -1,6 +1,6 @@
 use Rattle.std.proofs.Common.{rules}
 use Rattle.beldi_host.proofs.Names.{IfSome, core_in, core_of, most_events, subst, sym, ◌+◌, ◌<◌, ◌≡◌, ◌≤◌}
-use Rattle.beldi_host.specs.Stride.{Strides}
+use Rattle.beldi_host.specs.HostStride.{Strides}
 use Rattle.beldi_host.proofs.Strides.{strides_keep, strides_so}
 use Rattle.beldi_host.proofs.host.Host.stride.Goals as goal
 

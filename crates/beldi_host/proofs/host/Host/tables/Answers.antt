@@ -1,4 +1,4 @@
-use Rattle.beldi_host.proofs.{Names.core_of, Right.listed}
+use Rattle.beldi_host.proofs.{Names.core_of, HostInvariant.listed}
 use Rattle.beldi_host.proofs.host.Host.tables.Goals as goal
 
 pub returns-clause-listing : goal.returns-clause-listing

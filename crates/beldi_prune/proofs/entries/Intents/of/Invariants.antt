@@ -1,6 +1,6 @@
 use Rattle.std.proofs.Common.{◌≡◌, ◌++◌, drop}
 use Rattle.std.specs.Option.{option_copied}
-use Rattle.beldi_prune.specs.Entries.{intents_from, intents_of}
+use Rattle.beldi_prune.specs.CellEntries.{intents_from, intents_of}
 use Rattle.beldi_prune.proofs.entries.Intents.of.Given as goal
 
 -- the intents that were put, with those of the entries that are left, are all

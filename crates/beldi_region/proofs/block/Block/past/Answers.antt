@@ -1,6 +1,6 @@
 use Rattle.std.specs.Ordering.{is_lt}
 use Rattle.std.proofs.Common.{◌≡◌, true, false, slice_index_or, subst, ap, ◌∙◌, arith}
-use Rattle.beldi_region.specs.{Region.find, Order.side, Order.begins_past, Order.IsPast}
+use Rattle.beldi_region.specs.{Region.find, SlotOrder.side, SlotOrder.begins_past, SlotOrder.IsPast}
 use Rattle.beldi_region.proofs.Spots.{first_slot, some_slot}
 use Rattle.beldi_region.proofs.block.Block.past.Goals as goal
 

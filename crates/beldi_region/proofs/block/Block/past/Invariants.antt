@@ -1,6 +1,6 @@
 use Rattle.std.specs.Ordering.{is_lt}
 use Rattle.std.proofs.Common.{◌≡◌, ℕ, ◌+◌, ◌-◌, ◌<◌, ◌≤◌, true, false, length, slice_index_or}
-use Rattle.beldi_region.specs.{Region.find, Order.side, declared.region.SlotId.SlotId}
+use Rattle.beldi_region.specs.{Region.find, SlotOrder.side, declared.region.SlotId.SlotId}
 use Rattle.beldi_region.proofs.block.Block.past.Given as goal
 
 abbrev pub invariant-loop-low : goal.invariant-loop-low

@@ -1,5 +1,5 @@
 use Rattle.std.proofs.Common.{◌≡◌, true, subst, arith}
-use Rattle.beldi_region.specs.{Blocks.block_at, Order.begins_past}
+use Rattle.beldi_region.specs.{Blocks.block_at, SlotOrder.begins_past}
 use Rattle.beldi_region.proofs.order.Order.block_past.Goals as goal
 
 pub returns : goal.returns

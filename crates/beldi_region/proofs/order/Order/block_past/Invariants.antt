@@ -1,5 +1,5 @@
 use Rattle.std.proofs.Common.{◌≡◌, ℕ, ◌+◌, ◌-◌, ◌<◌, ◌≤◌, true, false, length}
-use Rattle.beldi_region.specs.{Blocks.block_at, Order.begins_past}
+use Rattle.beldi_region.specs.{Blocks.block_at, SlotOrder.begins_past}
 use Rattle.beldi_region.proofs.order.Order.block_past.Given as goal
 
 abbrev pub invariant-loop-low : goal.invariant-loop-low

@@ -1,5 +1,5 @@
 use Rattle.std.proofs.Common.{sym, ap, ◌∙◌}
-use Rattle.beldi_region.specs.{Region.find, Order.side}
+use Rattle.beldi_region.specs.{Region.find, SlotOrder.side}
 use Rattle.beldi_region.proofs.Spots.{slot_is}
 use Rattle.beldi_region.proofs.order.Order.find.Goals as goal
 

@@ -1,5 +1,5 @@
 use Rattle.std.proofs.Common.{Err, subst, sym, ap}
-use Rattle.beldi_region.specs.{Order.IsWithout, Order.Places, Ids.ids_of, Ids.place_of, Ids.placed}
+use Rattle.beldi_region.specs.{SlotOrder.IsWithout, SlotOrder.Places, Ids.ids_of, Ids.place_of, Ids.placed}
 use Rattle.beldi_region.proofs.{Held.nowhere, Gone.none_less, Gone.one_less}
 use Rattle.beldi_region.proofs.order.Order.forget.Goals as goal
 

@@ -1,4 +1,4 @@
-use Rattle.beldi_region.specs.Order.{IsBehind}
+use Rattle.beldi_region.specs.SlotOrder.{IsBehind}
 use Rattle.beldi_region.proofs.order.Order.gap_near.Given as goal
 
 abbrev pub invariant-loop-left : goal.invariant-loop-left

@@ -1,5 +1,5 @@
 use Rattle.std.proofs.Common.{arith}
-use Rattle.beldi_region.proofs.Kept.{room_made, inserts, spare_left}
+use Rattle.beldi_region.proofs.RegionKept.{room_made, inserts, spare_left}
 use Rattle.beldi_region.proofs.order.Order.insert.Goals as goal
 
 pub make_room-spot-requires-clause-spare : goal.make_room-spot-requires-clause-spare

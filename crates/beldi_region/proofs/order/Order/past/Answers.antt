@@ -1,5 +1,5 @@
 use Rattle.std.proofs.Common.{◌-◌, subst, arith}
-use Rattle.beldi_region.specs.{Blocks.half_room, Order.IsPast}
+use Rattle.beldi_region.specs.{Blocks.half_room, SlotOrder.IsPast}
 use Rattle.beldi_region.proofs.Spots.{past_in}
 use Rattle.beldi_region.proofs.order.Order.past.Goals as goal
 

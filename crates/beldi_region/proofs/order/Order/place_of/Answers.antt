@@ -1,6 +1,6 @@
 use Rattle.std.specs.{Cmp.Equal-is, Ordering.is_eq}
 use Rattle.std.proofs.Common.{◌≡◌, ◌-◌, Some, slice_index_or, sym, ap, ◌∙◌, arith}
-use Rattle.beldi_region.specs.{Region.find, Blocks.slot_at, Order.side, Ids.ids_of, Ids.place_of, declared.blocks.Spot.Spot}
+use Rattle.beldi_region.specs.{Region.find, Blocks.slot_at, SlotOrder.side, Ids.ids_of, Ids.place_of, declared.blocks.Spot.Spot}
 use Rattle.beldi_region.proofs.{Held.gap_before, Held.gap_past, Spots.at_slot, Spots.at_within, Spots.slot_is, Spots.one_before}
 use Rattle.beldi_region.proofs.order.Order.place_of.Goals as goal
 

@@ -1,5 +1,5 @@
 use Rattle.std.proofs.Common.{arith}
-use Rattle.beldi_region.proofs.{Kept.removes, Spots.at_within}
+use Rattle.beldi_region.proofs.{RegionKept.removes, Spots.at_within}
 use Rattle.beldi_region.proofs.order.Order.remove.Goals as goal
 
 pub overflow_sub-self : goal.overflow_sub-self

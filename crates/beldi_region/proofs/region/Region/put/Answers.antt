@@ -1,6 +1,6 @@
 use Rattle.std.proofs.Common.{None, refl, ap, is_some, ◌<◌, arith}
 use Rattle.beldi_region.specs.Region.{spaces}
-use Rattle.beldi_region.proofs.Counts.{seen_count}
+use Rattle.beldi_region.proofs.Counts.{viewed_count}
 use Rattle.beldi_region.proofs.Free.{none_free, puts_again, puts_first, sound_again, sound_beside}
 use Rattle.beldi_region.proofs.region.Region.put.Goals as goal
 
@@ -18,10 +18,10 @@ returns-then-len-self-clause-ok g c =
     rw (← c.self.view_is) (puts_first c.self.inside.slots _ c.self.inside.room c.insert_reserved-slot.result _ c.args.value c.insert_reserved-slot.ensures.was_vacant c.insert_reserved-slot.ensures.updates c.first.ensures (omega arith))
 
 pub returns-then-len-self-clause-exact : goal.returns-then-len-self-clause-exact
-returns-then-len-self-clause-exact g c = (λ _. rw (← c.self.view_is) (omega (arith, seen_count c.self.inside.slots.slots)), λ _. refl)
+returns-then-len-self-clause-exact g c = (λ _. rw (← c.self.view_is) (omega (arith, viewed_count c.self.inside.slots.slots)), λ _. refl)
 
 pub returns-clause-exact : goal.returns-clause-exact
 returns-clause-exact g c =
     let none = none_free _ _ (rw c.in_default.is at c.self.invariant.free) in
     let some = λ (h : 0 < spaces c.args.self.now). rw (← c.self.view_is) at h in
-    (λ e. absurd (cc), λ h. absurd (omega (arith, none, seen_count c.self.inside.slots.slots, some h)))
+    (λ e. absurd (cc), λ h. absurd (omega (arith, none, viewed_count c.self.inside.slots.slots, some h)))

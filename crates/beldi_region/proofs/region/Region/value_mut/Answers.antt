@@ -1,6 +1,6 @@
 use Rattle.std.proofs.Common.{refl, sym, ◌∙◌}
 use Rattle.beldi_region.proofs.Free.{lent, slot_found, sound_lent}
-use Rattle.beldi_region.proofs.Seen.{changes}
+use Rattle.beldi_region.proofs.Viewed.{changes}
 use Rattle.beldi_region.proofs.region.Region.value_mut.Goals as goal
 
 pub invariant_of-self-lent : goal.invariant_of-self-lent

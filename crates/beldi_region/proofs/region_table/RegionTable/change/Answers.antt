@@ -10,7 +10,7 @@ follow-requires-clause-within c =
     let y : Entry = record { key = c.value_mut-entry.result.now.key; row = c.apply-change.new.row } in
     let changed = c.value_mut-entry.ensures.changes y in
     let wide = t.wide in
-    let room = changed.beside.room in
+    let room = changed.frame.room in
     within (with_value t.region c.args.id y) _ _ (held_changed t.region (with_value t.region c.args.id y) (ids_of t.index) c.args.id c.value_mut-entry.result.now y t.held c.value_mut-entry.ensures.value changed refl) (omega (arith, wide, room))
 
 pub follow-requires-clause-listed : goal.follow-requires-clause-listed

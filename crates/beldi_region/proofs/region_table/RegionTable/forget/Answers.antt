@@ -1,6 +1,6 @@
 use Rattle.std.proofs.Common.{◌≡◌, IfSome, subst, sym, ap, ◌∙◌, arith}
 use Rattle.std.specs.FinMap as fin
-use Rattle.beldi_region.specs.{Order.IsWithout, Order.rows_in, Region.find, Region.Released, Ids.ids_of}
+use Rattle.beldi_region.specs.{SlotOrder.IsWithout, SlotOrder.rows_in, Region.find, Region.Released, Ids.ids_of}
 use Rattle.beldi_region.proofs.{Held.by_side, Gone.held_gone, Gone.listed_gone, Gone.map_gone}
 use Rattle.beldi_region.proofs.region_table.RegionTable.forget.Goals as goal
 
@@ -24,7 +24,7 @@ invariant_of-self-clause-wide c =
     let x = by_side c.args.key.now (find t.region c.args.id) c.requires in
     let out = subst (λ o. IfSome o (λ e. Released t.region c.vacate.new.region c.args.id e)) x.1 c.vacate.ensures in
     let was = t.wide in
-    let room = out.beside.room in
+    let room = out.frame.room in
     let more = c.forget.ensures.room in
     omega (arith, was, room, more)
 
@@ -34,7 +34,7 @@ invariant_of-self-clause-fits c =
     let x = by_side c.args.key.now (find t.region c.args.id) c.requires in
     let out = subst (λ o. IfSome o (λ e. Released t.region c.vacate.new.region c.args.id e)) x.1 c.vacate.ensures in
     let was = t.fits in
-    let room = out.beside.room in
+    let room = out.frame.room in
     omega (arith, was, room)
 
 pub invariant_of-self-clause-reserved : goal.invariant_of-self-clause-reserved
@@ -43,7 +43,7 @@ invariant_of-self-clause-reserved c =
     let x = by_side c.args.key.now (find t.region c.args.id) c.requires in
     let out = subst (λ o. IfSome o (λ e. Released t.region c.vacate.new.region c.args.id e)) x.1 c.vacate.ensures in
     let was = t.reserved in
-    let room = out.beside.room in
+    let room = out.frame.room in
     let more = c.forget-2.ensures.room in
     omega (arith, was, room, more)
 

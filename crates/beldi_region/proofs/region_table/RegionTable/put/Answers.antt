@@ -1,6 +1,6 @@
 use Rattle.std.proofs.Common.{◌≡◌, false, subst, sym, ap, ◌∙◌, arith}
 use Rattle.beldi_row.specs.Table.{is_open}
-use Rattle.beldi_region.specs.{Order.IsHeld, Order.rows_in, Order.pairs, Ids.ids_of, Ids.place_of, declared.order.Entry.Entry}
+use Rattle.beldi_region.specs.{SlotOrder.IsHeld, SlotOrder.rows_in, SlotOrder.pairs, Ids.ids_of, Ids.place_of, declared.order.Entry.Entry}
 use Rattle.beldi_region.proofs.{Held.held_put, Held.map_put, Held.pairs_put, Listed.within, Listed.listed_put, Listed.listed_closed}
 use Rattle.beldi_region.proofs.region_table.RegionTable.put.Goals as goal
 
@@ -10,7 +10,7 @@ follow-requires-clause-within c =
     let e : Entry = record { key = c.args.key; row = c.args.row } in
     let put = c.in-Ok.ensures.ok in
     let wide = t.wide in
-    let room = put.beside.room in
+    let room = put.frame.room in
     within c.put.new.self _ _ (held_put t.region c.put.new.self (ids_of t.index) c.in-Ok.id e (place_of t.index c.args.spot) t.held put c.requires.gap) (omega (arith, wide, room))
 
 pub follow-requires-clause-listed : goal.follow-requires-clause-listed

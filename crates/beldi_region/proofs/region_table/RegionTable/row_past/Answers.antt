@@ -1,5 +1,5 @@
 use Rattle.std.proofs.Common.{Some, sym, ap, ◌∙◌, option_map}
-use Rattle.beldi_region.{specs.Order.pair_at, specs.Order.pair_of, specs.Ids.ids_of, specs.Ids.place_of, proofs.Held.next_is, proofs.Held.taken_at}
+use Rattle.beldi_region.{specs.SlotOrder.pair_at, specs.SlotOrder.pair_of, specs.Ids.ids_of, specs.Ids.place_of, proofs.Held.next_is, proofs.Held.taken_at}
 use Rattle.beldi_region.proofs.region_table.RegionTable.row_past.Goals as goal
 
 pub returns-in_default : goal.returns-in_default

@@ -4,7 +4,7 @@ use Rattle.std.proofs.lemmas.List.{take_all}
 use Rattle.std.proofs.lemmas.Option.{slice_get_within, get_or_from_slice_get}
 use Rattle.std.proofs.Common.{◌≡◌, ◌+◌, Some, refl, sym, ap, subst, ◌∙◌, take, insert, slice_get, slice_index_or, arith}
 use Rattle.beldi_row.specs.Key.{key_cmp}
-use Rattle.beldi_region.specs.{Order.pair_at, Order.pairs, Order.IsGap, Ids.ids_of, Ids.place_of}
+use Rattle.beldi_region.specs.{SlotOrder.pair_at, SlotOrder.pairs, SlotOrder.IsGap, Ids.ids_of, Ids.place_of}
 use Rattle.beldi_region.proofs.{Moved.StillThere, Moved.gap_at_end, Moved.moved_length, Moved.pairs_moved, Moved.still_later, Moved.not_gone, Spots.none_behind}
 use Rattle.beldi_region.proofs.region_table.RegionTable.take_each.Goals as goal
 

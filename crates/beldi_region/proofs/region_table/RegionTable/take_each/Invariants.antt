@@ -1,5 +1,5 @@
 use Rattle.std.proofs.Common.{◌≡◌, ◌-◌, take, length}
-use Rattle.beldi_region.{specs.Blocks.IsSpot, specs.Ids.ids_of, specs.Ids.place_of, specs.Order.pairs, proofs.Moved.StillThere}
+use Rattle.beldi_region.{specs.Blocks.IsSpot, specs.Ids.ids_of, specs.Ids.place_of, specs.SlotOrder.pairs, proofs.Moved.StillThere}
 use Rattle.beldi_region.proofs.region_table.RegionTable.take_each.Given as goal
 
 abbrev pub invariant-loop-id : goal.invariant-loop-id

@@ -1,5 +1,5 @@
 use Rattle.std.proofs.Common.{rules, sym, subst, ◌∙◌}
-use Rattle.beldi_region.specs.Order.{IsHeld, AreListed}
+use Rattle.beldi_region.specs.SlotOrder.{IsHeld, AreListed}
 use Rattle.beldi_region.proofs.{Held.held_none, Listed.listed_none}
 use Rattle.beldi_region.proofs.region_table.RegionTable.with_room.Goals as goal
 

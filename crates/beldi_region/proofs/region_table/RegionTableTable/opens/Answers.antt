@@ -1,6 +1,6 @@
 use Rattle.std.proofs.Common.{subst, sym}
 use Rattle.beldi_row.specs.Table.{NoneOpenTo}
-use Rattle.beldi_region.specs.{Order.pair_of, Ids.ids_of, Ids.place_of, RegionTable.rows_of}
+use Rattle.beldi_region.specs.{SlotOrder.pair_of, Ids.ids_of, Ids.place_of, RegionTable.rows_of}
 use Rattle.beldi_region.proofs.Listed.{none_open, none_open_to}
 use Rattle.beldi_region.proofs.region_table.RegionTableTable.opens.Goals as goal
 

@@ -1,6 +1,6 @@
 use Rattle.std.proofs.Common.{Err, None, Ok, [], ◌∷◌}
 use Rattle.beldi_schedule.specs.{Settle.first_at, Settle.go_on, declared.machine.Settled.Settled}
-use Rattle.beldi_session.specs.{Response.patience, Script.Settle}
+use Rattle.beldi_session.specs.{HostResponse.patience, Script.Settle}
 use Rattle.beldi_gateway.specs.declared.response.Response.TheVariants.{Call as Called}
 use Rattle.beldi_serve.proofs.Coming.{go_on_short, go_on_told, settled_comes}
 use Rattle.beldi_serve.proofs.desk.HostDesk.go_on.Goals as goal

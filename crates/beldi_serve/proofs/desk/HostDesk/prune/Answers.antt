@@ -1,6 +1,6 @@
 use Rattle.std.proofs.Common.{Err, None, Ok}
 use Rattle.beldi_session.specs.declared.sweeping.Swept.{Swept}
-use Rattle.beldi_serve.specs.Service.{pruning}
+use Rattle.beldi_serve.specs.ServedConnections.{pruning}
 use Rattle.beldi_serve.proofs.Coming.{settled_comes, turns_given, turns_short}
 use Rattle.beldi_serve.proofs.desk.HostDesk.prune.Goals as goal
 

@@ -1,7 +1,7 @@
 use Rattle.std.proofs.Common.{Err, Ok, subst, sym}
 use Rattle.beldi_step.specs.declared.event.Event.{Event}
-use Rattle.beldi_gateway.specs.{declared.desk.TicketSaid.TicketSaid, declared.response.Response.TheVariants.Ticket as Ticketed, Exchange.ask_ticket}
-use Rattle.beldi_serve.specs.Desk.{Comes, Says}
+use Rattle.beldi_gateway.specs.{declared.desk.TicketReply.TicketReply, declared.response.Response.TheVariants.Ticket as Ticketed, Exchange.ask_ticket}
+use Rattle.beldi_serve.specs.Desk.{Comes, Replies}
 use Rattle.beldi_serve.proofs.Coming.{event_comes, ticket_short, ticket_told}
 use Rattle.beldi_serve.proofs.desk.HostDeskDesk.ticket.Goals as goal
 
@@ -10,7 +10,7 @@ returns-in-Ok g c =
     let e = c.in-Ok.ensures in
     let a = c.args.self.now.host in
     let b = c.event.new.self in
-    subst (λ (x : TicketSaid). Comes (Says ask_ticket (Ticketed x)) a b) (sym c.ticket_said-said.ensures) (ticket_told a b c.in-Ok.seen (event_comes a b Event.Ticket (Ok c.in-Ok.seen) e.code e.step))
+    subst (λ (x : TicketReply). Comes (Replies ask_ticket (Ticketed x)) a b) (sym c.ticket_said-said.ensures) (ticket_told a b c.in-Ok.seen (event_comes a b Event.Ticket (Ok c.in-Ok.seen) e.code e.step))
 
 pub returns-in-Err : goal.returns-in-Err
 returns-in-Err g c =

@@ -1,4 +1,4 @@
-use Rattle.beldi_sqlrows.proofs.Rows.{held_none, empty_told}
+use Rattle.beldi_sqlrows.proofs.StoredRows.{held_none, empty_told}
 use Rattle.beldi_sqlrows.proofs.blob_rows.BlobRows.new.Goals as goal
 
 pub invariant_of-result : goal.invariant_of-result

@@ -1,5 +1,5 @@
 use Rattle.std.proofs.Common.{Ok, Err, ◌∙◌}
-use Rattle.beldi_sqlrows.proofs.Rows.{next_same, same_told, steps}
+use Rattle.beldi_sqlrows.proofs.StoredRows.{next_same, same_told, steps}
 use Rattle.beldi_sqlrows.proofs.blob_rows.BlobRowsRowStore.after.Goals as goal
 
 pub returns-in-Ok-found-clause-kept : goal.returns-in-Ok-found-clause-kept

@@ -1,5 +1,5 @@
 use Rattle.std.proofs.Common.{Ok, Err, ◌∙◌}
-use Rattle.beldi_sqlrows.proofs.Rows.{got_same, same_told, reads}
+use Rattle.beldi_sqlrows.proofs.StoredRows.{got_same, same_told, reads}
 use Rattle.beldi_sqlrows.proofs.blob_rows.BlobRowsRowStore.read.Goals as goal
 
 pub returns-in-Ok-found-clause-kept : goal.returns-in-Ok-found-clause-kept

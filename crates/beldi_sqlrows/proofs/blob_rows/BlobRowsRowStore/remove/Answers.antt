@@ -1,5 +1,5 @@
 use Rattle.std.proofs.Common.{◌∙◌}
-use Rattle.beldi_sqlrows.proofs.Rows.{held_without, told_without, told_still}
+use Rattle.beldi_sqlrows.proofs.StoredRows.{held_without, told_without, told_still}
 use Rattle.beldi_sqlrows.proofs.blob_rows.BlobRowsRowStore.remove.Goals as goal
 
 pub invariant_of-self : goal.invariant_of-self

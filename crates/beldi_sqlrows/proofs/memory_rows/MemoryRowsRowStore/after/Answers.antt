@@ -1,4 +1,4 @@
-use Rattle.beldi_sqlrows.proofs.Late.{none_after}
+use Rattle.beldi_sqlrows.proofs.LateFailure.{none_after}
 use Rattle.beldi_sqlrows.proofs.memory_rows.MemoryRowsRowStore.after.Goals as goal
 
 pub returns-in-None-clause-steps : goal.returns-in-None-clause-steps

@@ -1,4 +1,4 @@
-use Rattle.beldi_sqlrows.proofs.Late.{none_read}
+use Rattle.beldi_sqlrows.proofs.LateFailure.{none_read}
 use Rattle.beldi_sqlrows.proofs.memory_rows.MemoryRowsRowStore.read.Goals as goal
 
 pub returns-in-None-clause-reads : goal.returns-in-None-clause-reads

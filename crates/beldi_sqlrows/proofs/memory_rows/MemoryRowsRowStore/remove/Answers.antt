@@ -1,4 +1,4 @@
-use Rattle.beldi_sqlrows.proofs.Late.{none_removed}
+use Rattle.beldi_sqlrows.proofs.LateFailure.{none_removed}
 use Rattle.beldi_sqlrows.proofs.memory_rows.MemoryRowsRowStore.remove.Goals as goal
 
 pub returns-in-None : goal.returns-in-None

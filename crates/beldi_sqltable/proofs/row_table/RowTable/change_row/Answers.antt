@@ -1,6 +1,6 @@
 use Rattle.std.proofs.Common.{subst, sym, ap, ◌∙◌, not, ◌&&◌, Ok}
 use Rattle.beldi_row.specs.Table.{Tells, is_open}
-use Rattle.beldi_sqltable.{specs.RowTable.ChangedOn, specs.RowTable.row_in, specs.Kept.leaves, proofs.Leaving.told_settled, proofs.Keeping.stood_there}
+use Rattle.beldi_sqltable.{specs.RowTable.ChangedOn, specs.RowTable.row_in, specs.StoreCounts.leaves, proofs.Leaving.told_settled, proofs.Keeping.stood_there}
 use Rattle.beldi_sqltable.proofs.row_table.RowTable.change_row.Goals as goal
 
 pub settle-requires : goal.settle-requires

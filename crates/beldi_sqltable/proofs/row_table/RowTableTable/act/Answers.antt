@@ -1,5 +1,5 @@
 use Rattle.std.proofs.Common.{refl, ap, ◌∙◌}
-use Rattle.beldi_row.specs.Act.{said_by}
+use Rattle.beldi_row.specs.Act.{change_reply}
 use Rattle.beldi_sqltable.{specs.RowTable.row_in, proofs.Carrying.acted_told, proofs.Carrying.cause_of_ok}
 use Rattle.beldi_sqltable.proofs.row_table.RowTableTable.act.Goals as goal
 
@@ -13,7 +13,7 @@ returns g c =
         λ _. tt,
         record {
           rows = acted_told c.args.act c.args.now c.args.key old.room (g.R.RowStore.rows old.store) (g.R.RowStore.rows new.store) (row_in new.found) c.in_ok-change.change c.tell.result
-              (c.tell.ensures ∙ ap (said_by c.in_ok-change.change) c.found_row.ensures) done.rows;
+              (c.tell.ensures ∙ ap (change_reply c.in_ok-change.change) c.found_row.ensures) done.rows;
           cause = cause_of_ok old.faults new.faults c.tell.result done.blames.later;
           room = done.room;
           calls = refl;

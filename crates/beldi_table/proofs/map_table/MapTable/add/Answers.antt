@@ -1,6 +1,6 @@
 use Rattle.std.specs.FinMap as map
 use Rattle.std.proofs.Common.{arith, sym, ◌∙◌, refl}
-use Rattle.beldi_row.{specs.KeyOrder.key_total, specs.KeyOrder.key_exact, proofs.Rows.len_rows}
+use Rattle.beldi_row.{specs.KeyOrder.key_total, specs.KeyOrder.key_exact, proofs.TableRows.len_rows}
 use Rattle.beldi_table.{specs.MapTable.rows_of, proofs.Changes.none_added, proofs.Changes.one_added, proofs.Changes.would_add}
 use Rattle.beldi_table.proofs.map_table.MapTable.add.Goals as goal
 

@@ -1,7 +1,7 @@
 use Rattle.std.specs.Option.{option_copied_mut}
 use Rattle.std.specs.FinMap as map
 use Rattle.std.proofs.Common.{rules, refl, sym, ◌∙◌, ap}
-use Rattle.beldi_row.{specs.KeyOrder.key_total, specs.KeyOrder.key_exact, proofs.Rows.get_rows}
+use Rattle.beldi_row.{specs.KeyOrder.key_total, specs.KeyOrder.key_exact, proofs.TableRows.get_rows}
 use Rattle.beldi_table.{specs.MapTable.rows_of, proofs.Changes.applied, proofs.Changes.unapplied, proofs.Changes.looks, proofs.Indexes.row_there, proofs.Indexes.not_acted}
 use Rattle.beldi_table.proofs.map_table.MapTable.change.Goals as goal
 

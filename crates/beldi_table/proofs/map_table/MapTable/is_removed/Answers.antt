@@ -1,6 +1,6 @@
 use Rattle.std.proofs.Common.{option_map, Some, sym, ◌∙◌, ap}
 use Rattle.std.specs.Option.{option_copied}
-use Rattle.beldi_row.{specs.Act.removes, specs.KeyOrder.key_total, specs.KeyOrder.key_exact, proofs.Rows.get_rows}
+use Rattle.beldi_row.{specs.Act.removes, specs.KeyOrder.key_total, specs.KeyOrder.key_exact, proofs.TableRows.get_rows}
 use Rattle.beldi_table.proofs.map_table.MapTable.is_removed.Goals as goal
 
 pub returns-in-Some : goal.returns-in-Some

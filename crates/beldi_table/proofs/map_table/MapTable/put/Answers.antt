@@ -1,5 +1,5 @@
 use Rattle.std.proofs.Common.{false, ◌&&◌, subst, sym, ◌∙◌, ap}
-use Rattle.beldi_row.{specs.KeyOrder.key_total, specs.KeyOrder.key_exact, specs.Table.is_open, proofs.Rows.get_rows, proofs.Rows.one_set}
+use Rattle.beldi_row.{specs.KeyOrder.key_total, specs.KeyOrder.key_exact, specs.Table.is_open, proofs.TableRows.get_rows, proofs.TableRows.one_set}
 use Rattle.beldi_table.{specs.Opened.Sets, proofs.Indexes.added, proofs.Indexes.not_added}
 use Rattle.beldi_table.proofs.map_table.MapTable.put.Goals as goal
 

@@ -1,6 +1,6 @@
 use Rattle.std.specs.Prelude.{min, ◌-◌, ◌^◌}
 use Rattle.std.proofs.Common.{ap, sym, ◌∙◌}
-use Rattle.beldi_row.{specs.KeyOrder.key_total, specs.KeyOrder.key_exact, proofs.Rows.len_rows}
+use Rattle.beldi_row.{specs.KeyOrder.key_total, specs.KeyOrder.key_exact, proofs.TableRows.len_rows}
 use Rattle.beldi_table.proofs.map_table.MapTableTable.len.Goals as goal
 
 pub returns : goal.returns

@@ -1,5 +1,5 @@
 use Rattle.std.proofs.Common.{rules, arith, refl, sym, ◌∙◌, ap}
-use Rattle.beldi_row.{specs.KeyOrder.key_total, specs.KeyOrder.key_exact, specs.Table.first_above, proofs.Rows.entries_rows}
+use Rattle.beldi_row.{specs.KeyOrder.key_total, specs.KeyOrder.key_exact, specs.Table.first_above, proofs.TableRows.entries_rows}
 use Rattle.beldi_table.proofs.Next.{next_is}
 use Rattle.beldi_table.proofs.map_table.MapTableTable.next.Goals as goal
 

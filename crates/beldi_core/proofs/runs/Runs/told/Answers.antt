@@ -1,4 +1,0 @@
-use Rattle.beldi_core.proofs.runs.Runs.told.Goals as goal
-
-pub invariant_of-self : goal.invariant_of-self
-invariant_of-self c = c.tell.ensures.kept c.self.inside.given c.self.invariant

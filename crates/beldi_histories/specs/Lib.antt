@@ -1,0 +1,15 @@
+pub mod Acts
+pub mod Behind
+pub mod Contents
+pub mod Expected
+pub mod RowMatching
+pub mod Extends
+pub mod Frame
+pub mod Histories
+pub mod InsideLaws
+pub mod Listed
+pub mod Matches
+pub mod OutsideOperations
+pub mod Shadows
+pub mod Stands
+pub mod WellFormedHistories

@@ -1,5 +1,0 @@
-use Rattle.beldi_host.proofs.{Names.rules, Right.one_answer_less_at}
-use Rattle.beldi_host.proofs.laws.right_has_one_answer_less.Goals as goal
-
-pub returns : goal.returns
-returns g c = search (rules, one_answer_less_at)

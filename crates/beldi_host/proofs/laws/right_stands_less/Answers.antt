@@ -1,5 +1,0 @@
-use Rattle.beldi_host.proofs.{Names.rules, Right.stands_less_at}
-use Rattle.beldi_host.proofs.laws.right_stands_less.Goals as goal
-
-pub returns : goal.returns
-returns g c = search (rules, stands_less_at)

@@ -1,5 +1,0 @@
-use Rattle.beldi_kept.proofs.Telling.{kept_are_legal}
-use Rattle.beldi_kept.proofs.told.books_are_legal_still.Goals as goal
-
-pub returns : goal.returns
-returns c = kept_are_legal

@@ -1,5 +1,0 @@
-use Rattle.beldi_kept.proofs.Telling.{kept_replies}
-use Rattle.beldi_kept.proofs.told.replies_are_outcomes_still.Goals as goal
-
-pub returns : goal.returns
-returns c = kept_replies c.an_answer_is_of_kept_rows.ensures

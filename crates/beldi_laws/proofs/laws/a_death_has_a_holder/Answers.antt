@@ -1,5 +1,0 @@
-use Rattle.beldi_laws.proofs.Deaths.{deaths_have_holders}
-use Rattle.beldi_laws.proofs.laws.a_death_has_a_holder.Goals as goal
-
-pub returns : goal.returns
-returns c = deaths_have_holders

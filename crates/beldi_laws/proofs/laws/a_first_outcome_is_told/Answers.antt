@@ -1,5 +1,0 @@
-use Rattle.beldi_laws.proofs.FirstOutcomes.{first_outcomes_are_told}
-use Rattle.beldi_laws.proofs.laws.a_first_outcome_is_told.Goals as goal
-
-pub returns : goal.returns
-returns c = first_outcomes_are_told

@@ -1,5 +1,0 @@
-use Rattle.beldi_laws.proofs.OneEvent.{one_row}
-use Rattle.beldi_laws.proofs.laws.an_event_changes_one_row.Goals as goal
-
-pub returns : goal.returns
-returns c = one_row

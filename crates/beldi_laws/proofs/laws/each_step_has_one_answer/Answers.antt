@@ -1,5 +1,0 @@
-use Rattle.beldi_laws.proofs.OneAnswer.{one_answer}
-use Rattle.beldi_laws.proofs.laws.each_step_has_one_answer.Goals as goal
-
-pub returns : goal.returns
-returns c = one_answer

@@ -1,5 +1,0 @@
-use Rattle.beldi_order.proofs.Growth.{change_last}
-use Rattle.beldi_order.proofs.laws.changes_come_last.Goals as goal
-
-pub returns : goal.returns
-returns c = change_last

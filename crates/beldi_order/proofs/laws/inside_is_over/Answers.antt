@@ -1,5 +1,0 @@
-use Rattle.beldi_order.proofs.Sound.{inside_is_over}
-use Rattle.beldi_order.proofs.laws.inside_is_over.Goals as goal
-
-pub returns : goal.returns
-returns c = inside_is_over

@@ -1,5 +1,0 @@
-use Rattle.beldi_order.proofs.Guard.{guards_left}
-use Rattle.beldi_order.proofs.laws.late_reads_leave_guards.Goals as goal
-
-pub returns : goal.returns
-returns c = guards_left

@@ -1,5 +1,0 @@
-use Rattle.beldi_order.proofs.InOrder.{in_order}
-use Rattle.beldi_order.proofs.laws.linear_is_in_order.Goals as goal
-
-pub returns : goal.returns
-returns c = in_order

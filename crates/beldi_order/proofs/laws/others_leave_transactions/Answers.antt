@@ -1,5 +1,0 @@
-use Rattle.beldi_order.proofs.Foreign.{others_leave}
-use Rattle.beldi_order.proofs.laws.others_leave_transactions.Goals as goal
-
-pub returns : goal.returns
-returns c = others_leave

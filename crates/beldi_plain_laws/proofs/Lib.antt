@@ -1,0 +1,27 @@
+pub mod Bound
+pub mod CallStack
+pub mod Called
+pub mod Ends
+pub mod EntryLaws
+pub mod EntryPlaces
+pub mod Foreign
+pub mod GoingOn
+pub mod Growth
+pub mod Guard
+pub mod InOrder
+pub mod LateReads
+pub mod LeadsAlike
+pub mod LockHeld
+pub mod Maps
+pub mod Moved
+mod Names
+pub mod Nulls
+pub mod Passes
+pub mod PlainOperations
+pub mod Rises
+pub mod Sound
+pub mod Touched
+pub mod Transactions
+pub mod WellFormed
+pub mod Went
+pub mod WholeTransaction

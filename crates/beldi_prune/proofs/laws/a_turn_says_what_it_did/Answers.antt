@@ -1,5 +1,0 @@
-use Rattle.beldi_prune.proofs.Said.{say_what_they_did}
-use Rattle.beldi_prune.proofs.laws.a_turn_says_what_it_did.Goals as goal
-
-pub returns : goal.returns
-returns c = say_what_they_did

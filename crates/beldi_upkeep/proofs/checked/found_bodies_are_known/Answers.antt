@@ -1,5 +1,0 @@
-use Rattle.beldi_upkeep.proofs.Firsts.{found_bodies}
-use Rattle.beldi_upkeep.proofs.checked.found_bodies_are_known.Goals as goal
-
-pub returns : goal.returns
-returns c = found_bodies
