@@ -91,9 +91,9 @@ pub record ViewedBlocks : Type 0 where
 abbrev pub with_block : ViewedBlocks → ℕ → List SlotId → ViewedBlocks
 with_block s n b = record { lists = slice_set s.lists n b; spares = s.spares }
 
--- a block without slots stands before all others
+-- the first block was made, and has no slots
 abbrev pub opened : ViewedBlocks → ViewedBlocks
-opened s = record { lists = [] ∷ s.lists; spares = s.spares - 1 }
+opened s = record { lists = [] ∷ []; spares = s.spares - 1 }
 
 -- the slots behind the first half of a block are in a block of their own
 abbrev pub split_at : ViewedBlocks → ℕ → ViewedBlocks

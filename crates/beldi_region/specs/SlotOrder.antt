@@ -57,10 +57,11 @@ pub record IsGap (r : ViewedRegion Entry) (ids : List SlotId) (k : RowKey) (plac
   pub below : (j : ℕ) (d : SlotId) → j + 1 ≡ place → side k (find r (slice_index_or ids j d)) ≡ Greater
   pub above : (d : SlotId) → place < length ids → side k (find r (slice_index_or ids place d)) ≡ Less
 
--- a place, before which no slot stands but one with a lesser key
-pub record IsBehind (r : ViewedRegion Entry) (bs : List (List SlotId)) (k : RowKey) (p : Spot) : Type 0 where
+-- a place, before which no slot stands but one with whose key this one compares so, and this one is not less
+pub record IsBehind (r : ViewedRegion Entry) (bs : List (List SlotId)) (k : RowKey) (o : Ordering) (p : Spot) : Type 0 where
   pub spot : IsSpot bs p
-  pub below : (j : ℕ) (d : SlotId) → j + 1 ≡ place_in bs p → side k (find r (slice_index_or (flat bs) j d)) ≡ Greater
+  pub not_less : is_lt o ≡ false
+  pub below : (j : ℕ) (d : SlotId) → j + 1 ≡ place_in bs p → side k (find r (slice_index_or (flat bs) j d)) ≡ o
 
 -- the place of the slot with a key, or the one where it is to stand
 abbrev pub Places : ViewedRegion Entry → List SlotId → RowKey → Result ℕ ℕ → Type 0

@@ -125,12 +125,13 @@ impl Blocks {
         self.used[spot.block].remove(spot.at);
     }
 
-    // Puts a block without slots before all others.
+    // Makes the first block, without slots.
     fn open(&mut self)
-        requires { 0 < self.old.spares }
+        requires none { self.old.lists ≡ [] }
+        requires spare { 0 < self.old.spares }
         ensures { self.new ≡ opened self.old }
     {
-        drop(self.used.insert(0, Block::new()));
+        self.used.push_reserved(Block::new());
     }
 
     // Moves the slots behind the first half of a block into one of their own behind it, whose number it gives.
@@ -162,7 +163,11 @@ impl Blocks {
         requires { block < length self.old.lists }
         ensures { self.new ≡ closed self.old block }
     {
-        drop(self.used.remove(block));
+        if self.used.len() - block == 1 {
+            self.used.truncate(block);
+        } else {
+            drop(self.used.remove(block));
+        }
     }
 
     /// The same place, in a block that has room for one more slot. Where there is none, there is a block more.

@@ -20,8 +20,8 @@ const SPOTS: usize = 128;
 const START: Spot = Spot { block: 0, at: 0 };
 
 /// Where the row with a key may be, by a number that equal keys have alike. A hint may be wrong: whoever takes one compares the
-/// key of the row that is there. So nothing is proved of hints. Nor is it of the place where a row of a home and a kind was
-/// last missed: the next one is mostly missed there or a little behind, and the rows beside a place are compared.
+/// key of the row that is there. So nothing is proved of hints. Nor is it of the place where a search for a key of a home and a
+/// kind last ended: the next one mostly ends there or a little behind, and the rows beside a place are compared.
 #[derive(Drop)]
 pub(crate) struct Hints {
     ids: Vec<SlotId>,
@@ -68,7 +68,7 @@ impl Hints {
         }
     }
 
-    /// Where a row of this key's home and kind was last missed.
+    /// Where a search for a key of this one's home and kind last ended.
     pub(crate) fn spot(&self, key: &RowKey) -> Spot {
         match self.spots.get(spot_number(key)) {
             Some(spot) => *spot,
@@ -76,8 +76,8 @@ impl Hints {
         }
     }
 
-    /// A row with this key was missed here.
-    pub(crate) fn missed(&mut self, key: &RowKey, spot: Spot) {
+    /// A search for this key ended here.
+    pub(crate) fn set_spot(&mut self, key: &RowKey, spot: Spot) {
         if let Some(last) = self.spots.get_mut(spot_number(key)) {
             *last = spot;
         }

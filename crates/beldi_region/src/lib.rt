@@ -14,8 +14,8 @@
 //!   taken by `ready`.
 //! - Its slots are those that are taken, in the order of their keys, and no two have one key (`IsHeld`). So a row is the one of
 //!   its key wherever a hint found it, and an act that adds a row puts its slot where the search ended, or at a place that was tried
-//!   before and has a lesser key before it and a greater one behind it. Where `ready` needs more memory, the rows go to another
-//!   region.
+//!   before and has a lesser key before it and a greater one behind it. The row after a key is looked for so too, where the key
+//!   before the place may be this one. Where `ready` needs more memory, the rows go to another region.
 //! - The slots of open intents are kept in order too (`IsListed`), so `opens` goes over no rows.
 //! - An order is a list in blocks of at most 128 slots, of which no two neighbours have few (`AreTight`): so there are at most as
 //!   many as were reserved, and a slot that is put or taken away moves those of a block or two alone.

@@ -1,5 +1,6 @@
 // Slots in the order of the keys of their rows.
-ghost use Rattle.std.specs.Prelude.{◌≡◌, ◌+◌, ◌-◌, ◌*◌, ◌<◌, ◌≤◌, true, [], IfOk, IfErr, IfSome, length, insert, remove, slice_get, option_map};
+ghost use Rattle.std.specs.Ordering.{is_lt};
+ghost use Rattle.std.specs.Prelude.{◌≡◌, ◌+◌, ◌-◌, ◌*◌, ◌<◌, ◌≤◌, false, [], IfOk, IfErr, IfSome, length, insert, remove, slice_get, option_map};
 ghost use Rattle.beldi_region.specs.Region.{find};
 ghost use Rattle.beldi_region.specs.Blocks.{AreTight, tight_prop, flat, half_room, IsAt, IsSpot};
 ghost use Rattle.beldi_region.specs.SlotOrder.{side, IsBehind, IsBlockPast, IsGap, IsOrdered, IsPast, IsWithout, Places, Finds};
@@ -111,44 +112,53 @@ impl Order {
         }
     }
 
-    // Whether a slot with a lesser key stands before a place in its block.
-    fn is_behind(&self, region: &Region<Entry>, key: &RowKey, spot: Spot) -> bool
-        ensures { result ≡ true → IsBehind region.now self.now.blocks.lists key.now spot }
+    // How a key compares with that of the slot before a place in its block; less, where there is none.
+    fn side_before(&self, region: &Region<Entry>, key: &RowKey, spot: Spot) -> Ordering
+        ensures { is_lt result ≡ false → IsBehind region.now self.now.blocks.lists key.now result spot }
     {
         if spot.at == 0 {
-            return false;
+            return Ordering::Less;
         }
         let last = Spot {
             block: spot.block,
             at: spot.at - 1,
         };
         match self.blocks.slot(last) {
-            Some(id) => side(region, id, key).is_gt(),
-            None => false,
+            Some(id) => side(region, id, key),
+            None => Ordering::Less,
         }
     }
 
-    /// The place where a key without a row is to stand, where that is this one or a few behind it. It may be no place at all.
+    /// The place behind all slots whose keys are not greater than this one, where that is a given place or a few behind it, and
+    /// whether the slot before it has this key. What is given may be no place at all.
     // Inline, it would cost whoever finds a row by its hint 11 instructions.
     #[inline(never)]
-    pub(crate) fn gap_near(&self, region: &Region<Entry>, key: &RowKey, near: Spot) -> Option<Spot>
-        ensures spot { IfSome result (IsSpot self.now.blocks.lists) }
-        ensures gap { IfSome result (λ s. IsGap region.now (ids_of self.now) key.now (place_of self.now s)) }
+    pub(crate) fn past_near(
+        &self,
+        region: &Region<Entry>,
+        key: &RowKey,
+        near: Spot,
+    ) -> Option<(Spot, bool)>
+        ensures spot { IfSome result (λ p. IsSpot self.now.blocks.lists p.0) }
+        ensures past { IfSome result (λ p. IsPast region.now (ids_of self.now) key.now (place_of self.now p.0)) }
+        ensures gap { IfSome result (λ p. p.1 ≡ false → IsGap region.now (ids_of self.now) key.now (place_of self.now p.0)) }
     {
-        if !self.is_behind(region, key, near) {
+        let mut before = self.side_before(region, key, near);
+        if before.is_lt() {
             return None;
         }
         let mut spot = near;
         let mut left = NEAR;
         while left > 0 {
             let Some((id, next)) = self.next(spot) else {
-                return Some(spot);
+                return Some((spot, before.is_eq()));
             };
-            match side(region, id, key) {
-                Ordering::Less => return Some(spot),
-                Ordering::Equal => return None,
-                Ordering::Greater => spot = next,
+            let behind = side(region, id, key);
+            if behind.is_lt() {
+                return Some((spot, before.is_eq()));
             }
+            before = behind;
+            spot = next;
             left -= 1;
         }
         None

@@ -16,7 +16,7 @@ ghost use Rattle.beldi_table.specs.MapTable.{ChangedOn};
 ghost use Rattle.beldi_region.specs.Region.{find, Released};
 ghost use Rattle.beldi_region.specs.Ids.{ids_of, place_of, found};
 ghost use Rattle.beldi_region.specs.Blocks.{IsSpot};
-ghost use Rattle.beldi_region.specs.SlotOrder.{pairs, rows_in, side, Finds, IsGap, IsHeld, IsListed};
+ghost use Rattle.beldi_region.specs.SlotOrder.{pairs, rows_in, side, Finds, IsGap, IsHeld, IsListed, IsPast};
 ghost use Rattle.beldi_region.specs.Follows.{Follows};
 
 use crate::blocks::Spot;
@@ -138,7 +138,9 @@ impl RegionTable {
         if side(&self.region, id, key).is_eq() {
             return Ok(id);
         }
-        if let Some(spot) = self.index.gap_near(&self.region, key, self.hints.spot(key)) {
+        let near = self.hints.spot(key);
+        // A row that the hint does not name is searched for.
+        if let Some((spot, false)) = self.index.past_near(&self.region, key, near) {
             return Err(spot);
         }
         self.index.find(&self.region, key)
@@ -367,11 +369,24 @@ impl RegionTable {
         }
     }
 
-    // The row after a key.
-    fn row_past(&self, after: &RowKey) -> Option<(&RowKey, &Row)>
+    // The place behind all rows whose keys are not greater than this one.
+    fn past(&self, key: &RowKey) -> Spot
+        ensures spot { IsSpot self.now.index.blocks.lists result }
+        ensures past { IsPast self.now.region (ids_of self.now.index) key.now (place_of self.now.index result) }
+    {
+        let near = self.hints.spot(key);
+        match self.index.past_near(&self.region, key, near) {
+            Some((spot, _)) => spot,
+            None => self.index.past(&self.region, key),
+        }
+    }
+
+    // The row after a key, behind its place.
+    fn row_past(&self, after: &RowKey, spot: Spot) -> Option<(&RowKey, &Row)>
+        requires spot { IsSpot self.now.index.blocks.lists spot }
+        requires past { IsPast self.now.region (ids_of self.now.index) after.now (place_of self.now.index spot) }
         ensures { entry_of result ≡ next_row (rows_of self.now) after.now }
     {
-        let spot = self.index.past(&self.region, after);
         let Some((id, _)) = self.index.next(spot) else {
             return None;
         };
@@ -433,7 +448,7 @@ impl Table for RegionTable {
                 Ok(tell(row, change))
             }
             Err(spot) => {
-                self.hints.missed(&key, spot);
+                self.hints.set_spot(&key, spot);
                 let added = self.add(key, act, now, spot)?;
                 Ok(tell(None, added))
             }
@@ -445,7 +460,9 @@ impl Table for RegionTable {
             Went after.now (region_state self.entry.now) (region_state now) result)) }
         ensures never { IsErrOf result OutOfMemory → ⊥ }
     {
-        Ok(self.row_past(after))
+        let spot = self.past(after);
+        self.hints.set_spot(after, spot);
+        Ok(self.row_past(after, spot))
     }
 
     fn opens(&self, after: &RowKey) -> Opens<'_> {
