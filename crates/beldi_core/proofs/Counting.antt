@@ -84,7 +84,7 @@ elsewhere k i h = (elim (is_eq (nat_cmp i k)) as (λ b. is_eq (nat_cmp i k) ≡ 
 ]) refl
 
 module _ (m : RunMap) (k : ℕ) where
-  put_here : (r : Run) → map.get (map.insert m k r) k ≡ Some r
+  pub put_here : (r : Run) → map.get (map.insert m k r) k ≡ Some r
   put_here r = get-insert nat_cmp_total m k r k ∙ ap (λ b. cond b (Some r) (map.get m k)) (ap is_eq (tied_itself nat_cmp_total k))
 
   pub put_there : (r : Run) (i : ℕ) → (i ≡ k → ⊥) → map.get (map.insert m k r) i ≡ map.get m i
@@ -93,7 +93,7 @@ module _ (m : RunMap) (k : ℕ) where
   pub gone_here : map.get (map.remove m k) k ≡ None
   gone_here = get-remove nat_cmp_total m k k ∙ ap (λ b. cond b None (map.get m k)) (ap is_eq (tied_itself nat_cmp_total k))
 
-  gone_there : (i : ℕ) → (i ≡ k → ⊥) → map.get (map.remove m k) i ≡ map.get m i
+  pub gone_there : (i : ℕ) → (i ≡ k → ⊥) → map.get (map.remove m k) i ≡ map.get m i
   gone_there i h = get-remove nat_cmp_total m k i ∙ ap (λ b. cond b None (map.get m i)) (elsewhere k i h)
 
 -- without a run

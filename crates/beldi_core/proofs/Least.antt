@@ -1,6 +1,6 @@
 -- The least number past another, of the entries of a map.
-use Rattle.beldi_core.proofs.Names.{Bool, Bor, Equal-is, IsLeastPast, IsSome, IsStrictlySortedBy, List, MatchOption, MatchOrdering, None, Option, Run, RunMap, Some, T, [], ap, arith, below_all, cond, entries_rows, entries_sorted, false, filter, find, first_past, ge_from_not_lt, get-entries, if◌then◌else◌, is_eq, is_lt, is_sorted, keys_of, le-ltb, lt-ltb, nat_cmp, nat_cmp-IsAntisymmetric, nat_cmp_total, nat_lt, option_map, ranks, refl, subst, sym, tied_itself, true, ℕ, ◌&&◌, ◌<◌, ◌∙◌, ◌∷◌, ◌≡◌, ◌≤◌}
-use Rattle.std.proofs.Common.{slice_get}
+use Rattle.std.specs.Prelude.{All}
+use Rattle.beldi_core.proofs.Names.{Bool, Bor, Equal-is, IsLeastPast, IsSome, IsStrictlySortedBy, Less, List, MatchOption, MatchOrdering, None, Option, Run, RunMap, Some, T, [], ap, arith, below_all, cond, entries_rows, entries_sorted, false, filter, find, first_past, ge_from_not_lt, get-entries, ltb-false, ltb-true, if◌then◌else◌, is_at, is_eq, is_lt, is_sorted, keys_of, le-ltb, lookup, lt-ltb, nat_cmp, nat_cmp-IsAntisymmetric, nat_cmp_total, nat_lt, option_map, ranks, refl, subst, suc, sym, tied_itself, true, ℕ, ◌&&◌, ◌<◌, ◌∙◌, ◌∷◌, ◌≡◌, ◌≤◌}
 use Rattle.beldi_core.proofs.Truths.{first, second, test_true, less}
 use Rattle.beldi_core.proofs.Names.map
 
@@ -76,24 +76,24 @@ next_is i es list new r sorted e h m o is next =
     let all : map.entries m ≡ es = ap map.entries (sym is) ∙ entries_rows nat_cmp_total nat_cmp-IsAntisymmetric es sorted in
     of_map i m o (subst (LeastIn i (map.entries m)) (ap (λ xs. head_of (past_all i xs)) all ∙ first_is i es list new r e h ∙ next) (least i (map.entries m) (entries_sorted m)))
 
-pub next_first : (i : ℕ) (es list new : List (ℕ × Run)) (r : Option (Bor ℕ × Bor Run)) → IsStrictlySortedBy nat_cmp (keys_of es) → list ≡ past_all i es
-    → MatchOption r ((list ≡ []) × (new ≡ [])) (λ x. list ≡ (x.0.now, x.1.now) ∷ new) → (m : RunMap) (o : Option ℕ) → map.from_entries es ≡ m → option_map (λ e. e.0.now) r ≡ o → o ≡ first_past i (map.entries m)
-next_first i es list new r sorted e h m o is next =
-    let all : map.entries m ≡ es = ap map.entries (sym is) ∙ entries_rows nat_cmp_total nat_cmp-IsAntisymmetric es sorted in
-    sym next ∙ sym (first_is i es list new r e h) ∙ heads i es ∙ ap (first_past i) (sym all)
+-- there is one least number, so it is the first one in their order
+one_least : (i : ℕ) (m : RunMap) (o p : Option ℕ) → IsLeastPast i m o → IsLeastPast i m p → o ≡ p
+one_least i m None None h k = refl
+one_least i m None (Some n) h k = absurd (let none = h n k.0 in let some = k.1 in cc)
+one_least i m (Some n) None h k = absurd (let none = k n h.0 in let some = h.1 in cc)
+one_least i m (Some a) (Some b) h k = by (nat_lt a b) (nat_lt b a) refl refl
+  where
+    by : (x y : Bool) → nat_lt a b ≡ x → nat_lt b a ≡ y → Some a ≡ Some b
+    by true y e f = absurd (let none = k.2 a h.0 (ltb-true a b e) in let some = h.1 in cc)
+    by false true e f = absurd (let none = h.2 b k.0 (ltb-true b a f) in let some = k.1 in cc)
+    by false false e f = ap Some (omega (arith, ltb-false a b e, ltb-false b a f))
 
--- the first of all runs, past a number
-head_past : (i : ℕ) (es : List (ℕ × Run)) (k : ℕ) (r : Run) → slice_get es 0 ≡ Some (k, r) → i < k → first_past i es ≡ Some k
-head_past i [] k r at more = cc
-head_past i (e ∷ es) k r at more =
-    let same : e ≡ (k, r) = cc in
-    let key : e.0 ≡ k = ap (λ (p : ℕ × Run). p.0) same in
-    ap (λ b. if b then Some e.0 else first_past i es) (lt-ltb i e.0 (subst (λ n. i < n) (sym key) more)) ∙ ap Some key
+pub is_first : (i : ℕ) (m : RunMap) (o : Option ℕ) → IsLeastPast i m o → o ≡ first_past i (map.entries m)
+is_first i m o h = one_least i m o (first_past i (map.entries m)) h (of_map i m (first_past i (map.entries m)) (subst (LeastIn i (map.entries m)) (heads i (map.entries m)) (least i (map.entries m) (entries_sorted m))))
 
-pub first_of_all : (i : ℕ) (es : List (ℕ × Run)) (k : ℕ) (r : Run) → IsStrictlySortedBy nat_cmp (keys_of es) → slice_get es 0 ≡ Some (k, r) → i < k → (m : RunMap) → map.from_entries es ≡ m → IsLeastPast i m (Some k) × (Some k ≡ first_past i (map.entries m))
-first_of_all i es k r sorted at more m is =
-    let all : map.entries m ≡ es = ap map.entries (sym is) ∙ entries_rows nat_cmp_total nat_cmp-IsAntisymmetric es sorted in
-    let next : first_past i (map.entries m) ≡ Some k = ap (first_past i) all ∙ head_past i es k r at more in (
-      of_map i m (Some k) (subst (LeastIn i (map.entries m)) (heads i (map.entries m) ∙ next) (least i (map.entries m) (entries_sorted m))),
-      sym next,
-    )
+-- entries of greater keys have none that is not greater
+pub none_behind : (k i : ℕ) (es : List (ℕ × Run)) → i ≤ k → All (λ q. nat_cmp k q ≡ Less) (keys_of es) → lookup (is_at (nat_cmp i)) es ≡ None
+none_behind k i [] p h = refl
+none_behind k i (e ∷ es) p h =
+    let more : k < e.0 = below k e.0 (ap is_lt (h 0 0 (omega arith))) in
+    ap (λ b. cond b (Some e.1) (lookup (is_at (nat_cmp i)) es)) (apart i e.0 (λ s. omega (arith, s, more, p))) ∙ none_behind k i es p (λ j d q. h (suc j) d (omega (arith, q)))

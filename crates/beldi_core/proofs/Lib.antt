@@ -1,6 +1,7 @@
 mod CountMaps
 mod Counting
 pub mod Least
+pub mod Lives
 mod Names
 pub mod Plans
 pub mod RunMaps

@@ -3,12 +3,6 @@ use Rattle.beldi_core.proofs.Names.{AllCounted, AllGiven, AllKept, Bool, Core, C
 use Rattle.beldi_core.proofs.Counting.{inside, none_counted, put_counted, removed_counted, same_counted, counted_lower, gone_here, put_there}
 use Rattle.beldi_core.proofs.Names.map
 
--- entries without one key
-pub one_removed : (es fs : List (ℕ × Run)) (k : ℕ) → ((q : ℕ) → lookup (is_at (nat_cmp q)) fs ≡ cond (is_at (nat_cmp k) q) None (lookup (is_at (nat_cmp q)) es)) → map.from_entries {R = nat_cmp} fs ≡ map.remove (map.from_entries es) k
-one_removed es fs k h = same_map nat_cmp_total nat_cmp-IsAntisymmetric _ _ (λ q.
-    get_rows nat_cmp_total nat_cmp-IsAntisymmetric fs q ∙ h q ∙ ap (λ b. cond b None (lookup (is_at (nat_cmp q)) es)) ((eq_by_cmp_equiv nat_cmp_total).symm k q)
-    ∙ sym (get-remove nat_cmp_total (map.from_entries es) k q ∙ ap (cond (is_at (nat_cmp q) k) None) (get_rows nat_cmp_total nat_cmp-IsAntisymmetric es q)))
-
 -- ---- no number past the last has a run
 both_none : (b : Bool) (o : Option Run) → o ≡ None → cond b None o ≡ None
 both_none true o h = refl

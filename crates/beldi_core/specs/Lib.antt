@@ -1,3 +1,4 @@
 pub mod Counts
+pub mod Live
 pub mod LiveRuns
 pub mod PlannedEvent

@@ -10,10 +10,6 @@ use Rattle.beldi_core.specs.{Counts.CountMap, Counts.AllCounted, Counts.less, de
 abbrev pub RunMap : Type 0
 RunMap = FinMap nat_cmp Run
 
--- the map that the entries of a tree make
-abbrev pub map_of : BTreeMap ℕ Run → RunMap
-map_of t = map.from_entries t.entries
-
 -- the live runs, and how many numbers were ever given
 pub record Numbered : Type 0 where
   pub runs : RunMap

@@ -11,8 +11,8 @@
 //!   (`strode`).
 //!
 //! Files:
-//! - Code (`src/`): `host_core` the host without its table; `events` what an event asks, and what follows; `runs` the live
-//!   runs by number; `counts` how many of them each intent has.
+//! - Code (`src/`): `host_core` the host without its table; `events` what an event asks, and what follows; `live` the live runs in the order of their
+//!   numbers; `runs` what is kept of them; `counts` how many of them each intent has.
 //! - Lemmas (`proofs/`): `Plans` a plan, followed, is one step; `RunMaps`; `CountMaps`, `Counting` what is counted of the
 //!   runs; `Least` the least number past another; `Truths`.
 #![tactic(auto)]
@@ -20,6 +20,7 @@
 mod counts;
 mod events;
 mod host_core;
+mod live;
 mod runs;
 
 pub use events::{LAST_MOMENT, MOST_EVENTS, Pending, Planned};

@@ -1,14 +1,15 @@
 // The live runs of a host, by number.
-ghost use Rattle.std.specs.Prelude.{◌≡◌, ℕ, ◌+◌, ◌-◌, ◌^◌, ◌<◌, ◌≤◌, Some, IsSome, IfOk, IfErr, IfSome, OnOk, OnErr, option_copied};
+ghost use Rattle.std.specs.Prelude.{◌≡◌, ℕ, ◌+◌, ◌-◌, ◌^◌, ◌<◌, ◌≤◌, Some, None, IsSome, IfOk, IfErr, IfSome, OnOk, OnErr, option_copied};
 ghost use Rattle.std.specs.FinMap as map;
 ghost use Rattle.beldi_query.specs.Query.{query_reply_of};
-ghost use Rattle.beldi_core.specs.LiveRuns.{map_of, IsLeastPast, started, withdrawn, ends_run, settled, uncounted, settled_counts, AllKept, asked_of, RunTold, walked_in};
+ghost use Rattle.beldi_core.specs.LiveRuns.{IsLeastPast, started, withdrawn, ends_run, settled, uncounted, settled_counts, AllKept, asked_of, RunTold, walked_in};
 ghost use Rattle.beldi_step.specs.Next.{first_past};
 ghost use Rattle.beldi_core.specs.Counts.{CountMap, count_at, more, kept_as};
 ghost use Rattle.beldi_step.specs.HostStep.{has_run};
 ghost use Rattle.beldi_step.specs.Run.{run_asks};
 
 use crate::counts::Counts;
+use crate::live::Live;
 use beldi_book::Book;
 use beldi_lang::Deployment;
 use beldi_query::{Query, QueryReplyRef};
@@ -16,14 +17,12 @@ use beldi_step::{Mark, Run, TurnOutput};
 use beldi_turn::{ask, callee, resume, walk_to};
 use beldi_value::{Boxed, IntentId, or_drop};
 use std::alloc::{AllocError, Global};
-use std::collections::BTreeMap;
 use std::marker::Model;
-use std::ops::Bound;
 
 /// The live runs. Numbers rise from 1, and none is given twice.
 #[derive(Drop)]
 pub struct Runs {
-    live: BTreeMap<u64, Boxed<Run>>,
+    live: Live,
     counts: Counts,
     given: u64,
 }
@@ -33,51 +32,34 @@ impl Model for Runs {
     ghost use Rattle.std.specs.FinMap as map;
     ghost use Rattle.std.specs.Ordering.{nat_cmp};
     ghost use Rattle.beldi_step.specs.contracts.run.Run as run;
-    ghost use Rattle.beldi_core.specs.LiveRuns.{Numbered, AllKept, map_of};
+    ghost use Rattle.beldi_core.specs.LiveRuns.{Numbered, AllKept};
 
     ghost Value = { Numbered };
 
     ghost coded = { Prim.hlevel (codes, map.code {R = nat_cmp} coded_ℕ run.the_row.coded) };
 
-    ghost view = { λ a. record { runs = map_of a.live; given = a.given } };
+    ghost view = { λ a. record { runs = a.live; given = a.given } };
 
-    ghost invariant = { λ a. AllKept a.given (map_of a.live) a.counts };
-}
-
-// Out of memory, the run is given back.
-fn put(live: &mut BTreeMap<u64, Boxed<Run>>, number: u64, run: Boxed<Run>) -> Result<(), Boxed<Run>>
-    ensures ok { OnOk result (map_of live.new ≡ map.insert (map_of live.old) number run) }
-    ensures err { IfErr result (λ r. (r ≡ run) × (map_of live.new ≡ map_of live.old)) }
-{
-    match live.insert(number, run) {
-        Ok(_) => Ok(()),
-        Err(failed) => Err(failed.value.1),
-    }
-}
-
-fn take(live: &mut BTreeMap<u64, Boxed<Run>>, number: u64) -> Option<Boxed<Run>>
-    ensures run { result ≡ map.get (map_of live.old) number }
-    ensures rest { map_of live.new ≡ map.remove (map_of live.old) number }
-{
-    live.remove(&number)
+    ghost invariant = { λ a. AllKept a.given a.live a.counts };
 }
 
 // Out of memory, a count that was raised is lowered again.
 fn begin(
-    live: &mut BTreeMap<u64, Boxed<Run>>,
+    live: &mut Live,
     counts: &mut Counts,
     alloc: Global,
     number: u64,
     run: Boxed<Run>,
 ) -> Result<(), AllocError>
-    requires { count_at counts.old run.id < 2 ^ 64 - 1 }
-    ensures ok { OnOk result (map_of live.new ≡ map.insert (map_of live.old) number run) }
+    requires few { count_at counts.old run.id < 2 ^ 64 - 1 }
+    requires greatest { (i : ℕ) → number ≤ i → map.get live.old i ≡ None }
+    ensures ok { OnOk result (live.new ≡ map.insert live.old number run) }
     ensures counted { OnOk result (counts.new ≡ more counts.old run.id) }
-    ensures err { OnErr result (map_of live.new ≡ map_of live.old) }
+    ensures err { OnErr result (live.new ≡ live.old) }
     ensures kept { (k : ℕ) → map.get counts.old run.id ≡ kept_as k → OnErr result (counts.new ≡ counts.old) }
 {
     counts.add(alloc, &run.get().id)?;
-    match put(live, number, run) {
+    match live.push(number, run) {
         Ok(()) => Ok(()),
         Err(run) => {
             counts.take(&run.get().id);
@@ -88,11 +70,11 @@ fn begin(
 }
 
 // Ends the run of this number, if it is live.
-fn end(live: &mut BTreeMap<u64, Boxed<Run>>, counts: &mut Counts, number: u64)
-    ensures rest { map_of live.new ≡ map.remove (map_of live.old) number }
-    ensures counts { counts.new ≡ uncounted counts.old (map.get (map_of live.old) number) }
+fn end(live: &mut Live, counts: &mut Counts, number: u64)
+    ensures rest { live.new ≡ map.remove live.old number }
+    ensures counts { counts.new ≡ uncounted counts.old (map.get live.old number) }
 {
-    if let Some(run) = take(live, number) {
+    if let Some(run) = live.take(number) {
         counts.take(&run.get().id);
     }
 }
@@ -107,9 +89,9 @@ fn ends(turn: &Result<TurnOutput, Option<Mark>>) -> bool
     }
 }
 
-fn settle(live: &mut BTreeMap<u64, Boxed<Run>>, counts: &mut Counts, number: u64, over: bool)
-    ensures rest { map_of live.new ≡ settled over (map_of live.old) number }
-    ensures counts { counts.new ≡ settled_counts over counts.old (map.get (map_of live.old) number) }
+fn settle(live: &mut Live, counts: &mut Counts, number: u64, over: bool)
+    ensures rest { live.new ≡ settled over live.old number }
+    ensures counts { counts.new ≡ settled_counts over counts.old (map.get live.old number) }
 {
     if over {
         end(live, counts, number);
@@ -118,7 +100,7 @@ fn settle(live: &mut BTreeMap<u64, Boxed<Run>>, counts: &mut Counts, number: u64
 
 // The run of this number, which is live, is told.
 fn tell(
-    live: &mut BTreeMap<u64, Boxed<Run>>,
+    live: &mut Live,
     counts: &mut Counts,
     number: u64,
     alloc: Global,
@@ -126,27 +108,23 @@ fn tell(
     changes: u64,
     heard: QueryReplyRef<'_>,
 ) -> Result<TurnOutput, Option<Mark>>
-    requires { IsSome (map.get (map_of live.old) number) }
-    ensures resume { RunTold code.now changes (map_of live.old) (map_of live.new) number (map.get (map_of live.old) number) (query_reply_of heard.entry) result }
-    ensures kept { (g : ℕ) → AllKept g (map_of live.old) counts.old → AllKept g (map_of live.new) counts.new }
+    requires { IsSome (map.get live.old number) }
+    ensures resume { RunTold code.now changes live.old live.new number (map.get live.old number) (query_reply_of heard.entry) result }
+    ensures kept { (g : ℕ) → AllKept g live.old counts.old → AllKept g live.new counts.new }
 {
-    let Some(run) = live.get_mut(&number) else {
-        unreachable!()
-    };
-    let result = resume(alloc, run.get_mut(), code, changes, heard);
+    let result = resume(alloc, live.get_mut(number), code, changes, heard);
     settle(live, counts, number, ends(&result));
     result
 }
 
 // The walk of the run of this number, if it is live, is set to another row.
-fn set_forward(live: &mut BTreeMap<u64, Boxed<Run>>, number: u64, row: u32)
-    ensures walked { map_of live.new ≡ walked_in (map_of live.old) number row (map.get (map_of live.old) number) }
-    ensures kept { (g : ℕ) (n : CountMap) → AllKept g (map_of live.old) n → AllKept g (map_of live.new) n }
+fn set_forward(live: &mut Live, number: u64, row: u32)
+    ensures walked { live.new ≡ walked_in live.old number row (map.get live.old number) }
+    ensures kept { (g : ℕ) (n : CountMap) → AllKept g live.old n → AllKept g live.new n }
 {
-    let Some(run) = live.get_mut(&number) else {
-        return;
-    };
-    walk_to(run.get_mut(), row);
+    if live.get(number).is_some() {
+        walk_to(live.get_mut(number), row);
+    }
 }
 
 /// What the answer to a run's turn needs: the id of the instance, and a run of what it calls, if it stands at a call.
@@ -179,7 +157,7 @@ impl Runs {
         ensures { result ≡ record { runs = map.empty; given = 0 } }
     {
         Runs {
-            live: BTreeMap::new(alloc),
+            live: Live::new(alloc),
             counts: Counts::new(alloc),
             given: 0,
         }
@@ -203,36 +181,7 @@ impl Runs {
     pub fn get(&self, number: u64) -> Option<&Run>
         ensures { option_copied result ≡ map.get self.now.runs number }
     {
-        // The first of all is asked for most.
-        match self.first_run(number) {
-            Some(run) => Some(run),
-            None => self.find(number),
-        }
-    }
-
-    // The run of this number, where that is the first of all: it is there without a search.
-    fn first_run(&self, number: u64) -> Option<&Run>
-        ensures { IfSome result (λ r. map.get self.now.runs number ≡ Some r.now) }
-    {
-        match self.live.first_key_value() {
-            Some((first, run)) => {
-                if *first == number {
-                    Some(run.get())
-                } else {
-                    None
-                }
-            }
-            None => None,
-        }
-    }
-
-    fn find(&self, number: u64) -> Option<&Run>
-        ensures { option_copied result ≡ map.get self.now.runs number }
-    {
-        match self.live.get(&number) {
-            Some(run) => Some(run.get()),
-            None => None,
-        }
+        self.live.get(number)
     }
 
     /// Whether a run of this intent is live.
@@ -247,34 +196,7 @@ impl Runs {
         ensures least { IsLeastPast number self.now.runs result }
         ensures first { result ≡ first_past number (map.entries self.now.runs) }
     {
-        match self.first_after(number) {
-            Some(first) => Some(first),
-            None => self.find_after(number),
-        }
-    }
-
-    fn find_after(&self, number: u64) -> Option<u64>
-        ensures least { IsLeastPast number self.now.runs result }
-        ensures first { result ≡ first_past number (map.entries self.now.runs) }
-    {
-        let past = (Bound::Excluded(&number), Bound::Unbounded);
-        match self.live.range(past).next() {
-            Some((next, _)) => Some(*next),
-            None => None,
-        }
-    }
-
-    // The first of all live runs, where it is past this number: it is there without a search.
-    fn first_after(&self, number: u64) -> Option<u64>
-        ensures least { IfSome result (λ n. IsLeastPast number self.now.runs (Some n)) }
-        ensures first { IfSome result (λ n. Some n ≡ first_past number (map.entries self.now.runs)) }
-    {
-        // Its contract says that the runs are in order.
-        let _count = self.live.len();
-        match self.live.first_key_value() {
-            Some((first, _)) => { if *first > number { Some(*first) } else { None } }
-            None => None,
-        }
+        self.live.next_after(number)
     }
 
     /// Gives a run the next number, which is the answer.
@@ -311,7 +233,7 @@ impl Runs {
     pub fn clear(&mut self, alloc: Global)
         ensures { self.new ≡ record { runs = map.empty; given = self.old.given } }
     {
-        self.live = BTreeMap::new(alloc);
+        self.live = Live::new(alloc);
         self.counts = Counts::new(alloc);
     }
 
