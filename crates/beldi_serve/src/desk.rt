@@ -154,7 +154,7 @@ impl<T: Table> HostDesk<T> {
     pub fn prune(&mut self) -> Result<(), AllocError>
         ensures { Comes (Passed pruning result) self.old.host self.new.host }
     {
-        let given = sweep(self.alloc, &mut self.host, &mut self.told, 0, PRUNING);
+        let given = sweep(&mut self.host, &mut self.told, 0, PRUNING);
         self.told.clear();
         match given {
             Ok(_) => Ok(()),

@@ -139,10 +139,10 @@ fn tell_reply<T: Table>(
 }
 
 // Appends how many rows there are.
-fn count_rows<T: Table>(alloc: Global, host: &mut Host<T>, out: &mut Str) -> Result<(), Stop>
+fn count_rows<T: Table>(host: &mut Host<T>, out: &mut Str) -> Result<(), Stop>
     ensures { (held : Option (List ℕ)) (faults : ℕ) → Does (CountRows ∷ []) (sight host.old out.old held faults) (sight host.new out.new held faults) result }
 {
-    appended(write_numbered(alloc, "rows ", u64::from(host.rows()), out))
+    appended(write_numbered("rows ", u64::from(host.rows()), out))
 }
 
 // Appends the listing of the tables; one line in place of its lines where the table failed.
@@ -193,7 +193,6 @@ fn settle_all<T: Table>(
 
 // Sweeps, and appends the text of it.
 fn sweep_all<T: Table>(
-    alloc: Global,
     host: &mut Host<T>,
     out: &mut Str,
     number: u8,
@@ -201,7 +200,7 @@ fn sweep_all<T: Table>(
 ) -> Result<(), Stop>
     ensures { (held : Option (List ℕ)) (faults : ℕ) → Does (sweep_at number budget 0 ∷ []) (sight host.old out.old held faults) (sight host.new out.new held faults) result }
 {
-    match sweep(alloc, host, out, number, budget) {
+    match sweep(host, out, number, budget) {
         Ok(_) => Ok(()),
         Err(stop) => Err(stop),
     }
@@ -223,12 +222,12 @@ fn say<T: Table>(alloc: Global, host: &mut Host<T>, out: &mut Str, line: Line) -
         Line::Ic { times } => give_turns(alloc, host, out, Taker::IntentCollector, times),
         Line::Tick { by } => answer(alloc, host, out, Event::Tick(by)),
         Line::Reply { ticket } => tell_reply(alloc, host, out, ticket),
-        Line::Rows => count_rows(alloc, host, out),
+        Line::Rows => count_rows(host, out),
         Line::Tables => list_tables(host, out),
         Line::Book => list_book(alloc, host, out),
         Line::Blank => Ok(()),
         Line::Gc { k, times } => give_turns(alloc, host, out, Taker::LogCollector(k), times),
-        Line::Sweep { k, budget } => sweep_all(alloc, host, out, k, budget),
+        Line::Sweep { k, budget } => sweep_all(host, out, k, budget),
         Line::Settle { budget } => settle_all(alloc, host, out, budget),
         Line::Halt => answer(alloc, host, out, Event::Halt),
     }

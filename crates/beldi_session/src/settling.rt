@@ -214,12 +214,12 @@ fn write_settled(
     ensures { OnOk result (out.new ≡ out.old ++ settled_text code.now settled.now) }
 {
     match settled {
-        Settled::All(turns) => write_numbered(alloc, "settled ", *turns, out),
-        Settled::Unsettled(turns) => write_numbered(alloc, "unsettled ", *turns, out),
-        Settled::Spent(turns) => write_numbered(alloc, "spent ", *turns, out),
-        Settled::Shut(turns) => write_numbered(alloc, "shut ", *turns, out),
+        Settled::All(turns) => write_numbered("settled ", *turns, out),
+        Settled::Unsettled(turns) => write_numbered("unsettled ", *turns, out),
+        Settled::Spent(turns) => write_numbered("spent ", *turns, out),
+        Settled::Shut(turns) => write_numbered("shut ", *turns, out),
         Settled::Stuck { turns, waiting } => {
-            write_numbered(alloc, "stuck ", *turns, out)?;
+            write_numbered("stuck ", *turns, out)?;
             write_waits(alloc, code, waiting, out)
         }
     }

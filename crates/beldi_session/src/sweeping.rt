@@ -16,7 +16,7 @@ use beldi_row::Table;
 use beldi_step::Pruned;
 use beldi_tidy::sweeps_are_as_promised;
 use beldi_value::Str;
-use std::alloc::{AllocError, Global};
+use std::alloc::AllocError;
 
 /// How a sweep ended.
 #[derive(Clone, Copy, Debug, PartialEq, Eq)]
@@ -74,33 +74,28 @@ fn sweep_on<T: Table>(host: &mut Host<T>, number: u8, turns: u64) -> Result<bool
     }
 }
 
-fn write_swept(alloc: Global, swept: Swept, out: &mut Str) -> Result<(), AllocError>
+fn write_swept(swept: Swept, out: &mut Str) -> Result<(), AllocError>
     ensures { OnOk result (out.new ≡ out.old ++ swept_text swept) }
 {
     match swept {
-        Swept::All(turns) => write_numbered(alloc, "swept ", turns, out),
-        Swept::Unswept(budget) => write_numbered(alloc, "unswept ", budget, out),
+        Swept::All(turns) => write_numbered("swept ", turns, out),
+        Swept::Unswept(budget) => write_numbered("unswept ", budget, out),
     }
 }
 
 // Appends how a sweep ended.
-fn tell_swept<T: Table>(
-    alloc: Global,
-    host: &Host<T>,
-    out: &mut Str,
-    swept: Swept,
-) -> Result<(), Stop>
+fn tell_swept<T: Table>(host: &Host<T>, out: &mut Str, swept: Swept) -> Result<(), Stop>
     ensures { (held : Option (List ℕ)) (faults : ℕ) → Does (TellSwept swept ∷ []) (sight host.now out.old held faults) (sight host.now out.new held faults) result }
 {
-    appended(write_swept(alloc, swept, out))
+    appended(write_swept(swept, out))
 }
 
 // .. with which the sweep ends.
-fn end<T: Table>(alloc: Global, host: &Host<T>, out: &mut Str, swept: Swept) -> Result<Swept, Stop>
+fn end<T: Table>(host: &Host<T>, out: &mut Str, swept: Swept) -> Result<Swept, Stop>
     ensures does { (held : Option (List ℕ)) (faults : ℕ) → Does (TellSwept swept ∷ []) (sight host.now out.old held faults) (sight host.now out.new held faults) result }
     ensures so { IfOk result (λ x. x ≡ swept) }
 {
-    match tell_swept(alloc, host, out, swept) {
+    match tell_swept(host, out, swept) {
         Ok(()) => Ok(swept),
         Err(stop) => Err(stop),
     }
@@ -111,7 +106,6 @@ fn end<T: Table>(alloc: Global, host: &Host<T>, out: &mut Str, swept: Swept) -> 
 /// item, and what is left of a row that its collector has begun. Once all intents are idle, one that begins before all rows leaves
 /// trimmed rows; and of trimmed ones, of which each that is adrift is so for more than a life, tidy ones.
 pub fn sweep<T: Table>(
-    alloc: Global,
     host: &mut Host<T>,
     out: &mut Str,
     number: u8,
@@ -125,11 +119,11 @@ pub fn sweep<T: Table>(
     let mut turns = 0;
     while turns < budget {
         match sweep_on(host, number, turns) {
-            Ok(true) => return end(alloc, host, out, Swept::All(turns + 1)),
+            Ok(true) => return end(host, out, Swept::All(turns + 1)),
             Ok(false) => {}
             Err(stop) => return Err(stop),
         }
         turns += 1;
     }
-    end(alloc, host, out, Swept::Unswept(budget))
+    end(host, out, Swept::Unswept(budget))
 }

@@ -13,7 +13,7 @@ returns-in-Ok g c = λ held faults.
     let b = sight c.event.new.self out held faults in
     subst (λ r. Does (Carry c.args.event ∷ []) a b r) (sym c.appended-told.ensures)
     (event_answered a b refl refl e.code c.args.event (Carry c.args.event) [] Whole seen [] (by_text wrote) (refl, refl) e.step
-    (text_by wrote _ (subst (λ d. OnOk wrote (out ≡ c.args.out.now ++ answer_text d seen)) (c.code.ensures ∙ e.code) c.write_answer.ensures.ok)) (no_fault wrote))
+    (text_by wrote _ (subst (λ d. OnOk wrote (out ≡ c.args.out.now ++ answer_text d seen)) (c.code.ensures ∙ e.code) c.write_answer.ensures)) (no_fault wrote))
 
 pub returns-in-Err : goal.returns-in-Err
 returns-in-Err g c = λ held faults.

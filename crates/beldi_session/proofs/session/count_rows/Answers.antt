@@ -10,4 +10,4 @@ returns g c = λ held faults.
     let b = sight c.args.host.now c.write_numbered.new.out held faults in
     subst (λ r. Does (CountRows ∷ []) a b r) (sym c.appended.ensures)
     (reported a b (record { held = refl; faults = refl; code = refl; room = refl; later = omega arith }) refl (λ m. RowsAre n) CountRows wrote (λ m. refl)
-    (counted_rows a.table.rows n (OnOk wrote (b.waiting ≡ a.waiting ++ _)) (subst (λ k. IsCount a.table.rows k) (sym c.from.ensures) c.rows.ensures) c.write_numbered.ensures.ok))
+    (counted_rows a.table.rows n (OnOk wrote (b.waiting ≡ a.waiting ++ _)) (subst (λ k. IsCount a.table.rows k) (sym c.from.ensures) c.rows.ensures) c.write_numbered.ensures))

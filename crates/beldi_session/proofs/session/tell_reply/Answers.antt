@@ -14,7 +14,7 @@ returns-in-Ok g c = λ held faults.
     let y = ReplyIs ticket (Some seen) in
     subst (λ r. Does (TellReply ticket ∷ []) a b r) (sym c.appended-told.ensures)
     (reported a b (record { held = refl; faults = refl; code = e.code; room = e.reads.room; later = e.reads.later }) e.core (λ m. y) (TellReply ticket) wrote (λ m. (refl, refl))
-    (read_as a b P seen (λ m n. OnOk wrote (b.waiting ≡ a.waiting ++ report_text a.code y) × IsReport a.code (state_at a m) (state_at b n) y) (λ m n same is. (c.write_reply_status.ensures.ok, is)) e.reads))
+    (read_as a b P seen (λ m n. OnOk wrote (b.waiting ≡ a.waiting ++ report_text a.code y) × IsReport a.code (state_at a m) (state_at b n) y) (λ m n same is. (c.write_reply_status.ensures, is)) e.reads))
 
 pub returns-in-Err-Failed : goal.returns-in-Err-Failed
 returns-in-Err-Failed g c = λ held faults.
