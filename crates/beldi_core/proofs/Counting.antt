@@ -93,7 +93,7 @@ module _ (m : RunMap) (k : ℕ) where
   pub gone_here : map.get (map.remove m k) k ≡ None
   gone_here = get-remove nat_cmp_total m k k ∙ ap (λ b. cond b None (map.get m k)) (ap is_eq (tied_itself nat_cmp_total k))
 
-  pub gone_there : (i : ℕ) → (i ≡ k → ⊥) → map.get (map.remove m k) i ≡ map.get m i
+  gone_there : (i : ℕ) → (i ≡ k → ⊥) → map.get (map.remove m k) i ≡ map.get m i
   gone_there i h = get-remove nat_cmp_total m k i ∙ ap (λ b. cond b None (map.get m i)) (elsewhere k i h)
 
 -- without a run

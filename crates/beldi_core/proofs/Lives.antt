@@ -1,6 +1,7 @@
 -- The live runs, of which the first lies apart, as one map.
 use Rattle.beldi_core.proofs.Names.{Bool, Equal-is, IsLeastPast, IsSome, None, Option, Run, RunMap, Some, ap, arith, cond, eqb_tells, false, get-empty, get-remove, if◌then◌else◌, inl, inr, is_eq, is_some, len-insert, ltb-false, ltb-true, nat_cmp, nat_cmp-IsAntisymmetric, nat_cmp_total, nat_lt, none_removed, put_got, put_run, put_twice, refl, remove_put, same_map, subst, sym, true, ℕ, ◌&&◌, ◌+◌, ◌<◌, ◌==◌, ◌∙◌, ◌≡◌, ◌≢◌, ◌≤◌, ◌⊎◌}
-use Rattle.beldi_core.proofs.Counting.{gone_there, put_here, put_there}
+use Rattle.beldi_core.proofs.Counting.{put_here, put_there}
+use Rattle.beldi_core.proofs.RunMaps.{both_none}
 use Rattle.beldi_core.specs.Live.{IsLeast, with_run}
 use Rattle.beldi_core.proofs.Names.map
 
@@ -57,12 +58,15 @@ put_other n None m k p h = refl
 put_other n (Some r) m k p h = swapped m k n p (Some r) (no_number n k r h)
 
 -- ---- no other has so small a number
-above : (n k : ℕ) (m : RunMap) (s : Run) → ((i : ℕ) → i ≤ n → map.get m i ≡ None) → map.get m k ≡ Some s → n < k
-above n k m s least here = by (nat_lt n k) refl
+greater : (n k : ℕ) → (k ≤ n → ⊥) → n < k
+greater n k h = by (nat_lt n k) refl
   where
     by : (b : Bool) → nat_lt n k ≡ b → n < k
     by true e = ltb-true n k e
-    by false e = let clash : None ≡ Some s = sym (least k (ltb-false n k e)) ∙ here in cc
+    by false e = absurd (h (ltb-false n k e))
+
+above : (n k : ℕ) (m : RunMap) (s : Run) → ((i : ℕ) → i ≤ n → map.get m i ≡ None) → map.get m k ≡ Some s → n < k
+above n k m s least here = greater n k (λ p. let clash : None ≡ Some s = sym (least k p) ∙ here in cc)
 
 pub least_put : (n : ℕ) (o : Option Run) (m : RunMap) (k : ℕ) (s r : Run) → map.get m k ≡ Some s → IsLeast n o m → IsLeast n o (map.insert m k r)
 least_put n None m k s r here none = let clash : None ≡ Some s = sym (get-empty nat_cmp k) ∙ ap (λ a. map.get a k) (sym none) ∙ here in cc
@@ -70,11 +74,7 @@ least_put n (Some q) m k s r here least = let more = above n k m s least here in
 
 pub least_removed : (n : ℕ) (o : Option Run) (m : RunMap) (k : ℕ) → IsLeast n o m → IsLeast n o (map.remove m k)
 least_removed n None m k none = none_removed nat_cmp_total nat_cmp-IsAntisymmetric m k (ap (λ a. map.get a k) none ∙ get-empty nat_cmp k) ∙ none
-least_removed n (Some q) m k least = λ i few. get-remove nat_cmp_total m k i ∙ by (is_eq (nat_cmp i k)) (least i few)
-  where
-    by : (b : Bool) {o : Option Run} → o ≡ None → cond b None o ≡ None
-    by true h = refl
-    by false h = h
+least_removed n (Some q) m k least = λ i few. get-remove nat_cmp_total m k i ∙ both_none (is_eq (nat_cmp i k)) (map.get m i) (least i few)
 
 -- without the first one the others are left
 pub first_left : (n : ℕ) (o : Option Run) (m : RunMap) (k : ℕ) → ((n == k) && is_some o) ≡ true → IsLeast n o m → m ≡ map.remove (with_run n o m) k
@@ -88,11 +88,7 @@ first_of_none n None m h none = λ i. ap (λ a. map.get a i) none ∙ get-empty 
 first_of_none n (Some r) m h none = cc
 
 behind : (n : ℕ) (r : Run) (m : RunMap) (k : ℕ) → ((i : ℕ) → k ≤ i → map.get (map.insert m n r) i ≡ None) → n < k
-behind n r m k last = by (nat_lt n k) refl
-  where
-    by : (b : Bool) → nat_lt n k ≡ b → n < k
-    by true e = ltb-true n k e
-    by false e = let clash : None ≡ Some r = sym (last n (ltb-false n k e)) ∙ put_here m n r in cc
+behind n r m k last = greater n k (λ p. let clash : None ≡ Some r = sym (last n p) ∙ put_here m n r in cc)
 
 pub least_pushed : (n : ℕ) (o : Option Run) (m : RunMap) (k : ℕ) (r : Run) → is_some o ≡ true → ((i : ℕ) → k ≤ i → map.get (with_run n o m) i ≡ None) → IsLeast n o m → IsLeast n o (map.insert m k r)
 least_pushed n None m k r some last h = cc

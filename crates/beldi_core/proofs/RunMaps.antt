@@ -4,21 +4,15 @@ use Rattle.beldi_core.proofs.Counting.{inside, none_counted, put_counted, remove
 use Rattle.beldi_core.proofs.Names.map
 
 -- ---- no number past the last has a run
-both_none : (b : Bool) (o : Option Run) → o ≡ None → cond b None o ≡ None
+pub both_none : (b : Bool) (o : Option Run) → o ≡ None → cond b None o ≡ None
 both_none true o h = refl
 both_none false o h = h
 
 given_removed : (g : ℕ) (m n : RunMap) (k : ℕ) → AllGiven g m → n ≡ map.remove m k → AllGiven g n
 given_removed g m n k h is i p = ap (λ q. map.get q i) is ∙ get-remove nat_cmp_total m k i ∙ both_none _ _ (h i p)
 
-apart : (m : RunMap) (k i : ℕ) (r : Run) → k < i → map.get (map.insert m k r) i ≡ map.get m i
-apart m k i r p = get-insert nat_cmp_total m k r i ∙ (elim (eq_by_cmp nat_cmp i k) as (λ b. eq_by_cmp nat_cmp i k ≡ b → cond b (Some r) (map.get m i) ≡ map.get m i) [
-  | true ↦ λ e. let same = nat_cmp-IsAntisymmetric i k ((Equal-is (nat_cmp i k)).0 e) in absurd (omega (arith, same))
-  | false ↦ λ e. refl
-]) refl
-
 given_started : (g : ℕ) (m n : RunMap) (r : Run) → AllGiven g m → n ≡ map.insert m (g + 1) r → AllGiven (g + 1) n
-given_started g m n r h is i p = ap (λ q. map.get q i) is ∙ apart m (g + 1) i r p ∙ h i (omega arith)
+given_started g m n r h is i p = ap (λ q. map.get q i) is ∙ put_there m (g + 1) r i (λ e. omega (arith, e, p)) ∙ h i (omega arith)
 
 given_withdrawn : (g : ℕ) (m n : RunMap) → 1 ≤ g → AllGiven g m → n ≡ map.remove m g → AllGiven (g - 1) n
 given_withdrawn g m n some h is i p = ap (λ q. map.get q i) is ∙ get-remove nat_cmp_total m g i ∙ (elim (nat_lt g i) as (λ b. nat_lt g i ≡ b → cond (eq_by_cmp nat_cmp i g) None (map.get m i) ≡ None) [

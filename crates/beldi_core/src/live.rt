@@ -48,6 +48,16 @@ impl Model for Live {
     ghost invariant = { λ a. IsFirst a.first (map_of a.rest) };
 }
 
+// That there is none.
+fn no_first() -> First
+    ensures { result.run ≡ None }
+{
+    First {
+        number: 0,
+        run: None,
+    }
+}
+
 // Whether the first run has this number.
 fn begins_with(first: &First, number: u64) -> bool
     ensures { result ≡ begins_with number first.now }
@@ -93,10 +103,7 @@ fn take_first(rest: &mut BTreeMap<u64, Boxed<Run>>) -> First
             number,
             run: Some(run),
         },
-        None => First {
-            number: 0,
-            run: None,
-        },
+        None => no_first(),
     }
 }
 
@@ -117,10 +124,7 @@ impl Live {
         ensures { result ≡ map.empty }
     {
         Live {
-            first: First {
-                number: 0,
-                run: None,
-            },
+            first: no_first(),
             rest: BTreeMap::new(alloc),
         }
     }
