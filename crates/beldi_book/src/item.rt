@@ -65,5 +65,5 @@ fn write_table(code: &Deployment, func: u16, table: u16, out: &mut Str) -> Resul
 fn write_key(alloc: Global, key: &Str, out: &mut Str) -> Result<(), AllocError>
     ensures { OnOk result (out.new ≡ out.old ++ quoted_key key.now) }
 {
-    Value::Text(key.copy(alloc)?).write_json(alloc, out)
+    key.write_json(alloc, out)
 }
