@@ -3,3 +3,4 @@ pub mod Copies
 pub mod Evaluated
 pub mod Lookups
 mod Names
+pub mod TextKeys

@@ -11,7 +11,7 @@ use crate::deployment::{Expr, Op, Step};
 use crate::fault::EvalErr;
 use crate::operators::{
     canonical, compared, element, field, key, length, limited, negated, number, number_within,
-    operate, opposite, or_fault, pushed, settled, truth, with_field,
+    operate, opposite, or_fault, pushed, settled, text_key, truth, with_field,
 };
 use crate::parts::{Chain, Exprs, Members};
 use crate::variables::Variables;
@@ -66,7 +66,11 @@ fn numbers(variables: &Variables, chain: &Chain) -> Option<(Op, i64, i64)>
 pub fn key_at(alloc: Global, variables: &Variables, expr: &Expr) -> Result<Str, EvalErr>
     ensures { Evaluates (key_of_expr variables.now expr.now) result }
 {
-    key(alloc, evaluated(alloc, variables, expr)?.value())
+    match expr {
+        // Most keys stand in the body: no value is made of them.
+        Expr::Text(text) => text_key(alloc, text),
+        _ => key(alloc, evaluated(alloc, variables, expr)?.value()),
+    }
 }
 
 // The value, which is not copied where it stands among the variables.

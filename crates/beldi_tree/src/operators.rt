@@ -300,7 +300,13 @@ pub(crate) fn with_field(
 pub(crate) fn key(alloc: Global, value: &Value) -> Result<Str, EvalErr>
     ensures { Evaluates (key_of value.now) result }
 {
-    let key = text(value)?;
+    text_key(alloc, text(value)?)
+}
+
+// The key that a text is.
+pub(crate) fn text_key(alloc: Global, key: &Str) -> Result<Str, EvalErr>
+    ensures { Evaluates (key_of (kind.Text key.now)) result }
+{
     if key.len() <= MOST_KEY {
         Ok(key.copy(alloc)?)
     } else {

@@ -1,5 +1,7 @@
 -- What is read is within the limits.
-use Rattle.beldi_value.proofs.Names.{Datum, Err, IfOk, IsTrue, List, None, NotInt, NotJson, Ok, Option, ReadsValue, Result, Some, TooDeep, TooLarge, Value, ValueErr, ap, ap₂, arith, datum_of, depth_of, false, field, fields, fields_depth, if_shallow, if_small, if◌then◌else◌, int, int_of, is_within, item, items_depth, json_at, length, length_signed_le, list, mag, max, most_bytes, most_depth, nat_le, nat_tests, of_items, of_json, of_members, ok_or, option_and_then, option_map, read_of, refl, signed_decimal, subst, suc, text_size, true, ℕ, ℤ, ◌&&◌, ◌<◌, ◌>>=◌, ◌^◌, ◌∙◌, ◌≡◌, ◌≤◌}
+use Rattle.beldi_value.proofs.Names.{Bool, Datum, Err, IfOk, IsTrue, List, None, NotInt, NotJson, Ok, Option, ReadsValue, Result, Some, TooDeep, TooLarge, Value, ValueErr, [], ap, ap₂, arith, cond, datum_of, depth_of, escape, false, field, fields, fields_depth, if_shallow, if_small, if◌then◌else◌, int, int_of, is_within, item, items_depth, json_at, length, length-append, length_signed_le, list, mag, max, most_bytes, most_depth, nat_le, nat_lt, nat_tests, of_items, of_json, of_members, ok_or, option_and_then, option_map, quoted, read_of, refl, signed_decimal, subst, suc, text, text_size, true, ℕ, ℤ, ◌%◌, ◌&&◌, ◌*◌, ◌/◌, ◌<◌, ◌>>=◌, ◌^◌, ◌∙◌, ◌∷◌, ◌≡◌, ◌≤◌}
+use Rattle.json.specs.Print.{escape_byte, escape_letter}
+use Rattle.std.specs.Char.{digit_char}
 use Rattle.beldi_value.proofs.Names.json
 
 -- a reading nests as deep as n
@@ -76,3 +78,24 @@ answer_within bytes (Err e) h = tt
 -- a whole number of 64 bits is within the limits
 pub int_within : (z : ℤ) → mag z < 2 ^ 63 → true ≡ is_within (int z)
 int_within z h = let few : length (signed_decimal z) ≤ 21 = length_signed_le 20 z (omega arith) h in grind (arith, nat_tests)
+
+-- so is a text of 256 bytes at most, of which each takes six at most
+few_bytes : (x : ℕ) → length (escape_byte x) ≤ 6
+unfolding escape_byte
+few_bytes x = by (nat_lt 0 (escape_letter x)) (nat_lt x 32)
+  where
+    by : (a b : Bool) → length (cond a (92 ∷ escape_letter x ∷ []) (cond b (92 ∷ 117 ∷ 48 ∷ 48 ∷ digit_char (x / 16) ∷ digit_char (x % 16) ∷ []) (x ∷ []))) ≤ 6
+    by true b = omega arith
+    by false true = omega arith
+    by false false = omega arith
+
+escaped_few : (s : List ℕ) → length (escape s) ≤ 6 * length s
+escaped_few [] = omega arith
+escaped_few (x ∷ s) = let few = few_bytes x in let rest = escaped_few s in let both = length-append (escape_byte x) (escape s) in omega (arith, few, rest, both)
+
+pub short_within : (s : List ℕ) → length s ≤ 256 → is_within (text s) ≡ true
+short_within s short =
+    let few = escaped_few s in
+    let both = length-append (escape s) (34 ∷ []) in
+    let size : length (quoted s) ≤ 4096 = omega (arith, few, both, short) in
+    grind (arith, nat_tests)
