@@ -18,6 +18,7 @@ pub enum Query {
 
 impl Query {
     /// Asks for an act on the row with the key. What is asked lies apart, as it is large and is handed on often.
+    #[inline(always)]
     pub fn act(alloc: Global, key: RowKey, act: Act) -> Result<Boxed<Query>, AllocError>
         ensures { IfOk result (λ q. q ≡ queries.Act key act) }
     {
@@ -25,6 +26,7 @@ impl Query {
     }
 
     /// Asks for the row with the key.
+    #[inline(always)]
     pub fn look(alloc: Global, key: RowKey) -> Result<Boxed<Query>, AllocError>
         ensures { IfOk result (λ q. q ≡ queries.Act key acts.Look) }
     {
@@ -32,6 +34,7 @@ impl Query {
     }
 
     /// Asks for the first row whose key is greater.
+    #[inline(always)]
     pub fn after(alloc: Global, key: RowKey) -> Result<Boxed<Query>, AllocError>
         ensures { IfOk result (λ q. q ≡ queries.After key) }
     {

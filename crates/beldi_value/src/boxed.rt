@@ -25,6 +25,7 @@ impl<T> Model for Boxed<T> {
 
 impl<T: Drop> Boxed<T> {
     /// Sets a value apart.
+    #[inline(always)]
     pub fn new(alloc: Global, value: T) -> Result<Boxed<T>, AllocError>
         ensures { IfOk result (λ a. a ≡ value) }
     {
@@ -49,6 +50,7 @@ impl<T: Drop> Boxed<T> {
     }
 
     /// The value, which lies apart no more.
+    #[inline(always)]
     pub fn into_inner(self) -> T
         ensures { result ≡ self }
     {
