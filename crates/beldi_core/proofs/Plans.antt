@@ -1,7 +1,7 @@
 -- An event that was planned, and then followed, is one step.
 use Rattle.std.proofs.lemmas.List.{append-nil}
 use Rattle.beldi_step.specs.{HostStep.counted, Run.plain_output}
-use Rattle.beldi_core.proofs.Names.{AllocError, Asked, Bool, Came, Copied, Copies, Core, Deployment, Err, Event, Followed, Lost, Mark, NoMemory, None, Numbered, Ok, Option, OutOfMemory, Pending, Plan, Planned, PlannedOf, Query, Result, Run, RunMap, RunTold, EventReply, Some, StepBy, Stepped, TableErr, TableState, TellsTurn, QueryReply, Turn, TurnOutput, after_turn, ap, asks, immediate, base, count_changes, crash_plan, ended_run, entered, event_of, false, if◌then◌else◌, mark_told, marked, nat_lt, no_run, plan, plan_of, reads_all, refl, remove_put, run_asks, run_next, run_plan, run_told, subst, sym, true, turn_event, unasked, unheard_next, ℕ, ◌∙◌, ◌≡◌}
+use Rattle.beldi_core.proofs.Names.{AllocError, Asked, Bool, Came, Copied, Copies, Core, Deployment, Err, Event, Followed, Lost, Mark, NoMemory, None, Numbered, Ok, Option, OutOfMemory, Plan, Planned, PlannedOf, Query, Result, Run, RunMap, RunTold, EventReply, Some, StepBy, Stepped, TableErr, TableState, TellsTurn, QueryReply, Turn, TurnOutput, after_turn, ap, asks, immediate, base, count_changes, crash_plan, ended_run, entered, false, if◌then◌else◌, mark_told, marked, nat_lt, no_run, plan, reads_all, refl, remove_put, run_asks, run_next, run_plan, run_told, subst, sym, turn_in, unasked, unheard_next, ℕ, ◌∙◌, ◌≡◌}
 use Rattle.beldi_core.proofs.Names.map
 
 -- ---- the step
@@ -18,8 +18,8 @@ pub reads : (d : Deployment) (e : Event) (c b z : Core) (p : Plan) (old new : Ta
 reads d e c b z p old new r planned h = subst (λ (q : Plan). StepBy d e c q z old new r) (sym planned.0) (subst (λ (x : Core). StepBy d e x reads_all z old new r) planned.1 h)
 
 -- ---- the answer to a turn
-pub query_asked : (d k : Deployment) (p : Pending) (c z : Core) (q : Query) (old new : TableState) (w : Result QueryReply TableErr) (r : Result EventReply AllocError) → k ≡ d → Followed k (event_of p) (base (event_of p) c) w z r → Came q c.now w old new → Asked d p c z q old new r
-query_asked d k p c z q old new w r code followed came = (w, subst (λ (y : Deployment). Followed y (event_of p) (base (event_of p) c) w z r) code followed, came)
+pub query_asked : (d k : Deployment) (e : Event) (c z : Core) (q : Query) (old new : TableState) (w : Result QueryReply TableErr) (r : Result EventReply AllocError) → k ≡ d → Followed k e (base e c) w z r → Came q c.now w old new → Asked d e c z q old new r
+query_asked d k e c z q old new w r code followed came = (w, subst (λ (y : Deployment). Followed y e (base e c) w z r) code followed, came)
 
 module _ (d : Deployment) (c z : Core) (a : RunMap) (i : ℕ) (t : QueryReply) (n : Copies) where
   unheard_by : (o : Option Run) (x : Result TurnOutput (Option Mark)) (m : Option Mark) → RunTold d (count_changes c.book) c.runs a i o t x → Copied n o → m ≡ mark_told x → z ≡ record c { runs = map.remove a i; book = marked c.book n.id m } → z ≡ unheard_next d c i t o
@@ -76,11 +76,35 @@ idle c i (Some r) x none is = cc
 asks_in_time : (c : Core) (i : ℕ) (o : Option Run) (r : Run) → o ≡ Some r → nat_lt r.deadline c.now ≡ false → run_plan c i o ≡ asks (run_asks r)
 asks_in_time c i o r is early = ap (run_plan c i) is ∙ ap (λ b. if b then immediate (ended_run c i) EventReply.Expired else asks (run_asks r)) early
 
--- ---- a turn, whether its answer is lost or not
-pub idle_turn : (d : Deployment) (c : Core) (i : ℕ) (lost : Bool) (x : EventReply) → map.get c.runs i ≡ None → x ≡ no_run c i → plan_of d (turn_event i lost) c ≡ immediate c x
-idle_turn d c i false x none is = ap (run_plan c i) none ∙ ap (immediate c) (sym is)
-idle_turn d c i true x none is = ap (run_plan c i) none ∙ ap (immediate c) (sym is)
+-- ---- a turn
+pub idle_turn : (c : Core) (i : ℕ) (x : EventReply) → map.get c.runs i ≡ None → x ≡ no_run c i → run_plan c i (map.get c.runs i) ≡ immediate c x
+idle_turn c i x none is = ap (run_plan c i) none ∙ ap (immediate c) (sym is)
 
-pub turn_without_memory : (d : Deployment) (c z : Core) (i : ℕ) (lost : Bool) (r : Run) (w : AllocError) → map.get c.runs i ≡ Some r → nat_lt r.deadline c.now ≡ false → z ≡ ended_run c i → NoMemory (turn_event i lost) c (plan_of d (turn_event i lost) c) z (Err w)
-turn_without_memory d c z i false r w is early ends = subst (λ (k : Plan). NoMemory (Turn i) c k z (Err w)) (sym (asks_in_time c i (map.get c.runs i) r is early)) (ap (λ (z : Core). (z, Err w)) ends)
-turn_without_memory d c z i true r w is early ends = subst (λ (k : Plan). NoMemory (Lost i) c k z (Err w)) (sym (asks_in_time c i (map.get c.runs i) r is early)) (ap (λ (z : Core). (z, Err w)) ends)
+pub turn_without_memory : (c z : Core) (i : ℕ) (r : Run) (w : AllocError) → map.get c.runs i ≡ Some r → nat_lt r.deadline c.now ≡ false → z ≡ ended_run c i → NoMemory (Turn i) c (run_plan c i (map.get c.runs i)) z (Err w)
+turn_without_memory c z i r w is early ends = subst (λ (k : Plan). NoMemory (Turn i) c k z (Err w)) (sym (asks_in_time c i (map.get c.runs i) r is early)) (ap (λ (z : Core). (z, Err w)) ends)
+
+-- .. whose answer is lost
+pub lost_without_memory : (c z : Core) (i : ℕ) (w : AllocError) (k : Plan) → NoMemory (Turn i) c k z (Err w) → NoMemory (Lost i) c k z (Err w)
+lost_without_memory c z i w (immediate b y) h = h
+lost_without_memory c z i w (asks q) h = h
+lost_without_memory c z i w reads_all h = h
+
+-- an event that is a turn
+pub is_turn : (e : Event) (i : ℕ) → Some i ≡ turn_in e → e ≡ Turn i
+is_turn Event.Ticket i h = cc
+is_turn (Event.Request t f a) i h = cc
+is_turn (Turn n) i h = cc
+is_turn (Lost n) i h = cc
+is_turn (Event.Crash n) i h = cc
+is_turn (Event.Restart id f) i h = cc
+is_turn (Event.Tick n) i h = cc
+is_turn Event.Ic i h = cc
+is_turn Event.Halt i h = cc
+
+-- .. that is answered at once
+pub turn_now : (d : Deployment) (e : Event) (c z : Core) (x y : EventReply) (s : TableState) → plan d e c ≡ immediate z y → x ≡ y → Stepped d e c z s s (Ok x)
+turn_now d e c z x y s planned same = subst (λ (k : Plan). StepBy d e (counted c) k z s s (Ok x)) (sym planned) ((refl, same), refl)
+
+-- .. or asks one thing
+pub turn_asked : (d : Deployment) (i : ℕ) (c b z : Core) (q : Query) (p : Plan) (old new : TableState) (r : Result EventReply AllocError) → p ≡ asks q → b ≡ c → Asked d (Turn i) b z q old new r → StepBy d (Turn i) c p z old new r
+turn_asked d i c b z q p old new r planned same asked = subst (λ (k : Plan). StepBy d (Turn i) c k z old new r) (sym planned) (subst (λ (k : Core). StepBy d (Turn i) k (asks q) z old new r) same asked)

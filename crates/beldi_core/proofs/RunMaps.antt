@@ -1,5 +1,5 @@
 -- The runs as a map, and a turn of one of them.
-use Rattle.beldi_core.proofs.Names.{AllCounted, AllGiven, AllKept, Bool, Core, CountMap, Deployment, Equal-is, Err, IsSome, IsWalk, List, Mark, None, Ok, Option, Result, Run, RunMap, RunTold, Some, QueryReply, TurnOutput, Turned, Turns, WalkTold, Walking, ap, arith, cond, ends_run, eq_by_cmp, eq_by_cmp_equiv, false, followed, get-empty, get-insert, get-remove, get_rows, going, id_cmp, is_at, is_eq, is_none, is_of, kept_as, lookup, ltb-false, ltb-true, more, nat_cmp, nat_cmp-IsAntisymmetric, nat_cmp_total, nat_lt, none_removed, past_first, put_run, refl, remove_put, row_of, run_told, same_map, output_of, settled, settled_counts, subst, suc, sym, tied_itself, true, uncounted, unless_first, walked, walked_in, walking, withdrawn, ℕ, ◌+◌, ◌-◌, ◌<◌, ◌==◌, ◌∙◌, ◌≡◌, ◌≤◌}
+use Rattle.beldi_core.proofs.Names.{AllCounted, AllGiven, AllKept, Bool, Core, CountMap, Deployment, Equal-is, Err, IsSome, IsWalk, Mark, None, Ok, Option, Result, Run, RunMap, RunTold, Some, QueryReply, TurnOutput, Turned, Turns, WalkTold, Walking, ap, arith, cond, ends_run, eq_by_cmp, false, followed, get-empty, get-insert, get-remove, going, id_cmp, is_eq, is_none, is_of, kept_as, ltb-false, ltb-true, more, nat_cmp, nat_cmp-IsAntisymmetric, nat_cmp_total, nat_lt, none_removed, past_first, put_run, refl, remove_put, row_of, run_told, output_of, settled, settled_counts, subst, suc, sym, tied_itself, true, uncounted, unless_first, walked, walked_in, walking, withdrawn, ℕ, ◌+◌, ◌-◌, ◌==◌, ◌∙◌, ◌≡◌, ◌≤◌}
 use Rattle.beldi_core.proofs.Counting.{inside, none_counted, put_counted, removed_counted, same_counted, counted_lower, gone_here, put_there}
 use Rattle.beldi_core.proofs.Names.map
 

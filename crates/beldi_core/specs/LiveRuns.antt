@@ -1,6 +1,6 @@
 -- The live runs by number, what each asks, and what becomes of one that is told.
-use Rattle.std.specs.Prelude.{◌≡◌, ℕ, ◌+◌, ◌-◌, ◌<◌, Bool, true, false, List, [], ◌∷◌, IsSome, Option, Some, None, Result, Ok, Err}
-use Rattle.std.specs.{FinMap.FinMap, BTreeMap.BTreeMap, Ordering.nat_cmp}
+use Rattle.std.specs.Prelude.{◌≡◌, ℕ, ◌+◌, ◌-◌, ◌<◌, Bool, true, false, IsSome, Option, Some, None, Result, Ok, Err}
+use Rattle.std.specs.{FinMap.FinMap, Ordering.nat_cmp}
 use Rattle.std.specs.FinMap as map
 use Rattle.beldi_tree.specs.declared.deployment.Deployment.{Deployment}
 use Rattle.beldi_query.specs.{declared.query.Query.Query, Query.QueryReply}

@@ -11,7 +11,7 @@ use Rattle.beldi_intent.specs.{declared.intent.Binding.Binding, Intent.binding_o
 use Rattle.beldi_step.specs.HostStep.{Core, Plan, immediate, asks, reads_all, plan, plan_of, counted, new_run, unbound, refused, ended_run, marked, after_turn, acted, LocalSteps, Followed}
 use Rattle.beldi_step.specs.RunStride.{walking}
 use Rattle.beldi_step.specs.declared.{event.Event.Event, event.Event.TheVariants.Ticket, event.Event.TheVariants.Request, event.Event.TheVariants.Turn, event.Event.TheVariants.Lost, event.Event.TheVariants.Ic, event.EventReply.EventReply, run.Mark.Mark, run.Run.Run, run.TurnOutput.TurnOutput, run.Walking.Walking}
-use Rattle.beldi_core.specs.{declared.host_core.HostCore.HostCore, declared.events.Planned.Planned as Plans, declared.events.Immediate.Immediate, declared.events.Pending.Pending, declared.runs.Copies.Copies, LiveRuns.Numbered, LiveRuns.withdrawn, LiveRuns.started, LiveRuns.copied, LiveRuns.walked_in}
+use Rattle.beldi_core.specs.{declared.host_core.HostCore.HostCore, declared.events.Planned.Planned as Plans, declared.turns.TurnPlan.TurnPlan as TurnPlans, declared.events.Immediate.Immediate, declared.events.Pending.Pending, declared.runs.Copies.Copies, LiveRuns.Numbered, LiveRuns.withdrawn, LiveRuns.started, LiveRuns.copied, LiveRuns.walked_in}
 
 -- the host without its table, as events speak of it
 abbrev pub core_in : HostCore → Core
@@ -32,7 +32,6 @@ base e c = c
 abbrev pub event_of : Pending → Event
 event_of Pending.Ticket = Ticket
 event_of (Pending.Request t f a) = Request t f a
-event_of (Pending.Turn i n) = Turn i
 event_of (Pending.Lost i n) = Lost i
 event_of Pending.Ic = Ic
 
@@ -55,7 +54,6 @@ pub record RunReady (c : Core) (i : ℕ) (n : Copies) (spare : ℕ) : Type 0 whe
 abbrev pub Ready : Deployment → Pending → Core → ℕ → Type 0
 Ready d Pending.Ticket c spare = c.newest < 2 ^ 32 - 1
 Ready d (Pending.Request t f a) c spare = RequestReady d c t f spare
-Ready d (Pending.Turn i n) c spare = RunReady c i n spare
 Ready d (Pending.Lost i n) c spare = RunReady c i n spare
 Ready d Pending.Ic c spare = c.last_run < c.taken
 
@@ -79,15 +77,6 @@ as_reply (Immediate.Started i) = EventReply.Started i
 as_reply (Immediate.Now n) = EventReply.Now n
 as_reply Immediate.ClockEnd = EventReply.ClockEnd
 as_reply Immediate.Shut = EventReply.Shut
-
--- the event of a run's turn, whose answer it may lose
-abbrev pub turn_event : ℕ → Bool → Event
-turn_event i false = Turn i
-turn_event i true = Lost i
-
-abbrev pub turn_pending : ℕ → Copies → Bool → Pending
-turn_pending i n false = Pending.Turn i n
-turn_pending i n true = Pending.Lost i n
 
 -- out of memory before anything was asked; of the events that ask nothing only one that starts a run may be so
 abbrev pub NoMemory : Event → Core → Plan → Core → Result EventReply AllocError → Type 0
@@ -114,7 +103,29 @@ PlannedOf d e c z spare r = PlannedBy d e c z spare (plan_of d e c) r
 abbrev pub Planned : Deployment → Event → Core → Core → ℕ → Result Plans AllocError → Type 0
 Planned d e c z spare r = PlannedBy d e (counted c) z spare (plan d e c) r
 
+-- the run that is given a turn, if the event is one
+abbrev pub turn_in : Event → Option ℕ
+turn_in (Turn i) = Some i
+turn_in e = None
+
+-- a turn is answered, or its run asks this
+pub record AskingRun (i : ℕ) (c z : Core) (spare : ℕ) (q : Query) (n : Copies) (k : Plan) : Type 0 where
+  pub is : k ≡ asks q
+  pub core : z ≡ c
+  pub ready : RunReady z i n spare
+
+abbrev pub TurnPlanned : ℕ → Core → Core → ℕ → Plan → Result TurnPlans AllocError → Type 0
+TurnPlanned i c z spare k (Ok (TurnPlans.Now y)) = k ≡ immediate z (as_reply y)
+TurnPlanned i c z spare k (Ok (TurnPlans.Asks q n)) = AskingRun i c z spare q n k
+TurnPlanned i c z spare k (Err w) = NoMemory (Turn i) c k z (Err w)
+
 -- ---- following
+-- the answer to a turn: that it was made, and whether its run is over, or what was told of it
+abbrev pub reply_in : EventReply → Result (Option Bool) AllocError → Result EventReply AllocError
+reply_in told (Ok (Some over)) = Ok (EventReply.Acted None None over None)
+reply_in told (Ok None) = Ok told
+reply_in told (Err w) = Err w
+
 -- a request whose run was started, by what its bind came to
 abbrev pub BoundTo : Core → ℕ → ℕ → Value → Binding → Core → EventReply → Type 0
 BoundTo k t f a Binding.Bound z x = (z ≡ record k { book = k.book ++ Start t f a ∷ [] }) × (x ≡ EventReply.Bound t k.last_run)
@@ -143,8 +154,8 @@ TellsTurn c i n x z (Ok y) = (z, y) ≡ after_turn (entered c n x) n.callee n.id
 TellsTurn c i n x z (Err e) = z ≡ ended_run (entered c n x) i
 
 -- the one query of an event that was planned, and what follows
-abbrev pub Asked : Deployment → Pending → Core → Core → Query → TableState → TableState → Result EventReply AllocError → Type 0
-Asked d p k z q old new r = (w : Result QueryReply TableErr) × Followed d (event_of p) (base (event_of p) k) w z r × Came q k.now w old new
+abbrev pub Asked : Deployment → Event → Core → Core → Query → TableState → TableState → Result EventReply AllocError → Type 0
+Asked d e k z q old new r = (w : Result QueryReply TableErr) × Followed d e (base e k) w z r × Came q k.now w old new
 
 -- ---- a run that walks
 -- what is told of the walk of a live run that is not past its deadline, where the host is not shut: none may be told

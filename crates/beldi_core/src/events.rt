@@ -1,19 +1,17 @@
-// What an event asks of the table, and what follows of what the table told. Nothing here touches a table.
-ghost use Rattle.std.specs.Prelude.{◌≡◌, ◌++◌, ◌+◌, ◌-◌, ◌≤◌, ◌<◌, ◌^◌, if◌then◌else◌, Ok, Some, None, IfOk, IfSome, OnOk, OnErr, IsSome, option_to_list};
-ghost use Rattle.std.specs.Option.{option_map};
+// What an event that is no turn asks of the table, and what follows of what the table told. Nothing here touches a table.
+ghost use Rattle.std.specs.Prelude.{◌≡◌, ◌-◌, ◌≤◌, ◌<◌, ◌^◌, Ok, None, IfOk, OnOk, OnErr};
 ghost use Rattle.std.specs.FinMap as map;
 ghost use Rattle.beldi_query.specs.Query.{query_reply_of};
 ghost use Rattle.beldi_intent.specs.Intent.{bind_asks};
 ghost use Rattle.beldi_step.specs.declared.event.Event.TheVariants as events;
-ghost use Rattle.beldi_step.specs.declared.run.Wait.TheVariants as waits;
 ghost use Rattle.beldi_tree.specs.declared.deployment.Deployment.{Deployment};
-ghost use Rattle.beldi_step.specs.Run.{plain_output};
-ghost use Rattle.beldi_step.specs.HostStep.{collected as collected_of, launched, passed, Core, Followed, acted as acted_by, after_turn as after_turn_of, may_start as may_start_of, started, immediate, asks, crash_plan, tick_plan, new_run as new_run_of, entry_of as entry_by, no_run as no_run_of, refused, refused_by, ticket_next, unbound, is_halt, halt_next};
+ghost use Rattle.beldi_step.specs.HostStep.{collected as collected_of, launched, passed, Core, Followed, immediate, asks, crash_plan, tick_plan, new_run as new_run_of, no_run as no_run_of, refused, refused_by, ticket_next, unbound, is_halt, halt_next};
 ghost use Rattle.beldi_core.specs.declared.events.Planned.TheVariants as planned;
-ghost use Rattle.beldi_core.specs.PlannedEvent.{as_reply, core_in, Planned as IsPlanned, PlannedBy, PlannedOf, Ready, HasPlace, event_of, base, BoundBy, Copied, TellsTurn, acted_unless, mark_told, turn_event, turn_pending, WalkTold, strode};
+ghost use Rattle.beldi_core.specs.PlannedEvent.{as_reply, core_in, Planned as IsPlanned, PlannedBy, PlannedOf, Ready, HasPlace, event_of, base, BoundBy, turn_in};
 
 use crate::host_core::HostCore;
-use crate::runs::{Copies, asked};
+use crate::runs::Copies;
+use crate::turns::TurnPlan;
 use beldi_book::{Book, Entry};
 use beldi_collect::{Found, collect_query, collect_told};
 use beldi_intent::{Binding, bind_query, bind_told, issue_query, issue_told};
@@ -21,16 +19,15 @@ use beldi_lang::Deployment;
 use beldi_prune::Collectors;
 use beldi_query::{Query, QueryReplyRef};
 use beldi_row::{RowKey, TableErr};
-use beldi_step::{Event, EventReply, Mark, Run, RunAt, TurnOutput, Wait, Walking};
-use beldi_turn::{may_stride, walking};
-use beldi_value::{Boxed, IntentId, Outcome, Value, or_drop};
+use beldi_step::{Event, EventReply, Run, RunAt};
+use beldi_value::{Boxed, IntentId, Value, or_drop};
 use std::alloc::{AllocError, Global};
-use std::mem::{forget, replace};
+use std::mem::replace;
 
 /// How many events a host takes.
 pub const MOST_EVENTS: u64 = 1 << 62;
 
-const MOST_RUNS: usize = 1024;
+pub(crate) const MOST_RUNS: usize = 1024;
 
 /// The last moment of a host, in ticks.
 pub const LAST_MOMENT: u64 = 1 << 62;
@@ -40,22 +37,8 @@ pub const LAST_MOMENT: u64 = 1 << 62;
 pub enum Pending {
     Ticket,
     Request { ticket: u32, func: u16, args: Value },
-    Turn(u64, Copies),
     Lost(u64, Copies),
     Ic,
-}
-
-impl Pending {
-    // A turn of the run of this number, or one whose answer it loses.
-    fn of_turn(run: u64, copies: Copies, lost: bool) -> Pending
-        ensures { result ≡ turn_pending run copies lost }
-    {
-        if lost {
-            Pending::Lost(run, copies)
-        } else {
-            Pending::Turn(run, copies)
-        }
-    }
 }
 
 /// The answer to an event that asks nothing: one of those of `EventReply` that have no long parts.
@@ -108,6 +91,16 @@ pub enum Planned {
     ReadsAll,
 }
 
+/// The run that is given a turn, if the event is one.
+pub fn turn_in(event: &Event) -> Option<u64>
+    ensures { result ≡ turn_in event.now }
+{
+    match event {
+        Event::Turn(run) => Some(*run),
+        _ => None,
+    }
+}
+
 fn is_halt(event: &Event) -> bool
     ensures { result ≡ is_halt event.now }
 {
@@ -115,7 +108,7 @@ fn is_halt(event: &Event) -> bool
 }
 
 // An error of the table, as an event is answered.
-fn refuse(why: TableErr) -> Result<EventReply, AllocError>
+pub(crate) fn refuse(why: TableErr) -> Result<EventReply, AllocError>
     ensures { result ≡ refused_by why }
 {
     match why {
@@ -126,7 +119,7 @@ fn refuse(why: TableErr) -> Result<EventReply, AllocError>
 }
 
 // What is said of a number that no live run has, where so many were given.
-fn no_run(run: u64, given: u64) -> Immediate
+pub(crate) fn no_run(run: u64, given: u64) -> Immediate
     ensures { (c : Core) → c.last_run ≡ given → as_reply result ≡ no_run_of c run }
 {
     if run == 0 || run > given {
@@ -147,123 +140,11 @@ fn not_bound(ticket: u32, binding: Binding) -> EventReply
     }
 }
 
-fn entry_of(id: IntentId, mark: Mark) -> Entry
-    ensures { result ≡ entry_by id mark }
-{
-    match mark {
-        Mark::Read(seen) => Entry::Read { id, version: seen },
-        Mark::Step => Entry::Step { id },
-        Mark::CommittedTx => Entry::CommittedTx { id },
-        Mark::AbortedTx { place, holder } => Entry::AbortedTx { id, place, holder },
-    }
-}
-
-fn entry_if(id: IntentId, mark: Option<Mark>) -> Option<Entry>
-    ensures { result ≡ option_map (entry_by id) mark }
-{
-    match mark {
-        Some(mark) => Some(entry_of(id, mark)),
-        None => None,
-    }
-}
-
-// Appends the entry of an act, if it made one.
-fn write(book: &mut Book, entry: Option<Entry>)
-    requires { 1 ≤ book.old.spare }
-    ensures { book.new.entries ≡ book.old.entries ++ option_to_list entry }
-{
-    if let Some(entry) = entry {
-        book.push(entry);
-    }
-}
-
-// The answer to a turn that was made, which started this run.
-fn acted(id: IntentId, output: TurnOutput, started: Option<u64>) -> EventReply
-    ensures { result ≡ acted_by id output.mark output.over output.reply started }
-{
-    let TurnOutput {
-        mark,
-        over,
-        starts: _,
-        wait,
-        reply,
-    } = output;
-    drop(wait);
-    let reply = match reply {
-        Some(outcome) => Some((id.ticket, outcome)),
-        None => None,
-    };
-    EventReply::Acted {
-        entry: entry_if(id, mark),
-        started,
-        over,
-        reply,
-    }
-}
-
-// .. unless there was no memory for that run.
-#[inline(always)]
-fn acted_if(
-    id: IntentId,
-    output: TurnOutput,
-    started: Result<Option<u64>, AllocError>,
-) -> Result<EventReply, AllocError>
-    ensures { result ≡ acted_unless id output.mark output.over output.reply started }
-{
-    match started {
-        Ok(started) => return Ok(acted(id, output, started)),
-        Err(why) => {
-            drop(id);
-            drop(output);
-            return Err(why);
-        }
-    }
-}
-
-// .. made of copies: the entry of an act is told too.
-fn copy_entry(
-    alloc: Global,
-    id: &IntentId,
-    mark: &Option<Mark>,
-) -> Result<Option<Entry>, AllocError>
-    ensures { IfOk result (λ e. e ≡ option_map (entry_by id.now) mark.now) }
-{
-    match mark {
-        Some(mark) => Ok(Some(entry_of(id.copy(alloc)?, mark.copy(alloc)?))),
-        None => Ok(None),
-    }
-}
-
-// Whether a run is over, where its turn says no more than that.
-fn plainly(output: &TurnOutput) -> Option<bool>
-    ensures { IfSome result (λ over. output.now ≡ plain_output None over) }
-{
-    match output {
-        TurnOutput {
-            mark: None,
-            over,
-            starts: false,
-            wait: None,
-            reply: None,
-        } => Some(*over),
-        _ => None,
-    }
-}
-
-// The mark of a run's act, whatever followed.
-fn told_mark(turn: Result<TurnOutput, Option<Mark>>) -> Option<Mark>
-    ensures { result ≡ mark_told turn }
-{
-    match turn {
-        Ok(output) => output.mark,
-        Err(mark) => mark,
-    }
-}
-
 impl HostCore {
-    /// What an event asks of a table, or its answer. It makes the places that the answer will need; what the definition
+    /// What an event that is no turn asks of a table, or its answer. It makes the places that the answer will need; what the definition
     /// sees is as it was, but that the event was counted. Out of memory, a run that had the event is over.
     pub fn plan(&mut self, code: &Deployment, event: Event) -> Result<Planned, AllocError>
+        requires { turn_in event ≡ None }
         ensures { IsPlanned code.now event (core_in self.old) (core_in self.new) self.new.book.spare result }
     {
         if self.taken >= MOST_EVENTS {
@@ -279,6 +160,7 @@ impl HostCore {
 
     // What an event asks that was counted.
     fn plan_counted(&mut self, code: &Deployment, event: Event) -> Result<Planned, AllocError>
+        requires no_turn { turn_in event ≡ None }
         requires given { self.old.runs.given < self.old.taken }
         ensures { PlannedOf code.now event (core_in self.old) (core_in self.new) self.new.book.spare result }
     {
@@ -287,8 +169,8 @@ impl HostCore {
             Event::Request { ticket, func, args } => {
                 return self.plan_request(code, ticket, func, args);
             }
-            Event::Turn(run) => return self.plan_turn(run, false),
-            Event::Lost(run) => return self.plan_turn(run, true),
+            Event::Turn(_) => unreachable!(),
+            Event::Lost(run) => return self.plan_lost(run),
             Event::Crash(run) => return Ok(Planned::Now(self.crash(run))),
             Event::Restart { id, func } => return self.restart(code, id, func),
             Event::Tick(ticks) => return Ok(Planned::Now(self.tick(ticks))),
@@ -307,61 +189,18 @@ impl HostCore {
         Ok(Planned::Asks(query, Pending::Ticket))
     }
 
-    // A turn of the run of this number, or one whose answer it loses. A place in the book is taken for the entry of its act. A
-    // run that is past its deadline is over; and so is one that is out of memory.
-    fn plan_turn(&mut self, run: u64, lost: bool) -> Result<Planned, AllocError>
+    // A turn whose answer is lost.
+    fn plan_lost(&mut self, run: u64) -> Result<Planned, AllocError>
         requires given { self.old.runs.given < self.old.taken }
-        ensures { (d : Deployment) → PlannedOf d (turn_event run lost) (core_in self.old) (core_in self.new) self.new.book.spare result }
+        ensures { (d : Deployment) → PlannedOf d (events.Lost run) (core_in self.old) (core_in self.new) self.new.book.spare result }
     {
-        let Some(found) = self.runs.get(run) else {
-            return Ok(Planned::Now(no_run(run, self.runs.given())));
-        };
-        if self.now > found.deadline {
-            self.runs.remove(run);
-            return Ok(Planned::Now(Immediate::Expired));
-        }
-        match asked(found, &mut self.book, self.alloc) {
-            Ok((query, copies)) => Ok(Planned::Asks(query, Pending::of_turn(run, copies, lost))),
-            Err(why) => {
-                self.runs.remove(run);
-                Err(why)
+        match self.ask_run(run) {
+            Ok(TurnPlan::Now(answer)) => Ok(Planned::Now(answer)),
+            Ok(TurnPlan::Asks(query, copies)) => {
+                Ok(Planned::Asks(query, Pending::Lost(run, copies)))
             }
+            Err(why) => Err(why),
         }
-    }
-
-    /// The row that the walk of this run looks at next, past the first row of its item, and the place whose entry it looks for there, if
-    /// any. None where it makes no walk, is over or past its deadline, where the host is shut, and where there is no memory for the key or
-    /// the place.
-    pub fn walking(&self, run: u64) -> Option<Walking>
-        ensures { WalkTold (core_in self.entry.now) run result }
-    {
-        let Some(found) = self.runs.get(run) else {
-            return None;
-        };
-        if self.shut || self.now > found.deadline {
-            return None;
-        }
-        match walking(self.alloc, found) {
-            Ok(walk) => walk,
-            Err(_) => None,
-        }
-    }
-
-    /// Whether `walking` may tell a row for the run of this number. It is asked first, as it hands on nothing.
-    pub fn may_walk(&self, run: u64) -> bool {
-        match self.runs.get(run) {
-            Some(found) => may_stride(found),
-            None => false,
-        }
-    }
-
-    /// Counts so many turns of this run, which is live, and sets its walk to the row that the last of them leads to.
-    pub fn stride(&mut self, run: u64, turns: u64, row: u32)
-        requires { (core_in self.old).taken + turns ≤ 2 ^ 62 }
-        ensures { core_in self.new ≡ strode (core_in self.old) run turns row }
-    {
-        self.taken += turns;
-        self.runs.stride(run, row);
     }
 
     fn plan_ic(&mut self) -> Result<Planned, AllocError>
@@ -492,7 +331,6 @@ impl HostCore {
         match pending {
             Pending::Ticket => return Ok(self.issued(issue_told(heard))),
             Pending::Request { ticket, func, args } => return self.bound(ticket, func, args, heard),
-            Pending::Turn(run, copies) => return self.turned(code, run, copies, heard),
             Pending::Lost(run, copies) => return Ok(self.unheard(code, run, copies, heard)),
             Pending::Ic => return self.collected(code, heard),
         }
@@ -513,10 +351,6 @@ impl HostCore {
                 drop(args);
                 self.runs.withdraw();
                 refuse(why)
-            }
-            Pending::Turn(run, copies) => {
-                drop(copies);
-                self.turn_refused(run, why)
             }
             Pending::Lost(run, copies) => {
                 drop(copies);
@@ -546,19 +380,6 @@ impl HostCore {
             Err(_) => {
                 self.shut = true;
                 Ok(EventReply::Dropped)
-            }
-        }
-    }
-
-    // The run is over, unless there was no room for its act.
-    fn turn_refused(&mut self, run: u64, why: TableErr) -> Result<EventReply, AllocError>
-        ensures { (core_in self.new, result) ≡ refused (events.Turn run) (core_in self.old) why }
-    {
-        match why {
-            TableErr::Full { live, room } => Ok(EventReply::Full { live, room }),
-            why => {
-                self.runs.remove(run);
-                refuse(why)
             }
         }
     }
@@ -606,177 +427,6 @@ impl HostCore {
                 self.runs.withdraw();
                 Err(why)
             }
-        }
-    }
-
-    fn turned(
-        &mut self,
-        code: &Deployment,
-        run: u64,
-        copies: Copies,
-        heard: QueryReplyRef<'_>,
-    ) -> Result<EventReply, AllocError>
-        requires spare { 1 ≤ self.old.book.spare }
-        requires live { IsSome (map.get self.old.runs.runs run) }
-        requires copies { Copied copies (map.get self.old.runs.runs run) }
-        requires given { self.old.runs.given < self.old.taken }
-        ensures { Followed code.now (events.Turn run) (core_in self.old) (Ok (query_reply_of heard.entry)) (core_in self.new) result }
-    {
-        let changes = self.book.changes();
-        match self.runs.resume(run, self.alloc, code, changes, heard) {
-            Ok(output) => return self.tell(run, copies, output),
-            Err(mark) => {
-                write(&mut self.book, entry_if(copies.id, mark));
-                return Err(AllocError);
-            }
-        }
-    }
-
-    // A turn was made. Most turns say no more than whether the run is over: what is handed on for all others is not made for them.
-    fn tell(
-        &mut self,
-        run: u64,
-        copies: Copies,
-        output: TurnOutput,
-    ) -> Result<EventReply, AllocError>
-        requires spare { 1 ≤ self.old.book.spare }
-        requires given { self.old.runs.given < self.old.taken }
-        ensures { TellsTurn (core_in self.old) run copies output (core_in self.new) result }
-    {
-        if let Some(over) = plainly(&output) {
-            drop(copies);
-            // It owns nothing.
-            forget(output);
-            return Ok(EventReply::Acted {
-                entry: None,
-                started: None,
-                over,
-                reply: None,
-            });
-        }
-        return self.tell_all(run, copies, output);
-    }
-
-    // A turn was made: its entry is in the book, also where there is no memory to tell of it. Then the run is over.
-    fn tell_all(
-        &mut self,
-        run: u64,
-        copies: Copies,
-        output: TurnOutput,
-    ) -> Result<EventReply, AllocError>
-        requires spare { 1 ≤ self.old.book.spare }
-        requires given { self.old.runs.given < self.old.taken }
-        ensures { TellsTurn (core_in self.old) run copies output (core_in self.new) result }
-    {
-        let Copies { id, callee } = copies;
-        match copy_entry(self.alloc, &id, &output.mark) {
-            Ok(entry) => {
-                write(&mut self.book, entry);
-                let seen = self.after_turn(callee, id, output);
-                if seen.is_err() {
-                    self.runs.remove(run);
-                }
-                return seen;
-            }
-            Err(why) => {
-                drop(callee);
-                self.runs.remove(run);
-                write(&mut self.book, entry_if(id, told_mark(Ok(output))));
-                return Err(why);
-            }
-        }
-    }
-
-    // What follows of a turn: it was made, or the run waits. A run of what it calls may be started; where there is no memory
-    // for it, nothing is done.
-    fn after_turn(
-        &mut self,
-        callee: Option<Boxed<Run>>,
-        id: IntentId,
-        mut output: TurnOutput,
-    ) -> Result<EventReply, AllocError>
-        requires given { self.old.runs.given < self.old.taken }
-        ensures ok { IfOk result (λ x. (core_in self.new, x) ≡ after_turn_of (core_in self.old) callee id output output.wait) }
-        ensures err { OnErr result (core_in self.new ≡ core_in self.old) }
-    {
-        match output.wait.take() {
-            None => {
-                let started = self.may_start(output.starts, callee);
-                return acted_if(id, output, started);
-            }
-            Some(Wait::Held(owner)) => {
-                drop(callee);
-                drop(id);
-                drop(output);
-                return Ok(EventReply::Held(owner));
-            }
-            Some(Wait::Worn) => {
-                drop(callee);
-                drop(id);
-                drop(output);
-                return Ok(EventReply::Worn);
-            }
-            Some(Wait::Result(awaited)) => return self.after_call(awaited, callee, id, output),
-        }
-    }
-
-    // .. where the run waits for what it calls.
-    fn after_call(
-        &mut self,
-        awaited: Boxed<IntentId>,
-        callee: Option<Boxed<Run>>,
-        id: IntentId,
-        output: TurnOutput,
-    ) -> Result<EventReply, AllocError>
-        requires given { self.old.runs.given < self.old.taken }
-        ensures ok { IfOk result (λ x. (core_in self.new, x) ≡ after_turn_of (core_in self.old) callee id output (Some (waits.Result awaited))) }
-        ensures err { OnErr result (core_in self.new ≡ core_in self.old) }
-    {
-        let seen = if self.runs.has_run(awaited.get()) {
-            EventReply::NotYet(awaited)
-        } else if self.runs.len() >= MOST_RUNS {
-            drop(awaited);
-            EventReply::Crowded
-        } else {
-            drop(awaited);
-            let started = self.start(callee);
-            return acted_if(id, output, started);
-        };
-        drop(callee);
-        drop(id);
-        drop(output);
-        Ok(seen)
-    }
-
-    // Starts a run of what was called, if one may start, where that has no live run and there is a place for one.
-    fn may_start(
-        &mut self,
-        starts: bool,
-        callee: Option<Boxed<Run>>,
-    ) -> Result<Option<u64>, AllocError>
-        requires given { self.old.runs.given < self.old.taken }
-        ensures ok { IfOk result (λ n. (core_in self.new, n) ≡ (if starts then may_start_of (core_in self.old) callee else (core_in self.old, None))) }
-        ensures err { OnErr result (core_in self.new ≡ core_in self.old) }
-    {
-        let Some(callee) = callee else {
-            return Ok(None);
-        };
-        if !starts || self.runs.has_run(&callee.get().id) || self.runs.len() >= MOST_RUNS {
-            drop(callee);
-            return Ok(None);
-        }
-        Ok(Some(self.runs.start(self.alloc, callee)?))
-    }
-
-    // Starts a run of what is called.
-    fn start(&mut self, callee: Option<Boxed<Run>>) -> Result<Option<u64>, AllocError>
-        requires given { self.old.runs.given < self.old.taken }
-        ensures ok { IfOk result (λ n. (core_in self.new, n) ≡ started (core_in self.old) callee) }
-        ensures err { OnErr result (core_in self.new ≡ core_in self.old) }
-    {
-        match callee {
-            Some(callee) => Ok(Some(self.runs.start(self.alloc, callee)?)),
-            None => Ok(None),
         }
     }
 
@@ -857,25 +507,5 @@ impl HostCore {
             run: number,
             id: name,
         })
-    }
-
-    // The answer is lost: the run is over, and the book has the entry of its act, if any.
-    fn unheard(
-        &mut self,
-        code: &Deployment,
-        run: u64,
-        copies: Copies,
-        heard: QueryReplyRef<'_>,
-    ) -> EventReply
-        requires spare { 1 ≤ self.old.book.spare }
-        requires live { IsSome (map.get self.old.runs.runs run) }
-        requires copies { Copied copies (map.get self.old.runs.runs run) }
-        ensures { Followed code.now (events.Lost run) (core_in self.old) (Ok (query_reply_of heard.entry)) (core_in self.new) (Ok result) }
-    {
-        let changes = self.book.changes();
-        let mark = told_mark(self.runs.resume(run, self.alloc, code, changes, heard));
-        self.runs.remove(run);
-        write(&mut self.book, entry_if(copies.id, mark));
-        EventReply::Dropped
     }
 }

@@ -1,17 +1,18 @@
 // The host: the one place where an event touches the table.
 ghost use Rattle.std.specs.Prelude.{◌≡◌, ◌+◌, ◌++◌, ◌≤◌, ◌^◌, ◌↔◌, IsTrue, true, false, Ok, IfOk, IfErr, IfSome, OnOk, OnErr, length};
 ghost use Rattle.beldi_step.specs.Prunes.{pruned_by};
+ghost use Rattle.beldi_core.specs.PlannedEvent.{reply_in};
 
 use crate::survey::{OpenErr, ReplyStatus, ahead, find_newest, list_tables, prepare, read_reply};
 use beldi_book::Book;
 use beldi_check::Checked;
-use beldi_core::{HostCore, MOST_EVENTS, Pending, Planned, Runs};
+use beldi_core::{Copies, HostCore, MOST_EVENTS, Pending, Planned, Runs, TurnPlan, turn_in};
 use beldi_kept::an_event_keeps_the_collectors_safe;
 use beldi_prune::{Collectors, GcOutput};
 use beldi_query::{Query, QueryReplyRef};
 use beldi_row::{Act, RowKey, Table, TableErr};
 use beldi_step::{Event, EventReply, Pruned, Walking};
-use beldi_value::{Str, or_drop};
+use beldi_value::{Boxed, Str, or_drop};
 use std::alloc::{AllocError, Global};
 use std::mem::replace;
 
@@ -39,7 +40,7 @@ impl<T: Table> Host<T> {
     ghost use Rattle.beldi_host.specs.HostCore.{core_of};
     ghost use Rattle.beldi_host.specs.HostStride.{Passes, Strides};
     ghost use Rattle.beldi_step.specs.Next.{at_key, next_run, reset};
-    ghost use Rattle.beldi_core.specs.PlannedEvent.{core_in, Ready, Asked};
+    ghost use Rattle.beldi_core.specs.PlannedEvent.{core_in, event_of, Ready, RunReady, Asked, reply_in, turn_in};
     ghost use Rattle.beldi_invariant.specs.InvariantLaws.{is_gone};
     ghost use Rattle.beldi_host.specs.HostInvariant.{EndsLate, HasInvariant, IsWhole, KeepsInvariant, HasLegalBook, AnswersAreKept, HasRows, ListsRun, TellsRun, HasNoRows, RowsStandFor, RowsStandLess};
 
@@ -289,7 +290,21 @@ impl<T: Table> Host<T> {
         ensures in_time { EndsLate event (core_of self.old) (core_of self.new) (T.state self.old.table) (T.state self.new.table) result }
     {
         an_event_keeps_the_collectors_safe();
-        self.step(event)
+        self.carry_out(event)
+    }
+
+    /// Gives the run of this number a turn, as `event` does: whether the run is over, where the turn was made and says no more, and none
+    /// where the answer is in `told`. It is for who gives many turns, as most say no more.
+    pub fn turn(&mut self, run: u64, told: &mut EventReply) -> Result<Option<bool>, AllocError>
+        ensures step { Stepped self.old.code (events.Turn run) (core_of self.old) (core_of self.new) (T.state self.old.table) (T.state self.new.table) (reply_in told.new result) }
+        ensures code { self.new.code ≡ self.old.code }
+        ensures right { KeepsInvariant self.old self.new }
+        ensures answers_stay { AnswersAreKept self.old self.new }
+        ensures has_rows { HasRows self.old → IsWhole self.old → IfOk (reply_in told.new result) (λ x. is_gone x ≡ false) }
+        ensures in_time { EndsLate (events.Turn run) (core_of self.old) (core_of self.new) (T.state self.old.table) (T.state self.new.table) (reply_in told.new result) }
+    {
+        an_event_keeps_the_collectors_safe();
+        self.take_turn(run, told)
     }
 
     /// Gives the log collector of this number a turn, with at most one call of the table. The turn counts as an event. Out of memory,
@@ -325,7 +340,118 @@ impl<T: Table> Host<T> {
     }
 
     // One step of the definition.
+    fn carry_out(&mut self, event: Event) -> Result<EventReply, AllocError>
+        ensures step { Stepped self.old.code event (core_of self.old) (core_of self.new) (T.state self.old.table) (T.state self.new.table) result }
+        ensures code { self.new.code ≡ self.old.code }
+    {
+        match turn_in(&event) {
+            Some(run) => {
+                drop(event);
+                self.whole_turn(run)
+            }
+            None => self.step(event),
+        }
+    }
+
+    // A turn, answered as all events are.
+    fn whole_turn(&mut self, run: u64) -> Result<EventReply, AllocError>
+        ensures step { Stepped self.old.code (events.Turn run) (core_of self.old) (core_of self.new) (T.state self.old.table) (T.state self.new.table) result }
+        ensures code { self.new.code ≡ self.old.code }
+    {
+        let mut told = EventReply::Shut;
+        let said = self.take_turn(run, &mut told);
+        whole(told, said)
+    }
+
+    // .. told apart.
+    fn take_turn(&mut self, run: u64, told: &mut EventReply) -> Result<Option<bool>, AllocError>
+        ensures step { Stepped self.old.code (events.Turn run) (core_of self.old) (core_of self.new) (T.state self.old.table) (T.state self.new.table) (reply_in told.new result) }
+        ensures code { self.new.code ≡ self.old.code }
+    {
+        match self.core.plan_turn(run) {
+            Ok(TurnPlan::Now(answer)) => {
+                drop(replace(told, answer.into_reply()));
+                Ok(None)
+            }
+            Ok(TurnPlan::Asks(query, copies)) => self.ask_turn(query, run, copies, told),
+            Err(why) => Err(why),
+        }
+    }
+
+    // The one query of a turn, and what follows.
+    fn ask_turn(
+        &mut self,
+        query: Boxed<Query>,
+        run: u64,
+        copies: Copies,
+        told: &mut EventReply,
+    ) -> Result<Option<bool>, AllocError>
+        requires { RunReady (core_of self.old) run copies self.old.core.book.spare }
+        ensures asked { Asked self.old.code (events.Turn run) (core_of self.old) (core_of self.new) query (T.state self.old.table) (T.state self.new.table) (reply_in told.new result) }
+        ensures code { self.new.code ≡ self.old.code }
+    {
+        match query.into_inner() {
+            Query::Act(key, act) => self.turn_act(key, act, run, copies, told),
+            Query::After(key) => {
+                let said = self.turn_after(&key, run, copies, told);
+                drop(key);
+                said
+            }
+        }
+    }
+
+    fn turn_act(
+        &mut self,
+        key: RowKey,
+        act: Act,
+        run: u64,
+        copies: Copies,
+        told: &mut EventReply,
+    ) -> Result<Option<bool>, AllocError>
+        requires { RunReady (core_of self.old) run copies self.old.core.book.spare }
+        ensures asked { Asked self.old.code (events.Turn run) (core_of self.old) (core_of self.new) (queries.Act key act) (T.state self.old.table) (T.state self.new.table) (reply_in told.new result) }
+        ensures code { self.new.code ≡ self.old.code }
+    {
+        match self.table.act(key, act, self.core.now) {
+            Ok(said) => {
+                let heard = QueryReplyRef::Act(said);
+                self.core.turned(self.code.code(), run, copies, heard, told)
+            }
+            Err(why) => {
+                drop(copies);
+                let answer = self.core.turn_refused(run, why);
+                told_in(told, answer)
+            }
+        }
+    }
+
+    fn turn_after(
+        &mut self,
+        key: &RowKey,
+        run: u64,
+        copies: Copies,
+        told: &mut EventReply,
+    ) -> Result<Option<bool>, AllocError>
+        requires { RunReady (core_of self.old) run copies self.old.core.book.spare }
+        ensures asked { Asked self.old.code (events.Turn run) (core_of self.old) (core_of self.new) (queries.After key.now) (T.state self.old.table) (T.state self.new.table) (reply_in told.new result) }
+        ensures code { self.new.code ≡ self.old.code }
+    {
+        match self.table.next(key) {
+            Ok(found) => {
+                let heard = QueryReplyRef::Found(found);
+                self.core.turned(self.code.code(), run, copies, heard, told)
+            }
+            Err(why) => {
+                drop(copies);
+                let answer = self.core.turn_refused(run, why);
+                told_in(told, answer)
+            }
+        }
+    }
+
+    // An event that is no turn is one step of the definition.
     fn step(&mut self, event: Event) -> Result<EventReply, AllocError>
+        requires { turn_in event ≡ None }
         ensures step { Stepped self.old.code event (core_of self.old) (core_of self.new) (T.state self.old.table) (T.state self.new.table) result }
         ensures code { self.new.code ≡ self.old.code }
     {
@@ -349,7 +475,7 @@ impl<T: Table> Host<T> {
     // The one query of an event, and what follows.
     fn ask(&mut self, query: Query, pending: Pending) -> Result<EventReply, AllocError>
         requires { Ready self.old.code pending (core_of self.old) self.old.core.book.spare }
-        ensures asked { Asked self.old.code pending (core_of self.old) (core_of self.new) query (T.state self.old.table) (T.state self.new.table) result }
+        ensures asked { Asked self.old.code (event_of pending) (core_of self.old) (core_of self.new) query (T.state self.old.table) (T.state self.new.table) result }
         ensures code { self.new.code ≡ self.old.code }
     {
         match query {
@@ -364,7 +490,7 @@ impl<T: Table> Host<T> {
 
     fn act(&mut self, key: RowKey, act: Act, pending: Pending) -> Result<EventReply, AllocError>
         requires { Ready self.old.code pending (core_of self.old) self.old.core.book.spare }
-        ensures asked { Asked self.old.code pending (core_of self.old) (core_of self.new) (queries.Act key act) (T.state self.old.table) (T.state self.new.table) result }
+        ensures asked { Asked self.old.code (event_of pending) (core_of self.old) (core_of self.new) (queries.Act key act) (T.state self.old.table) (T.state self.new.table) result }
         ensures code { self.new.code ≡ self.old.code }
     {
         match self.table.act(key, act, self.core.now) {
@@ -377,7 +503,7 @@ impl<T: Table> Host<T> {
 
     fn look_after(&mut self, key: &RowKey, pending: Pending) -> Result<EventReply, AllocError>
         requires { Ready self.old.code pending (core_of self.old) self.old.core.book.spare }
-        ensures asked { Asked self.old.code pending (core_of self.old) (core_of self.new) (queries.After key.now) (T.state self.old.table) (T.state self.new.table) result }
+        ensures asked { Asked self.old.code (event_of pending) (core_of self.old) (core_of self.new) (queries.After key.now) (T.state self.old.table) (T.state self.new.table) result }
         ensures code { self.new.code ≡ self.old.code }
     {
         match self.table.next(key) {
@@ -386,6 +512,44 @@ impl<T: Table> Host<T> {
                 .resume(self.code.code(), pending, QueryReplyRef::Found(found)),
             Err(why) => self.core.refused(pending, why),
         }
+    }
+}
+
+// The answer to a turn.
+fn whole(told: EventReply, said: Result<Option<bool>, AllocError>) -> Result<EventReply, AllocError>
+    ensures { result ≡ reply_in told said }
+{
+    match said {
+        Ok(None) => return Ok(told),
+        Ok(Some(over)) => {
+            drop(told);
+            Ok(EventReply::Acted {
+                entry: None,
+                started: None,
+                over,
+                reply: None,
+            })
+        }
+        Err(why) => {
+            drop(told);
+            Err(why)
+        }
+    }
+}
+
+// .. written where it is told.
+fn told_in(
+    told: &mut EventReply,
+    answer: Result<EventReply, AllocError>,
+) -> Result<Option<bool>, AllocError>
+    ensures { reply_in told.new result ≡ answer }
+{
+    match answer {
+        Ok(answer) => {
+            drop(replace(told, answer));
+            Ok(None)
+        }
+        Err(why) => Err(why),
     }
 }
 

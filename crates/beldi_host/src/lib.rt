@@ -7,7 +7,7 @@
 //! turns of a run at once) and `specs/HostInvariant` (what the calls keep, and what a host with the invariant has, or a whole one).
 //!
 //! Proved:
-//! - `Host::event` is one step of the definition, for every table that keeps the trait's contract; crashes, lost
+//! - `Host::event`, and `turn` for the event that is a turn, is one step of the definition, for every table that keeps the trait's contract; crashes, lost
 //!   answers, restarts, faults, want of room and out of memory are cases of the step (`step`, `code`). An event that is
 //!   answered at once makes no call of the table and leaves it as it was; any other but a halt makes at most one query, and one word
 //!   of the table, or one refusal, says what followed. A halt reads all rows as `open` does (`find_newest`). A run that met an error is over, but for want of room. What that is
@@ -20,9 +20,9 @@
 //! - `Host::prune` gives a log collector its turn: it is the definition's (`prunes`, `code`), for every table that keeps the trait's contract.
 //! - A host may be whole: no log collector changed a row, and all holds that every event keeps (`IsWhole`). It may have the invariant where rows of intents that are
 //!   old are gone, and no log collector is about to remove another one (`HasInvariant`). Both are so of a host that was opened over no rows, and
-//!   each is so after `event`, `tables`, `reply`, `ic_reset`, `ic_skip` and `stride` where it was before, also out of memory (`right`). A turn
+//!   each is so after `event`, `turn`, `tables`, `reply`, `ic_reset`, `ic_skip` and `stride` where it was before, also out of memory (`right`). A turn
 //!   of a log collector leaves a host its invariant (`right`), and a whole one whole where it changed no row (`whole`).
-//! - Where the host is whole and its table tells its rows, no ticket is answered `gone` (`has_rows` of `event`, `there` of `reply`).
+//! - Where the host is whole and its table tells its rows, no ticket is answered `gone` (`has_rows` of `event` and `turn`, `there` of `reply`).
 //! - `Host::rows` tells how many rows the table has, as `len` does (`IsCount`).
 //! - `Host::open`, at a moment of at most 2^62, finds the newest ticket, which is the greatest that any key names
 //!   (`newest`), and changes no row (`ok`); where it refuses, it gives the table back (`err`).

@@ -1,8 +1,9 @@
 // The text of an answer. Out of memory, a part of what is appended may be there, as of all texts here.
-ghost use Rattle.std.specs.Prelude.{◌≡◌, ◌++◌, OnOk, codes};
+ghost use Rattle.std.specs.Prelude.{◌≡◌, ◌++◌, None, OnOk, codes};
 ghost use Rattle.std.specs.Fmt.{decimal};
 ghost use Rattle.beldi_session.specs.Answer.{answer_text, numbered, bound_line, held_line, waits_line, launched_line, outcome_line, entry_part, run_part, reply_part, reply_told};
 ghost use Rattle.beldi_session.specs.HostResponse.{reply_line};
+ghost use Rattle.beldi_tree.specs.declared.deployment.Deployment.{Deployment};
 
 use beldi_book::Entry;
 use beldi_check::Checked;
@@ -33,13 +34,6 @@ pub fn write_answer(
         ),
         EventReply::Gone(ticket) => write_numbered("gone ", u64::from(*ticket), out),
         EventReply::Unknown(ticket) => write_numbered("unknown ", u64::from(*ticket), out),
-        // most turns tell nothing more
-        EventReply::Acted {
-            entry: None,
-            started: None,
-            over,
-            reply: None,
-        } => out.push_text(if *over { "acted over\n" } else { "acted\n" }),
         EventReply::Acted {
             entry,
             started,
@@ -66,6 +60,13 @@ pub fn write_answer(
         EventReply::Shut => out.push_text("shut\n"),
         EventReply::Spent => out.push_text("spent\n"),
     }
+}
+
+/// Appends the line of a turn that tells no more than whether its run is over.
+pub fn write_plain(over: bool, out: &mut Str) -> Result<(), AllocError>
+    ensures { (d : Deployment) → OnOk result (out.new ≡ out.old ++ answer_text d (EventReply.Acted None None over None)) }
+{
+    out.push_text(if over { "acted over\n" } else { "acted\n" })
 }
 
 fn write_bound(ticket: u32, run: u64, out: &mut Str) -> Result<(), AllocError>

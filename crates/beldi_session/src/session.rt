@@ -2,13 +2,14 @@
 ghost use Rattle.std.specs.Prelude.{◌≡◌, ◌∷◌, ◌++◌, [], ℕ, List, Option, IfOk, OnOk, true};
 ghost use Rattle.beldi_script.specs.LineCut.{lines_of};
 ghost use Rattle.beldi_schedule.specs.Settle.{first_at, go_on};
+ghost use Rattle.beldi_step.specs.declared.event.Event.TheVariants as events;
 ghost use Rattle.beldi_session.specs.Script.{Carry, Settle, TellReply, CountRows, ListTables, ListBook, actions_of, actions_in, and_then, is_ok, is_whole, times, turn_of, sweep_at};
 ghost use Rattle.beldi_book.specs.BookText.{book_text};
 ghost use Rattle.beldi_session.specs.HostResponse.{BookIs, report_text};
 ghost use Rattle.beldi_session.specs.Session.{Does, by_done, by_text, sight};
 ghost use Rattle.beldi_session.specs.Source.{numbered, said_at};
 
-use crate::answer::{write_answer, write_numbered, write_reply_status};
+use crate::answer::{write_answer, write_numbered, write_plain, write_reply_status};
 use crate::output::{flush, flush_if_long};
 use crate::refusal::{SourceErr, write_refusal};
 use crate::settling::settle;
@@ -20,7 +21,7 @@ use beldi_host::{Host, OpenErr};
 use beldi_outside::Sink;
 use beldi_row::Table;
 use beldi_script::{Line, cut_line};
-use beldi_step::Event;
+use beldi_step::{Event, EventReply};
 use beldi_value::Str;
 use std::alloc::{AllocError, Global};
 
@@ -83,6 +84,33 @@ fn answer<T: Table>(
     }
 }
 
+// Gives a run a turn, and appends the text of its answer.
+fn answer_turn<T: Table>(
+    alloc: Global,
+    host: &mut Host<T>,
+    out: &mut Str,
+    run: u64,
+) -> Result<(), Stop>
+    ensures { (held : Option (List ℕ)) (faults : ℕ) → Does (Carry (events.Turn run) ∷ []) (sight host.old out.old held faults) (sight host.new out.new held faults) result }
+{
+    let mut told = EventReply::Shut;
+    match host.turn(run, &mut told) {
+        Ok(Some(over)) => {
+            drop(told);
+            appended(write_plain(over, out))
+        }
+        Ok(None) => {
+            let wrote = appended(write_answer(alloc, host.code(), &told, out));
+            drop(told);
+            wrote
+        }
+        Err(_) => {
+            drop(told);
+            Err(Stop::OutOfMemory)
+        }
+    }
+}
+
 // Gives one turn, and appends the text of its answer.
 fn give_turn<T: Table>(
     alloc: Global,
@@ -93,7 +121,7 @@ fn give_turn<T: Table>(
     ensures { (held : Option (List ℕ)) (faults : ℕ) → Does (turn_of taker ∷ []) (sight host.old out.old held faults) (sight host.new out.new held faults) result }
 {
     match taker {
-        Taker::Run(run) => answer(alloc, host, out, Event::Turn(u64::from(run))),
+        Taker::Run(run) => answer_turn(alloc, host, out, u64::from(run)),
         Taker::IntentCollector => answer(alloc, host, out, Event::Ic),
         Taker::LogCollector(number) => prune(host, out, number),
     }

@@ -5,7 +5,7 @@ ghost use Rattle.beldi_host.specs.HostStride.{Strides};
 ghost use Rattle.beldi_step.specs.HostStep.{most_events};
 ghost use Rattle.beldi_host.specs.HostInvariant.{IsWhole};
 ghost use Rattle.beldi_step.specs.declared.event.Event.TheVariants as event;
-ghost use Rattle.beldi_schedule.specs.Settle.{HasTurns, WasTaken, counted, first_at, go_on, next_of, restless, on_turn_reply, turns_in};
+ghost use Rattle.beldi_schedule.specs.Settle.{HasTurns, WasTaken, first_at, go_on, next_of, restless, on_turn_reply, turns_in};
 ghost use Rattle.beldi_schedule.specs.declared.machine.At.{At};
 ghost use Rattle.beldi_schedule.specs.declared.machine.Next.TheVariants.{Turn, Collect};
 ghost use Rattle.beldi_schedule.specs.declared.machine.Standing.TheVariants.{Working, Over};
@@ -13,7 +13,6 @@ ghost use Rattle.beldi_upkeep.specs.Checked.{StartsAreOfIt};
 ghost use Rattle.beldi_book.specs.declared.entry.Entry.{Entry};
 ghost use Rattle.beldi_joined.specs.Joined.{IsWholeAfter, joined};
 ghost use Rattle.beldi_session.specs.Script.{Action, Settle};
-ghost use Rattle.beldi_session.specs.Answer.{reply_told};
 ghost use Rattle.beldi_session.specs.Session.{Does, DoesTo, left_by, sight};
 ghost use Rattle.beldi_session.specs.Settling.{Collected, WasAnswered, KeepsPromises, KeepsPromisesAfter, Led};
 ghost use Rattle.beldi_session.specs.Settled.{settled_text, wait_text};
@@ -32,7 +31,6 @@ use beldi_schedule::{
 use beldi_step::{Event, EventReply};
 use beldi_value::Str;
 use std::alloc::{AllocError, Global};
-use std::mem::forget;
 
 // All live runs wait: they are given turns again where a turn was counted meanwhile.
 fn restless<T: Table>(host: &Host<T>, at: At) -> Next
@@ -62,20 +60,6 @@ fn next_of<T: Table>(host: &Host<T>, at: At) -> Next
     }
 }
 
-// Whether a turn was made of which there is no more to tell: it is counted, and adds no text.
-fn is_plain(seen: &EventReply) -> bool
-    ensures { (budget : ℕ) (at : At) (run : ℕ) → result ≡ true → (on_turn_reply budget at run seen.now ≡ counted budget at) × (reply_told seen.now ≡ []) }
-{
-    matches!(
-        seen,
-        EventReply::Acted {
-            entry: None,
-            reply: None,
-            ..
-        }
-    )
-}
-
 // ---- events
 // Gives a run a turn, and appends the line of a reply.
 fn give_turn<T: Table>(
@@ -92,25 +76,26 @@ fn give_turn<T: Table>(
     ensures taken { IfOk result (λ next. WasTaken (core_of host.old) (core_of host.new) next) }
     ensures heard { IfOk result (λ next. WasAnswered host.old.code (event.Turn run) (λ c x. on_turn_reply budget at run x) (core_of host.old) (core_of host.new) (T.state host.old.table) (T.state host.new.table) next) }
 {
-    match host.event(Event::Turn(run)) {
-        Ok(seen) => {
-            if is_plain(&seen) {
-                // It owns nothing.
-                forget(seen);
-                return Ok(strode(budget, at, 1));
-            }
-            match write_reply_told(alloc, &seen, out) {
-                Ok(()) => match on_turn_reply(budget, at, run, seen) {
-                    Ok(next) => Ok(next),
-                    Err(_) => Err(Stop::OutOfMemory),
-                },
-                Err(_) => {
-                    drop(seen);
-                    Err(Stop::OutOfMemory)
-                }
-            }
+    let mut told = EventReply::Shut;
+    match host.turn(run, &mut told) {
+        Ok(Some(_)) => {
+            drop(told);
+            Ok(strode(budget, at, 1))
         }
-        Err(_) => Err(Stop::OutOfMemory),
+        Ok(None) => match write_reply_told(alloc, &told, out) {
+            Ok(()) => match on_turn_reply(budget, at, run, told) {
+                Ok(next) => Ok(next),
+                Err(_) => Err(Stop::OutOfMemory),
+            },
+            Err(_) => {
+                drop(told);
+                Err(Stop::OutOfMemory)
+            }
+        },
+        Err(_) => {
+            drop(told);
+            Err(Stop::OutOfMemory)
+        }
     }
 }
 

@@ -1,4 +1,4 @@
-use Rattle.std.proofs.Common.{Option, Some, ap, refl, rules, sym, ◌≡◌, ◌∙◌}
+use Rattle.std.proofs.Common.{Some, ap, refl, rules, sym, ◌∙◌}
 use Rattle.beldi_core.proofs.Names.{Run, RunMap, get_rows, map_of, nat_cmp-IsAntisymmetric, nat_cmp_total, one_set, option_copied_mut, with_run}
 use Rattle.beldi_core.proofs.Lives.{got_first, got_other, least_put, put_first, put_other}
 use Rattle.beldi_core.proofs.RunMaps.{absent_run}

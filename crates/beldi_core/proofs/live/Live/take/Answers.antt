@@ -1,4 +1,4 @@
-use Rattle.std.proofs.Common.{None, ap, rules, sym, ◌∙◌}
+use Rattle.std.proofs.Common.{None, ap, sym, ◌∙◌}
 use Rattle.beldi_core.proofs.Names.{RunMap, get_rows, map_of, nat_cmp-IsAntisymmetric, nat_cmp_total, one_gone, with_first, with_run}
 use Rattle.beldi_core.proofs.Lives.{first_left, got_first, got_other, least_removed, put_other}
 use Rattle.beldi_core.proofs.Names.map

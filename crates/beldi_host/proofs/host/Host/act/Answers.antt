@@ -1,8 +1,8 @@
-use Rattle.beldi_host.proofs.Names.{Act, Err, Ok, acted, query_asked, refl}
+use Rattle.beldi_host.proofs.Names.{Act, Err, Ok, acted, event_of, query_asked, refl}
 use Rattle.beldi_host.proofs.host.Host.act.Goals as goal
 
 pub returns-in-Ok-clause-asked : goal.returns-in-Ok-clause-asked
-returns-in-Ok-clause-asked g c = query_asked _ _ c.args.pending _ _ _ _ _ _ _ c.code.ensures.same c.resume.ensures (acted (Act c.args.key c.args.act) c.args.key c.args.act c.args.self.now.core.now (g.T.Table.state c.args.self.now.table) (g.T.Table.state c.act.follows.lender-at-none) c.act.result (Ok c.in-Ok.said) c.in-Ok.is refl c.act.follows.holds-at-none)
+returns-in-Ok-clause-asked g c = query_asked _ _ (event_of c.args.pending) _ _ _ _ _ _ _ c.code.ensures.same c.resume.ensures (acted (Act c.args.key c.args.act) c.args.key c.args.act c.args.self.now.core.now (g.T.Table.state c.args.self.now.table) (g.T.Table.state c.act.follows.lender-at-none) c.act.result (Ok c.in-Ok.said) c.in-Ok.is refl c.act.follows.holds-at-none)
 
 pub returns-in-Err-clause-asked : goal.returns-in-Err-clause-asked
 returns-in-Err-clause-asked g c = (Err c.in-Err.why, c.refused.ensures, acted (Act c.args.key c.args.act) c.args.key c.args.act c.args.self.now.core.now (g.T.Table.state c.args.self.now.table) (g.T.Table.state c.act.follows.lender-at-none) c.act.result (Err c.in-Err.why) c.in-Err.is refl c.act.follows.holds-at-none)

@@ -5,8 +5,8 @@ pub returns-clause-right : goal.returns-clause-right
 returns-clause-right g c =
     let t = g.T.Table in
     let h = c.args.self.now in
-    let k = c.step.new.self in
-    event_keeps h.code c.args.event (core_of h) (core_of k) (t.state h.table) (t.state k.table) c.step.result c.step.ensures.step c.an_event_keeps_the_collectors_safe.ensures k.code c.step.ensures.code
+    let k = c.carry_out.new.self in
+    event_keeps h.code c.args.event (core_of h) (core_of k) (t.state h.table) (t.state k.table) c.carry_out.result c.carry_out.ensures.step c.an_event_keeps_the_collectors_safe.ensures k.code c.carry_out.ensures.code
 
 pub returns-clause-answers_stay : goal.returns-clause-answers_stay
 returns-clause-answers_stay g c = search (rules, event_stays)

@@ -1,0 +1,18 @@
+use Rattle.beldi_host.proofs.{Names.Turn, Names.core_of, Names.reply_in, Names.rules, HostInvariant.event_keeps, HostInvariant.event_stays, HostInvariant.never_gone, HostInvariant.ends_late}
+use Rattle.beldi_host.proofs.host.Host.turn.Goals as goal
+
+pub returns-clause-right : goal.returns-clause-right
+returns-clause-right g c =
+    let t = g.T.Table in
+    let h = c.args.self.now in
+    let k = c.take_turn.new.self in
+    event_keeps h.code (Turn c.args.run) (core_of h) (core_of k) (t.state h.table) (t.state k.table) (reply_in c.take_turn.new.told c.take_turn.result) c.take_turn.ensures.step c.an_event_keeps_the_collectors_safe.ensures k.code c.take_turn.ensures.code
+
+pub returns-clause-answers_stay : goal.returns-clause-answers_stay
+returns-clause-answers_stay g c = search (rules, event_stays)
+
+pub returns-clause-has_rows : goal.returns-clause-has_rows
+returns-clause-has_rows g c = search (rules, never_gone)
+
+pub returns-clause-in_time : goal.returns-clause-in_time
+returns-clause-in_time g c = search (rules, ends_late)
