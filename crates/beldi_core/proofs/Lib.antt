@@ -1,3 +1,4 @@
+mod Callees
 mod CountMaps
 mod Counting
 pub mod Least

@@ -1,6 +1,10 @@
 -- An event that was planned, and then followed, is one step.
 use Rattle.std.proofs.lemmas.List.{append-nil}
-use Rattle.beldi_step.specs.{HostStep.counted, Run.plain_output}
+use Rattle.beldi_step.specs.{HostStep.counted, HostStep.turned_core, Run.output_of, Run.plain_output}
+use Rattle.beldi_step.proofs.PutRun.{put_self}
+use Rattle.std.specs.{Prelude.IfOk, Result.is_err}
+use Rattle.beldi_core.specs.LiveRuns.{callee_for, made_before}
+use Rattle.beldi_core.proofs.Callees.{callee_told}
 use Rattle.beldi_core.proofs.Names.{AllocError, Asked, Bool, Came, Copied, Copies, Core, Deployment, Err, Event, Followed, Lost, Mark, NoMemory, None, Numbered, Ok, Option, OutOfMemory, Plan, Planned, PlannedOf, Query, Result, Run, RunMap, RunTold, EventReply, Some, StepBy, Stepped, TableErr, TableState, TellsTurn, QueryReply, Turn, TurnOutput, after_turn, ap, asks, immediate, base, count_changes, crash_plan, ended_run, entered, false, if◌then◌else◌, mark_told, marked, nat_lt, no_run, plan, reads_all, refl, remove_put, run_asks, run_next, run_plan, run_told, subst, sym, turn_in, unasked, unheard_next, ℕ, ◌∙◌, ◌≡◌}
 use Rattle.beldi_core.proofs.Names.map
 
@@ -38,14 +42,18 @@ module _ (d : Deployment) (c z : Core) (a : RunMap) (i : ℕ) (t : QueryReply) (
   unheard_made x h name is = ap Some (sym (unheard_by (map.get c.runs i) (Ok x) x.mark h name refl is))
 
 turned_by : (d : Deployment) (c : Core) (a : RunMap) (i : ℕ) (t : QueryReply) (n : Copies) (o : Option Run) (x : TurnOutput) → RunTold d (count_changes c.book) c.runs a i o t (Ok x) → Copied n o
-    → after_turn (record c { runs = a; book = marked c.book n.id x.mark }) n.callee n.id x x.wait ≡ run_next d c i t o
+    → after_turn (record c { runs = a; book = marked c.book n.id x.mark }) (callee_for n.callee (map.get a i)) n.id x x.wait ≡ run_next d c i t o
 turned_by d c a i t n None x h name = absurd h
 turned_by d c a i t n (Some r) x h name =
-    λ j. after_turn (record c { runs = h.0 j; book = marked c.book (name j).id (h.1 j).mark }) (name j).callee (name j).id (h.1 j) (h.1 j).wait
+    let s = run_told d (count_changes c.book) r t in
+    let k = turned_core c i r.id s in
+    (λ j. after_turn (record c { runs = h.0 j; book = marked c.book (name j).id (h.1 j).mark }) (callee_for (name j).callee (map.get (h.0 j) i)) (name j).id (h.1 j) (h.1 j).wait)
+    ∙ ap (λ o. after_turn k (callee_for (made_before r) o) r.id (output_of s) s.wait) (put_self c.runs i s.next)
+    ∙ callee_told d (count_changes c.book) r t k
 
 turned : (d : Deployment) (c k : Core) (a : RunMap) (i : ℕ) (t : QueryReply) (n : Copies) (x : TurnOutput) (z : Core × EventReply) → RunTold d (count_changes c.book) c.runs a i (map.get c.runs i) t (Ok x) → Copied n (map.get c.runs i) → k ≡ record c { runs = a; book = marked c.book n.id x.mark }
-    → z ≡ after_turn k n.callee n.id x x.wait → z ≡ run_next d c i t (map.get c.runs i)
-turned d c k a i t n x z h name at is = is ∙ ap (λ q. after_turn q n.callee n.id x x.wait) at ∙ turned_by d c a i t n (map.get c.runs i) x h name
+    → z ≡ after_turn k (callee_for n.callee (map.get k.runs i)) n.id x x.wait → z ≡ run_next d c i t (map.get c.runs i)
+turned d c k a i t n x z h name at is = is ∙ ap (λ (q : Core). after_turn q (callee_for n.callee (map.get q.runs i)) n.id x x.wait) at ∙ turned_by d c a i t n (map.get c.runs i) x h name
 
 -- .. where it says no more than whether the run is over
 pub plain_turn : (c : Core) (i : ℕ) (n : Copies) (x : TurnOutput) (b : Bool) → x ≡ plain_output None b → TellsTurn c i n x c (Ok (EventReply.Acted None None b None))
@@ -108,3 +116,8 @@ turn_now d e c z x y s planned same = subst (λ (k : Plan). StepBy d e (counted 
 -- .. or asks one thing
 pub turn_asked : (d : Deployment) (i : ℕ) (c b z : Core) (q : Query) (p : Plan) (old new : TableState) (r : Result EventReply AllocError) → p ≡ asks q → b ≡ c → Asked d (Turn i) b z q old new r → StepBy d (Turn i) c p z old new r
 turn_asked d i c b z q p old new r planned same asked = subst (λ (k : Plan). StepBy d (Turn i) c k z old new r) (sym planned) (subst (λ (k : Core). StepBy d (Turn i) k (asks q) z old new r) same asked)
+
+-- .. which was made, and is told with what follows
+pub tells : (c k z : Core) (i : ℕ) (n : Copies) (x : TurnOutput) (r : Result EventReply AllocError) → k ≡ entered c n x → IfOk r (λ y. (z, y) ≡ after_turn k (callee_for n.callee (map.get k.runs i)) n.id x x.wait) → is_err r ≡ false → TellsTurn c i n x z r
+tells c k z i n x (Ok y) made follows told = subst (λ (q : Core). (z, y) ≡ after_turn q (callee_for n.callee (map.get q.runs i)) n.id x x.wait) made follows
+tells c k z i n x (Err e) made follows told = cc

@@ -1,11 +1,11 @@
 -- The live runs by number, what each asks, and what becomes of one that is told.
-use Rattle.std.specs.Prelude.{◌≡◌, ℕ, ◌+◌, ◌-◌, ◌<◌, Bool, true, false, IsSome, Option, Some, None, Result, Ok, Err}
+use Rattle.std.specs.Prelude.{◌≡◌, ℕ, ◌+◌, ◌-◌, ◌<◌, if◌then◌else◌, not, Bool, true, false, IsSome, Option, Some, None, Result, Ok, Err}
 use Rattle.std.specs.{FinMap.FinMap, Ordering.nat_cmp}
 use Rattle.std.specs.FinMap as map
 use Rattle.beldi_tree.specs.declared.deployment.Deployment.{Deployment}
 use Rattle.beldi_query.specs.{declared.query.Query.Query, Query.QueryReply}
-use Rattle.beldi_step.specs.{RunStride.walked, declared.run.Mark.Mark, declared.run.Run.Run, declared.run.TurnOutput.TurnOutput, Run.output_of, Run.callee_of, Run.run_asks, Run.run_told, HostStep.put_run}
-use Rattle.beldi_core.specs.{Counts.CountMap, Counts.AllCounted, Counts.less, declared.runs.Copies.Copies}
+use Rattle.beldi_step.specs.{RunStride.walked, declared.run.Mark.Mark, declared.run.Run.Run, declared.run.RunAt.RunAt, declared.run.Stage.Stage, declared.run.Wait.Wait, declared.run.TurnOutput.TurnOutput, Run.output_of, Run.callee_of, Run.run_asks, Run.run_told, HostStep.has_run, HostStep.put_run}
+use Rattle.beldi_core.specs.{Counts.CountMap, Counts.AllCounted, Counts.less, declared.runs.Callee.Callee as Callees, declared.runs.Copies.Copies}
 
 abbrev pub RunMap : Type 0
 RunMap = FinMap nat_cmp Run
@@ -39,8 +39,35 @@ abbrev pub withdrawn : Numbered → Numbered
 withdrawn a = record { runs = map.remove a.runs a.given; given = a.given - 1 }
 
 -- ---- a turn
+-- the run of what is called is made before the turn, but where its run stands at a call: it does so after a turn that may start one too
+abbrev pub is_call : Stage → Bool
+is_call (Stage.Call at) = true
+is_call w = false
+
+abbrev pub is_at_call : RunAt → Bool
+is_at_call (RunAt.Begins g) = is_call g.stage
+is_at_call at = false
+
+abbrev pub made_before : Run → Callees
+made_before r = if is_at_call r.at then Callees.Later else Callees.Made (callee_of r)
+
+-- .. from the run as it stands afterwards
+abbrev pub made_after : Option Run → Option Run
+made_after None = None
+made_after (Some s) = callee_of s
+
+abbrev pub callee_for : Callees → Option Run → Option Run
+callee_for (Callees.Made o) s = o
+callee_for Callees.Later s = made_after s
+
 abbrev pub copied : Run → Copies
-copied r = record { id = r.id; callee = callee_of r }
+copied r = record { id = r.id; callee = made_before r }
+
+-- whether a run of it may be started, by what a turn says: not where it waits for a live one
+abbrev pub may_follow : RunMap → Bool → Option Wait → Bool
+may_follow m starts None = starts
+may_follow m starts (Some (Wait.Result id)) = not (has_run m id)
+may_follow m starts (Some w) = false
 
 -- what a run asks, with its copies
 abbrev pub asked_of : Run → Query × Copies

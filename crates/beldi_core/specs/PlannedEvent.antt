@@ -11,7 +11,7 @@ use Rattle.beldi_intent.specs.{declared.intent.Binding.Binding, Intent.binding_o
 use Rattle.beldi_step.specs.HostStep.{Core, Plan, immediate, asks, reads_all, plan, plan_of, counted, new_run, unbound, refused, ended_run, marked, after_turn, acted, LocalSteps, Followed}
 use Rattle.beldi_step.specs.RunStride.{walking}
 use Rattle.beldi_step.specs.declared.{event.Event.Event, event.Event.TheVariants.Ticket, event.Event.TheVariants.Request, event.Event.TheVariants.Turn, event.Event.TheVariants.Lost, event.Event.TheVariants.Ic, event.EventReply.EventReply, run.Mark.Mark, run.Run.Run, run.TurnOutput.TurnOutput, run.Walking.Walking}
-use Rattle.beldi_core.specs.{declared.host_core.HostCore.HostCore, declared.events.Planned.Planned as Plans, declared.turns.TurnPlan.TurnPlan as TurnPlans, declared.events.Immediate.Immediate, declared.events.Pending.Pending, declared.runs.Copies.Copies, LiveRuns.Numbered, LiveRuns.withdrawn, LiveRuns.started, LiveRuns.copied, LiveRuns.walked_in}
+use Rattle.beldi_core.specs.{declared.host_core.HostCore.HostCore, declared.events.Planned.Planned as Plans, declared.turns.TurnPlan.TurnPlan as TurnPlans, declared.events.Immediate.Immediate, declared.events.Pending.Pending, declared.runs.Copies.Copies, LiveRuns.Numbered, LiveRuns.withdrawn, LiveRuns.started, LiveRuns.callee_for, LiveRuns.copied, LiveRuns.walked_in}
 
 -- the host without its table, as events speak of it
 abbrev pub core_in : HostCore → Core
@@ -150,7 +150,7 @@ abbrev pub entered : Core → Copies → TurnOutput → Core
 entered c n x = record c { book = marked c.book n.id x.mark }
 
 abbrev pub TellsTurn : Core → ℕ → Copies → TurnOutput → Core → Result EventReply AllocError → Type 0
-TellsTurn c i n x z (Ok y) = (z, y) ≡ after_turn (entered c n x) n.callee n.id x x.wait
+TellsTurn c i n x z (Ok y) = (z, y) ≡ after_turn (entered c n x) (callee_for n.callee (map.get c.runs i)) n.id x x.wait
 TellsTurn c i n x z (Err e) = z ≡ ended_run (entered c n x) i
 
 -- the one query of an event that was planned, and what follows

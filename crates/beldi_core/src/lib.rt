@@ -14,7 +14,7 @@
 //! Files:
 //! - Code (`src/`): `host_core` the host without its table; `turns` what a turn asks, and what follows, `events` the same of all other events; `live` the live runs in the order of their
 //!   numbers; `runs` what is kept of them; `counts` how many of them each intent has.
-//! - Lemmas (`proofs/`): `Plans` a plan, followed, is one step; `RunMaps`; `CountMaps`, `Counting` what is counted of the
+//! - Lemmas (`proofs/`): `Plans` a plan, followed, is one step; `Callees` a run of what is called, made after the turn; `RunMaps`; `CountMaps`, `Counting` what is counted of the
 //!   runs; `Least` the least number past another; `Truths`.
 #![tactic(auto)]
 
@@ -27,5 +27,5 @@ mod turns;
 
 pub use events::{LAST_MOMENT, MOST_EVENTS, Pending, Planned, turn_in};
 pub use host_core::HostCore;
-pub use runs::{Copies, Runs};
+pub use runs::{Callee, Copies, Runs};
 pub use turns::TurnPlan;

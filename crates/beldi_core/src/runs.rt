@@ -2,7 +2,7 @@
 ghost use Rattle.std.specs.Prelude.{◌≡◌, ℕ, ◌+◌, ◌-◌, ◌^◌, ◌<◌, ◌≤◌, Some, None, IsSome, IfOk, IfErr, IfSome, OnOk, OnErr, option_copied};
 ghost use Rattle.std.specs.FinMap as map;
 ghost use Rattle.beldi_query.specs.Query.{query_reply_of};
-ghost use Rattle.beldi_core.specs.LiveRuns.{IsLeastPast, started, withdrawn, ends_run, settled, uncounted, settled_counts, AllKept, asked_of, RunTold, walked_in};
+ghost use Rattle.beldi_core.specs.LiveRuns.{IsLeastPast, started, withdrawn, ends_run, settled, uncounted, settled_counts, AllKept, asked_of, RunTold, is_at_call, made_after, made_before, walked_in};
 ghost use Rattle.beldi_step.specs.Next.{first_past};
 ghost use Rattle.beldi_core.specs.Counts.{CountMap, count_at, more, kept_as};
 ghost use Rattle.beldi_step.specs.HostStep.{has_run};
@@ -13,7 +13,7 @@ use crate::live::Live;
 use beldi_book::Book;
 use beldi_lang::Deployment;
 use beldi_query::{Query, QueryReplyRef};
-use beldi_step::{Mark, Run, TurnOutput};
+use beldi_step::{Mark, Run, RunAt, Stage, TurnOutput};
 use beldi_turn::{ask, callee, resume, walk_to};
 use beldi_value::{Boxed, IntentId, or_drop};
 use std::alloc::{AllocError, Global};
@@ -127,11 +127,39 @@ fn set_forward(live: &mut Live, number: u64, row: u32)
     }
 }
 
-/// What the answer to a run's turn needs: the id of the instance, and a run of what it calls, if it stands at a call.
+/// A run of what a run calls.
+#[derive(Drop)]
+pub enum Callee {
+    /// It was made before the turn, if anything is called.
+    Made(Option<Boxed<Run>>),
+    /// The run stands at a call, and still does after a turn that may start one: it is made then.
+    Later,
+}
+
+/// What the answer to a run's turn needs: the id of the instance, and a run of what it calls.
 #[derive(Drop)]
 pub struct Copies {
     pub id: IntentId,
-    pub callee: Option<Boxed<Run>>,
+    pub callee: Callee,
+}
+
+// A run of what a run calls, before its turn.
+fn callee_before(alloc: Global, run: &Run) -> Result<Callee, AllocError>
+    ensures { IfOk result (λ c. c ≡ made_before run.now) }
+{
+    if is_at_call(&run.at) {
+        return Ok(Callee::Later);
+    }
+    Ok(Callee::Made(callee(alloc, run)?))
+}
+
+fn is_at_call(at: &RunAt) -> bool
+    ensures { result ≡ is_at_call at.now }
+{
+    match at {
+        RunAt::Begins(begun) => matches!(begun.stage, Stage::Call(_)),
+        _ => false,
+    }
 }
 
 /// What a run asks, and its copies. A place in the book is taken for the entry of its act.
@@ -146,7 +174,7 @@ pub fn asked(
 {
     book.reserve()?;
     let id = run.id.copy(alloc)?;
-    let callee = or_drop!(callee(alloc, run); id);
+    let callee = or_drop!(callee_before(alloc, run); id);
     let query = or_drop!(ask(alloc, run); id, callee);
     Ok((query, Copies { id, callee }))
 }
@@ -182,6 +210,16 @@ impl Runs {
         ensures { option_copied result ≡ map.get self.now.runs number }
     {
         self.live.get(number)
+    }
+
+    /// A run of what the run of this number calls, if it is live and stands at a call.
+    pub fn callee(&self, alloc: Global, number: u64) -> Result<Option<Boxed<Run>>, AllocError>
+        ensures { IfOk result (λ r. r ≡ made_after (map.get self.now.runs number)) }
+    {
+        match self.live.get(number) {
+            Some(run) => callee(alloc, run),
+            None => Ok(None),
+        }
     }
 
     /// Whether a run of this intent is live.

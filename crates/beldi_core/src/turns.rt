@@ -8,11 +8,12 @@ ghost use Rattle.beldi_step.specs.declared.run.Wait.TheVariants as waits;
 ghost use Rattle.beldi_tree.specs.declared.deployment.Deployment.{Deployment};
 ghost use Rattle.beldi_step.specs.Run.{plain_output};
 ghost use Rattle.beldi_step.specs.HostStep.{Followed, acted as acted_by, after_turn as after_turn_of, counted, entry_of as entry_by, may_start as may_start_of, plan, refused, run_plan, started};
+ghost use Rattle.beldi_core.specs.LiveRuns.{callee_for, may_follow};
 ghost use Rattle.beldi_core.specs.PlannedEvent.{Copied, TellsTurn, TurnPlanned, WalkTold, acted_unless, core_in, mark_told, reply_in, strode};
 
 use crate::events::{Immediate, MOST_EVENTS, MOST_RUNS, no_run, refuse};
 use crate::host_core::HostCore;
-use crate::runs::{Copies, asked};
+use crate::runs::{Callee, Copies, Runs, asked};
 use beldi_book::{Book, Entry};
 use beldi_lang::Deployment;
 use beldi_query::{Query, QueryReplyRef};
@@ -132,6 +133,17 @@ fn plainly(output: &TurnOutput) -> Option<bool>
             reply: None,
         } => Some(*over),
         _ => None,
+    }
+}
+
+// Whether a run of what is called may be started after a turn: not where it waits for a live one.
+fn may_follow(runs: &Runs, output: &TurnOutput) -> bool
+    ensures { result ≡ may_follow runs.now.runs output.now.starts output.now.wait }
+{
+    match &output.wait {
+        None => output.starts,
+        Some(Wait::Result(awaited)) => !runs.has_run(awaited.get()),
+        _ => false,
     }
 }
 
@@ -301,7 +313,7 @@ impl HostCore {
         match copy_entry(self.alloc, &id, &output.mark) {
             Ok(entry) => {
                 write(&mut self.book, entry);
-                let seen = self.after_turn(callee, id, output);
+                let seen = self.follow(run, callee, id, output);
                 if seen.is_err() {
                     self.runs.remove(run);
                 }
@@ -313,6 +325,41 @@ impl HostCore {
                 write(&mut self.book, entry_if(id, told_mark(Ok(output))));
                 return Err(why);
             }
+        }
+    }
+
+    // What follows of a turn, with a run of what is called, where one may be started.
+    fn follow(
+        &mut self,
+        run: u64,
+        callee: Callee,
+        id: IntentId,
+        output: TurnOutput,
+    ) -> Result<EventReply, AllocError>
+        requires given { self.old.runs.given < self.old.taken }
+        ensures ok { IfOk result (λ x. (core_in self.new, x) ≡ after_turn_of (core_in self.old) (callee_for callee (map.get self.old.runs.runs run)) id output output.wait) }
+        ensures err { OnErr result (core_in self.new ≡ core_in self.old) }
+    {
+        if !may_follow(&self.runs, &output) {
+            drop(callee);
+            return self.after_turn(None, id, output);
+        }
+        match self.callee_for(run, callee) {
+            Ok(callee) => return self.after_turn(callee, id, output),
+            Err(why) => {
+                drop(id);
+                drop(output);
+                return Err(why);
+            }
+        }
+    }
+
+    fn callee_for(&self, run: u64, callee: Callee) -> Result<Option<Boxed<Run>>, AllocError>
+        ensures { IfOk result (λ r. r ≡ callee_for callee (map.get self.entry.now.runs.runs run)) }
+    {
+        match callee {
+            Callee::Made(callee) => Ok(callee),
+            Callee::Later => self.runs.callee(self.alloc, run),
         }
     }
 
