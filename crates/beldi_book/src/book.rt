@@ -9,7 +9,7 @@ use crate::entry::Entry;
 use crate::order::in_order;
 use crate::reading::read_entry;
 use beldi_tree::Deployment;
-use beldi_value::{Str, cut_at, or_drop};
+use beldi_value::{TextBuf, cut_at, or_drop};
 use std::alloc::{AllocError, Global};
 use std::marker::Model;
 use thiserror::Error;
@@ -122,11 +122,16 @@ impl Book {
     }
 
     /// Appends a line for each entry, each with its line feed. Of entries within their limits `read` reads it again.
-    pub fn write(&self, alloc: Global, code: &Deployment, out: &mut Str) -> Result<(), AllocError>
+    pub fn write(
+        &self,
+        alloc: Global,
+        code: &Deployment,
+        out: &mut TextBuf,
+    ) -> Result<(), AllocError>
         ensures ok { OnOk result (out.new ≡ out.old ++ book_text code.now self.now.entries) }
         ensures err { OnErr result (out.new ≡ out.old) }
     {
-        let mut text = Str::new(alloc);
+        let mut text = TextBuf::new(alloc);
         for entry in &self.entries {
             entry.write(alloc, code, &mut text)?;
             text.push_text("\n")?;

@@ -6,7 +6,7 @@ ghost use Rattle.beldi_book.specs.LinearOrder.{version_of};
 ghost use Rattle.beldi_book.specs.declared.entry.Entry.TheVariants.{Start, AbortedTx};
 
 use beldi_tree::Deployment;
-use beldi_value::{Boxed, IntentId, Place, Str, Value, copy_holder, or_drop};
+use beldi_value::{Boxed, IntentId, Place, TextBuf, Value, copy_holder, or_drop};
 use std::alloc::{AllocError, Global};
 
 /// What a step of the run was.
@@ -72,7 +72,12 @@ impl Entry {
     }
 
     /// Appends the text of the entry, without an end of line. Out of memory, a part of it may be there.
-    pub fn write(&self, alloc: Global, code: &Deployment, out: &mut Str) -> Result<(), AllocError>
+    pub fn write(
+        &self,
+        alloc: Global,
+        code: &Deployment,
+        out: &mut TextBuf,
+    ) -> Result<(), AllocError>
         ensures { OnOk result (out.new ≡ out.old ++ entry_text code.now self.now) }
     {
         match self {
@@ -112,7 +117,7 @@ fn write_start(
     ticket: u32,
     func: u16,
     args: &Value,
-    out: &mut Str,
+    out: &mut TextBuf,
 ) -> Result<(), AllocError>
     ensures { OnOk result (out.new ≡ out.old ++ entry_text code.now (Start ticket func args.now)) }
 {
@@ -128,7 +133,7 @@ fn write_abort(
     id: &IntentId,
     place: &Boxed<Place>,
     holder: &Option<Boxed<IntentId>>,
-    out: &mut Str,
+    out: &mut TextBuf,
 ) -> Result<(), AllocError>
     ensures { OnOk result (out.new ≡ out.old ++ (codes "try " ++ (id_text id.now ++ (codes " " ++ (place_text place.now ++ (codes " " ++ holder_text holder.now)))))) }
 {
@@ -140,7 +145,7 @@ fn write_abort(
 }
 
 // Appends a word and an id.
-fn write_id(word: &str, id: &IntentId, out: &mut Str) -> Result<(), AllocError>
+fn write_id(word: &str, id: &IntentId, out: &mut TextBuf) -> Result<(), AllocError>
     ensures { OnOk result (out.new ≡ out.old ++ word.now ++ id_text id.now) }
 {
     out.push_text(word)?;
@@ -148,7 +153,7 @@ fn write_id(word: &str, id: &IntentId, out: &mut Str) -> Result<(), AllocError>
 }
 
 // Appends the holder's id, or `-`.
-fn write_holder(holder: &Option<Boxed<IntentId>>, out: &mut Str) -> Result<(), AllocError>
+fn write_holder(holder: &Option<Boxed<IntentId>>, out: &mut TextBuf) -> Result<(), AllocError>
     ensures { OnOk result (out.new ≡ out.old ++ holder_text holder.now) }
 {
     match holder {

@@ -9,7 +9,7 @@ ghost use Rattle.beldi_book.specs.EntryWords.{small_at, place_at, holder_at, rea
 use crate::entry::Entry;
 use beldi_tree::Deployment;
 use beldi_value::{
-    Boxed, IdErr, IntentId, Place, Str, Value, ValueErr, cut_at, or_drop, read_numeral,
+    Boxed, IdErr, IntentId, Place, TextBuf, Value, ValueErr, cut_at, or_drop, read_numeral,
 };
 use std::alloc::{AllocError, Global};
 
@@ -149,7 +149,7 @@ fn read_args(alloc: Global, json: &[u8]) -> Result<Option<Value>, AllocError>
         Err(ValueErr::OutOfMemory) => return Err(AllocError),
         Err(_) => return Ok(None),
     };
-    let mut text = Str::new(alloc);
+    let mut text = TextBuf::new(alloc);
     or_drop!(args.write_json(alloc, &mut text); text, args);
     let is_canonical = text.as_bytes() == json;
     drop(text);

@@ -83,7 +83,10 @@ fn read_text(alloc: Global, from: &mut Cursor<'_>) -> Result<Str, ReadErr>
 {
     let bytes = given!(read_chars(alloc, from)).into_vec();
     match String::from_utf8(bytes) {
-        Ok(text) => Ok(Str::from_string(text)),
+        Ok(text) => match Str::from_string(text) {
+            Ok(text) => Ok(text),
+            Err(_) => Err(ReadErr::OutOfMemory),
+        },
         Err(error) => {
             drop(error);
             Err(ReadErr::Foreign)

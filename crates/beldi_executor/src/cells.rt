@@ -7,7 +7,7 @@ ghost use Rattle.beldi_plain.specs.Listing.{items_text};
 use crate::tables::TableId;
 use beldi_book::write_item;
 use beldi_lang::Deployment;
-use beldi_value::{Str, Value};
+use beldi_value::{Str, TextBuf, Value};
 use std::alloc::{AllocError, Global};
 use std::collections::BTreeMap;
 use std::marker::Model;
@@ -74,7 +74,7 @@ impl Cells {
         alloc: Global,
         code: &Deployment,
         table: TableId,
-        out: &mut Str,
+        out: &mut TextBuf,
     ) -> Result<(), AllocError>
         ensures { OnOk result (out.new ≡ out.old ++ items_text code.now (cells_at table (map.entries self.now))) }
     {

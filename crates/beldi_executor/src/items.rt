@@ -8,7 +8,7 @@ ghost use Rattle.beldi_plain.specs.Listing.{items_text};
 
 use crate::tables::{TableId, Tables};
 use beldi_lang::Deployment;
-use beldi_value::{Rel, Str, Value};
+use beldi_value::{Rel, Str, TextBuf, Value};
 use std::alloc::{AllocError, Global};
 use std::marker::Model;
 
@@ -113,11 +113,16 @@ impl Items {
     }
 
     // Appends a line for each item, in their order.
-    pub fn write(&self, alloc: Global, code: &Deployment, out: &mut Str) -> Result<(), AllocError>
+    pub fn write(
+        &self,
+        alloc: Global,
+        code: &Deployment,
+        out: &mut TextBuf,
+    ) -> Result<(), AllocError>
         ensures ok { OnOk result (out.new ≡ out.old ++ items_text code.now (map.entries self.now)) }
         ensures err { OnErr result (out.new ≡ out.old) }
     {
-        let mut text = Str::new(alloc);
+        let mut text = TextBuf::new(alloc);
         self.tables.write(alloc, code, &mut text)?;
         out.push_text(text.as_str())
     }

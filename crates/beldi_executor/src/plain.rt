@@ -16,7 +16,7 @@ use crate::state::State;
 use beldi_book::{Book, Entry};
 use beldi_check::Checked;
 use beldi_lang::{Effect, Machine};
-use beldi_value::{Boxed, IntentId, Outcome, Place, Str, Value, or_drop};
+use beldi_value::{Boxed, IntentId, Outcome, Place, Str, TextBuf, Value, or_drop};
 use std::alloc::{AllocError, Global};
 use std::marker::Model;
 use thiserror::Error;
@@ -357,7 +357,7 @@ impl<'a> Plain<'a> {
     }
 
     /// Appends a line for each item that is not null.
-    pub fn tables(&self, out: &mut Str) -> Result<(), AllocError>
+    pub fn tables(&self, out: &mut TextBuf) -> Result<(), AllocError>
         ensures ok { OnOk result (out.new ≡ out.old ++ listing_of self.now.code self.now.state) }
         ensures err { OnErr result (out.new ≡ out.old) }
     {

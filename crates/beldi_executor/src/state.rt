@@ -13,7 +13,7 @@ use crate::instances::Instances;
 use crate::items::Items;
 use crate::next::Next;
 use beldi_lang::{Answer, Deployment, Effect};
-use beldi_value::{Caller, IntentId, Outcome, Place, Str, Value, or_drop};
+use beldi_value::{Caller, IntentId, Outcome, Place, Str, TextBuf, Value, or_drop};
 use std::alloc::{AllocError, Global};
 use std::marker::Model;
 
@@ -229,7 +229,12 @@ impl State {
     }
 
     /// Appends a line for each item that is not null.
-    pub fn write(&self, alloc: Global, code: &Deployment, out: &mut Str) -> Result<(), AllocError>
+    pub fn write(
+        &self,
+        alloc: Global,
+        code: &Deployment,
+        out: &mut TextBuf,
+    ) -> Result<(), AllocError>
         ensures ok { OnOk result (out.new ≡ out.old ++ listing_of code.now self.now) }
         ensures err { OnErr result (out.new ≡ out.old) }
     {

@@ -6,7 +6,7 @@ ghost use Rattle.beldi_plain.specs.Listing.{items_text};
 
 use crate::cells::Cells;
 use beldi_lang::Deployment;
-use beldi_value::{Str, Value, or_drop};
+use beldi_value::{Str, TextBuf, Value, or_drop};
 use std::alloc::{AllocError, Global};
 use std::collections::BTreeMap;
 use std::marker::Model;
@@ -111,7 +111,12 @@ impl Tables {
     }
 
     // Appends a line for each item, in their order.
-    pub fn write(&self, alloc: Global, code: &Deployment, out: &mut Str) -> Result<(), AllocError>
+    pub fn write(
+        &self,
+        alloc: Global,
+        code: &Deployment,
+        out: &mut TextBuf,
+    ) -> Result<(), AllocError>
         ensures { OnOk result (out.new ≡ out.old ++ items_text code.now (map.entries (items_of self.now))) }
     {
         for (table, cells) in self.entries.iter() {

@@ -5,7 +5,7 @@ ghost use Rattle.http.specs.StatusCode.{IsStatusCode};
 
 use crate::desk::{CallReply, TicketReply};
 use crate::route::Endpoint;
-use beldi_value::{OutOfMemory, Outcome, Str};
+use beldi_value::{OutOfMemory, Outcome, TextBuf};
 use http::StatusCode;
 use std::alloc::Global;
 
@@ -112,7 +112,7 @@ fn outcome_body(alloc: Global, outcome: &Outcome) -> Result<String, OutOfMemory>
 {
     match outcome {
         Outcome::Value(value) => {
-            let mut text = Str::new(alloc);
+            let mut text = TextBuf::new(alloc);
             value.write_json(alloc, &mut text)?;
             format!(in alloc; "{{\"value\":{}}}", text.as_str())
         }
@@ -177,11 +177,11 @@ fn length_text(alloc: Global, length: usize) -> Result<String, OutOfMemory>
 }
 
 // The bytes of a response with these parts.
-fn compose(alloc: Global, status: u16, allow: &str, body: &str) -> Result<Str, OutOfMemory>
+fn compose(alloc: Global, status: u16, allow: &str, body: &str) -> Result<TextBuf, OutOfMemory>
     requires { IsStatusCode status }
     ensures { IfOk result (λ s. s ≡ composed status allow.now body.now) }
 {
-    let mut text = Str::from_string(status_text(alloc, status)?);
+    let mut text = TextBuf::from_string(status_text(alloc, status)?);
     text.push_text(phrase(status))?;
     text.push_text("\r\nContent-Type: application/json\r\n")?;
     text.push_text(allow)?;
@@ -226,7 +226,7 @@ impl Response {
     }
 
     /// Its bytes.
-    pub fn text(&self, alloc: Global) -> Result<Str, OutOfMemory>
+    pub fn text(&self, alloc: Global) -> Result<TextBuf, OutOfMemory>
         ensures { IfOk result (λ s. s ≡ response_bytes self.now) }
     {
         let body = self.body(alloc)?;

@@ -2,11 +2,11 @@
 ghost use Rattle.std.specs.Prelude.{◌≡◌, ◌<◌, ◌≤◌, ◌^◌, ◌++◌, IfOk, OnOk};
 ghost use Rattle.beldi_generator.specs.Generated.{bank, drawn, fate_text, fifth, from_text, front_text, generated, next_seed, request_of, request_text, to_text, transfer_text};
 
-use beldi_value::Str;
+use beldi_value::TextBuf;
 use std::alloc::AllocError;
 
 // Appends the deployment.
-fn write_bank(out: &mut Str) -> Result<(), AllocError>
+fn write_bank(out: &mut TextBuf) -> Result<(), AllocError>
     ensures { OnOk result (out.new ≡ out.old ++ bank) }
 {
     out.push_text("life 1000000;\n")?;
@@ -41,7 +41,7 @@ fn write_transfer(
     from: u64,
     to: u64,
     amount: u64,
-    out: &mut Str,
+    out: &mut TextBuf,
 ) -> Result<(), AllocError>
     ensures { OnOk result (out.new ≡ out.old ++ transfer_text ticket from to amount) }
 {
@@ -50,7 +50,7 @@ fn write_transfer(
     write_to(amount, to, out)
 }
 
-fn write_front(ticket: u64, out: &mut Str) -> Result<(), AllocError>
+fn write_front(ticket: u64, out: &mut TextBuf) -> Result<(), AllocError>
     ensures { OnOk result (out.new ≡ out.old ++ front_text ticket) }
 {
     out.push_text("ticket\nrequest ")?;
@@ -58,7 +58,7 @@ fn write_front(ticket: u64, out: &mut Str) -> Result<(), AllocError>
     out.push_text(" bank ")
 }
 
-fn write_from(from: u64, out: &mut Str) -> Result<(), AllocError>
+fn write_from(from: u64, out: &mut TextBuf) -> Result<(), AllocError>
     ensures { OnOk result (out.new ≡ out.old ++ from_text from) }
 {
     out.push_text("{\"from\":\"a")?;
@@ -66,7 +66,7 @@ fn write_from(from: u64, out: &mut Str) -> Result<(), AllocError>
     out.push_text("\",\"n\":")
 }
 
-fn write_to(amount: u64, to: u64, out: &mut Str) -> Result<(), AllocError>
+fn write_to(amount: u64, to: u64, out: &mut TextBuf) -> Result<(), AllocError>
     ensures { OnOk result (out.new ≡ out.old ++ to_text amount to) }
 {
     out.push_number(amount)?;
@@ -76,7 +76,7 @@ fn write_to(amount: u64, to: u64, out: &mut Str) -> Result<(), AllocError>
 }
 
 // Appends what comes of a run: it crashes, or is given turns.
-fn write_fate(run: u64, fate: u64, out: &mut Str) -> Result<(), AllocError>
+fn write_fate(run: u64, fate: u64, out: &mut TextBuf) -> Result<(), AllocError>
     ensures { OnOk result (out.new ≡ out.old ++ fate_text run fate) }
 {
     if fate % 8 == 0 {
@@ -99,7 +99,7 @@ fn write_drawn(
     amount: u64,
     run: u64,
     fate: u64,
-    out: &mut Str,
+    out: &mut TextBuf,
 ) -> Result<(), AllocError>
     requires { (1 ≤ ticket) × (ticket < 2 ^ 63) }
     ensures { OnOk result (out.new ≡ out.old ++ request_text ticket account other amount run fate) }
@@ -111,7 +111,7 @@ fn write_drawn(
 }
 
 // Appends the lines of one request, and answers the seed after its five draws.
-fn write_request(ticket: u64, seed: u64, out: &mut Str) -> Result<u64, AllocError>
+fn write_request(ticket: u64, seed: u64, out: &mut TextBuf) -> Result<u64, AllocError>
     requires seed { seed < 2 ^ 32 }
     requires ticket { (1 ≤ ticket) × (ticket < 2 ^ 63) }
     ensures text { OnOk result (out.new ≡ out.old ++ request_of ticket seed) }
@@ -136,7 +136,7 @@ fn write_request(ticket: u64, seed: u64, out: &mut Str) -> Result<u64, AllocErro
 }
 
 /// Appends a source with so many requests, drawn from the seed. Out of memory, a front of it is there.
-pub fn generate(seed: u32, requests: u32, out: &mut Str) -> Result<(), AllocError>
+pub fn generate(seed: u32, requests: u32, out: &mut TextBuf) -> Result<(), AllocError>
     ensures { OnOk result (out.new ≡ out.old ++ generated seed requests) }
 {
     write_bank(out)?;

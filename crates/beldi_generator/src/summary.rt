@@ -4,7 +4,7 @@ ghost use Rattle.beldi_script.specs.LineCut.{lines_of};
 ghost use Rattle.beldi_generator.specs.Summary.{begins, counted, entries_text, is_unread, item_front, last_word, listed, numbered, past, settling_in, summary_text, summed, tells_settling, totals_text, value_in};
 
 use beldi_script::cut_line;
-use beldi_value::{Str, cut_at, read_int};
+use beldi_value::{TextBuf, cut_at, read_int};
 use std::alloc::{AllocError, Global};
 
 // What follows the first line that is this.
@@ -127,7 +127,7 @@ fn is_unread(text: &[u8]) -> bool
     line == b"dropped".as_slice()
 }
 
-fn write_numbered(word: &str, number: u64, out: &mut Str) -> Result<(), AllocError>
+fn write_numbered(word: &str, number: u64, out: &mut TextBuf) -> Result<(), AllocError>
     ensures { OnOk result (out.new ≡ out.old ++ numbered word.now number) }
 {
     out.push_text(word)?;
@@ -136,7 +136,7 @@ fn write_numbered(word: &str, number: u64, out: &mut Str) -> Result<(), AllocErr
 }
 
 // The entries of transactions, after how many requests there were.
-fn write_entries(requests: u32, book: &[u8], out: &mut Str) -> Result<(), AllocError>
+fn write_entries(requests: u32, book: &[u8], out: &mut TextBuf) -> Result<(), AllocError>
     ensures { OnOk result (out.new ≡ out.old ++ entries_text requests (lines_of book.now)) }
 {
     write_numbered("requests ", u64::from(requests), out)?;
@@ -163,7 +163,7 @@ pub fn summarise(alloc: Global, requests: u32, text: &[u8]) -> Result<Vec<u8>, A
     ensures { IfOk result (λ v. v.items ≡ summary_text requests text.now) }
 {
     let mut summary = Vec::new(alloc);
-    let mut entries = Str::new(alloc);
+    let mut entries = TextBuf::new(alloc);
     write_entries(requests, past(text, b"== book"), &mut entries)?;
     summary.extend_from_slice(entries.as_bytes())?;
     summary.extend_from_slice(settling_in(text))?;

@@ -12,7 +12,7 @@ use beldi_prune::{Collectors, GcOutput};
 use beldi_query::{Query, QueryReplyRef};
 use beldi_row::{Act, RowKey, Table, TableErr};
 use beldi_step::{Event, EventReply, Pruned, Walking};
-use beldi_value::{Boxed, Str, or_drop};
+use beldi_value::{Boxed, TextBuf, or_drop};
 use std::alloc::{AllocError, Global};
 use std::mem::replace;
 
@@ -163,7 +163,7 @@ impl<T: Table> Host<T> {
     }
 
     /// Appends the listing of tables. After an `Err` the text is as before.
-    pub fn tables(&mut self, out: &mut Str) -> Result<(), OpenErr>
+    pub fn tables(&mut self, out: &mut TextBuf) -> Result<(), OpenErr>
         ensures reads { Reads (λ m u. out.new ≡ out.old ++ tables_text self.old.code m) (T.state self.old.table) (T.state self.new.table) result }
         ensures err { OnErr result (out.new ≡ out.old) }
         ensures core { core_of self.new ≡ core_of self.old }
@@ -175,7 +175,7 @@ impl<T: Table> Host<T> {
     }
 
     // The listing, by the rows alone.
-    fn list(&mut self, out: &mut Str) -> Result<(), OpenErr>
+    fn list(&mut self, out: &mut TextBuf) -> Result<(), OpenErr>
         ensures reads { Reads (λ m u. out.new ≡ out.old ++ tables_text self.old.code m) (T.state self.old.table) (T.state self.new.table) result }
         ensures err { OnErr result (out.new ≡ out.old) }
         ensures core { core_of self.new ≡ core_of self.old }

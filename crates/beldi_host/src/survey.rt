@@ -21,7 +21,7 @@ use beldi_intent::root_key;
 use beldi_lang::Deployment;
 use beldi_readlog::log_key;
 use beldi_row::{Act, ActReplyRef, Kind, Opens, Row, RowKey, Table, TableErr};
-use beldi_value::{IntentId, Outcome, Owner, Place, Str, TxId, Value, or_drop};
+use beldi_value::{IntentId, Outcome, Owner, Place, Str, TextBuf, TxId, Value, or_drop};
 use std::alloc::{AllocError, Global};
 
 /// Why the rows could not be read. They are as before.
@@ -244,7 +244,7 @@ fn write_value(
     code: &Deployment,
     key: &RowKey,
     value: &Value,
-    text: &mut Str,
+    text: &mut TextBuf,
 ) -> Result<(), AllocError>
     ensures { OnOk result (text.new ≡ text.old ++ key_line code.now key.now.home key.now.kind value.now) }
 {
@@ -268,7 +268,7 @@ fn write_held(
     key: &RowKey,
     owner: &Option<Owner>,
     value: &Value,
-    text: &mut Str,
+    text: &mut TextBuf,
 ) -> Result<Option<Owned>, AllocError>
     ensures { IfOk result (λ o. (o, text.new) ≡ held_listed code.now text.old key.now.home key.now.kind owner.now value.now) }
 {
@@ -295,7 +295,7 @@ fn write_row(
     code: &Deployment,
     key: &RowKey,
     row: &Row,
-    text: &mut Str,
+    text: &mut TextBuf,
 ) -> Result<Option<Wanted>, AllocError>
     ensures { IfOk result (λ o. (o, text.new) ≡ listed_of code.now text.old (key.now, row.now)) }
 {
@@ -320,7 +320,7 @@ fn next_listed<T: Table>(
     code: &Deployment,
     table: &mut T,
     after: &RowKey,
-    text: &mut Str,
+    text: &mut TextBuf,
 ) -> Result<Option<(RowKey, Option<Wanted>)>, OpenErr>
     ensures { Reads (λ m s. (s, text.new) ≡ next_listed_of code.now text.old (next_row m after.now)) (T.state table.old) (T.state table.new) result }
 {
@@ -412,7 +412,7 @@ fn write_owned<T: Table>(
     key: &RowKey,
     owned: Option<Owned>,
     now: u64,
-    text: &mut Str,
+    text: &mut TextBuf,
 ) -> Result<(), OpenErr>
     ensures { Reads (λ m u. text.new ≡ owned_after code.now m key.now.home key.now.kind (owned, text.old)) (T.state table.old) (T.state table.new) result }
 {
@@ -439,7 +439,7 @@ fn write_last<T: Table>(
     table: &mut T,
     key: &RowKey,
     now: u64,
-    text: &mut Str,
+    text: &mut TextBuf,
 ) -> Result<(), OpenErr>
     ensures { Reads (λ m u. text.new ≡ text.old ++ last_line code.now m key.now.home key.now.kind) (T.state table.old) (T.state table.new) result }
 {
@@ -465,7 +465,7 @@ fn write_wanted<T: Table>(
     key: &RowKey,
     wanted: Option<Wanted>,
     now: u64,
-    text: &mut Str,
+    text: &mut TextBuf,
 ) -> Result<(), OpenErr>
     ensures { Reads (λ m u. text.new ≡ line_after code.now m key.now.home key.now.kind (wanted, text.old)) (T.state table.old) (T.state table.new) result }
 {
@@ -485,7 +485,7 @@ fn next_line<T: Table>(
     table: &mut T,
     after: RowKey,
     now: u64,
-    text: &mut Str,
+    text: &mut TextBuf,
 ) -> Result<Option<RowKey>, OpenErr>
     ensures { Reads (λ m k. (k, text.new) ≡ next_line_of code.now m text.old (next_row m after)) (T.state table.old) (T.state table.new) result }
 {
@@ -506,40 +506,43 @@ fn next_line<T: Table>(
 
 // A kind that comes last among those before the items of a function, or among those past them: among its own. For an item's it is
 // one of those before, so it is not gone on from.
-fn last_kind(alloc: Global, kind: &Kind) -> Kind
-    ensures { rank_of result ≡ last_rank kind.now }
+fn last_kind(alloc: Global, kind: &Kind) -> Result<Kind, AllocError>
+    ensures { IfOk result (λ k. rank_of k ≡ last_rank kind.now) }
 {
-    let intent = IntentId::root(alloc, u32::MAX);
     match kind {
         Kind::Intent(_) | Kind::ReadLog(_) | Kind::Invoke(_) | Kind::Data { .. } => {
-            Kind::Invoke(Place {
-                intent,
+            Ok(Kind::Invoke(Place {
+                intent: IntentId::root(alloc, u32::MAX),
                 step: u32::MAX,
+            }))
+        }
+        Kind::Shadow { .. } | Kind::Lockset { .. } => {
+            let key = Str::from_text(alloc, "")?;
+            Ok(Kind::Lockset {
+                intent: IntentId::root(alloc, u32::MAX),
+                begin: u32::MAX,
+                table: u16::MAX,
+                key,
             })
         }
-        Kind::Shadow { .. } | Kind::Lockset { .. } => Kind::Lockset {
-            intent,
-            begin: u32::MAX,
-            table: u16::MAX,
-            key: Str::new(alloc),
-        },
     }
 }
 
 // The key from which reading goes on: no row of an item stands between this key and that one.
-fn past_others(alloc: Global, key: RowKey) -> RowKey
-    ensures { Past key result }
+fn past_others(alloc: Global, key: RowKey) -> Result<RowKey, AllocError>
+    ensures { IfOk result (λ k. Past key k) }
 {
     if let Kind::Data { .. } = key.kind() {
-        return key;
+        return Ok(key);
     }
-    let last = RowKey::new(key.home(), last_kind(alloc, key.kind()));
+    let kind = or_drop!(last_kind(alloc, key.kind()); key);
+    let last = RowKey::new(key.home(), kind);
     if last < key {
         drop(last);
-        key
+        Ok(key)
     } else {
         drop(key);
-        last
+        Ok(last)
     }
 }
 
@@ -551,15 +554,15 @@ pub fn list_tables<T: Table>(
     code: &Deployment,
     table: &mut T,
     now: u64,
-) -> Result<Str, OpenErr>
+) -> Result<TextBuf, OpenErr>
     ensures { Reads (λ m s. s ≡ tables_text code.now m) (T.state table.old) (T.state table.new) result }
 {
-    let mut text = Str::new(alloc);
-    let mut at = past_others(alloc, RowKey::least(alloc));
+    let mut text = TextBuf::new(alloc);
+    let mut at = or_drop!(past_others(alloc, RowKey::least(alloc)); text);
     for _ in 0..u64::MAX {
         match next_line(alloc, code, table, at, now, &mut text) {
             Ok(None) => return Ok(text),
-            Ok(Some(key)) => at = past_others(alloc, key),
+            Ok(Some(key)) => at = or_drop!(past_others(alloc, key); text),
             Err(why) => {
                 drop(text);
                 return Err(why);

@@ -39,7 +39,7 @@ fn key_below(alloc: Global, home: u16, id: &IntentId, begin: u32) -> Result<RowK
     ensures { IfOk result (λ k. k ≡ lockset_after home id.now begin None) }
 {
     let table = u16::MAX;
-    let key = Str::new(alloc);
+    let key = Str::from_text(alloc, "")?;
     if begin > 0 {
         return Ok(lockset_key(home, id.copy(alloc)?, begin - 1, table, key));
     }

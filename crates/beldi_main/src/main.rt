@@ -24,7 +24,7 @@ use std::{env, io, mem};
 fn words(rt: &HostRuntime) -> io::Result<Vec<Str>> {
     let mut words = Vec::new(rt.alloc());
     for word in env::args(rt)?.skip(1) {
-        words.push(Str::from_string(word))?;
+        words.push(Str::from_string(word)?)?;
     }
     Ok(words)
 }

@@ -27,7 +27,7 @@ use beldi_session::{
     Accepted, Refusal, SourceErr, Stop, check_source, find_line, read_source, run_script,
     script_at, write_listings, write_refusal,
 };
-use beldi_value::Str;
+use beldi_value::{Str, TextBuf};
 use std::alloc::Global;
 
 /// How the program ended.
@@ -146,7 +146,7 @@ fn refuse_words<K: Sink>(sink: &mut K) -> Ended
 fn refuse_source<K: Sink>(alloc: Global, sink: &mut K, refusal: &Refusal) -> Ended
     ensures { TextEnds K.held K.faults (refusal_text refusal.now) ended.Refused sink.old sink.new result }
 {
-    let mut text = Str::new(alloc);
+    let mut text = TextBuf::new(alloc);
     match write_refusal(alloc, refusal, &mut text) {
         Ok(()) => match write_all(sink, text.as_bytes()) {
             Ok(()) => Ended::Refused,
@@ -187,7 +187,7 @@ fn host_generated<K: Sink, T: Table>(
 ) -> (Ended, T)
     ensures { GeneratedEnds K.held K.faults T.state seed requests sink.old sink.new table result.1 result.0 }
 {
-    let mut source = Str::new(alloc);
+    let mut source = TextBuf::new(alloc);
     match generate(seed, requests, &mut source) {
         Ok(()) => {
             let mut session = MemSink::new(alloc, Vec::new(alloc));
@@ -307,7 +307,7 @@ fn test_source<K: Sink>(alloc: Global, sink: &mut K, bytes: &[u8]) -> Ended
     }
 }
 
-fn tell_tested<K: Sink>(sink: &mut K, text: &Str) -> Ended
+fn tell_tested<K: Sink>(sink: &mut K, text: &TextBuf) -> Ended
     ensures { TextEnds K.held K.faults text.now ended.Done sink.old sink.new result }
 {
     match write_all(sink, text.as_bytes()) {
@@ -347,7 +347,7 @@ fn host<K: Sink, T: Table>(
     sessions_are_plain_runs();
     match Host::open(alloc, code, table, 0) {
         Ok(mut host) => {
-            let mut waiting = Str::new(alloc);
+            let mut waiting = TextBuf::new(alloc);
             let ran = run_script(alloc, &mut host, sink, &mut waiting, first, script);
             (end_of(ran), host.close())
         }
@@ -443,7 +443,7 @@ fn serve_host<K: Sink, T: Table, N: Link, C: Clock>(
 fn list_all<K: Sink, T: Table>(alloc: Global, mut host: Host<T>, sink: &mut K) -> (Ended, T)
     ensures { Lists K.held K.faults host sink.old sink.new result.1 result.0 }
 {
-    let mut waiting = Str::new(alloc);
+    let mut waiting = TextBuf::new(alloc);
     let listed = write_listings(alloc, &mut host, sink, &mut waiting);
     drop(waiting);
     (listed_end(listed), host.close())

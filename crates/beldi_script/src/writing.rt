@@ -8,7 +8,7 @@ ghost use Rattle.beldi_tree.specs.Names.{func_text};
 
 use crate::line::Line;
 use beldi_check::Checked;
-use beldi_value::{IntentId, OutOfMemory, Str, Value};
+use beldi_value::{IntentId, OutOfMemory, TextBuf, Value};
 use std::alloc::{AllocError, Global};
 
 fn request_text(
@@ -20,7 +20,7 @@ fn request_text(
 ) -> Result<String, AllocError>
     ensures { IfOk result (λ t. string_bytes t ≡ codes "request " ++ (decimal ticket ++ (codes " " ++ (func_text code.now func ++ (codes " " ++ text_of (datum_of args.now)))))) }
 {
-    let mut text = Str::from_string(format!(in alloc; "request {ticket} ")?);
+    let mut text = TextBuf::from_string(format!(in alloc; "request {ticket} ")?);
     code.code().write_func(func, &mut text)?;
     text.push_text(" ")?;
     args.write_json(alloc, &mut text)?;
@@ -35,7 +35,7 @@ fn restart_text(
 ) -> Result<String, AllocError>
     ensures { IfOk result (λ t. string_bytes t ≡ codes "restart " ++ (id_text id.now ++ (codes " " ++ func_text code.now func))) }
 {
-    let mut text = Str::from_text(alloc, "restart ")?;
+    let mut text = TextBuf::from_text(alloc, "restart ")?;
     id.write(&mut text)?;
     text.push_text(" ")?;
     code.code().write_func(func, &mut text)?;
@@ -73,7 +73,7 @@ pub fn write_line(
     alloc: Global,
     code: &Checked,
     line: &Line,
-    out: &mut Str,
+    out: &mut TextBuf,
 ) -> Result<(), OutOfMemory>
     ensures ok { OnOk result (out.new ≡ out.old ++ line_text code.now line.now) }
     ensures err { OnErr result (out.new ≡ out.old) }

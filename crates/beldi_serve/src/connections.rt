@@ -11,7 +11,7 @@ use beldi_host::LAST_MOMENT;
 use beldi_outside::{Clock, Link, Sink, write_all};
 use beldi_row::Table;
 use beldi_step::Event;
-use beldi_value::Str;
+use beldi_value::TextBuf;
 use std::alloc::{AllocError, Global};
 
 /// Why a service ended before all connections were served.
@@ -78,7 +78,7 @@ fn connect<T: Table, N: Link, C: Clock>(
 }
 
 // The line of a connection.
-fn write_line(number: u32, served: Served, line: &mut Str) -> Result<(), AllocError>
+fn write_line(number: u32, served: Served, line: &mut TextBuf) -> Result<(), AllocError>
     ensures { OnOk result (line.new ≡ line.old ++ line_of number served) }
 {
     line.push_text("conn ")?;
@@ -101,7 +101,7 @@ fn tell_line<K: Sink>(
 ) -> Result<(), ServeErr>
     ensures { WroteLine (K.held sink.old) (K.held sink.new) (K.faults sink.old) (K.faults sink.new) (line_of number served) result }
 {
-    let mut line = Str::new(alloc);
+    let mut line = TextBuf::new(alloc);
     match write_line(number, served, &mut line) {
         Ok(()) => {
             let told = write_all(sink, line.as_bytes());

@@ -14,7 +14,7 @@ use beldi_host::{Host, OpenErr, ReplyStatus};
 use beldi_row::Table;
 use beldi_session::{Stop, settle, sweep};
 use beldi_step::{Event, EventReply};
-use beldi_value::{Str, Value};
+use beldi_value::{TextBuf, Value};
 use std::alloc::{AllocError, Global};
 
 /// The turns that one call is given at most.
@@ -28,7 +28,7 @@ const PRUNING: u64 = 256;
 pub struct HostDesk<T: Table> {
     alloc: Global,
     host: Host<T>,
-    told: Str,
+    told: TextBuf,
 }
 
 // What is said of a ticket that was asked for.
@@ -113,7 +113,7 @@ impl<T: Table> HostDesk<T> {
         HostDesk {
             alloc,
             host,
-            told: Str::new(alloc),
+            told: TextBuf::new(alloc),
         }
     }
 

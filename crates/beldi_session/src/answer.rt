@@ -9,7 +9,7 @@ use beldi_book::Entry;
 use beldi_check::Checked;
 use beldi_host::ReplyStatus;
 use beldi_step::EventReply;
-use beldi_value::{Boxed, IntentId, Outcome, Owner, Str, Value};
+use beldi_value::{Boxed, IntentId, Outcome, Owner, TextBuf, Value};
 use std::alloc::{AllocError, Global};
 
 /// Appends the line of an answer, and a line for the reply that it gives, if any.
@@ -17,7 +17,7 @@ pub fn write_answer(
     alloc: Global,
     code: &Checked,
     seen: &EventReply,
-    out: &mut Str,
+    out: &mut TextBuf,
 ) -> Result<(), AllocError>
     ensures { OnOk result (out.new ≡ out.old ++ answer_text code.now seen.now) }
 {
@@ -63,13 +63,13 @@ pub fn write_answer(
 }
 
 /// Appends the line of a turn that tells no more than whether its run is over.
-pub fn write_plain(over: bool, out: &mut Str) -> Result<(), AllocError>
+pub fn write_plain(over: bool, out: &mut TextBuf) -> Result<(), AllocError>
     ensures { (d : Deployment) → OnOk result (out.new ≡ out.old ++ answer_text d (EventReply.Acted None None over None)) }
 {
     out.push_text(if over { "acted over\n" } else { "acted\n" })
 }
 
-fn write_bound(ticket: u32, run: u64, out: &mut Str) -> Result<(), AllocError>
+fn write_bound(ticket: u32, run: u64, out: &mut TextBuf) -> Result<(), AllocError>
     ensures { OnOk result (out.new ≡ out.old ++ bound_line ticket run) }
 {
     out.push_text("bound ")?;
@@ -78,7 +78,7 @@ fn write_bound(ticket: u32, run: u64, out: &mut Str) -> Result<(), AllocError>
 }
 
 /// Appends a word and a number, as a line.
-pub fn write_numbered(word: &str, number: u64, out: &mut Str) -> Result<(), AllocError>
+pub fn write_numbered(word: &str, number: u64, out: &mut TextBuf) -> Result<(), AllocError>
     ensures { OnOk result (out.new ≡ out.old ++ numbered word.now number) }
 {
     out.push_text(word)?;
@@ -91,7 +91,7 @@ fn write_outcome(
     word: &str,
     ticket: u32,
     outcome: &Outcome,
-    out: &mut Str,
+    out: &mut TextBuf,
 ) -> Result<(), AllocError>
     ensures { OnOk result (out.new ≡ out.old ++ outcome_line word.now ticket outcome.now) }
 {
@@ -109,7 +109,7 @@ fn write_other(
     ticket: u32,
     func: u16,
     args: &Value,
-    out: &mut Str,
+    out: &mut TextBuf,
 ) -> Result<(), AllocError>
     ensures { OnOk result (out.new ≡ out.old ++ answer_text code.now (EventReply.Other ticket func args.now)) }
 {
@@ -122,7 +122,7 @@ fn write_other(
     out.push_text("\n")
 }
 
-fn write_full(live: u32, room: u32, out: &mut Str) -> Result<(), AllocError>
+fn write_full(live: u32, room: u32, out: &mut TextBuf) -> Result<(), AllocError>
     ensures { OnOk result (out.new ≡ out.old ++ (codes "full " ++ (decimal live ++ (codes " " ++ (decimal room ++ codes "\n"))))) }
 {
     out.push_text("full ")?;
@@ -130,7 +130,7 @@ fn write_full(live: u32, room: u32, out: &mut Str) -> Result<(), AllocError>
     write_numbered(" ", u64::from(room), out)
 }
 
-fn write_held(owner: &Owner, out: &mut Str) -> Result<(), AllocError>
+fn write_held(owner: &Owner, out: &mut TextBuf) -> Result<(), AllocError>
     ensures { OnOk result (out.new ≡ out.old ++ held_line owner.now) }
 {
     out.push_text("held ")?;
@@ -138,7 +138,7 @@ fn write_held(owner: &Owner, out: &mut Str) -> Result<(), AllocError>
     out.push_text("\n")
 }
 
-fn write_waits(callee: &IntentId, out: &mut Str) -> Result<(), AllocError>
+fn write_waits(callee: &IntentId, out: &mut TextBuf) -> Result<(), AllocError>
     ensures { OnOk result (out.new ≡ out.old ++ waits_line callee.now) }
 {
     out.push_text("waits ")?;
@@ -146,7 +146,7 @@ fn write_waits(callee: &IntentId, out: &mut Str) -> Result<(), AllocError>
     out.push_text("\n")
 }
 
-fn write_launched(run: u64, id: &IntentId, out: &mut Str) -> Result<(), AllocError>
+fn write_launched(run: u64, id: &IntentId, out: &mut TextBuf) -> Result<(), AllocError>
     ensures { OnOk result (out.new ≡ out.old ++ launched_line run id.now) }
 {
     out.push_text("launched run ")?;
@@ -163,7 +163,7 @@ fn write_acted(
     started: Option<u64>,
     over: bool,
     reply: &Option<(u32, Boxed<Outcome>)>,
-    out: &mut Str,
+    out: &mut TextBuf,
 ) -> Result<(), AllocError>
     ensures { OnOk result (out.new ≡ out.old ++ answer_text code.now (EventReply.Acted entry.now started over reply.now)) }
 {
@@ -178,7 +178,7 @@ fn write_entry(
     alloc: Global,
     code: &Checked,
     entry: &Option<Entry>,
-    out: &mut Str,
+    out: &mut TextBuf,
 ) -> Result<(), AllocError>
     ensures { OnOk result (out.new ≡ out.old ++ (codes "acted" ++ entry_part code.now entry.now)) }
 {
@@ -191,7 +191,7 @@ fn write_entry(
     }
 }
 
-fn write_started(started: Option<u64>, out: &mut Str) -> Result<(), AllocError>
+fn write_started(started: Option<u64>, out: &mut TextBuf) -> Result<(), AllocError>
     ensures { OnOk result (out.new ≡ out.old ++ run_part started) }
 {
     match started {
@@ -206,7 +206,7 @@ fn write_started(started: Option<u64>, out: &mut Str) -> Result<(), AllocError>
 fn write_reply(
     alloc: Global,
     reply: &Option<(u32, Boxed<Outcome>)>,
-    out: &mut Str,
+    out: &mut TextBuf,
 ) -> Result<(), AllocError>
     ensures { OnOk result (out.new ≡ out.old ++ reply_part reply.now) }
 {
@@ -217,7 +217,11 @@ fn write_reply(
 }
 
 /// Appends the line of the reply that an answer gives, if any.
-pub fn write_reply_told(alloc: Global, seen: &EventReply, out: &mut Str) -> Result<(), AllocError>
+pub fn write_reply_told(
+    alloc: Global,
+    seen: &EventReply,
+    out: &mut TextBuf,
+) -> Result<(), AllocError>
     ensures { OnOk result (out.new ≡ out.old ++ reply_told seen.now) }
 {
     match seen {
@@ -231,7 +235,7 @@ pub fn write_reply_status(
     alloc: Global,
     ticket: u32,
     seen: &ReplyStatus,
-    out: &mut Str,
+    out: &mut TextBuf,
 ) -> Result<(), AllocError>
     ensures { OnOk result (out.new ≡ out.old ++ reply_line ticket seen.now) }
 {
@@ -243,7 +247,7 @@ pub fn write_reply_status(
     }
 }
 
-fn write_no_reply(ticket: u32, why: &str, out: &mut Str) -> Result<(), AllocError>
+fn write_no_reply(ticket: u32, why: &str, out: &mut TextBuf) -> Result<(), AllocError>
     ensures { OnOk result (out.new ≡ out.old ++ (codes "reply " ++ (decimal ticket ++ why.now))) }
 {
     out.push_text("reply ")?;

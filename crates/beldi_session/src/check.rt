@@ -9,7 +9,7 @@ use crate::refusal::SourceErr;
 use crate::source::{Accepted, read_said, read_source, script_at};
 use beldi_check::Checked;
 use beldi_script::{Line, cut_line};
-use beldi_value::Str;
+use beldi_value::TextBuf;
 use std::alloc::{AllocError, Global};
 
 // The count with this line, where it says something.
@@ -47,14 +47,14 @@ fn count_lines(alloc: Global, code: &Checked, first: u32, script: &[u8]) -> Resu
 }
 
 // What is said of a deployment and a script that were tested.
-fn write_tested(alloc: Global, functions: usize, lines: usize) -> Result<Str, AllocError>
+fn write_tested(alloc: Global, functions: usize, lines: usize) -> Result<TextBuf, AllocError>
     ensures { IfOk result (λ t. t ≡ tested_text functions lines) }
 {
-    Ok(Str::from_string(format!(in alloc; "ok {functions} functions {lines} lines\n")?))
+    Ok(TextBuf::from_string(format!(in alloc; "ok {functions} functions {lines} lines\n")?))
 }
 
 // Tests the script of a deployment that was read.
-fn check_script(alloc: Global, accepted: &Accepted, bytes: &[u8]) -> Result<Str, SourceErr>
+fn check_script(alloc: Global, accepted: &Accepted, bytes: &[u8]) -> Result<TextBuf, SourceErr>
     requires { length bytes.now ≤ max_source }
     ensures { ReadsAs (check_by bytes.now (Ok accepted.now)) result }
 {
@@ -71,7 +71,7 @@ fn check_script(alloc: Global, accepted: &Accepted, bytes: &[u8]) -> Result<Str,
 
 /// Tests a source, its deployment and then each line of its script, and gives the text that says how many functions and
 /// lines it has. Blank lines and comments do not count. Refused, it tells the first fault.
-pub fn check_source(alloc: Global, bytes: &[u8]) -> Result<Str, SourceErr>
+pub fn check_source(alloc: Global, bytes: &[u8]) -> Result<TextBuf, SourceErr>
     requires { length bytes.now ≤ max_source }
     ensures { ReadsAs (check_at bytes.now) result }
 {

@@ -6,13 +6,13 @@ ghost use Rattle.beldi_session.specs.declared.session.Stop.TheVariants.{SinkFaul
 
 use crate::session::Stop;
 use beldi_outside::{Sink, write_all};
-use beldi_value::Str;
+use beldi_value::TextBuf;
 
 /// Text waits until it has so many bytes: 64 KiB.
 const PIECE: usize = 65_536;
 
 /// Writes all that waits. `SinkFault`: the sink failed; a front of the text was written, and the text waits as before.
-pub fn flush<K: Sink>(sink: &mut K, waiting: &mut Str) -> Result<(), Stop>
+pub fn flush<K: Sink>(sink: &mut K, waiting: &mut TextBuf) -> Result<(), Stop>
     ensures text { Flushes (K.held sink.old) (K.held sink.new) waiting.old waiting.new result }
     ensures later { K.faults sink.old ≤ K.faults sink.new }
     ensures fault { OnErr result (Rose (K.faults sink.old) (K.faults sink.new)) }
@@ -30,7 +30,7 @@ pub fn flush<K: Sink>(sink: &mut K, waiting: &mut Str) -> Result<(), Stop>
 }
 
 /// Writes all that waits, where it is long. `SinkFault`: as of `flush`.
-pub fn flush_if_long<K: Sink>(sink: &mut K, waiting: &mut Str) -> Result<(), Stop>
+pub fn flush_if_long<K: Sink>(sink: &mut K, waiting: &mut TextBuf) -> Result<(), Stop>
     ensures text { Flushes (K.held sink.old) (K.held sink.new) waiting.old waiting.new result }
     ensures later { K.faults sink.old ≤ K.faults sink.new }
     ensures fault { OnErr result (Rose (K.faults sink.old) (K.faults sink.new)) }

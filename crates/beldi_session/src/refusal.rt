@@ -4,7 +4,7 @@ ghost use Rattle.beldi_session.specs.Refusal.{cause_text, place_text, refusal_te
 
 use beldi_check::Why;
 use beldi_syntax::What;
-use beldi_value::Str;
+use beldi_value::{Str, TextBuf};
 use std::alloc::{AllocError, Global};
 
 /// Why a source is refused at a line.
@@ -40,7 +40,7 @@ pub enum SourceErr {
     Refused(Refusal),
 }
 
-fn push_named(word: &str, name: &Str, out: &mut Str) -> Result<(), AllocError>
+fn push_named(word: &str, name: &Str, out: &mut TextBuf) -> Result<(), AllocError>
     ensures { OnOk result (out.new ≡ out.old ++ (word.now ++ name.now)) }
 {
     out.push_text(word)?;
@@ -59,7 +59,7 @@ fn syntax_text(what: What) -> &'static str
     }
 }
 
-fn write_rule(why: &Why, out: &mut Str) -> Result<(), AllocError>
+fn write_rule(why: &Why, out: &mut TextBuf) -> Result<(), AllocError>
     ensures { OnOk result (out.new ≡ out.old ++ rule_text why.now) }
 {
     match why {
@@ -76,7 +76,7 @@ fn write_rule(why: &Why, out: &mut Str) -> Result<(), AllocError>
     }
 }
 
-fn write_cause(cause: &Cause, out: &mut Str) -> Result<(), AllocError>
+fn write_cause(cause: &Cause, out: &mut TextBuf) -> Result<(), AllocError>
     ensures { OnOk result (out.new ≡ out.old ++ cause_text cause.now) }
 {
     match cause {
@@ -88,7 +88,7 @@ fn write_cause(cause: &Cause, out: &mut Str) -> Result<(), AllocError>
     }
 }
 
-fn write_place(alloc: Global, line: u32, out: &mut Str) -> Result<(), AllocError>
+fn write_place(alloc: Global, line: u32, out: &mut TextBuf) -> Result<(), AllocError>
     ensures { OnOk result (out.new ≡ out.old ++ place_text line) }
 {
     let text = format!(in alloc; "refused line {line}: ")?;
@@ -96,7 +96,7 @@ fn write_place(alloc: Global, line: u32, out: &mut Str) -> Result<(), AllocError
 }
 
 /// Appends the line of a refusal. After an `Err` the text has more or less of it.
-pub fn write_refusal(alloc: Global, refusal: &Refusal, out: &mut Str) -> Result<(), AllocError>
+pub fn write_refusal(alloc: Global, refusal: &Refusal, out: &mut TextBuf) -> Result<(), AllocError>
     ensures { OnOk result (out.new ≡ out.old ++ refusal_text refusal.now) }
 {
     write_place(alloc, refusal.line, out)?;

@@ -22,7 +22,7 @@ use beldi_outside::Sink;
 use beldi_row::Table;
 use beldi_script::{Line, cut_line};
 use beldi_step::{Event, EventReply};
-use beldi_value::Str;
+use beldi_value::TextBuf;
 use std::alloc::{AllocError, Global};
 
 /// Why a session broke off.
@@ -69,7 +69,7 @@ fn done(whole: bool, ran: Result<(), Stop>) -> Result<bool, Stop>
 fn answer<T: Table>(
     alloc: Global,
     host: &mut Host<T>,
-    out: &mut Str,
+    out: &mut TextBuf,
     event: Event,
 ) -> Result<(), Stop>
     ensures { (held : Option (List ℕ)) (faults : ℕ) → Does (Carry event ∷ []) (sight host.old out.old held faults) (sight host.new out.new held faults) result }
@@ -88,7 +88,7 @@ fn answer<T: Table>(
 fn answer_turn<T: Table>(
     alloc: Global,
     host: &mut Host<T>,
-    out: &mut Str,
+    out: &mut TextBuf,
     run: u64,
 ) -> Result<(), Stop>
     ensures { (held : Option (List ℕ)) (faults : ℕ) → Does (Carry (events.Turn run) ∷ []) (sight host.old out.old held faults) (sight host.new out.new held faults) result }
@@ -115,7 +115,7 @@ fn answer_turn<T: Table>(
 fn give_turn<T: Table>(
     alloc: Global,
     host: &mut Host<T>,
-    out: &mut Str,
+    out: &mut TextBuf,
     taker: Taker,
 ) -> Result<(), Stop>
     ensures { (held : Option (List ℕ)) (faults : ℕ) → Does (turn_of taker ∷ []) (sight host.old out.old held faults) (sight host.new out.new held faults) result }
@@ -131,7 +131,7 @@ fn give_turn<T: Table>(
 fn give_turns<T: Table>(
     alloc: Global,
     host: &mut Host<T>,
-    out: &mut Str,
+    out: &mut TextBuf,
     taker: Taker,
     count: u32,
 ) -> Result<(), Stop>
@@ -150,7 +150,7 @@ fn give_turns<T: Table>(
 fn tell_reply<T: Table>(
     alloc: Global,
     host: &mut Host<T>,
-    out: &mut Str,
+    out: &mut TextBuf,
     ticket: u32,
 ) -> Result<(), Stop>
     ensures { (held : Option (List ℕ)) (faults : ℕ) → Does (TellReply ticket ∷ []) (sight host.old out.old held faults) (sight host.new out.new held faults) result }
@@ -167,14 +167,14 @@ fn tell_reply<T: Table>(
 }
 
 // Appends how many rows there are.
-fn count_rows<T: Table>(host: &mut Host<T>, out: &mut Str) -> Result<(), Stop>
+fn count_rows<T: Table>(host: &mut Host<T>, out: &mut TextBuf) -> Result<(), Stop>
     ensures { (held : Option (List ℕ)) (faults : ℕ) → Does (CountRows ∷ []) (sight host.old out.old held faults) (sight host.new out.new held faults) result }
 {
     appended(write_numbered("rows ", u64::from(host.rows()), out))
 }
 
 // Appends the listing of the tables; one line in place of its lines where the table failed.
-fn list_tables<T: Table>(host: &mut Host<T>, out: &mut Str) -> Result<(), Stop>
+fn list_tables<T: Table>(host: &mut Host<T>, out: &mut TextBuf) -> Result<(), Stop>
     ensures { (held : Option (List ℕ)) (faults : ℕ) → Does (ListTables ∷ []) (sight host.old out.old held faults) (sight host.new out.new held faults) result }
 {
     match out.push_text("== tables\n") {
@@ -188,13 +188,18 @@ fn list_tables<T: Table>(host: &mut Host<T>, out: &mut Str) -> Result<(), Stop>
 }
 
 // Appends the listing of the book.
-fn list_book<T: Table>(alloc: Global, host: &mut Host<T>, out: &mut Str) -> Result<(), Stop>
+fn list_book<T: Table>(alloc: Global, host: &mut Host<T>, out: &mut TextBuf) -> Result<(), Stop>
     ensures { (held : Option (List ℕ)) (faults : ℕ) → Does (ListBook ∷ []) (sight host.old out.old held faults) (sight host.new out.new held faults) result }
 {
     appended(write_book(alloc, host.book(), host.code(), out))
 }
 
-fn write_book(alloc: Global, book: &Book, code: &Checked, out: &mut Str) -> Result<(), AllocError>
+fn write_book(
+    alloc: Global,
+    book: &Book,
+    code: &Checked,
+    out: &mut TextBuf,
+) -> Result<(), AllocError>
     ensures { OnOk result (out.new ≡ out.old ++ report_text code.now (BookIs (book_text code.now book.now.entries))) }
 {
     out.push_text("== book\n")?;
@@ -205,7 +210,7 @@ fn write_book(alloc: Global, book: &Book, code: &Checked, out: &mut Str) -> Resu
 fn settle_all<T: Table>(
     alloc: Global,
     host: &mut Host<T>,
-    out: &mut Str,
+    out: &mut TextBuf,
     budget: u64,
 ) -> Result<(), Stop>
     ensures { (held : Option (List ℕ)) (faults : ℕ) → Does (Settle budget (go_on budget first_at) ∷ []) (sight host.old out.old held faults) (sight host.new out.new held faults) result }
@@ -222,7 +227,7 @@ fn settle_all<T: Table>(
 // Sweeps, and appends the text of it.
 fn sweep_all<T: Table>(
     host: &mut Host<T>,
-    out: &mut Str,
+    out: &mut TextBuf,
     number: u8,
     budget: u64,
 ) -> Result<(), Stop>
@@ -235,7 +240,12 @@ fn sweep_all<T: Table>(
 }
 
 // Does what a line says, and appends the text of what is said of it.
-fn say<T: Table>(alloc: Global, host: &mut Host<T>, out: &mut Str, line: Line) -> Result<(), Stop>
+fn say<T: Table>(
+    alloc: Global,
+    host: &mut Host<T>,
+    out: &mut TextBuf,
+    line: Line,
+) -> Result<(), Stop>
     ensures { (held : Option (List ℕ)) (faults : ℕ) → Does (actions_of line) (sight host.old out.old held faults) (sight host.new out.new held faults) result }
 {
     match line {
@@ -267,7 +277,7 @@ fn do_line<K: Sink, T: Table>(
     alloc: Global,
     host: &mut Host<T>,
     sink: &mut K,
-    waiting: &mut Str,
+    waiting: &mut TextBuf,
     number: u32,
     line: &[u8],
 ) -> Result<bool, Stop>
@@ -294,7 +304,7 @@ fn do_lines<K: Sink, T: Table>(
     alloc: Global,
     host: &mut Host<T>,
     sink: &mut K,
-    waiting: &mut Str,
+    waiting: &mut TextBuf,
     first: u32,
     script: &[u8],
 ) -> Result<bool, Stop>
@@ -321,7 +331,7 @@ fn do_listings<K: Sink, T: Table>(
     alloc: Global,
     host: &mut Host<T>,
     sink: &mut K,
-    waiting: &mut Str,
+    waiting: &mut TextBuf,
 ) -> Result<bool, Stop>
     ensures does { Does (ListTables ∷ ListBook ∷ []) (sight host.old waiting.old (K.held sink.old) (K.faults sink.old)) (sight host.new waiting.new (K.held sink.new) (K.faults sink.new)) result }
     ensures whole { IfOk result (λ whole. whole ≡ true) }
@@ -340,7 +350,7 @@ pub fn write_listings<K: Sink, T: Table>(
     alloc: Global,
     host: &mut Host<T>,
     sink: &mut K,
-    waiting: &mut Str,
+    waiting: &mut TextBuf,
 ) -> Result<(), Stop>
     ensures does { Does (ListTables ∷ ListBook ∷ []) (sight host.old waiting.old (K.held sink.old) (K.faults sink.old)) (sight host.new waiting.new (K.held sink.new) (K.faults sink.new)) result }
     ensures empty { OnOk result (waiting.new ≡ []) }
@@ -357,7 +367,7 @@ pub fn run_script<K: Sink, T: Table>(
     alloc: Global,
     host: &mut Host<T>,
     sink: &mut K,
-    waiting: &mut Str,
+    waiting: &mut TextBuf,
     first: u32,
     script: &[u8],
 ) -> Result<bool, Stop>

@@ -29,7 +29,7 @@ use beldi_schedule::{
     unparked,
 };
 use beldi_step::{Event, EventReply};
-use beldi_value::Str;
+use beldi_value::TextBuf;
 use std::alloc::{AllocError, Global};
 
 // All live runs wait: they are given turns again where a turn was counted meanwhile.
@@ -65,7 +65,7 @@ fn next_of<T: Table>(host: &Host<T>, at: At) -> Next
 fn give_turn<T: Table>(
     alloc: Global,
     host: &mut Host<T>,
-    out: &mut Str,
+    out: &mut TextBuf,
     budget: u64,
     at: At,
     run: u64,
@@ -103,7 +103,7 @@ fn give_turn<T: Table>(
 fn give_turns<T: Table>(
     alloc: Global,
     host: &mut Host<T>,
-    out: &mut Str,
+    out: &mut TextBuf,
     budget: u64,
     at: At,
     run: u64,
@@ -160,7 +160,7 @@ fn collect<T: Table>(host: &mut Host<T>, budget: u64, at: At) -> Result<Standing
 fn advance<T: Table>(
     alloc: Global,
     host: &mut Host<T>,
-    out: &mut Str,
+    out: &mut TextBuf,
     budget: u64,
     at: At,
     at_last: bool,
@@ -194,7 +194,7 @@ fn write_settled(
     alloc: Global,
     code: &Checked,
     settled: &Settled,
-    out: &mut Str,
+    out: &mut TextBuf,
 ) -> Result<(), AllocError>
     ensures { OnOk result (out.new ≡ out.old ++ settled_text code.now settled.now) }
 {
@@ -214,7 +214,7 @@ fn write_waits(
     alloc: Global,
     code: &Checked,
     waiting: &Waits,
-    out: &mut Str,
+    out: &mut TextBuf,
 ) -> Result<(), AllocError>
     ensures { OnOk result (out.new ≡ out.old ++ flat_map (wait_text code.now) waiting.now) }
 {
@@ -230,7 +230,7 @@ fn write_waits(
 fn tell_settled<T: Table>(
     alloc: Global,
     host: &Host<T>,
-    out: &mut Str,
+    out: &mut TextBuf,
     budget: u64,
     settled: &Settled,
 ) -> Result<(), Stop>
@@ -246,7 +246,7 @@ fn tell_settled<T: Table>(
 pub fn settle<T: Table>(
     alloc: Global,
     host: &mut Host<T>,
-    out: &mut Str,
+    out: &mut TextBuf,
     budget: u64,
 ) -> Result<Settled, Stop>
     ensures does { (held : Option (List ℕ)) (faults : ℕ) → Does (Settle budget (go_on budget first_at) ∷ []) (sight host.old out.old held faults) (sight host.new out.new held faults) result }

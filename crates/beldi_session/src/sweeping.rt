@@ -15,7 +15,7 @@ use beldi_host::Host;
 use beldi_row::Table;
 use beldi_step::Pruned;
 use beldi_tidy::sweeps_are_as_promised;
-use beldi_value::Str;
+use beldi_value::TextBuf;
 use std::alloc::AllocError;
 
 /// How a sweep ended.
@@ -44,7 +44,7 @@ fn pruned_text(pruned: Pruned) -> &'static str
 }
 
 /// Gives a log collector a turn, and appends its answer.
-pub fn prune<T: Table>(host: &mut Host<T>, out: &mut Str, number: u8) -> Result<(), Stop>
+pub fn prune<T: Table>(host: &mut Host<T>, out: &mut TextBuf, number: u8) -> Result<(), Stop>
     ensures { (held : Option (List ℕ)) (faults : ℕ) → Does (Prune number ∷ []) (sight host.old out.old held faults) (sight host.new out.new held faults) result }
 {
     match host.prune(number) {
@@ -74,7 +74,7 @@ fn sweep_on<T: Table>(host: &mut Host<T>, number: u8, turns: u64) -> Result<bool
     }
 }
 
-fn write_swept(swept: Swept, out: &mut Str) -> Result<(), AllocError>
+fn write_swept(swept: Swept, out: &mut TextBuf) -> Result<(), AllocError>
     ensures { OnOk result (out.new ≡ out.old ++ swept_text swept) }
 {
     match swept {
@@ -84,14 +84,14 @@ fn write_swept(swept: Swept, out: &mut Str) -> Result<(), AllocError>
 }
 
 // Appends how a sweep ended.
-fn tell_swept<T: Table>(host: &Host<T>, out: &mut Str, swept: Swept) -> Result<(), Stop>
+fn tell_swept<T: Table>(host: &Host<T>, out: &mut TextBuf, swept: Swept) -> Result<(), Stop>
     ensures { (held : Option (List ℕ)) (faults : ℕ) → Does (TellSwept swept ∷ []) (sight host.now out.old held faults) (sight host.now out.new held faults) result }
 {
     appended(write_swept(swept, out))
 }
 
 // .. with which the sweep ends.
-fn end<T: Table>(host: &Host<T>, out: &mut Str, swept: Swept) -> Result<Swept, Stop>
+fn end<T: Table>(host: &Host<T>, out: &mut TextBuf, swept: Swept) -> Result<Swept, Stop>
     ensures does { (held : Option (List ℕ)) (faults : ℕ) → Does (TellSwept swept ∷ []) (sight host.now out.old held faults) (sight host.now out.new held faults) result }
     ensures so { IfOk result (λ x. x ≡ swept) }
 {
@@ -107,7 +107,7 @@ fn end<T: Table>(host: &Host<T>, out: &mut Str, swept: Swept) -> Result<Swept, S
 /// trimmed rows; and of trimmed ones, of which each that is adrift is so for more than a life, tidy ones.
 pub fn sweep<T: Table>(
     host: &mut Host<T>,
-    out: &mut Str,
+    out: &mut TextBuf,
     number: u8,
     budget: u64,
 ) -> Result<Swept, Stop>

@@ -194,19 +194,19 @@ fn json_of(alloc: Global, piece: &[u8]) -> Result<Option<serde_json::Value>, All
 }
 
 // The text that JSON is.
-fn string_in(json: Option<serde_json::Value>) -> Option<Str>
-    ensures { result ≡ string_in (option_map view json) }
+fn string_in(json: Option<serde_json::Value>) -> Result<Option<Str>, AllocError>
+    ensures { IfOk result (λ t. t ≡ string_in (option_map view json)) }
 {
     match json {
-        Some(serde_json::Value::String(text)) => Some(Str::from_string(text)),
-        _ => None,
+        Some(serde_json::Value::String(text)) => Ok(Some(Str::from_string(text)?)),
+        _ => Ok(None),
     }
 }
 
 fn text_of(alloc: Global, piece: &[u8]) -> Result<Token, AllocError>
     ensures { IfOk result (λ t. t ≡ text_token_of piece.now) }
 {
-    match string_in(json_of(alloc, piece)?) {
+    match string_in(json_of(alloc, piece)?)? {
         Some(_) if piece.len() > 4096 => Ok(Token::Text(None)),
         Some(text) => Ok(Token::Text(Some(text))),
         None => Ok(Token::Bad),

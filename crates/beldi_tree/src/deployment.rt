@@ -6,7 +6,7 @@ use crate::block::Block;
 use crate::find::{find_all, func_place_by, funcs_apart, table_place_by, tables_apart};
 use crate::name::Name;
 use crate::parts::{Chain, Exprs, Members};
-use beldi_value::{Rel, Str};
+use beldi_value::{Rel, Str, TextBuf};
 use std::alloc::{AllocError, Global};
 use std::marker::Model;
 
@@ -34,7 +34,7 @@ impl Deployment {
     }
 
     /// Appends the name of a function; its number, where there is none of it.
-    pub fn write_func(&self, number: u16, out: &mut Str) -> Result<(), AllocError>
+    pub fn write_func(&self, number: u16, out: &mut TextBuf) -> Result<(), AllocError>
         ensures ok { OnOk result (out.new ≡ out.old ++ func_text self.now number) }
         ensures err { OnErr result (out.new ≡ out.old) }
     {

@@ -7,7 +7,7 @@ ghost use Rattle.beldi_tree.specs.Evaluate.{truth as truth_of, settled as settle
 
 use crate::deployment::Op;
 use crate::fault::EvalErr;
-use beldi_value::{Code, Rec, Rel, Str, Value, Values, or_drop};
+use beldi_value::{Code, Rec, Rel, Str, TextBuf, Value, Values, or_drop};
 use std::alloc::{AllocError, Global};
 
 const MOST_KEY: usize = 256;
@@ -159,9 +159,9 @@ fn joined(alloc: Global, left: &Value, right: &Value) -> Result<Value, EvalErr>
 {
     let front = text(left)?;
     let rest = text(right)?;
-    let mut all = front.copy(alloc)?;
+    let mut all = TextBuf::from_text(alloc, front.as_str())?;
     or_drop!(all.push_text(rest.as_str()); all);
-    Ok(Value::Text(all))
+    Ok(Value::Text(all.into_str()?))
 }
 
 // Whether the left side stands so to the right side.
@@ -269,9 +269,9 @@ pub(crate) fn length(value: &Value) -> Result<Value, Code>
 pub(crate) fn canonical(alloc: Global, value: &Value) -> Result<Value, AllocError>
     ensures { IfOk result (λ v. v ≡ kind.Text (text_of_datum (datum_of value.now))) }
 {
-    let mut text = Str::new(alloc);
+    let mut text = TextBuf::new(alloc);
     or_drop!(value.write_json(alloc, &mut text); text);
-    Ok(Value::Text(text))
+    Ok(Value::Text(text.into_str()?))
 }
 
 pub(crate) fn pushed(list: Value, item: Value) -> Result<Value, EvalErr>

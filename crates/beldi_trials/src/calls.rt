@@ -10,7 +10,7 @@ use beldi_step::Event;
 use beldi_syntax::read_deployment;
 use beldi_table::MapTable;
 use beldi_value::{
-    IntentId, Items, Outcome, Owner, Rel, Str, Value, Values, older, or_drop, read_int,
+    IntentId, Items, Outcome, Owner, Rel, Str, TextBuf, Value, Values, older, or_drop, read_int,
 };
 use std::alloc::Global;
 use std::test::Fail;
@@ -33,7 +33,7 @@ fn is_older(alloc: Global) -> Result<bool, Fail> {
 }
 
 // The age of an owner, and then the owner.
-fn write_owner(owner: &Owner, text: &mut Str) -> Result<(), Fail> {
+fn write_owner(owner: &Owner, text: &mut TextBuf) -> Result<(), Fail> {
     owner.age().write(text)?;
     owner.write(text)?;
     Ok(())
@@ -41,14 +41,14 @@ fn write_owner(owner: &Owner, text: &mut Str) -> Result<(), Fail> {
 
 fn owner_is_written(alloc: Global) -> Result<bool, Fail> {
     let owner = Owner::Intent(IntentId::read(alloc, b"7/3")?);
-    let mut text = Str::new(alloc);
+    let mut text = TextBuf::new(alloc);
     or_drop!(write_owner(&owner, &mut text); owner, text);
     drop(owner);
     Ok(is_text(text, "7/3intent 7/3"))
 }
 
 /// Whether a text is this one.
-pub fn is_text(text: Str, wanted: &str) -> bool {
+pub fn is_text(text: TextBuf, wanted: &str) -> bool {
     let is_text = text.as_str() == wanted;
     drop(text);
     is_text
@@ -77,7 +77,7 @@ fn ids_and_values(rt: HostRuntime) -> Result<(), Fail> {
 
 fn line_is_written(alloc: Global, code: &Checked) -> Result<bool, Fail> {
     let line = read_line(alloc, code, b"request 1 f {\"a\": 2}")?;
-    let mut text = Str::new(alloc);
+    let mut text = TextBuf::new(alloc);
     or_drop!(write_line(alloc, code, &line, &mut text); line, text);
     drop(line);
     Ok(is_text(text, "request 1 f {\"a\":2}"))
@@ -152,7 +152,7 @@ const WANTED: &str =
 
 // Whether a book is that of two requests in the order of time.
 fn is_ordered(alloc: Global, code: &Checked, book: &Book) -> Result<bool, Fail> {
-    let mut text = Str::new(alloc);
+    let mut text = TextBuf::new(alloc);
     or_drop!(book.write(alloc, code.code(), &mut text); text);
     let is_written = is_text(text, WANTED);
     let has_read = matches!(book.get(5), Some(Entry::Read { version: 4, .. }));

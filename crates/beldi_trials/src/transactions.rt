@@ -2,7 +2,7 @@
 use crate::calls::{deployment, is_text};
 use beldi_check::Checked;
 use beldi_executor::{Bar, Plain, PlainErr};
-use beldi_value::{IntentId, Place, Str, Value, or_drop};
+use beldi_value::{IntentId, Place, TextBuf, Value, or_drop};
 use std::alloc::Global;
 use std::test::Fail;
 
@@ -37,7 +37,7 @@ fn open(plain: &mut Plain<'_>, id: &IntentId) -> Result<(), Fail> {
 
 // Whether these are the lines of all items.
 fn holds(alloc: Global, plain: &Plain<'_>, lines: &str) -> Result<bool, Fail> {
-    let mut text = Str::new(alloc);
+    let mut text = TextBuf::new(alloc);
     or_drop!(plain.tables(&mut text); text);
     Ok(is_text(text, lines))
 }

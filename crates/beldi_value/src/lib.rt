@@ -9,9 +9,8 @@
 //!
 //! Proved:
 //! - Copies are equal; `Value::is_same` is equality.
-//! - The texts of values, ids, places, owners and outcomes are those of the definitions, and, out of memory, the
-//!   text is as before (`ok`, `err` of `Value::write_json`, `IntentId::write`, `Place::write`, `Owner::write`,
-//!   `Outcome::write`).
+//! - The texts of values, ids, places, owners and outcomes are those of the definitions (`Value::write_json`,
+//!   `IntentId::write`, `Place::write`, `Owner::write`, `Outcome::write`).
 //! - Numbers are read exactly (`number_at`, `numeral_at`, `int_at` of `read_number`, `read_numeral`, `read_int`).
 //! - `Value::read_json` gives the value that the bytes are in JSON, or the first cause in its order why they are none:
 //!   each cause exactly where it holds (`read`, by `read_of`); what it gives is within the limits, 32 levels and 4,096
@@ -28,7 +27,7 @@
 //!
 //! Files:
 //! - Code (`src/`): `value` values; `early` an early return whose drops are written; `boxed` a value behind a pointer, seen
-//!   as itself; `text` a text as its bytes; `list` lists of small numbers; `limits` how deep and how long a value is; `parts`
+//!   as itself; `text` a text that is kept, `text_buf` one that is written; `list` lists of small numbers; `limits` how deep and how long a value is; `parts`
 //!   fields and elements; `rel` relations; `read` and `convert` from JSON, `canonical` to JSON; `id` ids of intents;
 //!   `read_id`; `place` places and owners; `spare` room for an id, made before an act; `outcome` how an instance ends;
 //!   `number` reading numbers; `cut` a text at a byte; `write` the other texts; `laws`.
@@ -58,6 +57,7 @@ mod read_id;
 mod rel;
 mod spare;
 mod text;
+mod text_buf;
 mod value;
 mod write;
 
@@ -78,4 +78,5 @@ pub use rel::Rel;
 pub use spare::Spare;
 pub use std::alloc::AllocError as OutOfMemory;
 pub use text::Str;
+pub use text_buf::TextBuf;
 pub use value::{Rec, Value, Values};

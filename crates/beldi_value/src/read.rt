@@ -10,7 +10,7 @@ ghost use Rattle.beldi_value.specs.Value.{datum_of};
 use crate::convert::{ConvertErr, depth_of, value_from};
 use crate::number::read_int;
 use crate::or_drop;
-use crate::text::Str;
+use crate::text_buf::TextBuf;
 use crate::value::Value;
 use std::alloc::{AllocError, Global};
 use thiserror::Error;
@@ -101,7 +101,7 @@ impl Value {
         if self.text_left(4096).is_some() {
             return Ok(self);
         }
-        let mut text = Str::new(alloc);
+        let mut text = TextBuf::new(alloc);
         or_drop!(self.write_json(alloc, &mut text); text, self);
         let bytes = text.len() as u64;
         drop(text);

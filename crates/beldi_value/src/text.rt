@@ -1,66 +1,43 @@
-// A text, seen as its bytes.
-ghost use Rattle.std.specs.Prelude.{◌≡◌, ℕ, List, [], ◌++◌, OnOk, OnErr, IfOk, SomeIff, length, string_bytes};
+// A text that is kept, seen as its bytes.
+ghost use Rattle.std.specs.Prelude.{◌≡◌, ℕ, List, IfOk, SomeIff, length, string_bytes};
 ghost use Rattle.std.specs.Cmp.{partial_order_from_own_ties};
 ghost use Rattle.std.specs.Cmp.Lexicographic.{slice_cmp};
 ghost use Rattle.std.specs.Ordering.{nat_cmp, as_partial_cmp};
 ghost use Rattle.std.specs.Bool.{◌==◌};
-ghost use Rattle.std.specs.Fmt.{decimal};
 ghost use lib.Pointwise.{pointwise};
 ghost use Rattle.std.proofs.Common.{rules};
 ghost use Rattle.std.specs.Cmp.Rules.{comparing};
 
-use itoa::Buffer;
 use std::alloc::{AllocError, Global};
 use std::cmp::Ordering;
 use std::marker::Model;
+use std::rc::RcStr;
 
-/// A text in UTF-8.
+/// A text in UTF-8 that stays as it is. Its copies share its memory, so a copy takes none.
 #[derive(Drop)]
 pub struct Str {
-    text: String,
+    text: RcStr,
 }
 
 impl Model for Str {
-    ghost use Rattle.std.specs.Prelude.{ℕ, List, string_bytes};
+    ghost use Rattle.std.specs.Prelude.{ℕ, List};
+    ghost use Rattle.std.specs.Rc.{rc_str_bytes};
 
     ghost Value = { List ℕ };
 
-    ghost view = { λ a. string_bytes a.text };
+    ghost view = { λ a. rc_str_bytes a.text };
 }
 
 impl Str {
     ghost use Rattle.std.specs.Str.{IsUtf8};
 
-    /// The empty text.
-    pub fn new(alloc: Global) -> Str
-        ensures { result ≡ [] }
-    {
-        Str {
-            text: String::new(alloc),
-        }
-    }
-
-    /// The empty text, with room for so many bytes.
-    pub fn with_room(alloc: Global, bytes: usize) -> Result<Str, AllocError>
-        ensures { IfOk result (λ s. s ≡ []) }
+    /// This text.
+    pub fn from_string(text: String) -> Result<Str, AllocError>
+        ensures { IfOk result (λ s. s ≡ string_bytes text) }
     {
         Ok(Str {
-            text: String::with_capacity(alloc, bytes)?,
+            text: RcStr::from_string(text)?,
         })
-    }
-
-    /// This text.
-    pub fn from_string(text: String) -> Str
-        ensures { result ≡ string_bytes text }
-    {
-        Str { text }
-    }
-
-    /// The text again.
-    pub fn into_string(self) -> String
-        ensures { string_bytes result ≡ self }
-    {
-        self.text
     }
 
     /// A copy of this text.
@@ -68,7 +45,7 @@ impl Str {
         ensures { IfOk result (λ s. s ≡ text.now) }
     {
         Ok(Str {
-            text: String::from_str(alloc, text)?,
+            text: RcStr::from_str(alloc, text)?,
         })
     }
 
@@ -82,42 +59,20 @@ impl Str {
         }
     }
 
-    /// An equal text.
+    /// An equal text, in the same memory.
     pub fn copy(&self, alloc: Global) -> Result<Str, AllocError>
         ensures { IfOk result (λ s. s ≡ self.now) }
     {
-        Str::from_text(alloc, self.as_str())
-    }
-
-    /// Appends a text.
-    pub fn push_text(&mut self, text: &str) -> Result<(), AllocError>
-        ensures ok { OnOk result (self.new ≡ self.old ++ text.now) }
-        ensures err { OnErr result (self.new ≡ self.old) }
-    {
-        self.text.push_str(text)
-    }
-
-    /// Appends a number in decimal digits.
-    pub fn push_number(&mut self, number: u64) -> Result<(), AllocError>
-        ensures ok { OnOk result (self.new ≡ self.old ++ decimal number) }
-        ensures err { OnErr result (self.new ≡ self.old) }
-    {
-        let mut buffer = Buffer::new();
-        self.text.push_str(buffer.format(number))
-    }
-
-    /// Makes it empty, and keeps its memory.
-    pub fn clear(&mut self)
-        ensures { self.new ≡ [] }
-    {
-        self.text.clear();
+        Ok(Str {
+            text: self.text.clone()?,
+        })
     }
 
     /// Its bytes.
     pub fn as_bytes(&self) -> &[u8]
         ensures { result.now ≡ self.now }
     {
-        self.text.as_bytes()
+        self.text.as_str().as_bytes()
     }
 
     /// The text as a `str`.
@@ -138,7 +93,7 @@ impl Str {
     pub fn is_empty(&self) -> bool
         ensures { result ≡ (length self.now == 0) }
     {
-        self.text.is_empty()
+        self.text.len() == 0
     }
 }
 
@@ -148,7 +103,7 @@ impl PartialEq for Str {
     ghost laws = { Prim.search (comparing, rules) };
 
     fn eq(&self, other: &Str) -> bool {
-        self.text == other.text
+        self.text.as_str() == other.text.as_str()
     }
 }
 

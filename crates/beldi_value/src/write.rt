@@ -7,13 +7,13 @@ ghost use Rattle.beldi_value.specs.ValueText.{hops_text, id_text, place_text, ow
 use crate::id::IntentId;
 use crate::outcome::{Code, Outcome};
 use crate::place::{Owner, Place};
-use crate::text::Str;
+use crate::text_buf::TextBuf;
 use std::alloc::{AllocError, Global};
 
 impl IntentId {
     /// Appends the ticket, and `/` and a step for each hop. Of a ticket from 1 it is read as that id again. Out of memory, a
     /// part of it may be there, as of all texts here.
-    pub fn write(&self, out: &mut Str) -> Result<(), AllocError>
+    pub fn write(&self, out: &mut TextBuf) -> Result<(), AllocError>
         ensures text { OnOk result (out.new ≡ out.old ++ id_text self.now) }
         ensures again { OnOk result (0 < self.now.ticket → id_at (id_text self.now) ≡ Some self.now) }
     {
@@ -23,7 +23,7 @@ impl IntentId {
     }
 }
 
-fn write_hops(steps: &[u32], out: &mut Str) -> Result<(), AllocError>
+fn write_hops(steps: &[u32], out: &mut TextBuf) -> Result<(), AllocError>
     ensures text { OnOk result (out.new ≡ out.old ++ hops_text steps.now) }
     ensures small { AllByRecursion (λ h. h < 2 ^ 32) steps.now }
 {
@@ -36,7 +36,7 @@ fn write_hops(steps: &[u32], out: &mut Str) -> Result<(), AllocError>
 
 impl Place {
     /// Appends the id, `:` and the step.
-    pub fn write(&self, out: &mut Str) -> Result<(), AllocError>
+    pub fn write(&self, out: &mut TextBuf) -> Result<(), AllocError>
         ensures { OnOk result (out.new ≡ out.old ++ place_text self.now) }
     {
         self.intent.write(out)?;
@@ -47,7 +47,7 @@ impl Place {
 
 impl Owner {
     /// Appends `intent` and the id, or `tx` and the id, `:` and the step of its begin.
-    pub fn write(&self, out: &mut Str) -> Result<(), AllocError>
+    pub fn write(&self, out: &mut TextBuf) -> Result<(), AllocError>
         ensures { OnOk result (out.new ≡ out.old ++ owner_text self.now) }
     {
         match self {
@@ -85,7 +85,7 @@ impl Code {
 impl Outcome {
     /// Appends `value` and the value's canonical text, or `fault` and the code. `Aborted`, which no root ever has,
     /// has the text `aborted`.
-    pub fn write(&self, alloc: Global, out: &mut Str) -> Result<(), AllocError>
+    pub fn write(&self, alloc: Global, out: &mut TextBuf) -> Result<(), AllocError>
         ensures { OnOk result (out.new ≡ out.old ++ outcome_text self.now) }
     {
         match self {

@@ -10,7 +10,7 @@ loop-init g c =
     let d = c.args.code.now in
     let from_least : (m : Rows) → Listed d c.new-text.result c.least.result m =
     λ m. subst (λ (k : RowKey). Listed d c.new-text.result k m) (sym c.least.ensures) (subst (λ (s : List ℕ). Listed d s least_key m) (sym c.new-text.ensures) (listed_first d m)) in
-    begins (Listed d c.new-text.result c.past_others-at.result) (λ m. listed_past d c.new-text.result c.least.result c.past_others-at.result m c.past_others-at.ensures (from_least m)) (t.state h)
+    begins (Listed d c.new-text.result c.in-Ok-or_drop.field-0) (λ m. listed_past d c.new-text.result c.least.result c.in-Ok-or_drop.field-0 m c.in-Ok-or_drop.ensures (from_least m)) (t.state h)
 
 pub returns-in-Ok-None : goal.returns-in-Ok-None
 returns-in-Ok-None g c =
@@ -32,5 +32,5 @@ loop-preserved g c =
     let d = c.args.code.now in
     let new = c.next_line.new.text in
     goes (Listed d c.loop.text c.loop.at) (λ m (q : Option RowKey). (q, new) ≡ next_line_of d m c.loop.text (next_row m c.loop.at)) (t.state a) (t.state b) (t.state k) c.loop.invariant
-    (Listed d new c.past_others-at-in-Ok-Some.result) (Some c.in-Ok-Some.key)
-    (λ m p q. listed_past d new c.in-Ok-Some.key c.past_others-at-in-Ok-Some.result m c.past_others-at-in-Ok-Some.ensures (listed_next d c.loop.text new c.loop.at c.in-Ok-Some.key m p q)) (rw c.in-Ok-Some.field-0-is at c.in-Ok-Some.ensures)
+    (Listed d new c.in-Ok-or_drop-at.field-0) (Some c.in-Ok-Some.key)
+    (λ m p q. listed_past d new c.in-Ok-Some.key c.in-Ok-or_drop-at.field-0 m c.in-Ok-or_drop-at.ensures (listed_next d c.loop.text new c.loop.at c.in-Ok-Some.key m p q)) (rw c.in-Ok-Some.field-0-is at c.in-Ok-Some.ensures)

@@ -10,6 +10,7 @@ returns-then-lt c = past_itself c.args.key
 
 pub returns-else-lt : goal.returns-else-lt
 returns-else-lt c =
-    let rank : rank_of c.last_kind.result ≡ last_rank c.args.key.kind = c.last_kind.ensures ∙ ap last_rank c.kind-2.ensures in
-    let is : c.new-last.result ≡ record { home = c.args.key.home; kind = c.last_kind.result } = c.new-last.ensures ∙ ap (λ (n : ℕ). record { home = n; kind = c.last_kind.result }) c.home.ensures in
-    subst (λ (q : RowKey). Past c.args.key q) (sym is) (past_last c.args.key c.last_kind.result rank (ap (λ (q : RowKey). is_lt (key_cmp q c.args.key)) (sym is) ∙ sym c.lt.ensures ∙ c.if-lt.false))
+    let kind = c.in-Ok-or_drop.field-0 in
+    let rank : rank_of kind ≡ last_rank c.args.key.kind = c.in-Ok-or_drop.ensures ∙ ap last_rank c.kind-2.ensures in
+    let is : c.new-last.result ≡ record { home = c.args.key.home; kind = kind } = c.new-last.ensures ∙ ap (λ (n : ℕ). record { home = n; kind = kind }) c.home.ensures in
+    subst (λ (q : RowKey). Past c.args.key q) (sym is) (past_last c.args.key kind rank (ap (λ (q : RowKey). is_lt (key_cmp q c.args.key)) (sym is) ∙ sym c.lt.ensures ∙ c.if-lt.false))
