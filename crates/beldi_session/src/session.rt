@@ -24,6 +24,7 @@ use beldi_script::{Line, cut_line};
 use beldi_step::{Event, EventReply};
 use beldi_value::TextBuf;
 use std::alloc::{AllocError, Global};
+use std::mem::forget;
 
 /// Why a session broke off.
 #[derive(Clone, Copy, Debug, PartialEq, Eq)]
@@ -96,7 +97,8 @@ fn answer_turn<T: Table>(
     let mut told = EventReply::Shut;
     match host.turn(run, &mut told) {
         Ok(Some(over)) => {
-            drop(told);
+            // Nothing was written to it, and it owns nothing.
+            forget(told);
             appended(write_plain(over, out))
         }
         Ok(None) => {
