@@ -5,7 +5,7 @@ ghost use Rattle.beldi_bytes.specs.KeyBytes.{two, four};
 ghost use Rattle.beldi_bytes.specs.RowBytes.{eight, str_bytes};
 
 use beldi_value::Str;
-use std::alloc::Global;
+use std::alloc::{AllocError, Global};
 use std::marker::Model;
 
 /// Why nothing was read.
@@ -15,6 +15,16 @@ pub(crate) enum ReadErr {
     OutOfMemory,
     /// Nothing that is written has these bytes.
     Foreign,
+}
+
+impl From<AllocError> for ReadErr {
+    ghost use Rattle.beldi_bytes.specs.declared.cursor.ReadErr.TheVariants.{OutOfMemory};
+
+    ghost from_gives = { λ _ e. e ≡ OutOfMemory };
+
+    fn from(_: AllocError) -> Self {
+        ReadErr::OutOfMemory
+    }
 }
 
 /// What was read. Where it was refused, the values that are named after the `;` are dropped, and the refusal is returned.
@@ -120,10 +130,9 @@ impl<'a> Cursor<'a> {
             return Err(ReadErr::Foreign);
         }
         self.left = &left[count..];
-        match Str::from_bytes(alloc, &left[..count]) {
-            Ok(Some(text)) => Ok(text),
-            Ok(None) => Err(ReadErr::Foreign),
-            Err(_) => Err(ReadErr::OutOfMemory),
+        match Str::from_bytes(alloc, &left[..count])? {
+            Some(text) => Ok(text),
+            None => Err(ReadErr::Foreign),
         }
     }
 }

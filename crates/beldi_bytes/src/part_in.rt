@@ -9,7 +9,9 @@ use crate::cursor::{Cursor, ReadErr, given};
 use crate::key_in::{read_id, read_place, read_tx};
 use crate::value_in::read_value;
 use beldi_row::{Blank, Entry, Log, MOST_ENTRIES, Note};
-use beldi_value::{Boxed, Caller, Cause, Code, IntentId, Outcome, Owner, Place, TxId, Value};
+use beldi_value::{
+    Boxed, Caller, Cause, Code, IntentId, Outcome, Owner, Place, TxId, Value, or_drop,
+};
 use std::alloc::Global;
 
 pub(crate) fn read_moment(from: &mut Cursor<'_>) -> Result<u64, ReadErr>
@@ -58,10 +60,7 @@ fn read_apart(alloc: Global, from: &mut Cursor<'_>) -> Result<Boxed<IntentId>, R
     ensures { Reads id_bytes IsId from.old from.new result }
 {
     let id = given!(read_id(alloc, from));
-    match Boxed::new(alloc, id) {
-        Ok(id) => Ok(id),
-        Err(_) => Err(ReadErr::OutOfMemory),
-    }
+    Ok(Boxed::new(alloc, id)?)
 }
 
 fn read_holder(alloc: Global, from: &mut Cursor<'_>) -> Result<Option<Boxed<IntentId>>, ReadErr>
@@ -79,13 +78,8 @@ fn read_cause(alloc: Global, from: &mut Cursor<'_>) -> Result<Cause, ReadErr>
 {
     let place = given!(read_place(alloc, from));
     let holder = given!(read_holder(alloc, from); place);
-    match Boxed::new(alloc, place) {
-        Ok(place) => Ok(Cause { place, holder }),
-        Err(_) => {
-            drop(holder);
-            Err(ReadErr::OutOfMemory)
-        }
-    }
+    let place = or_drop!(Boxed::new(alloc, place); holder);
+    Ok(Cause { place, holder })
 }
 
 fn read_outcome(alloc: Global, from: &mut Cursor<'_>) -> Result<Outcome, ReadErr>
@@ -201,10 +195,7 @@ pub(crate) fn read_log(alloc: Global, from: &mut Cursor<'_>) -> Result<Log, Read
     if count as usize > MOST_ENTRIES {
         return Err(ReadErr::Foreign);
     }
-    let mut log = match Blank::new(alloc) {
-        Ok(blank) => blank.log(),
-        Err(_) => return Err(ReadErr::OutOfMemory),
-    };
+    let mut log = Blank::new(alloc)?.log();
     for _turn in 0..count {
         let entry = given!(read_entry(alloc, from); log);
         enter(&mut log, entry);

@@ -6,7 +6,7 @@ ghost use Rattle.beldi_bytes.specs.BytesReading.{ReadsValue, ReadsField, counted
 ghost use Rattle.beldi_bytes.specs.RowBytes.{int_bytes, IsInt};
 
 use crate::cursor::{Cursor, ReadErr, given};
-use beldi_value::{Rec, Str, Value, Values};
+use beldi_value::{Rec, Str, Value, Values, or_drop};
 use std::alloc::Global;
 
 fn read_int(from: &mut Cursor<'_>) -> Result<i64, ReadErr>
@@ -41,16 +41,10 @@ fn read_list(alloc: Global, from: &mut Cursor<'_>) -> Result<Values, ReadErr>
     ensures { Reads counted_items AreItems from.old from.new result }
 {
     let count = given!(from.four());
-    let mut items = Values::new(alloc);
+    let mut items = Values::new(alloc)?;
     for _turn in 0..count {
         let item = given!(read_value(alloc, from); items);
-        match items.push(item) {
-            Ok(()) => {}
-            Err(_) => {
-                drop(items);
-                return Err(ReadErr::OutOfMemory);
-            }
-        }
+        or_drop!(items.push(alloc, item); items);
     }
     Ok(items)
 }
@@ -60,7 +54,7 @@ fn read_record(alloc: Global, from: &mut Cursor<'_>) -> Result<Rec, ReadErr>
     ensures { Reads counted_fields AreFields from.old from.new result }
 {
     let count = given!(from.four());
-    let mut fields = Rec::new(alloc);
+    let mut fields = Rec::new(alloc)?;
     for _turn in 0..count {
         given!(read_field(alloc, from, &mut fields); fields)
     }
@@ -79,10 +73,7 @@ fn read_field(alloc: Global, from: &mut Cursor<'_>, fields: &mut Rec) -> Result<
         return Err(ReadErr::Foreign);
     }
     let value = given!(read_value(alloc, from); key);
-    match fields.set(key, value) {
-        Ok(()) => Ok(()),
-        Err(_) => Err(ReadErr::OutOfMemory),
-    }
+    Ok(fields.set(alloc, key, value)?)
 }
 
 // Whether a key is above those of the fields.

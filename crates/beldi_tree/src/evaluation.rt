@@ -296,7 +296,7 @@ fn push(alloc: Global, variables: &Variables, list: Value, item: &Expr) -> Resul
     ensures { Evaluates (on_two pushed_of (Ok list) (value_at variables.now item.now)) result }
 {
     let item = or_drop!(evaluate(alloc, variables, item); list);
-    pushed(list, item)
+    pushed(alloc, list, item)
 }
 
 // The record, where the field of this key has this value.
@@ -321,10 +321,10 @@ fn with(
 fn list(alloc: Global, variables: &Variables, exprs: &Exprs) -> Result<Values, EvalErr>
     ensures { Evaluates (items_value variables.now (items_of exprs.now)) result }
 {
-    let mut items = Values::new(alloc);
+    let mut items = Values::new(alloc)?;
     for expr in &exprs.items {
         let value = or_drop!(evaluate(alloc, variables, expr); items);
-        or_drop!(items.push(value); items);
+        or_drop!(items.push(alloc, value); items);
     }
     Ok(items)
 }
@@ -333,11 +333,11 @@ fn list(alloc: Global, variables: &Variables, exprs: &Exprs) -> Result<Values, E
 fn record(alloc: Global, variables: &Variables, members: &Members) -> Result<Rec, EvalErr>
     ensures { Evaluates (fields_value variables.now [] (members_of members.now)) result }
 {
-    let mut fields = Rec::new(alloc);
+    let mut fields = Rec::new(alloc)?;
     for member in &members.items {
         let value = or_drop!(evaluate(alloc, variables, &member.1); fields);
         let key = or_drop!(member.0.copy(alloc); fields, value);
-        or_drop!(fields.set(key, value); fields);
+        or_drop!(fields.set(alloc, key, value); fields);
     }
     Ok(fields)
 }

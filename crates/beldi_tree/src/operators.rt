@@ -274,11 +274,11 @@ pub(crate) fn canonical(alloc: Global, value: &Value) -> Result<Value, AllocErro
     Ok(Value::Text(text.into_str()?))
 }
 
-pub(crate) fn pushed(list: Value, item: Value) -> Result<Value, EvalErr>
+pub(crate) fn pushed(alloc: Global, list: Value, item: Value) -> Result<Value, EvalErr>
     ensures { Evaluates (pushed_of list item) result }
 {
     let mut items = or_drop!(items(list); item);
-    or_drop!(items.push(item); items);
+    or_drop!(items.push(alloc, item); items);
     Ok(Value::List(items))
 }
 
@@ -292,7 +292,7 @@ pub(crate) fn with_field(
 {
     let mut fields = or_drop!(fields(whole); value);
     let key = or_drop!(text_copy(alloc, key); fields, value);
-    or_drop!(fields.set(key, value); fields);
+    or_drop!(fields.set(alloc, key, value); fields);
     Ok(Value::Rec(fields))
 }
 

@@ -55,7 +55,7 @@ pub fn is_text(text: TextBuf, wanted: &str) -> bool {
 }
 
 fn lists_are_made(alloc: Global) -> Result<bool, Fail> {
-    let values = Values::from_vec(Vec::from_array(alloc, [Value::Int(7)])?);
+    let values = Values::from_vec(alloc, Vec::from_array(alloc, [Value::Int(7)])?)?;
     let has_value = matches!(values.at(0), Some(Value::Int(7)));
     drop(values);
     let items = Items::from_vec(Vec::from_array(alloc, [7])?);

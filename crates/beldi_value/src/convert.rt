@@ -107,7 +107,7 @@ fn values_from(alloc: Global, list: &Vec<Json>) -> Result<Values, ConvertErr>
             Err(why) => return Err(why),
         }
     }
-    Ok(Values { items })
+    Ok(Values::from_vec(alloc, items)?)
 }
 
 #[cycle(convert)]
@@ -122,5 +122,5 @@ fn rec_from(alloc: Global, members: &Map<String, Json>) -> Result<Rec, ConvertEr
             Err(why) => return Err(why),
         }
     }
-    Ok(Rec { fields })
+    Ok(Rec::from_vec(alloc, fields)?)
 }

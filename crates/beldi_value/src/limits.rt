@@ -127,7 +127,7 @@ impl Values {
     pub(crate) fn nest_within(&self, levels: u32) -> bool
         ensures { result ≡ nat_le (items_depth (items_of self.now)) levels }
     {
-        for v in &self.items {
+        for v in self.items.as_ref() {
             if !v.nests_within(levels) {
                 return false;
             }
@@ -141,7 +141,7 @@ impl Values {
     {
         let mut left = budget.checked_sub(1)?;
         let mut later = false;
-        for v in &self.items {
+        for v in self.items.as_ref() {
             match v.item_left(left, later) {
                 Some(rest) => left = rest,
                 None => return None,
@@ -157,7 +157,7 @@ impl Rec {
     pub(crate) fn nest_within(&self, levels: u32) -> bool
         ensures { result ≡ nat_le (fields_depth (fields_of self.now)) levels }
     {
-        for field in &self.fields {
+        for field in self.fields.as_ref() {
             if !field.1.nests_within(levels) {
                 return false;
             }
@@ -171,7 +171,7 @@ impl Rec {
     {
         let mut left = budget.checked_sub(1)?;
         let mut later = false;
-        for field in &self.fields {
+        for field in self.fields.as_ref() {
             match Rec::field_left(field, left, later) {
                 Some(rest) => left = rest,
                 None => return None,

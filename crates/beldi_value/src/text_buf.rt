@@ -32,15 +32,6 @@ impl TextBuf {
         }
     }
 
-    /// The empty text, with room for so many bytes.
-    pub fn with_room(alloc: Global, bytes: usize) -> Result<TextBuf, AllocError>
-        ensures { IfOk result (λ s. s ≡ []) }
-    {
-        Ok(TextBuf {
-            text: String::with_capacity(alloc, bytes)?,
-        })
-    }
-
     /// This text.
     pub fn from_string(text: String) -> TextBuf
         ensures { result ≡ string_bytes text }

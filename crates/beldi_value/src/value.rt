@@ -5,6 +5,7 @@ ghost use Rattle.beldi_value.specs.Value.{datum_of};
 use crate::text::Str;
 use std::alloc::{AllocError, Global};
 use std::marker::Model;
+use std::rc::Rc;
 
 /// What items, arguments and outcomes hold.
 #[cycle(value)]
@@ -18,18 +19,18 @@ pub enum Value {
     Rec(Rec),
 }
 
-/// The items of a list.
+/// The items of a list. Copies share them, until one of the copies is changed.
 #[cycle(value)]
 #[derive(Drop)]
 pub struct Values {
-    pub(crate) items: Vec<Value>,
+    pub(crate) items: Rc<Vec<Value>>,
 }
 
-/// The fields of a record: in the order of their keys, each key once.
+/// The fields of a record: in the order of their keys, each key once. Copies share them, until one of the copies is changed.
 #[cycle(value)]
 #[derive(Drop)]
 pub struct Rec {
-    pub(crate) fields: Vec<(Str, Value)>,
+    pub(crate) fields: Rc<Vec<(Str, Value)>>,
 }
 
 impl Model for Values {
@@ -42,14 +43,14 @@ impl Model for Values {
 
     ghost use Rattle.beldi_value.specs.Value.{items_view};
 
-    ghost view = { λ a. items_view a.items.items };
+    ghost view = { λ a. items_view a.items.value.items };
 
     ghost size = { datums_size };
 
     ghost use Rattle.std.proofs.Common.{arith};
     ghost use Rattle.beldi_value.specs.ValueFalls.{most_items};
 
-    ghost size_decreases = { λ a h. omega (arith, most_items a.items.items) };
+    ghost size_decreases = { λ a h. omega (arith, most_items a.items.value.items) };
 }
 
 impl Model for Rec {
@@ -62,58 +63,64 @@ impl Model for Rec {
 
     ghost use Rattle.beldi_value.specs.Value.{fields_view};
 
-    ghost view = { λ a. fields_view a.fields.items };
+    ghost view = { λ a. fields_view a.fields.value.items };
 
-    ghost invariant = { λ a. IsRecord (fields_view a.fields.items) };
+    ghost invariant = { λ a. IsRecord (fields_view a.fields.value.items) };
 
     ghost size = { fields_size };
 
     ghost use Rattle.beldi_value.specs.ValueFalls.{most_fields};
 
-    ghost size_decreases = { λ a h. most_fields a.fields.items };
+    ghost size_decreases = { λ a h. most_fields a.fields.value.items };
 }
 
 impl Values {
     ghost use Rattle.beldi_value.specs.Value.{items_view};
 
     /// No items.
-    pub fn new(alloc: Global) -> Values
-        ensures { result ≡ [] }
+    pub fn new(alloc: Global) -> Result<Values, AllocError>
+        ensures { IfOk result (λ v. v ≡ []) }
     {
-        Values {
-            items: Vec::new(alloc),
-        }
+        Values::from_vec(alloc, Vec::new(alloc))
     }
 
     /// The list of these items.
-    pub fn from_vec(items: Vec<Value>) -> Values
-        ensures { result ≡ items_view items.items }
+    pub fn from_vec(alloc: Global, items: Vec<Value>) -> Result<Values, AllocError>
+        ensures { IfOk result (λ v. v ≡ items_view items.items) }
     {
-        Values { items }
-    }
-
-    /// The items again.
-    pub fn into_vec(self) -> Vec<Value>
-        ensures { items_view result.items ≡ self }
-    {
-        self.items
+        match Rc::new(alloc, items) {
+            Ok(items) => Ok(Values { items }),
+            Err(_) => Err(AllocError),
+        }
     }
 
     /// How many items there are.
     pub fn len(&self) -> usize
         ensures { result ≡ length self.now }
     {
-        self.items.len()
+        self.items.as_ref().len()
     }
 }
 
 impl Rec {
+    ghost use Rattle.beldi_value.specs.Datum.{IsRecord};
+    ghost use Rattle.beldi_value.specs.Value.{fields_view};
+
     /// No fields.
-    pub fn new(alloc: Global) -> Rec
-        ensures { result ≡ [] }
+    pub fn new(alloc: Global) -> Result<Rec, AllocError>
+        ensures { IfOk result (λ v. v ≡ []) }
     {
-        Rec {
-            fields: Vec::new(alloc),
+        Rec::from_vec(alloc, Vec::new(alloc))
+    }
+
+    // The record of these fields.
+    pub(crate) fn from_vec(alloc: Global, fields: Vec<(Str, Value)>) -> Result<Rec, AllocError>
+        requires { IsRecord (fields_view fields.items) }
+        ensures { IfOk result (λ v. v ≡ fields_view fields.items) }
+    {
+        match Rc::new(alloc, fields) {
+            Ok(fields) => Ok(Rec { fields }),
+            Err(_) => Err(AllocError),
         }
     }
 
@@ -121,13 +128,12 @@ impl Rec {
     pub fn len(&self) -> usize
         ensures { result ≡ length self.now }
     {
-        self.fields.len()
+        self.fields.as_ref().len()
     }
 }
 
 impl Value {
     /// An equal value.
-    #[cycle(copy)]
     pub fn copy(&self, alloc: Global) -> Result<Value, AllocError>
         ensures { IfOk result (λ v. v ≡ self.now) }
     {
@@ -165,19 +171,16 @@ impl Values {
     pub fn as_slice(&self) -> &[Value]
         ensures { items_view result.now ≡ self.now }
     {
-        self.items.as_slice()
+        self.items.as_ref().as_slice()
     }
 
-    /// An equal list.
-    #[cycle(copy)]
+    /// An equal list, in the same memory.
     pub fn copy(&self, alloc: Global) -> Result<Values, AllocError>
         ensures { IfOk result (λ v. v ≡ self.now) }
     {
-        let mut items = Vec::new(alloc);
-        for v in &self.items {
-            items.push(v.copy(alloc)?)?;
-        }
-        Ok(Values { items })
+        Ok(Values {
+            items: self.items.clone()?,
+        })
     }
 
     /// Whether two lists are equal.
@@ -185,11 +188,13 @@ impl Values {
     pub fn is_same(&self, other: &Values) -> bool
         ensures { IsTrue result ↔ (self.now ≡ other.now) }
     {
-        if self.items.len() != other.items.len() {
+        let own = self.items.as_ref();
+        let items = other.items.as_ref();
+        if own.len() != items.len() {
             return false;
         }
-        for (i, v) in self.items.iter().enumerate() {
-            if !v.is_same(&other.items[i]) {
+        for (i, v) in own.iter().enumerate() {
+            if !v.is_same(&items[i]) {
                 return false;
             }
         }
@@ -204,19 +209,16 @@ impl Rec {
     pub fn as_slice(&self) -> &[(Str, Value)]
         ensures { fields_view result.now ≡ self.now }
     {
-        self.fields.as_slice()
+        self.fields.as_ref().as_slice()
     }
 
-    /// An equal record.
-    #[cycle(copy)]
+    /// An equal record, in the same memory.
     pub fn copy(&self, alloc: Global) -> Result<Rec, AllocError>
         ensures { IfOk result (λ v. v ≡ self.now) }
     {
-        let mut fields = Vec::new(alloc);
-        for field in &self.fields {
-            fields.push((field.0.copy(alloc)?, field.1.copy(alloc)?))?;
-        }
-        Ok(Rec { fields })
+        Ok(Rec {
+            fields: self.fields.clone()?,
+        })
     }
 
     /// Whether two records are equal.
@@ -224,11 +226,13 @@ impl Rec {
     pub fn is_same(&self, other: &Rec) -> bool
         ensures { IsTrue result ↔ (self.now ≡ other.now) }
     {
-        if self.fields.len() != other.fields.len() {
+        let own = self.fields.as_ref();
+        let fields = other.fields.as_ref();
+        if own.len() != fields.len() {
             return false;
         }
-        for (i, field) in self.fields.iter().enumerate() {
-            if !is_same_field(field, &other.fields[i]) {
+        for (i, field) in own.iter().enumerate() {
+            if !is_same_field(field, &fields[i]) {
                 return false;
             }
         }

@@ -41,9 +41,9 @@ pub read_list-loop-turn-preserved : goal.read_list-loop-turn-preserved
 read_list-loop-turn-preserved t c =
     let d = datum_of c.in-Ok-read_value.value in
     record {
-      way = rw c.in-Ok-push.ensures.ok (next_item c.in-Ok.value _ _ _ c.loop-turn.items d c.loop-turn.invariant.way (omega arith) c.in-Ok-read_value.ensures.0);
-      number = omega (arith, ap length c.in-Ok-push.ensures.ok, length-append c.loop-turn.items (d ∷ []));
-      formed = rw c.in-Ok-push.ensures.ok (items_more c.loop-turn.items d c.loop-turn.invariant.formed c.in-Ok-read_value.ensures.1);
+      way = rw c.in-Ok-or_drop.ensures.ok (next_item c.in-Ok.value _ _ _ c.loop-turn.items d c.loop-turn.invariant.way (omega arith) c.in-Ok-read_value.ensures.0);
+      number = omega (arith, ap length c.in-Ok-or_drop.ensures.ok, length-append c.loop-turn.items (d ∷ []));
+      formed = rw c.in-Ok-or_drop.ensures.ok (items_more c.loop-turn.items d c.loop-turn.invariant.formed c.in-Ok-read_value.ensures.1);
       short = omega (arith, c.loop-turn.invariant.short, ap length c.in-Ok-read_value.ensures.0, datum_long d c.read_value.new.from);
     }
 
@@ -77,12 +77,12 @@ pub read_field-returns-in-Err-read_value : goal.read_field-returns-in-Err-read_v
 read_field-returns-in-Err-read_value t c =
     refused datum_bytes IsFormed field_bytes _ _ _ c.in-Err-read_value.why c.in-Err-read_value.ensures (λ f s i e. (f.1, s, i.1.1, behind str_bytes str_exact _ _ _ _ _ c.in-Ok.ensures.0 e))
 
-pub read_field-returns-in-Ok-set : goal.read_field-returns-in-Ok-set
-read_field-returns-in-Ok-set t c =
+pub read_field-returns : goal.read_field-returns
+read_field-returns t c =
     let k = c.in-Ok.value in
     let d = datum_of c.in-Ok-read_value.value in
     let above = c.is_next.ensures.0 c.if-not-is_next.false in
-    ((k, d), c.in-Ok.ensures.0 ∙ ap (str_bytes k) c.in-Ok-read_value.ensures.0, (above, (c.in-Ok.ensures.1, c.in-Ok-read_value.ensures.1, tt)), c.in-Ok-set.ensures.ok ∙ set_end c.args.fields.now k d above)
+    ((k, d), c.in-Ok.ensures.0 ∙ ap (str_bytes k) c.in-Ok-read_value.ensures.0, (above, (c.in-Ok.ensures.1, c.in-Ok-read_value.ensures.1, tt)), c.in_ok-set.ensures.ok ∙ set_end c.args.fields.now k d above)
 
 pub read_value-returns-in-Ok-read_record : goal.read_value-returns-in-Ok-read_record
 read_value-returns-in-Ok-read_record t c =

@@ -1,5 +1,5 @@
 use Rattle.std.proofs.lemmas.List.{append-nil}
-use Rattle.beldi_value.proofs.Names.{Entry, [], add-one, ap, append_assoc, arith, datum_of, drop, drop-cons, fields_view, items_view, json_items_view, keys_of, length-drop, map, members_view, nil_from_length, of_items, of_members, string_bytes, suc, sym, view, ◌++◌, ◌+◌, ◌∙◌, ◌∷◌, ◌≡◌}
+use Rattle.beldi_value.proofs.Names.{Entry, Some, [], add-one, ap, append_assoc, arith, datum_of, drop, drop-cons, fields_of, fields_view, items_of, items_view, json_items_view, keys_of, length-drop, map, members_view, nil_from_length, of_items, of_members, string_bytes, suc, sym, view, ◌++◌, ◌+◌, ◌∙◌, ◌∷◌, ◌≡◌}
 use Rattle.beldi_value.proofs.Converting.{onto_items, onto_fields, items_go, items_stop, fields_go, fields_stop, onto_end, fields_end, record_from, keys_push, map_push}
 use Rattle.beldi_value.proofs.Names.json
 use Rattle.beldi_value.proofs.convert.+convert.Goals as goal
@@ -31,6 +31,7 @@ values_from-returns t c =
     let old = c.loop-json.items.items in
     let none : drop c.loop-json.json-index xs ≡ [] = nil_from_length (drop c.loop-json.json-index xs) (omega (arith, length-drop c.loop-json.json-index xs)) in
     ap (λ l. of_items (json_items_view l)) (sym c.deref-json-items.ensures.value) ∙ sym c.loop-json.invariant ∙ ap (λ l. onto_items (items_view old) (of_items (json_items_view l))) none ∙ onto_end (items_view old)
+    ∙ ap (λ ds. Some (items_of ds)) (sym c.in_ok-from_vec.ensures)
 
 pub rec_from-loop-key-preserved : goal.rec_from-loop-key-preserved
 rec_from-loop-key-preserved t c =
@@ -56,8 +57,8 @@ rec_from-returns-in-Err t c =
     fields_stop c.in-Err.why old (string_bytes c.in-Some.key.now) (view c.in-Some.json.now) (members_view c.next.new.self) (of_members (members_view c.args.members.now.entries))
     (ap (λ es. onto_fields old (of_members (members_view es))) (sym c.in-Some.ensures.steps) ∙ l.invariant.2) c.in-Err.ensures
 
-pub rec_from-invariant_of-result : goal.rec_from-invariant_of-result
-rec_from-invariant_of-result t c =
+pub rec_from-from_vec-requires : goal.rec_from-from_vec-requires
+rec_from-from_vec-requires t c =
     let l = c.loop-key in
     let all : c.args.members.now.entries ≡ l.invariant.0 = l.invariant.1 ∙ ap (λ es. l.invariant.0 ++ es) c.in-None.ensures.steps.0 ∙ append-nil l.invariant.0 in
     record_from (fields_view l.fields.items) (keys_of c.args.members.now.entries) (l.invariant.3 ∙ ap (λ d. map string_bytes (keys_of d)) (sym all)) c.iter-key-items.ensures.ordered
@@ -66,4 +67,4 @@ pub rec_from-returns : goal.rec_from-returns
 rec_from-returns t c =
     let l = c.loop-key in
     let old = fields_view l.fields.items in
-    sym l.invariant.2 ∙ ap (λ es. onto_fields old (of_members (members_view es))) c.in-None.ensures.steps.0 ∙ fields_end old
+    sym l.invariant.2 ∙ ap (λ es. onto_fields old (of_members (members_view es))) c.in-None.ensures.steps.0 ∙ fields_end old ∙ ap (λ ds. Some (fields_of ds)) (sym c.in_ok-from_vec.ensures)

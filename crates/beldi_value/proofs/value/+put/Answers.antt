@@ -11,5 +11,5 @@ pub Rec::put-returns-clause-formed : goal.Rec::put-returns-clause-formed
 Rec::put-returns-clause-formed t c =
     let fs = c.deref-field-items.result.now in
     let form = all_formed fs c.loop-field.field-index (omega arith) c.loop-field.invariant.formed in
-    let view = ap fields_view c.deref-field-items.ensures.value ∙ c.self.view_is in
+    let view = ap fields_view c.deref-field-items.ensures.value ∙ ap (λ v. fields_view v.items) c.as_ref.ensures ∙ c.self.view_is in
     always c.push_text-2.result _ (subst IsRecord (sym (pairs_back c.args.self.now)) (subst IsRecord c.self.view_is c.self.invariant), subst (λ gs. HaveForm (fields_of gs)) view form)

@@ -9,8 +9,10 @@ pub Values::is_same-returns-then-not-is_same : goal.Values::is_same-returns-then
 Values::is_same-returns-then-not-is_same t c = (
   λ w. cc,
   λ e.
-      let same = same_items c.self.inside.items.items c.other.inside.items.items (c.self.view_is ∙ e ∙ sym c.other.view_is) in
-      let one = one_place c.self.inside.items.items c.other.inside.items.items c.loop-i.i c.v-item.result c.index.result.now same (omega arith) (search rules) c.index.ensures in
+      let xs = c.as_ref-own.result.now.items in
+      let ys = c.as_ref-items.result.now.items in
+      let same : xs ≡ ys = ap (λ v. v.items) c.as_ref-own.ensures ∙ same_items c.self.inside.items.value.items c.other.inside.items.value.items (c.self.view_is ∙ e ∙ sym c.other.view_is) ∙ ap (λ v. v.items) (sym c.as_ref-items.ensures) in
+      let one = one_place xs ys c.loop-i.i c.v-item.result c.index.result.now same (omega arith) (search rules) c.index.ensures in
       cc (c.is_same.ensures.1 one),
 )
 
@@ -18,7 +20,9 @@ pub Rec::is_same-returns-then-not-is_same_field : goal.Rec::is_same-returns-then
 Rec::is_same-returns-then-not-is_same_field t c = (
   λ w. cc,
   λ e.
-      let same = same_fields c.self.inside.fields.items c.other.inside.fields.items (c.self.view_is ∙ e ∙ sym c.other.view_is) in
-      let one = one_place c.self.inside.fields.items c.other.inside.fields.items c.loop-i.i c.field-item.result c.index.result.now same (omega arith) (search rules) c.index.ensures in
+      let xs = c.as_ref-own.result.now.items in
+      let ys = c.as_ref-fields.result.now.items in
+      let same : xs ≡ ys = ap (λ v. v.items) c.as_ref-own.ensures ∙ same_fields c.self.inside.fields.value.items c.other.inside.fields.value.items (c.self.view_is ∙ e ∙ sym c.other.view_is) ∙ ap (λ v. v.items) (sym c.as_ref-fields.ensures) in
+      let one = one_place xs ys c.loop-i.i c.field-item.result c.index.result.now same (omega arith) (search rules) c.index.ensures in
       cc (c.is_same_field.ensures.1 one),
 )
