@@ -5,7 +5,7 @@ ghost use Rattle.beldi_bytes.specs.KeyBytes.{four, hops_bytes, id_bytes, place_b
 
 use crate::cursor::{Cursor, ReadErr, given};
 use beldi_row::{Kind, RowKey};
-use beldi_value::{ByteList, Hops, IntentId, Place, Str, TxId};
+use beldi_value::{ByteList, Hops, IntentId, Place, Str, TxId, or_drop};
 use std::alloc::{AllocError, Global};
 
 // A number in four bytes, where one is there; of hops the last is not.
@@ -25,7 +25,7 @@ fn read_hops(alloc: Global, from: &mut Cursor<'_>) -> Result<Hops, ReadErr>
     let mut steps = Vec::new(alloc);
     loop {
         match given!(read_four_if(from); steps) {
-            None => return Ok(Hops::from_vec(steps)),
+            None => return Ok(Hops::from_vec(steps)?),
             Some(step) => {
                 if steps.len() == 63 {
                     drop(steps);
@@ -65,15 +65,7 @@ fn read_chars(alloc: Global, from: &mut Cursor<'_>) -> Result<ByteList, ReadErr>
     loop {
         match given!(read_char(from); text) {
             None => return Ok(text),
-            Some(byte) => {
-                match text.push(byte) {
-                    Ok(()) => {}
-                    Err(_) => {
-                        drop(text);
-                        return Err(ReadErr::OutOfMemory);
-                    }
-                }
-            }
+            Some(byte) => or_drop!(text.push(byte); text),
         }
     }
 }
@@ -83,10 +75,7 @@ fn read_text(alloc: Global, from: &mut Cursor<'_>) -> Result<Str, ReadErr>
 {
     let bytes = given!(read_chars(alloc, from)).into_vec();
     match String::from_utf8(bytes) {
-        Ok(text) => match Str::from_string(text) {
-            Ok(text) => Ok(text),
-            Err(_) => Err(ReadErr::OutOfMemory),
-        },
+        Ok(text) => Ok(Str::from_string(text)?),
         Err(error) => {
             drop(error);
             Err(ReadErr::Foreign)

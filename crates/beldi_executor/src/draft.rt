@@ -118,6 +118,7 @@ impl Members {
         let mut ids = self.ids;
         while let Some(id) = ids.pop() {
             made.forget(&id);
+            drop(id);
         }
     }
 }

@@ -24,25 +24,25 @@ pub fn id_before(alloc: Global, id: &IntentId) -> Result<IntentId, AllocError>
 {
     let mut steps = Vec::from_slice(alloc, id.hops.as_slice())?;
     match steps.pop() {
-        Some(0) => Ok(with_steps(id.ticket, steps)),
+        Some(0) => with_steps(id.ticket, steps),
         Some(last) => {
             steps.push(last - 1)?;
             fill(&mut steps)?;
-            Ok(with_steps(id.ticket, steps))
+            with_steps(id.ticket, steps)
         }
         None => {
             fill(&mut steps)?;
-            Ok(with_steps(id.ticket.saturating_sub(1), steps))
+            with_steps(id.ticket.saturating_sub(1), steps)
         }
     }
 }
 
-fn with_steps(ticket: u32, steps: Vec<u32>) -> IntentId
+fn with_steps(ticket: u32, steps: Vec<u32>) -> Result<IntentId, AllocError>
     requires { length steps.items ≤ 63 }
-    ensures { result ≡ record { ticket = ticket; hops = steps.items } }
+    ensures { IfOk result (λ a. a ≡ record { ticket = ticket; hops = steps.items }) }
 {
-    IntentId {
+    Ok(IntentId {
         ticket,
-        hops: Hops::from_vec(steps),
-    }
+        hops: Hops::from_vec(steps)?,
+    })
 }

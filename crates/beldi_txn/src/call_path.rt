@@ -3,7 +3,7 @@ ghost use Rattle.std.specs.Prelude.{◌≡◌, List, [], ◌∷◌, ◌++◌, If
 ghost use Rattle.beldi_lock.specs.Last.{split_last};
 ghost use Rattle.beldi_txn.specs.CallPath.{callee_id, member_at, front_of, last_of, is_owner};
 
-use beldi_value::{Hops, IntentId, TxId};
+use beldi_value::{IntentId, TxId};
 use std::alloc::{AllocError, Global};
 use std::marker::Model;
 
@@ -87,7 +87,7 @@ impl CallPath {
         let mut id = tx.intent.copy(alloc)?;
         let mut func = tx.func;
         for call in self.calls.as_slice() {
-            id = callee(id, call.step)?;
+            id = callee(alloc, id, call.step)?;
             func = call.func;
         }
         Ok((id, func))
@@ -95,15 +95,13 @@ impl CallPath {
 }
 
 // The callee of an intent at a step. One whose callees have no id stands for them.
-fn callee(id: IntentId, step: u32) -> Result<IntentId, AllocError>
+fn callee(alloc: Global, id: IntentId, step: u32) -> Result<IntentId, AllocError>
     ensures { IfOk result (λ a. a ≡ callee_id id step) }
 {
     if !id.has_callees() {
         return Ok(id);
     }
-    let ticket = id.ticket;
-    let mut steps = id.hops.into_vec();
-    steps.push(step)?;
-    let hops = Hops::from_vec(steps);
-    Ok(IntentId { ticket, hops })
+    let callee = id.child(alloc, step);
+    drop(id);
+    callee
 }

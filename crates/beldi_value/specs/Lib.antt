@@ -2,6 +2,7 @@ pub mod ByteCut
 pub mod Convert
 pub mod Datum
 pub mod Formed
+pub mod Hops
 pub mod Id
 pub mod IdAt
 pub mod Injective

@@ -8,136 +8,9 @@ ghost use lib.Pointwise.{pointwise};
 ghost use Rattle.std.proofs.Common.{rules};
 ghost use Rattle.std.specs.Cmp.Rules.{comparing};
 
+use crate::hops::Hops;
 use std::alloc::{AllocError, Global};
 use std::cmp::Ordering;
-use std::marker::Model;
-
-/// The steps of the calls that lead from a root to an intent: at most 63.
-#[derive(Drop)]
-pub struct Hops {
-    steps: Vec<u32>,
-}
-
-impl Model for Hops {
-    ghost use Rattle.std.specs.Prelude.{ℕ, List, length, ◌≤◌};
-
-    ghost Value = { List ℕ };
-
-    ghost view = { λ a. a.steps.items };
-
-    ghost invariant = { λ a. length a.steps.items ≤ 63 };
-}
-
-impl Hops {
-    ghost use Rattle.beldi_value.specs.Id.{has_no_hops};
-
-    /// No steps.
-    pub fn new(alloc: Global) -> Hops
-        ensures { result ≡ [] }
-    {
-        Hops {
-            steps: Vec::new(alloc),
-        }
-    }
-
-    /// These steps.
-    pub fn from_vec(steps: Vec<u32>) -> Hops
-        requires { length steps.items ≤ 63 }
-        ensures { result ≡ steps.items }
-    {
-        Hops { steps }
-    }
-
-    /// The steps again.
-    pub fn into_vec(self) -> Vec<u32>
-        ensures { result.items ≡ self }
-    {
-        self.steps
-    }
-
-    /// How many there are.
-    pub fn len(&self) -> usize
-        ensures len { result ≡ length self.now }
-        ensures few { length self.now ≤ 63 }
-    {
-        self.steps.len()
-    }
-
-    /// Whether there are none.
-    pub fn is_empty(&self) -> bool
-        ensures { result ≡ has_no_hops self.now }
-    {
-        self.steps.is_empty()
-    }
-
-    /// The steps.
-    pub fn as_slice(&self) -> &[u32]
-        ensures items { result.now ≡ self.now }
-        ensures few { length self.now ≤ 63 }
-    {
-        self.steps.as_slice()
-    }
-
-    /// Equal steps.
-    pub fn copy(&self, alloc: Global) -> Result<Hops, AllocError>
-        ensures { IfOk result (λ h. h ≡ self.now) }
-    {
-        if self.steps.is_empty() {
-            return Ok(Hops::new(alloc));
-        }
-        Ok(Hops {
-            steps: Vec::from_slice(alloc, self.steps.as_slice())?,
-        })
-    }
-
-    /// These steps and one more.
-    pub fn with(&self, alloc: Global, step: u32) -> Result<Hops, AllocError>
-        requires { length self.now < 63 }
-        ensures { IfOk result (λ h. h ≡ self.now ++ step ∷ []) }
-    {
-        let mut steps = Vec::from_slice(alloc, self.steps.as_slice())?;
-        steps.push(step)?;
-        Ok(Hops { steps })
-    }
-}
-
-impl PartialEq for Hops {
-    ghost eq = { pointwise ◌==◌ };
-
-    ghost laws = { Prim.search (comparing, rules) };
-
-    fn eq(&self, other: &Hops) -> bool {
-        self.steps == other.steps
-    }
-}
-
-impl Eq for Hops {
-    ghost laws = { Prim.search (comparing, rules) };
-}
-
-impl Ord for Hops {
-    ghost cmp = { slice_cmp nat_cmp };
-
-    ghost total = { Prim.search (comparing, rules) };
-
-    ghost matches_partial_cmp = { Prim.search (comparing, rules) };
-
-    ghost matches_eq = { Prim.search (comparing, rules) };
-
-    fn cmp(&self, other: &Hops) -> Ordering {
-        self.steps.as_slice().cmp(other.steps.as_slice())
-    }
-}
-
-impl PartialOrd for Hops {
-    ghost partial_cmp = { as_partial_cmp (slice_cmp nat_cmp) };
-
-    ghost laws = { partial_order_from_own_ties (Prim.search (comparing, rules)) (Prim.search (comparing, rules)) };
-
-    fn partial_cmp(&self, other: &Hops) -> Option<Ordering> {
-        Some(self.cmp(other))
-    }
-}
 
 /// Ordered by ticket, and then by hops in dictionary order.
 #[derive(Drop, PartialEq, Eq, PartialOrd, Ord)]
@@ -155,7 +28,7 @@ impl IntentId {
     {
         IntentId {
             ticket,
-            hops: Hops::new(alloc),
+            hops: Hops::new(),
         }
     }
 

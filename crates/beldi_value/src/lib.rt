@@ -28,12 +28,12 @@
 //! Files:
 //! - Code (`src/`): `value` values; `early` an early return whose drops are written; `boxed` a value behind a pointer, seen
 //!   as itself; `text` a text that is kept, `text_buf` one that is written; `list` lists of small numbers; `limits` how deep and how long a value is; `parts`
-//!   fields and elements; `rel` relations; `read` and `convert` from JSON, `canonical` to JSON; `id` ids of intents;
+//!   fields and elements; `rel` relations; `read` and `convert` from JSON, `canonical` to JSON; `id` ids of intents, and `hops` what leads to them from a root;
 //!   `read_id`; `place` places and owners; `spare` room for an id, made before an act; `outcome` how an instance ends;
 //!   `number` reading numbers; `cut` a text at a byte; `write` the other texts; `laws`.
 //! - Further definitions (`specs/`): `ValueFalls` each value in a list or a record is smaller than the list or the record;
 //!   `Injective` values that stand for one datum are one value; `Same` whether two values are equal, as a test; `Spare` room
-//!   for hops, made before an act; `Value` the value that a `Value` stands for.
+//!   for hops, made before an act; `Hops` hops, wherever they lie; `Value` the value that a `Value` stands for.
 //! - Lemmas (`proofs/`): `Ages`, `Ints`, `Numbers`; `JsonText`, `Converting`, `Within`, `ReadAgain` JSON; `IdTexts`,
 //!   `Slashes`, `Marks` ids and cuts; `Fields`, `Results`; `Maps` maps that entries make, also for the crates above;
 //!   `Callees` ids of callees.
@@ -44,6 +44,7 @@ mod canonical;
 mod convert;
 mod cut;
 mod early;
+mod hops;
 mod id;
 mod laws;
 mod limits;
@@ -63,7 +64,8 @@ mod write;
 
 pub use boxed::Boxed;
 pub use cut::cut_at;
-pub use id::{Hops, IntentId, older};
+pub use hops::Hops;
+pub use id::{IntentId, older};
 pub use laws::{
     ages_are_ordered, id_text_is_exact, int_text_is_exact, numeral_text_is_exact,
     text_is_read_again,

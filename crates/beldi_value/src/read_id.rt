@@ -3,7 +3,8 @@ ghost use Rattle.std.specs.Prelude.{◌≡◌, option_copied};
 ghost use Rattle.beldi_value.specs.IdAt.{rest_parts, step_at, ticket_at, hops_at, id_at, ReadsId};
 
 use crate::cut::cut_at;
-use crate::id::{Hops, IntentId};
+use crate::hops::Hops;
+use crate::id::IntentId;
 use crate::number::read_numeral;
 use std::alloc::{AllocError, AllocFailed, Global};
 use thiserror::Error;
@@ -77,7 +78,7 @@ fn read_hops(alloc: Global, rest: Option<&[u8]>) -> Result<Hops, IdErr>
         }
         left = after;
     }
-    Ok(Hops::from_vec(steps))
+    Ok(Hops::from_vec(steps)?)
 }
 
 impl IntentId {

@@ -1,15 +1,16 @@
 // Room for the hops of an id, made before an act, so that the act takes no memory for it.
-ghost use Rattle.std.specs.Prelude.{◌≡◌, IfOk};
+ghost use Rattle.std.specs.Prelude.{◌≡◌, ◌≤◌, IfOk, length, vec_capacity};
 ghost use Rattle.beldi_value.specs.Spare.{spare};
 
-use crate::id::{Hops, IntentId};
+use crate::hops::{Hops, Steps};
+use crate::id::IntentId;
 use std::alloc::{AllocError, Global};
 use std::marker::Model;
 
 /// Room for the hops of any id. Contracts see the hops that it has, and how many more it has room for.
 #[derive(Drop)]
 pub struct Spare {
-    steps: Vec<u32>,
+    steps: Box<Vec<u32>>,
 }
 
 impl Model for Spare {
@@ -21,9 +22,9 @@ impl Model for Spare {
 
     ghost coded = { Prim.hlevel codes };
 
-    ghost view = { λ a. record { hops = a.steps.items; room = vec_capacity a.steps - vec_len a.steps } };
+    ghost view = { λ a. record { hops = a.steps.value.items; room = vec_capacity a.steps.value - vec_len a.steps.value } };
 
-    ghost invariant = { λ a. vec_capacity a.steps ≡ 63 };
+    ghost invariant = { λ a. vec_capacity a.steps.value ≡ 63 };
 }
 
 impl Spare {
@@ -32,7 +33,7 @@ impl Spare {
         ensures { IfOk result (λ s. s ≡ spare) }
     {
         Ok(Spare {
-            steps: Vec::with_capacity(alloc, 63)?,
+            steps: Box::new(alloc, Vec::with_capacity(alloc, 63)?)?,
         })
     }
 
@@ -40,12 +41,11 @@ impl Spare {
     pub fn hold(self, hops: &Hops) -> Hops
         ensures { result ≡ hops.now }
     {
-        let mut steps = self.steps;
-        steps.clear();
-        for step in hops.as_slice() {
-            steps.push_reserved(*step);
+        let mut room = self.steps;
+        fill(room.as_mut(), hops.as_slice());
+        Hops {
+            steps: Steps::Own(room),
         }
-        Hops::from_vec(steps)
     }
 
     /// An equal id, with its hops in this room. It takes no memory.
@@ -56,5 +56,17 @@ impl Spare {
             ticket: id.ticket,
             hops: self.hold(&id.hops),
         }
+    }
+}
+
+// Makes these steps all that the room has.
+fn fill(room: &mut Vec<u32>, steps: &[u32])
+    requires room { vec_capacity room.old ≡ 63 }
+    requires few { length steps.now ≤ 63 }
+    ensures { room.new.items ≡ steps.now }
+{
+    room.clear();
+    for step in steps {
+        room.push_reserved(*step);
     }
 }

@@ -8,4 +8,4 @@ pub returns-in-None : goal.returns-in-None
 returns-in-None c = (all_chars _ _ _ c.loop-value.text c.in-Ok.value c.loop-value.invariant c.in-Ok.ensures.0 c.in-None.is, tt)
 
 pub loop-value-preserved : goal.loop-value-preserved
-loop-value-preserved c = rw c.in-Ok-push.ensures.ok (next_char _ _ _ c.loop-value.text c.in-Ok.value c.in-Some.byte c.loop-value.invariant c.in-Ok.ensures.0 c.in-Some.is)
+loop-value-preserved c = rw c.in-Ok-or_drop.ensures.ok (next_char _ _ _ c.loop-value.text c.in-Ok.value c.in-Some.byte c.loop-value.invariant c.in-Ok.ensures.0 c.in-Some.is)

@@ -5,10 +5,11 @@ use Rattle.beldi_bytes.specs.KeyBytes.{text_bytes}
 use Rattle.beldi_bytes.proofs.Exact.{text_exact}
 use Rattle.beldi_bytes.proofs.key_in.read_text.Goals as goal
 
-pub returns-in-Ok-from_string : goal.returns-in-Ok-from_string
-returns-in-Ok-from_string c =
-    let e : c.in-Ok-from_string.text ≡ c.in-Ok.value = c.in-Ok-from_string.ensures ∙ ap (λ v. v.items) c.in-Ok-from_utf8.ensures.ok ∙ c.into_vec-bytes.ensures in
-    (c.in-Ok.ensures.0 ∙ ap (λ b. text_bytes b c.read_chars.new.from) (sym e), subst IsUtf8 (sym c.in-Ok-from_string.ensures) (IsUtf8-string_bytes c.in-Ok-from_utf8.text))
+pub returns-in_ok-from_string-in-Ok-from_utf8 : goal.returns-in_ok-from_string-in-Ok-from_utf8
+returns-in_ok-from_string-in-Ok-from_utf8 c =
+    let text = c.in_ok-from_string-in-Ok-from_utf8.field-0 in
+    let e : text ≡ c.in-Ok.value = c.in_ok-from_string-in-Ok-from_utf8.ensures ∙ ap (λ v. v.items) c.in-Ok-from_utf8.ensures.ok ∙ c.into_vec-bytes.ensures in
+    (c.in-Ok.ensures.0 ∙ ap (λ b. text_bytes b c.read_chars.new.from) (sym e), subst IsUtf8 (sym c.in_ok-from_string-in-Ok-from_utf8.ensures) (IsUtf8-string_bytes c.in-Ok-from_utf8.text))
 
 pub returns-in-Err-from_utf8 : goal.returns-in-Err-from_utf8
 returns-in-Err-from_utf8 c = λ x s i e.
