@@ -99,6 +99,7 @@ fn settle(live: &mut Live, counts: &mut Counts, number: u64, over: bool)
 }
 
 // The run of this number, which is live, is told.
+#[inline(always)]
 fn tell(
     live: &mut Live,
     counts: &mut Counts,

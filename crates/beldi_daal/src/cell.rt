@@ -190,6 +190,7 @@ pub fn shadow_key(
 
 /// What a write asks, by the key of its item's first row: the operation, for a place and an owner; that a row be made; or that it
 /// be linked.
+#[inline(always)]
 pub fn write_query(
     alloc: Global,
     key: RowKey,

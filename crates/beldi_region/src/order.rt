@@ -131,8 +131,7 @@ impl Order {
 
     /// The place behind all slots whose keys are not greater than this one, where that is a given place or a few behind it, and
     /// whether the slot before it has this key. What is given may be no place at all.
-    // Inline, it would cost whoever finds a row by its hint 11 instructions.
-    #[inline(never)]
+    #[inline(always)]
     pub(crate) fn past_near(
         &self,
         region: &Region<Entry>,

@@ -130,6 +130,7 @@ impl RegionTable {
     }
 
     // The slot of the row with a key, which the hint may name, or else the place where it is to stand.
+    #[inline(always)]
     fn find(&self, key: &RowKey, hint: usize) -> Result<SlotId, Spot>
         ensures spot { IfErr result (IsSpot self.now.index.blocks.lists) }
         ensures finds { Finds self.now.region (ids_of self.now.index) key.now (found self.now.index result) }

@@ -120,6 +120,7 @@ fn set_row(kind: &mut Kind, number: u32)
 }
 
 /// An equal transaction.
+#[inline(always)]
 pub fn copy_tx(tx: &TxId, alloc: Global) -> Result<TxId, AllocError>
     ensures { IfOk result (λ t. t ≡ tx.now) }
 {

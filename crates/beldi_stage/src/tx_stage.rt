@@ -25,6 +25,7 @@ use std::alloc::{AllocError, Global};
 use std::mem::replace;
 
 // A run's own transaction, which is open.
+#[inline(always)]
 pub(crate) fn own_tx(
     alloc: Global,
     id: &IntentId,

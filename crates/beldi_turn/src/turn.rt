@@ -103,6 +103,7 @@ pub fn ask(alloc: Global, run: &Run) -> Result<Boxed<Query>, AllocError>
 
 /// A run of what the run calls, if it stands at a call: it may act as long as the run. One that is waited for registers
 /// its body, and is in the transaction that the run is in; the row of any other is there before a run of it may start.
+#[inline(always)]
 pub fn callee(alloc: Global, run: &Run) -> Result<Option<Boxed<Run>>, AllocError>
     ensures { IfOk result (λ r. r ≡ callee_of run.now) }
 {

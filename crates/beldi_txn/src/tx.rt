@@ -307,6 +307,7 @@ fn aside_query(
 }
 
 // What the transaction asks, by the key of the first row, for an operation at this place.
+#[inline(always)]
 pub(crate) fn own_query(
     alloc: Global,
     row: RowKey,

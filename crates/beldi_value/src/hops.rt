@@ -92,6 +92,7 @@ impl Hops {
     }
 
     /// Equal steps. Only those in room of their own are copied.
+    #[inline(always)]
     pub fn copy(&self, alloc: Global) -> Result<Hops, AllocError>
         ensures { IfOk result (λ h. h ≡ self.now) }
     {

@@ -65,6 +65,7 @@ impl IntentId {
     }
 
     /// An equal id.
+    #[inline(always)]
     pub fn copy(&self, alloc: Global) -> Result<IntentId, AllocError>
         ensures { IfOk result (λ id. id ≡ self.now) }
     {
