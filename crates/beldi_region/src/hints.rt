@@ -7,11 +7,8 @@ use std::alloc::{AllocError, Global};
 // How many hints there are.
 const HINTS: usize = 65_536;
 
-// No slot.
-const NONE: SlotId = SlotId {
-    slot: u32::MAX,
-    generation: u32::MAX,
-};
+// The last slot, which is the last one to be used.
+const LAST: u16 = u16::MAX;
 
 // How many places there are: for each of 16 homes one for each kind of key, and two spare.
 const SPOTS: usize = 128;
@@ -24,7 +21,8 @@ const START: Spot = Spot { block: 0, at: 0 };
 /// kind last ended: the next one mostly ends there or a little behind, and the rows beside a place are compared.
 #[derive(Drop)]
 pub(crate) struct Hints {
-    ids: Vec<SlotId>,
+    // All of the first generation, as a table keeps it. A slot whose number has more bits has no hint.
+    slots: Vec<u16>,
     spots: Vec<Spot>,
 }
 
@@ -32,15 +30,15 @@ impl Hints {
     /// No hints, which take no memory.
     pub(crate) fn new(alloc: Global) -> Hints {
         Hints {
-            ids: Vec::new(alloc),
+            slots: Vec::new(alloc),
             spots: Vec::new(alloc),
         }
     }
 
     /// Takes the memory for all hints, where that was not done.
     pub(crate) fn fill(&mut self) -> Result<(), AllocError> {
-        if self.ids.len() < HINTS {
-            self.ids.resize(HINTS, NONE)?;
+        if self.slots.len() < HINTS {
+            self.slots.resize(HINTS, LAST)?;
         }
         if self.spots.len() < SPOTS {
             return self.spots.resize(SPOTS, START);
@@ -53,18 +51,22 @@ impl Hints {
         (key.spread() >> 48) as usize
     }
 
-    /// The slot that a hint names; where there is none, a slot that has no row.
+    /// The slot that a hint names; where there is none, the last slot.
     pub(crate) fn at(&self, number: usize) -> SlotId {
-        match self.ids.get(number) {
-            Some(id) => *id,
-            None => NONE,
+        let slot = match self.slots.get(number) {
+            Some(slot) => *slot,
+            None => LAST,
+        };
+        SlotId {
+            slot: u32::from(slot),
+            generation: 0,
         }
     }
 
     /// Sets a hint, where there is one of this number.
     pub(crate) fn set(&mut self, number: usize, id: SlotId) {
-        if let Some(hint) = self.ids.get_mut(number) {
-            *hint = id;
+        if let Some(slot) = self.slots.get_mut(number) {
+            *slot = u16::try_from(id.slot).unwrap_or(LAST);
         }
     }
 
