@@ -11,7 +11,7 @@ use Rattle.beldi_intent.specs.{declared.intent.Binding.Binding, Intent.binding_o
 use Rattle.beldi_step.specs.HostStep.{Core, Plan, immediate, asks, reads_all, plan, plan_of, counted, new_run, unbound, refused, ended_run, marked, after_turn, acted, LocalSteps, Followed}
 use Rattle.beldi_step.specs.RunStride.{walking}
 use Rattle.beldi_step.specs.declared.{event.Event.Event, event.Event.TheVariants.Ticket, event.Event.TheVariants.Request, event.Event.TheVariants.Turn, event.Event.TheVariants.Lost, event.Event.TheVariants.Ic, event.EventReply.EventReply, run.Mark.Mark, run.Run.Run, run.TurnOutput.TurnOutput, run.Walking.Walking}
-use Rattle.beldi_core.specs.{declared.host_core.HostCore.HostCore, declared.events.Planned.Planned as Plans, declared.turns.TurnPlan.TurnPlan as TurnPlans, declared.events.Immediate.Immediate, declared.events.Pending.Pending, declared.runs.Copies.Copies, LiveRuns.Numbered, LiveRuns.withdrawn, LiveRuns.started, LiveRuns.callee_for, LiveRuns.copied, LiveRuns.walked_in}
+use Rattle.beldi_core.specs.{declared.host_core.HostCore.HostCore, declared.events.Planned.Planned as Plans, declared.turns.TurnPlan.TurnPlan as TurnPlans, declared.turns.TurnReply.TurnReply as Turns, declared.events.Immediate.Immediate, declared.events.Pending.Pending, declared.runs.Copies.Copies, LiveRuns.Numbered, LiveRuns.withdrawn, LiveRuns.started, LiveRuns.callee_for, LiveRuns.copied, LiveRuns.walked_in}
 
 -- the host without its table, as events speak of it
 abbrev pub core_in : HostCore → Core
@@ -120,11 +120,20 @@ TurnPlanned i c z spare k (Ok (TurnPlans.Asks q n)) = AskingRun i c z spare q n 
 TurnPlanned i c z spare k (Err w) = NoMemory (Turn i) c k z (Err w)
 
 -- ---- following
--- the answer to a turn: that it was made, and whether its run is over, or what was told of it
-abbrev pub reply_in : EventReply → Result (Option Bool) AllocError → Result EventReply AllocError
-reply_in told (Ok (Some over)) = Ok (EventReply.Acted None None over None)
-reply_in told (Ok None) = Ok told
+-- the answer to a turn, as all events are answered, with what was told apart
+abbrev pub reply_of : EventReply → Turns → EventReply
+reply_of told (Turns.Made over) = EventReply.Acted None None over None
+reply_of told (Turns.Now y) = as_reply y
+reply_of told Turns.Told = told
+
+abbrev pub reply_in : EventReply → Result Turns AllocError → Result EventReply AllocError
+reply_in told (Ok x) = Ok (reply_of told x)
 reply_in told (Err w) = Err w
+
+-- what lies apart is as it was, unless it is the answer
+abbrev pub KeepsApart : EventReply → EventReply → Result Turns AllocError → Type 0
+KeepsApart old new (Ok Turns.Told) = Unit {0}
+KeepsApart old new r = new ≡ old
 
 -- a request whose run was started, by what its bind came to
 abbrev pub BoundTo : Core → ℕ → ℕ → Value → Binding → Core → EventReply → Type 0

@@ -9,7 +9,7 @@ ghost use Rattle.beldi_tree.specs.declared.deployment.Deployment.{Deployment};
 ghost use Rattle.beldi_step.specs.Run.{plain_output};
 ghost use Rattle.beldi_step.specs.HostStep.{Followed, acted as acted_by, after_turn as after_turn_of, counted, entry_of as entry_by, may_start as may_start_of, plan, refused, run_plan, started};
 ghost use Rattle.beldi_core.specs.LiveRuns.{callee_for, may_follow};
-ghost use Rattle.beldi_core.specs.PlannedEvent.{Copied, TellsTurn, TurnPlanned, WalkTold, acted_unless, core_in, mark_told, reply_in, strode};
+ghost use Rattle.beldi_core.specs.PlannedEvent.{Copied, TellsTurn, TurnPlanned, WalkTold, acted_unless, core_in, KeepsApart, mark_told, reply_in, reply_of, strode};
 
 use crate::events::{Immediate, MOST_EVENTS, MOST_RUNS, no_run, refuse};
 use crate::host_core::HostCore;
@@ -31,6 +31,42 @@ pub enum TurnPlan {
     Now(Immediate),
     /// It asks this.
     Asks(Boxed<Query>, Copies),
+}
+
+/// The answer to a turn. What there is to tell of it lies apart, as most turns say no more than whether their run is over.
+#[derive(Drop)]
+pub enum TurnReply {
+    /// The turn was made, and says no more than whether its run is over.
+    Made(bool),
+    /// It was answered before the table was asked.
+    Now(Immediate),
+    /// It is what lies apart.
+    Told,
+}
+
+impl TurnReply {
+    /// The same answer, as all events are answered, with what lies apart.
+    #[inline(always)]
+    pub fn into_reply(self, told: EventReply) -> EventReply
+        ensures { result ≡ reply_of told self }
+    {
+        match self {
+            TurnReply::Made(over) => {
+                drop(told);
+                EventReply::Acted {
+                    entry: None,
+                    started: None,
+                    over,
+                    reply: None,
+                }
+            }
+            TurnReply::Now(answer) => {
+                drop(told);
+                answer.into_reply()
+            }
+            TurnReply::Told => told,
+        }
+    }
 }
 
 fn entry_of(id: IntentId, mark: Mark) -> Entry
@@ -230,8 +266,7 @@ impl HostCore {
         self.runs.stride(run, row);
     }
 
-    /// What follows of a turn where the table told: whether the run is over, where there is no more to tell of it, and none where the
-    /// answer is in `told`. Most turns say no more: what is handed on for all others is not made for them.
+    /// What follows of a turn where the table told. Where there is more to tell than whether the run is over, it is in `told`.
     pub fn turned(
         &mut self,
         code: &Deployment,
@@ -239,12 +274,13 @@ impl HostCore {
         copies: Copies,
         heard: QueryReplyRef<'_>,
         told: &mut EventReply,
-    ) -> Result<Option<bool>, AllocError>
+    ) -> Result<TurnReply, AllocError>
         requires spare { 1 ≤ self.old.book.spare }
         requires live { IsSome (map.get self.old.runs.runs run) }
         requires copies { Copied copies (map.get self.old.runs.runs run) }
         requires given { self.old.runs.given < self.old.taken }
-        ensures { Followed code.now (events.Turn run) (core_in self.old) (Ok (query_reply_of heard.entry)) (core_in self.new) (reply_in told.new result) }
+        ensures follows { Followed code.now (events.Turn run) (core_in self.old) (Ok (query_reply_of heard.entry)) (core_in self.new) (reply_in told.new result) }
+        ensures apart { KeepsApart told.old told.new result }
     {
         let changes = self.book.changes();
         match self.runs.resume(run, self.alloc, code, changes, heard) {
@@ -263,16 +299,17 @@ impl HostCore {
         copies: Copies,
         output: TurnOutput,
         told: &mut EventReply,
-    ) -> Result<Option<bool>, AllocError>
+    ) -> Result<TurnReply, AllocError>
         requires spare { 1 ≤ self.old.book.spare }
         requires given { self.old.runs.given < self.old.taken }
-        ensures { TellsTurn (core_in self.old) run copies output (core_in self.new) (reply_in told.new result) }
+        ensures tells { TellsTurn (core_in self.old) run copies output (core_in self.new) (reply_in told.new result) }
+        ensures apart { KeepsApart told.old told.new result }
     {
         if let Some(over) = plainly(&output) {
             drop(copies);
             // It owns nothing.
             forget(output);
-            return Ok(Some(over));
+            return Ok(TurnReply::Made(over));
         }
         self.tell_in(run, copies, output, told)
     }
@@ -284,15 +321,16 @@ impl HostCore {
         copies: Copies,
         output: TurnOutput,
         told: &mut EventReply,
-    ) -> Result<Option<bool>, AllocError>
+    ) -> Result<TurnReply, AllocError>
         requires spare { 1 ≤ self.old.book.spare }
         requires given { self.old.runs.given < self.old.taken }
-        ensures { TellsTurn (core_in self.old) run copies output (core_in self.new) (reply_in told.new result) }
+        ensures tells { TellsTurn (core_in self.old) run copies output (core_in self.new) (reply_in told.new result) }
+        ensures apart { KeepsApart told.old told.new result }
     {
         match self.tell_all(run, copies, output) {
             Ok(answer) => {
                 drop(replace(told, answer));
-                Ok(None)
+                Ok(TurnReply::Told)
             }
             Err(why) => Err(why),
         }

@@ -1,12 +1,14 @@
 // The host: the one place where an event touches the table.
 ghost use Rattle.std.specs.Prelude.{◌≡◌, ◌+◌, ◌++◌, ◌≤◌, ◌^◌, ◌↔◌, IsTrue, true, false, Ok, IfOk, IfErr, IfSome, OnOk, OnErr, length};
 ghost use Rattle.beldi_step.specs.Prunes.{pruned_by};
-ghost use Rattle.beldi_core.specs.PlannedEvent.{reply_in};
+ghost use Rattle.beldi_core.specs.PlannedEvent.{KeepsApart, reply_in};
 
 use crate::survey::{OpenErr, ReplyStatus, ahead, find_newest, list_tables, prepare, read_reply};
 use beldi_book::Book;
 use beldi_check::Checked;
-use beldi_core::{Copies, HostCore, MOST_EVENTS, Pending, Planned, Runs, TurnPlan, turn_in};
+use beldi_core::{
+    Copies, HostCore, MOST_EVENTS, Pending, Planned, Runs, TurnPlan, TurnReply, turn_in,
+};
 use beldi_kept::an_event_keeps_the_collectors_safe;
 use beldi_prune::{Collectors, GcOutput};
 use beldi_query::{Query, QueryReplyRef};
@@ -40,7 +42,7 @@ impl<T: Table> Host<T> {
     ghost use Rattle.beldi_host.specs.HostCore.{core_of};
     ghost use Rattle.beldi_host.specs.HostStride.{Passes, Strides};
     ghost use Rattle.beldi_step.specs.Next.{at_key, next_run, reset};
-    ghost use Rattle.beldi_core.specs.PlannedEvent.{core_in, event_of, Ready, RunReady, Asked, reply_in, turn_in};
+    ghost use Rattle.beldi_core.specs.PlannedEvent.{core_in, event_of, Ready, RunReady, Asked, KeepsApart, reply_in, turn_in};
     ghost use Rattle.beldi_invariant.specs.InvariantLaws.{is_gone};
     ghost use Rattle.beldi_host.specs.HostInvariant.{EndsLate, HasInvariant, IsWhole, KeepsInvariant, HasLegalBook, AnswersAreKept, HasRows, ListsRun, TellsRun, HasNoRows, RowsStandFor, RowsStandLess};
 
@@ -293,11 +295,12 @@ impl<T: Table> Host<T> {
         self.carry_out(event)
     }
 
-    /// Gives the run of this number a turn, as `event` does: whether the run is over, where the turn was made and says no more, and none
-    /// where the answer is in `told`. It is for who gives many turns, as most say no more.
-    pub fn turn(&mut self, run: u64, told: &mut EventReply) -> Result<Option<bool>, AllocError>
+    /// Gives the run of this number a turn, as `event` does. Where there is more to tell than whether the run is over, it is in `told`, which
+    /// else is as it was. It is for who gives many turns, as most say no more.
+    pub fn turn(&mut self, run: u64, told: &mut EventReply) -> Result<TurnReply, AllocError>
         ensures step { Stepped self.old.code (events.Turn run) (core_of self.old) (core_of self.new) (T.state self.old.table) (T.state self.new.table) (reply_in told.new result) }
         ensures code { self.new.code ≡ self.old.code }
+        ensures apart { KeepsApart told.old told.new result }
         ensures right { KeepsInvariant self.old self.new }
         ensures answers_stay { AnswersAreKept self.old self.new }
         ensures has_rows { HasRows self.old → IsWhole self.old → IfOk (reply_in told.new result) (λ x. is_gone x ≡ false) }
@@ -364,15 +367,13 @@ impl<T: Table> Host<T> {
     }
 
     // .. told apart.
-    fn take_turn(&mut self, run: u64, told: &mut EventReply) -> Result<Option<bool>, AllocError>
+    fn take_turn(&mut self, run: u64, told: &mut EventReply) -> Result<TurnReply, AllocError>
         ensures step { Stepped self.old.code (events.Turn run) (core_of self.old) (core_of self.new) (T.state self.old.table) (T.state self.new.table) (reply_in told.new result) }
         ensures code { self.new.code ≡ self.old.code }
+        ensures apart { KeepsApart told.old told.new result }
     {
         match self.core.plan_turn(run) {
-            Ok(TurnPlan::Now(answer)) => {
-                drop(replace(told, answer.into_reply()));
-                Ok(None)
-            }
+            Ok(TurnPlan::Now(answer)) => Ok(TurnReply::Now(answer)),
             Ok(TurnPlan::Asks(query, copies)) => self.ask_turn(query, run, copies, told),
             Err(why) => Err(why),
         }
@@ -385,10 +386,11 @@ impl<T: Table> Host<T> {
         run: u64,
         copies: Copies,
         told: &mut EventReply,
-    ) -> Result<Option<bool>, AllocError>
+    ) -> Result<TurnReply, AllocError>
         requires { RunReady (core_of self.old) run copies self.old.core.book.spare }
         ensures asked { Asked self.old.code (events.Turn run) (core_of self.old) (core_of self.new) query (T.state self.old.table) (T.state self.new.table) (reply_in told.new result) }
         ensures code { self.new.code ≡ self.old.code }
+        ensures apart { KeepsApart told.old told.new result }
     {
         match query.into_inner() {
             Query::Act(key, act) => self.turn_act(key, act, run, copies, told),
@@ -407,10 +409,11 @@ impl<T: Table> Host<T> {
         run: u64,
         copies: Copies,
         told: &mut EventReply,
-    ) -> Result<Option<bool>, AllocError>
+    ) -> Result<TurnReply, AllocError>
         requires { RunReady (core_of self.old) run copies self.old.core.book.spare }
         ensures asked { Asked self.old.code (events.Turn run) (core_of self.old) (core_of self.new) (queries.Act key act) (T.state self.old.table) (T.state self.new.table) (reply_in told.new result) }
         ensures code { self.new.code ≡ self.old.code }
+        ensures apart { KeepsApart told.old told.new result }
     {
         match self.table.act(key, act, self.core.now) {
             Ok(said) => {
@@ -431,10 +434,11 @@ impl<T: Table> Host<T> {
         run: u64,
         copies: Copies,
         told: &mut EventReply,
-    ) -> Result<Option<bool>, AllocError>
+    ) -> Result<TurnReply, AllocError>
         requires { RunReady (core_of self.old) run copies self.old.core.book.spare }
         ensures asked { Asked self.old.code (events.Turn run) (core_of self.old) (core_of self.new) (queries.After key.now) (T.state self.old.table) (T.state self.new.table) (reply_in told.new result) }
         ensures code { self.new.code ≡ self.old.code }
+        ensures apart { KeepsApart told.old told.new result }
     {
         match self.table.next(key) {
             Ok(found) => {
@@ -516,20 +520,11 @@ impl<T: Table> Host<T> {
 }
 
 // The answer to a turn.
-fn whole(told: EventReply, said: Result<Option<bool>, AllocError>) -> Result<EventReply, AllocError>
+fn whole(told: EventReply, said: Result<TurnReply, AllocError>) -> Result<EventReply, AllocError>
     ensures { result ≡ reply_in told said }
 {
     match said {
-        Ok(None) => return Ok(told),
-        Ok(Some(over)) => {
-            drop(told);
-            Ok(EventReply::Acted {
-                entry: None,
-                started: None,
-                over,
-                reply: None,
-            })
-        }
+        Ok(said) => return Ok(said.into_reply(told)),
         Err(why) => {
             drop(told);
             Err(why)
@@ -541,13 +536,14 @@ fn whole(told: EventReply, said: Result<Option<bool>, AllocError>) -> Result<Eve
 fn told_in(
     told: &mut EventReply,
     answer: Result<EventReply, AllocError>,
-) -> Result<Option<bool>, AllocError>
-    ensures { reply_in told.new result ≡ answer }
+) -> Result<TurnReply, AllocError>
+    ensures answer { reply_in told.new result ≡ answer }
+    ensures apart { KeepsApart told.old told.new result }
 {
     match answer {
         Ok(answer) => {
             drop(replace(told, answer));
-            Ok(None)
+            Ok(TurnReply::Told)
         }
         Err(why) => Err(why),
     }

@@ -9,7 +9,9 @@ ghost use Rattle.beldi_session.specs.HostResponse.{BookIs, report_text};
 ghost use Rattle.beldi_session.specs.Session.{Does, by_done, by_text, sight};
 ghost use Rattle.beldi_session.specs.Source.{numbered, said_at};
 
-use crate::answer::{write_answer, write_numbered, write_plain, write_reply_status};
+use crate::answer::{
+    write_answer, write_immediate, write_numbered, write_plain, write_reply_status,
+};
 use crate::output::{flush, flush_if_long};
 use crate::refusal::{SourceErr, write_refusal};
 use crate::settling::settle;
@@ -17,7 +19,7 @@ use crate::source::read_said;
 use crate::sweeping::{prune, sweep};
 use beldi_book::Book;
 use beldi_check::Checked;
-use beldi_host::{Host, OpenErr};
+use beldi_host::{Host, OpenErr, TurnReply};
 use beldi_outside::Sink;
 use beldi_row::Table;
 use beldi_script::{Line, cut_line};
@@ -94,14 +96,18 @@ fn answer_turn<T: Table>(
 ) -> Result<(), Stop>
     ensures { (held : Option (List ℕ)) (faults : ℕ) → Does (Carry (events.Turn run) ∷ []) (sight host.old out.old held faults) (sight host.new out.new held faults) result }
 {
+    // It owns nothing, and is as it is where nothing is told apart.
     let mut told = EventReply::Shut;
     match host.turn(run, &mut told) {
-        Ok(Some(over)) => {
-            // Nothing was written to it, and it owns nothing.
+        Ok(TurnReply::Made(over)) => {
             forget(told);
             appended(write_plain(over, out))
         }
-        Ok(None) => {
+        Ok(TurnReply::Now(answer)) => {
+            forget(told);
+            appended(write_immediate(answer, out))
+        }
+        Ok(TurnReply::Told) => {
             let wrote = appended(write_answer(alloc, host.code(), &told, out));
             drop(told);
             wrote

@@ -21,7 +21,7 @@ use crate::answer::{write_answer, write_numbered, write_reply_told};
 use crate::session::{Stop, appended};
 use beldi_bound::settlings_are_as_promised;
 use beldi_check::Checked;
-use beldi_host::Host;
+use beldi_host::{Host, TurnReply};
 use beldi_joined::settlings_after_sessions_are_as_promised;
 use beldi_row::Table;
 use beldi_schedule::{
@@ -77,23 +77,26 @@ fn give_turn<T: Table>(
     ensures taken { IfOk result (λ next. WasTaken (core_of host.old) (core_of host.new) next) }
     ensures heard { IfOk result (λ next. WasAnswered host.old.code (event.Turn run) (λ c x. on_turn_reply budget at run x) (core_of host.old) (core_of host.new) (T.state host.old.table) (T.state host.new.table) next) }
 {
+    // It owns nothing, and is as it is where nothing is told apart.
     let mut told = EventReply::Shut;
     match host.turn(run, &mut told) {
-        Ok(Some(_)) => {
-            // Nothing was written to it, and it owns nothing.
+        Ok(TurnReply::Made(_)) => {
             forget(told);
             Ok(strode(budget, at, 1))
         }
-        Ok(None) => match write_reply_told(alloc, &told, out) {
-            Ok(()) => match on_turn_reply(budget, at, run, told) {
-                Ok(next) => Ok(next),
-                Err(_) => Err(Stop::OutOfMemory),
-            },
-            Err(_) => {
-                drop(told);
-                Err(Stop::OutOfMemory)
+        Ok(said) => {
+            let seen = said.into_reply(told);
+            match write_reply_told(alloc, &seen, out) {
+                Ok(()) => match on_turn_reply(budget, at, run, seen) {
+                    Ok(next) => Ok(next),
+                    Err(_) => Err(Stop::OutOfMemory),
+                },
+                Err(_) => {
+                    drop(seen);
+                    Err(Stop::OutOfMemory)
+                }
             }
-        },
+        }
         Err(_) => {
             drop(told);
             Err(Stop::OutOfMemory)

@@ -1,4 +1,4 @@
-use Rattle.beldi_host.proofs.Names.{AskingRun, Err, Turn, as_reply, core_in, core_of, counted, immediate, no_memory, plan, reply_in, rules, turn_asked, turn_now, ◌≡◌}
+use Rattle.beldi_host.proofs.Names.{AskingRun, Err, Turn, as_reply, core_in, core_of, counted, immediate, no_memory, plan, refl, reply_in, turn_asked, turn_now, ◌≡◌}
 use Rattle.beldi_host.proofs.host.Host.take_turn.Goals as goal
 
 pub ask_turn-requires : goal.ask_turn-requires
@@ -15,7 +15,7 @@ returns-in-Ok-Now-clause-step g c =
     let k = c.plan_turn.new.self in
     let f = c.in-Ok-Now in
     let planned : plan h.code (Turn c.args.run) (core_of h) ≡ immediate (core_in k) (as_reply f.answer) = rw f.field-0-is at (f.ensures h.code) in
-    turn_now h.code (Turn c.args.run) (core_of h) (core_in k) c.replace.new.dest (as_reply f.answer) (g.T.Table.state h.table) planned (search rules)
+    turn_now h.code (Turn c.args.run) (core_of h) (core_in k) (as_reply f.answer) (as_reply f.answer) (g.T.Table.state h.table) planned refl
 
 pub returns-in-Ok-Asks-clause-step : goal.returns-in-Ok-Asks-clause-step
 returns-in-Ok-Asks-clause-step g c =

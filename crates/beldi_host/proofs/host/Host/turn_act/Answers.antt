@@ -3,7 +3,7 @@ use Rattle.beldi_host.proofs.Names.{core_in}
 use Rattle.beldi_host.proofs.host.Host.turn_act.Goals as goal
 
 pub returns-in-Ok-clause-asked : goal.returns-in-Ok-clause-asked
-returns-in-Ok-clause-asked g c = query_asked _ _ (Turn c.args.run) _ _ _ _ _ _ _ c.code.ensures.same c.turned.ensures (acted (Act c.args.key c.args.act) c.args.key c.args.act c.args.self.now.core.now (g.T.Table.state c.args.self.now.table) (g.T.Table.state c.act.follows.lender-at-none) c.act.result (Ok c.in-Ok.said) c.in-Ok.is refl c.act.follows.holds-at-none)
+returns-in-Ok-clause-asked g c = query_asked _ _ (Turn c.args.run) _ _ _ _ _ _ _ c.code.ensures.same c.turned.ensures.follows (acted (Act c.args.key c.args.act) c.args.key c.args.act c.args.self.now.core.now (g.T.Table.state c.args.self.now.table) (g.T.Table.state c.act.follows.lender-at-none) c.act.result (Ok c.in-Ok.said) c.in-Ok.is refl c.act.follows.holds-at-none)
 
 pub returns-in-Err-clause-asked : goal.returns-in-Err-clause-asked
-returns-in-Err-clause-asked g c = (Err c.in-Err.why, (λ j. (core_in c.turn_refused-answer.new.self, c.told_in.ensures j)) ∙ c.turn_refused-answer.ensures, acted (Act c.args.key c.args.act) c.args.key c.args.act c.args.self.now.core.now (g.T.Table.state c.args.self.now.table) (g.T.Table.state c.act.follows.lender-at-none) c.act.result (Err c.in-Err.why) c.in-Err.is refl c.act.follows.holds-at-none)
+returns-in-Err-clause-asked g c = (Err c.in-Err.why, (λ j. (core_in c.turn_refused-answer.new.self, c.told_in.ensures.answer j)) ∙ c.turn_refused-answer.ensures, acted (Act c.args.key c.args.act) c.args.key c.args.act c.args.self.now.core.now (g.T.Table.state c.args.self.now.table) (g.T.Table.state c.act.follows.lender-at-none) c.act.result (Err c.in-Err.why) c.in-Err.is refl c.act.follows.holds-at-none)
