@@ -2,18 +2,17 @@
 ghost use Rattle.std.specs.Prelude.{◌≡◌, OnOk, IfOk, IsUtf8, Some};
 ghost use Rattle.beldi_bytes.specs.Coding.{Adds};
 ghost use Rattle.beldi_row.specs.declared.key.Kind.TheVariants.{Data, Shadow, Lockset};
-ghost use Rattle.beldi_bytes.specs.KeyBytes.{hops_bytes, id_bytes, place_bytes, tx_bytes, char_bytes, text_bytes, kind_bytes, key_bytes, AreFew, IsId, IsPlace, IsTx, IsKind, IsKey};
+ghost use Rattle.beldi_bytes.specs.KeyBytes.{hops_bytes, id_bytes, place_bytes, tx_bytes, char_bytes, text_bytes, kind_bytes, key_bytes, IsId, IsPlace, IsTx, IsKind, IsKey};
 
 use crate::number_out::{put_byte, put_four, put_two};
 use beldi_row::{Kind, RowKey};
-use beldi_value::{Hops, IntentId, Place, Str, TxId, or_drop};
+use beldi_value::{IdBuf, IntentId, Place, Str, TxId, or_drop};
 use std::alloc::{AllocError, Global};
 
-pub(crate) fn put_hops(out: &mut Vec<u8>, hops: &Hops) -> Result<(), AllocError>
-    ensures bytes { OnOk result (Adds out.old.items out.new.items (hops_bytes hops.now)) }
-    ensures few { AreFew hops.now }
+fn put_hops(out: &mut Vec<u8>, hops: &[u32]) -> Result<(), AllocError>
+    ensures { OnOk result (Adds out.old.items out.new.items (hops_bytes hops.now)) }
 {
-    for hop in hops.as_slice() {
+    for hop in hops {
         put_byte(out, 1)?;
         put_four(out, *hop)?;
     }
@@ -25,7 +24,15 @@ pub(crate) fn put_id(out: &mut Vec<u8>, id: &IntentId) -> Result<(), AllocError>
     ensures { OnOk result (Adds out.old.items out.new.items (id_bytes id.now) × IsId id.now) }
 {
     put_four(out, id.ticket)?;
-    put_hops(out, &id.hops)
+    put_hops(out, id.hops.as_slice())
+}
+
+// .. that lies in room for any.
+pub(crate) fn put_age(out: &mut Vec<u8>, age: &IdBuf) -> Result<(), AllocError>
+    ensures { OnOk result (Adds out.old.items out.new.items (id_bytes age.now) × IsId age.now) }
+{
+    put_four(out, age.ticket())?;
+    put_hops(out, age.hops())
 }
 
 pub(crate) fn put_place(out: &mut Vec<u8>, place: &Place) -> Result<(), AllocError>

@@ -10,7 +10,7 @@ use crate::key_in::{read_id, read_place, read_tx};
 use crate::value_in::read_value;
 use beldi_row::{Blank, Entry, Log, MOST_ENTRIES, Note};
 use beldi_value::{
-    Boxed, Caller, Cause, Code, IntentId, Outcome, Owner, Place, TxId, Value, or_drop,
+    Boxed, Caller, Cause, Code, IdBuf, IntentId, Outcome, Owner, Shared, TxId, Value, or_drop,
 };
 use std::alloc::Global;
 
@@ -106,19 +106,20 @@ pub(crate) fn read_outcome_if(
     }
 }
 
-fn read_caller(alloc: Global, from: &mut Cursor<'_>) -> Result<Caller, ReadErr>
+fn read_caller(alloc: Global, from: &mut Cursor<'_>) -> Result<Shared<Caller>, ReadErr>
     ensures { Reads caller_bytes IsCaller from.old from.new result }
 {
     let place = given!(read_place(alloc, from));
     let func = given!(from.two(); place);
     let waits = given!(from.truth(); place);
-    Ok(Caller { place, func, waits })
+    let caller = Caller { place, func, waits };
+    Ok(Shared::new(alloc, caller)?)
 }
 
 pub(crate) fn read_caller_if(
     alloc: Global,
     from: &mut Cursor<'_>,
-) -> Result<Option<Caller>, ReadErr>
+) -> Result<Option<Shared<Caller>>, ReadErr>
     ensures { Reads (option_bytes caller_bytes) (IfThere IsCaller) from.old from.new result }
 {
     if given!(from.truth()) {
@@ -128,11 +129,21 @@ pub(crate) fn read_caller_if(
     }
 }
 
-pub(crate) fn read_tx_if(alloc: Global, from: &mut Cursor<'_>) -> Result<Option<TxId>, ReadErr>
+fn read_shared_tx(alloc: Global, from: &mut Cursor<'_>) -> Result<Shared<TxId>, ReadErr>
+    ensures { Reads tx_bytes IsTx from.old from.new result }
+{
+    let tx = given!(read_tx(alloc, from));
+    Ok(Shared::new(alloc, tx)?)
+}
+
+pub(crate) fn read_tx_if(
+    alloc: Global,
+    from: &mut Cursor<'_>,
+) -> Result<Option<Shared<TxId>>, ReadErr>
     ensures { Reads (option_bytes tx_bytes) (IfThere IsTx) from.old from.new result }
 {
     if given!(from.truth()) {
-        Ok(Some(given!(read_tx(alloc, from))))
+        Ok(Some(given!(read_shared_tx(alloc, from))))
     } else {
         Ok(None)
     }
@@ -158,6 +169,13 @@ pub(crate) fn read_owner_if(alloc: Global, from: &mut Cursor<'_>) -> Result<Opti
     }
 }
 
+fn read_age(alloc: Global, from: &mut Cursor<'_>) -> Result<IdBuf, ReadErr>
+    ensures { Reads id_bytes IsId from.old from.new result }
+{
+    let age = given!(read_id(alloc, from));
+    Ok(IdBuf::of(alloc, &age)?)
+}
+
 fn read_note(alloc: Global, from: &mut Cursor<'_>) -> Result<Note, ReadErr>
     ensures { Reads note_bytes IsNote from.old from.new result }
 {
@@ -165,7 +183,7 @@ fn read_note(alloc: Global, from: &mut Cursor<'_>) -> Result<Note, ReadErr>
         0 => Ok(Note::Wrote),
         1 => Ok(Note::Cond(given!(from.truth()))),
         2 => Ok(Note::Got),
-        3 => Ok(Note::Died(given!(read_id(alloc, from)))),
+        3 => Ok(Note::Died(given!(read_age(alloc, from)))),
         4 => Ok(Note::Freed),
         _ => Err(ReadErr::Foreign),
     }

@@ -4,11 +4,11 @@ ghost use Rattle.beldi_bytes.specs.Coding.{Adds, option_bytes, IfThere};
 ghost use Rattle.beldi_bytes.specs.KeyBytes.{id_bytes, IsId};
 ghost use Rattle.beldi_bytes.specs.RowBytes.{code_of, cause_bytes, outcome_bytes, caller_bytes, owner_bytes, note_bytes, entry_bytes, log_bytes, IsCause, IsOutcome, IsCaller, IsOwner, IsNote, IsEntry, IsLog};
 
-use crate::key_out::{put_id, put_place, put_tx};
+use crate::key_out::{put_age, put_id, put_place, put_tx};
 use crate::number_out::{put_byte, put_count, put_truth, put_two};
 use crate::value_out::put_value;
 use beldi_row::{Entry, Log, Note};
-use beldi_value::{Boxed, Caller, Cause, Code, IntentId, Outcome, Owner, Place};
+use beldi_value::{Boxed, Caller, Cause, Code, IntentId, Outcome, Owner, Shared};
 use std::alloc::AllocError;
 
 fn code(code: Code) -> u8
@@ -83,14 +83,17 @@ fn put_caller(out: &mut Vec<u8>, caller: &Caller) -> Result<(), AllocError>
     put_truth(out, caller.waits)
 }
 
-pub(crate) fn put_caller_if(out: &mut Vec<u8>, part: &Option<Caller>) -> Result<(), AllocError>
+pub(crate) fn put_caller_if(
+    out: &mut Vec<u8>,
+    part: &Option<Shared<Caller>>,
+) -> Result<(), AllocError>
     ensures { OnOk result (Adds out.old.items out.new.items (option_bytes caller_bytes part.now) × IfThere IsCaller part.now) }
 {
     match part {
         None => put_byte(out, 0),
         Some(part) => {
             put_byte(out, 1)?;
-            put_caller(out, part)
+            put_caller(out, part.get())
         }
     }
 }
@@ -134,7 +137,7 @@ fn put_note(out: &mut Vec<u8>, note: &Note) -> Result<(), AllocError>
         Note::Got => put_byte(out, 2),
         Note::Died(age) => {
             put_byte(out, 3)?;
-            put_id(out, age)
+            put_age(out, age)
         }
         Note::Freed => put_byte(out, 4),
     }

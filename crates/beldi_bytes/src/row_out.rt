@@ -9,17 +9,17 @@ use crate::number_out::{put_byte, put_eight, put_eight_if, put_four_if, put_trut
 use crate::part_out::{put_caller_if, put_log, put_outcome_if, put_owner_if};
 use crate::value_out::put_value;
 use beldi_row::{Body, Cell, IntentRow, InvokeRow, Row};
-use beldi_value::{TxId, or_drop};
+use beldi_value::{Shared, TxId, or_drop};
 use std::alloc::{AllocError, Global};
 
-fn put_tx_if(out: &mut Vec<u8>, part: &Option<TxId>) -> Result<(), AllocError>
+fn put_tx_if(out: &mut Vec<u8>, part: &Option<Shared<TxId>>) -> Result<(), AllocError>
     ensures { OnOk result (Adds out.old.items out.new.items (option_bytes tx_bytes part.now) × IfThere IsTx part.now) }
 {
     match part {
         None => put_byte(out, 0),
         Some(part) => {
             put_byte(out, 1)?;
-            put_tx(out, part)
+            put_tx(out, part.get())
         }
     }
 }

@@ -1,6 +1,6 @@
 -- What is asked of the rows of an item, and what follows from what is told.
 use Rattle.std.specs.Prelude.{ℕ, ◌+◌, ◌-◌, ◌^◌, ◌==◌, List, true, false, Option, Some, None, if◌then◌else◌}
-use Rattle.beldi_value.specs.{declared.value.Value.TheVariants.Null, declared.place.Place.Place, declared.place.Owner.Owner, declared.place.TxId.TxId, Spare.spare}
+use Rattle.beldi_value.specs.{declared.value.Value.TheVariants.Null, declared.place.Place.Place, declared.place.Owner.Owner, declared.place.TxId.TxId, Id.root_of}
 use Rattle.beldi_row.specs.Act.{absent, here, added, present, no_row, did, died, noted, next, held, not_owner, tested, packed, other_owner}
 use Rattle.beldi_row.specs.{declared.key.Kind.TheVariants.Shadow, declared.act.Act.Act, declared.notes.Note.Note, declared.notes.Note.TheVariants.Wrote, declared.notes.Note.TheVariants.Cond, declared.notes.Note.TheVariants.Got, declared.notes.Note.TheVariants.Died, declared.notes.Note.TheVariants.Freed, declared.row.Cell.Cell, declared.act.Act.TheVariants.MakeCell, declared.act.Act.TheVariants.WriteCell, declared.act.Act.TheVariants.CondCell, declared.act.Act.TheVariants.LockCell, declared.act.Act.TheVariants.FreeCell, declared.act.Act.TheVariants.LinkCell, Key.RowKey, Key.at_row, Key.head_key, Log.blank, declared.row.Row.Row}
 use Rattle.beldi_query.specs.{declared.query.Query.Query, Query.QueryReply, Query.replied}
@@ -18,7 +18,7 @@ shadow_key home x t k = record { home = home; kind = Shadow x t k 0 }
 abbrev pub op_act : Place → Owner → CellOp → Act
 op_act p who (CellOp.Write v) = WriteCell p who v
 op_act p who (CellOp.Cond r o v) = CondCell p who r o v
-op_act p who CellOp.Lock = LockCell p who spare
+op_act p who CellOp.Lock = LockCell p who (root_of 0)
 op_act p who (CellOp.Free v) = FreeCell p who v
 
 -- the note that it leaves where its act says that it was done; the act of a condition says the test, and that of a lock may say a

@@ -13,7 +13,7 @@ ghost use Rattle.beldi_daal.specs.Cell.{cell_key as key_of, shadow_key as shadow
 
 use beldi_query::{Query, QueryReplyRef};
 use beldi_row::{Act, ActReplyRef, Blank, Cell, Kind, Note, Row, RowKey, copy_owner, copy_tx};
-use beldi_value::{Boxed, Owner, Place, Rel, Spare, Str, TxId, Value, or_drop};
+use beldi_value::{Boxed, IdBuf, Owner, Place, Rel, Str, TxId, Value, or_drop};
 use std::alloc::{AllocError, Global};
 
 /// What is done to an item.
@@ -90,7 +90,7 @@ impl CellOp {
                 value,
             },
             CellOp::Lock => {
-                let spare = or_drop!(Spare::new(alloc); place, who);
+                let spare = or_drop!(IdBuf::new(alloc); place, who);
                 Act::LockCell { place, who, spare }
             }
             CellOp::Free(value) => Act::FreeCell { place, who, value },
@@ -293,7 +293,7 @@ pub fn write_told(
             first: true,
         }),
         ActReplyRef::Died(age) => Ok(WriteGoes::Done {
-            note: Note::Died(age.copy(alloc)?),
+            note: Note::Died(IdBuf::of(alloc, age)?),
             first: true,
         }),
         ActReplyRef::Noted(note) => Ok(WriteGoes::Done {

@@ -2,7 +2,7 @@
 use Rattle.std.specs.Prelude.{nat_lt, not, ◌&&◌, is_some}
 use Rattle.std.proofs.Common.{◌≡◌, ℕ, Bool, true, false, List, [], ◌∷◌, ◌++◌, Option, None, Some, ap, if◌then◌else◌, refl, subst, sym, ◌∙◌}
 use Rattle.std.proofs.lemmas.Option.{same_Some}
-use Rattle.beldi_value.specs.{Id.age_of, Id.is_older, Passes.passes, declared.id.IntentId.IntentId, declared.place.Owner.Owner, declared.place.Place.Place, declared.place.TxId.TxId, declared.spare.Spare.Spare, declared.value.Value.Value}
+use Rattle.beldi_value.specs.{Id.age_of, Id.is_older, Passes.passes, declared.id.IntentId.IntentId, declared.place.Owner.Owner, declared.place.Place.Place, declared.place.TxId.TxId, declared.value.Value.Value}
 use Rattle.beldi_row.specs.declared.act.Act.TheVariants.{Look, Issue, Bind, Register, End, Stamp, PutRead, OpenInvoke, CallBack, NoteRegistered, PutLockset, MakeCell, WriteCell, CondCell, LockCell, FreeCell, LinkCell, DropIntent, DropRow, MarkCell, SkipCell, DangleCell, DropCell}
 use Rattle.beldi_row.specs.Act.{ActReply, act, removes, stays_unless, at_tail, bind_to, call_back_to, cond_at, dangle_at, dangle_by, did, died, end_with, entered, free_at, given_or, gone, held, held_or, if_owned, if_room, is_full, leads_from, link_to, lock_at, mark_by, marked, next, next_or, no_row, not_full, not_owner, not_so, noted as reply_noted, noted_or, off, on, on_cell, on_intent, on_invoke, other_owner, owned_or, owns, packed, register_to, skip_by, skip_to, stamp_with, tested, unless_held, write_at}
 use Rattle.beldi_row.{proofs.Logs.place_same, specs.declared.act.Act.Act, specs.declared.notes.Note.Note, specs.declared.notes.Note.TheVariants.Wrote, specs.declared.notes.Note.TheVariants.Cond, specs.declared.notes.Note.TheVariants.Got, specs.declared.notes.Note.TheVariants.Died, specs.declared.notes.Note.TheVariants.Freed, specs.declared.row.Cell.Cell, specs.declared.row.IntentRow.IntentRow, specs.declared.row.InvokeRow.InvokeRow, specs.declared.row.Row.Row, specs.Log.note_at, specs.Log.owner_eq, specs.Log.place_eq}
@@ -36,7 +36,7 @@ other_from who (Some o) h e = elim (owner_eq o who) as (λ b. owner_eq o who ≡
 ] refl e
 
 -- ---- a lock of a transaction
-module _ (q : Place) (t : TxId) (s : Spare) (c : Cell) where
+module _ (q : Place) (t : TxId) (s : IntentId) (c : Cell) where
   abbrev lock : Act
   lock = LockCell q (Owner.Tx t) s
 
@@ -230,7 +230,7 @@ off_item a now r same alive = record {
   told = λ age e. let clash = sym alive ∙ ap is_death e in cc;
 }
 
-asked : (q : Place) (t : TxId) (s : Spare) (now : ℕ) (r : Option Row) → DiesOfHolder (LockCell q (Owner.Tx t) s) now r
+asked : (q : Place) (t : TxId) (s : IntentId) (now : ℕ) (r : Option Row) → DiesOfHolder (LockCell q (Owner.Tx t) s) now r
 asked q t s now (Some (Row.Cell c)) = let h = locked q t s c in record { noted = h.noted; told = h.told }
 asked q t s now None = off_item (LockCell q (Owner.Tx t) s) now None refl refl
 asked q t s now (Some r) = off_item (LockCell q (Owner.Tx t) s) now (Some r) refl refl

@@ -1,5 +1,5 @@
 -- What a walk says of a lock is what a logged cell says of it.
-use Rattle.beldi_lock.proofs.Names.{At, CameOn, Cell, Chain, Content, DidAs, Dies, Err, FitsAt, Going, HasNote, IntentId, IsLinked, Item, LeavesAt, Linked, Lock, LockAt, LockCell, LockOutput, LockTurn, LockWalk, Locks, LocksAreByTheRow, LocksStand, Lockset, LoggedTurn, Logs, None, Note, Ok, Option, Owner, Place, Plain, PutLockset, PutTurn, Row, RowKey, Rows, SeesAt, SeesItem, Some, StandsAt, ActReply, QueryReply, Try, TxId, WriteAt, WriteGoes, WriteWalk, act, after_act, age_of, ap, asks_at, at_of, barred, by_op, chain, cond, content, did, died_at, died_of, dies, entered, false, free, got, if_room, if◌then◌else◌, inl, inr, is_older, item_goes, key_self, linked_by, lock_asks, lock_at, lock_goes, lock_key, lock_next, lock_output, lock_so, lockset_key, next_or, no_content, none-some, none_at_all, note_at, note_goes, note_here, note_of_chain, noted_or, other_owner, owned_or, put_goes, put_row, refl, rows_after, replied, spare, subst, sym, taken, tells_map, query_reply, true, waited, walk_at, walk_so, write_goes, ℕ, ◌∙◌, ◌≡◌, ◌⊎◌}
+use Rattle.beldi_lock.proofs.Names.{At, CameOn, Cell, Chain, Content, DidAs, Dies, Err, FitsAt, Going, HasNote, IntentId, IsLinked, Item, LeavesAt, Linked, Lock, LockAt, LockCell, LockOutput, LockTurn, LockWalk, Locks, LocksAreByTheRow, LocksStand, Lockset, LoggedTurn, Logs, None, Note, Ok, Option, Owner, Place, Plain, PutLockset, PutTurn, Row, RowKey, Rows, SeesAt, SeesItem, Some, StandsAt, ActReply, QueryReply, Try, TxId, WriteAt, WriteGoes, WriteWalk, act, after_act, age_of, ap, asks_at, at_of, barred, by_op, chain, cond, content, did, died_at, died_of, dies, entered, false, free, got, if_room, if◌then◌else◌, inl, inr, is_older, item_goes, key_self, linked_by, lock_asks, lock_at, lock_goes, lock_key, lock_next, lock_output, lock_so, lockset_key, next_or, no_content, none-some, none_at_all, note_at, note_goes, note_here, note_of_chain, noted_or, other_owner, owned_or, put_goes, put_row, refl, rows_after, replied, root_of, subst, sym, taken, tells_map, query_reply, true, waited, walk_at, walk_so, write_goes, ℕ, ◌∙◌, ◌≡◌, ◌⊎◌}
 use Rattle.beldi_lock.proofs.Names.map
 
 -- who neither waits nor dies meets no other owner
@@ -153,7 +153,7 @@ module _ (p : Place) (who : Owner) (now : ℕ) (n : Note) where
   abbrev lock_or : Cell → Cell × ActReply
   lock_or c = owned_or p who c (other_owner who c.owner) (if_room c (entered p Note.Got c.value (Some who) c, did))
 
-  told_so : (r : ℕ) (c : Cell) → HasOrNext c p n → Stands (output_by r (act (LockCell p who spare) now (Some (Row.Cell c))).1)
+  told_so : (r : ℕ) (c : Cell) → HasOrNext c p n → Stands (output_by r (act (LockCell p who (root_of 0)) now (Some (Row.Cell c))).1)
   told_so r c (inl is) = inl (ap (λ o. output_by r (noted_or c o (next_or c c.next (lock_or c))).1) is)
   told_so r c (inr h) = inr (ap (λ o. output_by r (noted_or c o (next_or c c.next (lock_or c))).1) h.0 ∙ ap (λ o. output_by r (next_or c o (lock_or c)).1) h.2)
 
@@ -161,7 +161,7 @@ pub locks_stand : LocksStand
 locks_stand w now m r n here linked sees is =
     let f = chain m (lock_key w) in
     let c = noted_row f w.place n r linked sees is in
-    subst (Stands w.place w.who now n) (sym (output ∙ ap (λ o. output_by w.place w.who now n r (act (LockCell w.place w.who spare) now o).1) c.there)) (told_so w.place w.who now n r c.cell c.shows)
+    subst (Stands w.place w.who now n) (sym (output ∙ ap (λ o. output_by w.place w.who now n r (act (LockCell w.place w.who (root_of 0)) now o).1) c.there)) (told_so w.place w.who now n r c.cell c.shows)
   where
-    output : lock_output w (query_reply (lock_asks w) now m) ≡ output_by w.place w.who now n r (act (LockCell w.place w.who spare) now (chain m (lock_key w) r)).1
+    output : lock_output w (query_reply (lock_asks w) now m) ≡ output_by w.place w.who now n r (act (LockCell w.place w.who (root_of 0)) now (chain m (lock_key w) r)).1
     output = ap (λ at. lock_so (lock_goes at (query_reply (asks_at w.home w.table w.key w.place w.who at) now m))) here

@@ -2,7 +2,7 @@
 pub use Rattle.std.{proofs.lemmas.Cmp.tied_itself, proofs.lemmas.List.append-nil, proofs.lemmas.Option.none-some, specs.Cmp.nat_cmp_total, specs.Cmp.ranks, specs.Cmp.Lexicographic.slice_cmp, specs.Ordering.MatchOrdering, specs.Ordering.nat_cmp, specs.Ordering.ordering_reverse, specs.Ordering.ordering_then, specs.declared.cmp.Ordering.Ordering, specs.declared.cmp.Ordering.TheVariants.Equal, specs.declared.cmp.Ordering.TheVariants.Greater, specs.declared.cmp.Ordering.TheVariants.Less}
 pub use Rattle.std.specs.FinMap as map
 pub use Rattle.std.proofs.Common.{Err, List, None, Ok, Option, Some, [], ap, arith, cond, false, if◌then◌else◌, inl, inr, length, refl, replicate, rules, subst, suc, sym, true, zero, ℕ, ◌++◌, ◌-◌, ◌<◌, ◌^◌, ◌∙◌, ◌∷◌, ◌≡◌, ◌≤◌, ◌⊎◌}
-pub use Rattle.beldi_value.specs.{Id.age_of, Id.id_cmp, Id.id_exact, Id.id_total, Id.is_older, Spare.spare, declared.id.IntentId.IntentId, declared.place.Owner.Owner, declared.place.Place.Place, declared.place.TxId.TxId}
+pub use Rattle.beldi_value.specs.{Id.age_of, Id.id_cmp, Id.id_exact, Id.id_total, Id.is_older, Id.root_of, declared.id.IntentId.IntentId, declared.place.Owner.Owner, declared.place.Place.Place, declared.place.TxId.TxId}
 pub use Rattle.beldi_row.specs.Act.{ActReply, act, did, entered, if_room, next_or, noted_or, other_owner, owned_or}
 pub use Rattle.beldi_row.{proofs.Gets.got, proofs.Gets.key_self, proofs.Least.next_row_least, proofs.Logs.note_here, proofs.Tells.tells_map, specs.Key.RowKey, specs.Key.key_cmp, specs.KeyOrder.key_exact, specs.KeyOrder.key_total, specs.Log.note_at, specs.Table.IsNext, specs.Table.Rows, specs.Table.after_act, specs.Table.next_row, specs.declared.act.Act.TheVariants.LockCell, specs.declared.act.Act.TheVariants.PutLockset, specs.declared.key.Kind.Kind, specs.declared.notes.Note.Note, specs.declared.row.Cell.Cell, specs.declared.row.Row.Row, specs.declared.table.TableErr.TheVariants.OutOfMemory}
 pub use Rattle.beldi_query.{proofs.Promises.promised, proofs.Queries.unasked, proofs.Queries.went, specs.Query.CameOn, specs.Query.QueryReply, specs.Query.rows_after, specs.Query.replied, specs.Query.query_reply, specs.declared.query.Query.TheVariants.After}

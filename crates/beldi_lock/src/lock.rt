@@ -6,7 +6,7 @@ ghost use Rattle.beldi_lock.specs.Lock.{lock_first, lockset_key as lockset_key_o
 use beldi_daal::{CellOp, WriteAt, WriteGoes, cell_key, write_query, write_told};
 use beldi_query::{Query, QueryReplyRef};
 use beldi_row::{Act, ActReplyRef, Kind, Note, RowKey};
-use beldi_value::{Boxed, IntentId, Owner, Place, Str, or_drop};
+use beldi_value::{Boxed, IdBuf, IntentId, Owner, Place, Str, or_drop};
 use std::alloc::{AllocError, Global};
 
 /// Where a lock stands.
@@ -28,7 +28,7 @@ pub enum LockGoes {
     /// The place has got the lock; `first` says that this act took it.
     Got { first: bool },
     /// The place died of the owner with this age, in this act or before.
-    Died(IntentId),
+    Died(IdBuf),
     /// This owner, another than the one who asks, has the item, and who asks waits for it.
     Held(Owner),
     /// No row can follow the item's last one, which is full.

@@ -5,7 +5,7 @@ ghost use Rattle.beldi_lock.specs.Lock.{first_lock};
 use crate::lock::{LockAt, LockGoes, lock_query, lock_told};
 use beldi_query::{Query, QueryReplyRef, Walk};
 use beldi_row::copy_owner;
-use beldi_value::{Boxed, IntentId, Owner, Place, Str, or_drop};
+use beldi_value::{Boxed, IdBuf, Owner, Place, Str, or_drop};
 use std::alloc::{AllocError, Global};
 use std::mem::replace;
 
@@ -17,7 +17,7 @@ pub enum LockOutput {
     /// The place has got the lock; `first` says that this act took it.
     Got { first: bool },
     /// The place died of the owner with this age, in this act or before.
-    Died(IntentId),
+    Died(IdBuf),
     /// This owner, another than the one who asks, has the item, and who asks waits for it.
     Held(Owner),
     /// No row can follow the item's last one, which is full.

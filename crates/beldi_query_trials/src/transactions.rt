@@ -12,7 +12,7 @@ use beldi_query::Walk;
 use beldi_row::{Body, IntentRow};
 use beldi_table::MapTable;
 use beldi_txn::{EndOutput, EndWalk, TxOutput, TxWalk};
-use beldi_value::{Caller, IntentId, Place, Str, Value, or_drop};
+use beldi_value::{Caller, IntentId, Place, Shared, Str, Value, or_drop};
 use std::alloc::Global;
 use std::test::Fail;
 
@@ -181,18 +181,19 @@ fn calls(
 {
     drop(or_drop!(open_once(alloc, table, home, &place, func, 5); place));
     let callee = or_drop!(place.intent.child(alloc, place.step); place);
-    let tx = Some(transaction(alloc, place.intent.ticket));
-    let from = Some(Caller {
+    let tx = Shared::new(alloc, transaction(alloc, place.intent.ticket));
+    let tx = or_drop!(tx; place, callee);
+    let from = Caller {
         place,
         func: home,
         waits: true,
-    });
-    let args = Value::Null;
+    };
+    let from = or_drop!(Shared::new(alloc, from); callee, tx);
     let body = Body {
         func,
-        args,
-        tx,
-        parent: from,
+        args: Value::Null,
+        tx: Some(tx),
+        parent: Some(from),
     };
     Ok(is_so!(register(alloc, table, callee, body, 5)?, None))
 }

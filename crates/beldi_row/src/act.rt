@@ -8,7 +8,7 @@ use crate::cell::{free, link, lock, write, write_where};
 use crate::notes::{Blank, Note};
 use crate::row::{Body, Cell, IntentRow, InvokeRow, Row};
 use crate::unlink::{dangle, mark, skip};
-use beldi_value::{IntentId, Outcome, Owner, Place, Rel, Spare, Value};
+use beldi_value::{IdBuf, IntentId, Outcome, Owner, Place, Rel, Value};
 
 /// An act on one row. `Look` is for rows of any kind, `Issue`, `Bind`, `Register`, `End` and `Stamp` are for intents, `PutRead` for what
 /// reads were given, `OpenInvoke`, `CallBack` and `NoteRegistered` for calls, `PutLockset` for what a transaction asked the lock
@@ -80,7 +80,7 @@ pub enum Act {
     LockCell {
         place: Place,
         who: Owner,
-        spare: Spare,
+        spare: IdBuf,
     },
     /// Leaves the item without an owner, once, where `who` owns it, and sets the value where one is given.
     FreeCell {

@@ -7,7 +7,7 @@ ghost use Rattle.beldi_row.specs.declared.row.Cell as cell_data;
 use crate::act::{Act, Change};
 use crate::notes::Note;
 use crate::row::{Cell, Row};
-use beldi_value::{Owner, Place, Rel, Spare, Value, older};
+use beldi_value::{IdBuf, Owner, Place, Rel, Value, older};
 
 // Whether the owner, if any, is another than `who`.
 fn is_held(owner: &Option<Owner>, who: &Owner) -> bool
@@ -144,7 +144,7 @@ fn waits(who: &Owner, owner: &Owner) -> bool
     }
 }
 
-pub(crate) fn lock(row: &mut Row, place: Place, who: Owner, spare: Spare) -> Change
+pub(crate) fn lock(row: &mut Row, place: Place, who: Owner, spare: IdBuf) -> Change
     ensures { Changes (Act.LockCell place who spare) 0 row.old row.new result }
 {
     match row {
@@ -158,7 +158,7 @@ pub(crate) fn lock(row: &mut Row, place: Place, who: Owner, spare: Spare) -> Cha
     }
 }
 
-fn lock_cell(cell: &mut Cell, place: Place, who: Owner, spare: Spare) -> Change
+fn lock_cell(cell: &mut Cell, place: Place, who: Owner, spare: IdBuf) -> Change
     ensures { Changes (Act.LockCell place who spare) 0 (Row.Cell cell.old) (Row.Cell cell.new) result }
 {
     if let Some(change) = in_the_way(cell, &place) {
@@ -181,7 +181,7 @@ fn lock_cell(cell: &mut Cell, place: Place, who: Owner, spare: Spare) -> Change
                 drop(spare);
                 return Change::Packed;
             }
-            let age = spare.hold_id(owner.age());
+            let age = spare.hold(owner.age());
             cell.log.push(place, Note::Died(age));
             Change::Died
         }

@@ -3,7 +3,7 @@ ghost use Rattle.std.specs.Prelude.{◌≡◌, ◌∷◌, [], ◌++◌, ◌==◌
 ghost use Rattle.std.specs.Option.{option_copied};
 ghost use Rattle.beldi_row.specs.Log.{blank, index_at, most_entries, note_of, NotedAt};
 
-use beldi_value::{IntentId, Place};
+use beldi_value::{IdBuf, Place};
 use std::alloc::{AllocError, Global};
 use std::marker::Model;
 
@@ -17,7 +17,7 @@ pub enum Note {
     /// The lock was taken.
     Got,
     /// The lock was not taken, since the owner with this age was there.
-    Died(IntentId),
+    Died(IdBuf),
     /// The lock was given back.
     Freed,
 }

@@ -1,9 +1,8 @@
 // What rows hold.
 ghost use Rattle.std.specs.Prelude.{◌≡◌, IfOk};
 
-use crate::key::copy_tx;
 use crate::notes::Log;
-use beldi_value::{Caller, Outcome, Owner, Place, TxId, Value, or_drop};
+use beldi_value::{Caller, Outcome, Owner, Shared, TxId, Value, or_drop};
 use std::alloc::{AllocError, Global};
 
 /// What an instance is to do: a function, its arguments, the transaction that it is called in, and its caller. A root
@@ -12,8 +11,8 @@ use std::alloc::{AllocError, Global};
 pub struct Body {
     pub func: u16,
     pub args: Value,
-    pub tx: Option<TxId>,
-    pub parent: Option<Caller>,
+    pub tx: Option<Shared<TxId>>,
+    pub parent: Option<Shared<Caller>>,
 }
 
 impl Body {
@@ -24,11 +23,11 @@ impl Body {
         let args = self.args.copy(alloc)?;
         let tx = match &self.tx {
             None => None,
-            Some(tx) => Some(or_drop!(copy_tx(tx, alloc); args)),
+            Some(tx) => Some(or_drop!(tx.copy(); args)),
         };
         let parent = match &self.parent {
             None => None,
-            Some(parent) => Some(or_drop!(parent.copy(alloc); args, tx)),
+            Some(parent) => Some(or_drop!(parent.copy(); args, tx)),
         };
         Ok(Body {
             func: self.func,

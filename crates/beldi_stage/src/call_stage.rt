@@ -17,14 +17,14 @@ use beldi_lang::{Answer, Effect};
 use beldi_query::{Query, QueryReplyRef};
 use beldi_row::{Act, Body};
 use beldi_step::{Mark, RunTx, Stage, StageOutput, Wait};
-use beldi_value::{Boxed, Caller, IntentId, Outcome, TxId, Value, or_drop};
+use beldi_value::{Boxed, Caller, IntentId, Outcome, Shared, TxId, Value, or_drop};
 use std::alloc::{AllocError, Global};
 
-fn is_waited(caller: &Option<Caller>) -> bool
+fn is_waited(caller: &Option<Shared<Caller>>) -> bool
     ensures { result ≡ is_waited_of caller.now }
 {
     match caller {
-        Some(caller) => caller.waits,
+        Some(caller) => caller.get().waits,
         None => false,
     }
 }
@@ -54,7 +54,7 @@ pub fn callee_body(
     step: u32,
     func: u16,
     args: &Value,
-    tx: Option<TxId>,
+    tx: Option<Shared<TxId>>,
     waits: bool,
 ) -> Result<Body, AllocError>
     ensures { IfOk result (λ b. b ≡ callee_body_of id.now home step func args.now tx waits) }
@@ -66,6 +66,7 @@ pub fn callee_body(
         func: home,
         waits,
     };
+    let from = or_drop!(Shared::new(alloc, from); args, tx);
     Ok(Body {
         func,
         args,
@@ -119,12 +120,15 @@ pub(crate) fn notify_query(
     alloc: Global,
     id: &IntentId,
     func: u16,
-    caller: &Option<Caller>,
+    caller: &Option<Shared<Caller>>,
 ) -> Result<Boxed<Query>, AllocError>
     ensures { IfOk result (λ q. q ≡ notify_asks id.now func caller.now) }
 {
     match caller {
-        Some(caller) => registered_query(alloc, caller.func, caller.place.copy(alloc)?),
+        Some(caller) => {
+            let caller = caller.get();
+            registered_query(alloc, caller.func, caller.place.copy(alloc)?)
+        }
         None => look(alloc, id, func),
     }
 }
@@ -134,13 +138,14 @@ pub(crate) fn back_query(
     alloc: Global,
     id: &IntentId,
     func: u16,
-    caller: &Option<Caller>,
+    caller: &Option<Shared<Caller>>,
     effect: &Effect,
 ) -> Result<Boxed<Query>, AllocError>
     ensures { IfOk result (λ q. q ≡ back_to_asks id.now func caller.now effect.now) }
 {
     match (caller, effect) {
         (Some(caller), Effect::Return(outcome)) => {
+            let caller = caller.get();
             let key = invoke_key(caller.func, caller.place.copy(alloc)?);
             let outcome = or_drop!(outcome.copy(alloc); key);
             Query::act(alloc, key, Act::CallBack { outcome })
@@ -255,7 +260,7 @@ fn reply_of(alloc: Global, outcome: &Outcome) -> Result<Boxed<Outcome>, AllocErr
 pub(crate) fn hear_close(
     alloc: Global,
     id: &IntentId,
-    caller: &Option<Caller>,
+    caller: &Option<Shared<Caller>>,
     effect: &Effect,
     heard: QueryReplyRef<'_>,
 ) -> Result<StageOutput, Option<Mark>>

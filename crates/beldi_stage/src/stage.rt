@@ -34,7 +34,7 @@ use beldi_readlog::{given_told, kept_told, log_key};
 use beldi_row::{Act, ActReplyRef, Note};
 use beldi_step::{Begun, Mark, RunTx, Stage, StageOutput, Wait};
 use beldi_txn::TxAt;
-use beldi_value::{Boxed, Caller, Cause, IntentId, Owner, Place, Rel, Str, Value, or_drop};
+use beldi_value::{Boxed, Caller, Cause, IntentId, Owner, Place, Rel, Shared, Str, Value, or_drop};
 use std::alloc::{AllocError, Global};
 use std::mem::replace;
 
@@ -481,13 +481,13 @@ fn first_end(
     }
 }
 
-fn last_stage(caller: &Option<Caller>) -> Stage
+fn last_stage(caller: &Option<Shared<Caller>>) -> Stage
     ensures { result ≡ last_stage_of caller.now }
 {
     let Some(caller) = caller else {
         return Stage::Close;
     };
-    if caller.waits {
+    if caller.get().waits {
         return Stage::Back;
     }
     Stage::Notify
@@ -497,7 +497,7 @@ fn last_stage(caller: &Option<Caller>) -> Stage
 pub fn first_stage(
     alloc: Global,
     id: &IntentId,
-    caller: &Option<Caller>,
+    caller: &Option<Shared<Caller>>,
     tx: &Option<RunTx>,
     step: u32,
     effect: &Effect,

@@ -14,13 +14,12 @@ ghost use Rattle.beldi_step.specs.Run.{mark_of, place_of as place_at, own_tx as 
 use crate::stage::{look, mark_if, place_of};
 use beldi_lang::{Answer, Effect};
 use beldi_query::{Query, QueryReplyRef};
-use beldi_row::copy_tx;
 use beldi_step::{Mark, OpenTx, RunTx, Stage, StageOutput, Wait};
 use beldi_txn::{
     EndGoes, EndState, TxAt, TxGoes, decide_query, decide_told, end_query, end_told, tx_query,
     tx_told,
 };
-use beldi_value::{Boxed, IntentId, TxId, or_drop};
+use beldi_value::{Boxed, IntentId, Shared, TxId};
 use std::alloc::{AllocError, Global};
 use std::mem::replace;
 
@@ -47,13 +46,13 @@ pub fn tx_at(
     id: &IntentId,
     func: u16,
     tx: &Option<RunTx>,
-) -> Result<Option<TxId>, AllocError>
+) -> Result<Option<Shared<TxId>>, AllocError>
     ensures { IfOk result (λ x. x ≡ tx_at_of id.now func tx.now) }
 {
     match tx {
         None => Ok(None),
-        Some(RunTx::Own(tx)) => Ok(Some(own_tx(alloc, id, func, tx)?)),
-        Some(RunTx::Inherited(tx)) => Ok(Some(copy_tx(tx, alloc)?)),
+        Some(RunTx::Own(tx)) => Ok(Some(Shared::new(alloc, own_tx(alloc, id, func, tx)?)?)),
+        Some(RunTx::Inherited(tx)) => Ok(Some(tx.copy()?)),
     }
 }
 
@@ -76,7 +75,7 @@ pub(crate) fn tx_here(
             drop(who);
             asked
         }
-        Some(RunTx::Inherited(tx)) => tx_ask(alloc, id, func, step, effect, at, tx),
+        Some(RunTx::Inherited(tx)) => tx_ask(alloc, id, func, step, effect, at, tx.get()),
         None => look(alloc, id, func),
     }
 }

@@ -8,7 +8,8 @@ use beldi_lang::{Answer, Machine};
 use beldi_row::{Body, RowKey};
 use beldi_txn::{EndState, TxAt};
 use beldi_value::{
-    Boxed, Caller, Cause, IntentId, Outcome, Owner, Place, TxId, Value, copy_holder, or_drop,
+    Boxed, Caller, Cause, IntentId, Outcome, Owner, Place, Shared, TxId, Value, copy_holder,
+    or_drop,
 };
 use std::alloc::{AllocError, Global};
 
@@ -37,7 +38,7 @@ pub enum RunAt {
 #[derive(Drop)]
 pub struct Begun {
     pub machine: Machine,
-    pub caller: Option<Caller>,
+    pub caller: Option<Shared<Caller>>,
     pub tx: Option<RunTx>,
     pub stage: Stage,
 }
@@ -48,7 +49,7 @@ pub enum RunTx {
     /// Its instance began it, and has not ended it.
     Own(OpenTx),
     /// Its instance was called in it.
-    Inherited(TxId),
+    Inherited(Shared<TxId>),
 }
 
 impl RunTx {
@@ -58,7 +59,7 @@ impl RunTx {
     {
         match self {
             RunTx::Own(tx) => tx.begin,
-            RunTx::Inherited(tx) => tx.begin,
+            RunTx::Inherited(tx) => tx.get().begin,
         }
     }
 }

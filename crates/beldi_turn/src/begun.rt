@@ -11,7 +11,7 @@ use beldi_lang::{Answer, Deployment, Effect, Machine};
 use beldi_row::Body;
 use beldi_stage::{first_stage, place_of};
 use beldi_step::{Begun, OpenTx, RunAt, RunTx, Stage};
-use beldi_value::{Boxed, Cause, IntentId, TxId, or_drop};
+use beldi_value::{Boxed, Cause, IntentId, Shared, TxId, or_drop};
 use std::alloc::{AllocError, Global};
 use std::mem::replace;
 
@@ -35,7 +35,7 @@ fn answer_at_once(
 }
 
 // The transaction of a body.
-fn inherited_tx(tx: Option<TxId>) -> Option<RunTx>
+fn inherited_tx(tx: Option<Shared<TxId>>) -> Option<RunTx>
     ensures { result ≡ inherited_tx_of tx }
 {
     match tx {

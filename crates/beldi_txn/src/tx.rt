@@ -21,7 +21,7 @@ use beldi_lock::{LockAt, LockGoes, lock_query, lock_told};
 use beldi_query::{Query, QueryReplyRef};
 use beldi_readlog::{given_told, log_key};
 use beldi_row::{Act, ActReplyRef, Blank, Note, RowKey, copy_tx};
-use beldi_value::{Boxed, Cause, IntentId, Owner, Place, Str, TxId, Value, or_drop};
+use beldi_value::{Boxed, Cause, IdBuf, Owner, Place, Str, TxId, Value, or_drop};
 use std::alloc::{AllocError, Global};
 use std::mem::replace;
 
@@ -388,12 +388,14 @@ fn locked(effect: &Effect) -> TxGoes
     }
 }
 
-fn died(alloc: Global, place: &Place, holder: IntentId) -> Result<TxGoes, AllocError>
+fn died(alloc: Global, place: &Place, holder: IdBuf) -> Result<TxGoes, AllocError>
     ensures { IfOk result (λ g. g ≡ died_goes place.now holder) }
 {
+    let id = or_drop!(holder.to_id(alloc); holder);
+    drop(holder);
+    let holder = Boxed::new(alloc, id)?;
     let place = or_drop!(place.copy(alloc); holder);
     let place = or_drop!(Boxed::new(alloc, place); holder);
-    let holder = or_drop!(Boxed::new(alloc, holder); place);
     Ok(TxGoes::Died(Cause {
         place,
         holder: Some(holder),

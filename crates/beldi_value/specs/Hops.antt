@@ -1,10 +1,9 @@
 -- Hops, wherever they lie.
-use Rattle.std.specs.Prelude.{ℕ, List, []}
+use Rattle.std.specs.Prelude.{ℕ, List, [], Option, Some, None}
 use Rattle.std.specs.Rc.{rc_slice_items}
-use Rattle.beldi_value.specs.declared.hops.Steps.{Steps}
+use Rattle.std.specs.declared.rc.RcSlice.{RcSlice}
 
 -- the steps
-abbrev pub steps_in : Steps → List ℕ
-steps_in Steps.None = []
-steps_in (Steps.Shared it) = rc_slice_items it
-steps_in (Steps.Own it) = it.value.items
+abbrev pub steps_in : {A : Type 0} → Option (RcSlice ℕ A) → List ℕ
+steps_in None = []
+steps_in (Some it) = rc_slice_items it

@@ -12,7 +12,6 @@ pub mod Number
 pub mod Passes
 pub mod RecordParts
 pub mod Same
-pub mod Spare
 pub mod Value
 pub mod ValueFalls
 pub mod ValueLaws

@@ -13,21 +13,11 @@ use std::cmp::Ordering;
 use std::marker::Model;
 use std::rc::RcSlice;
 
-// Where steps lie.
-#[derive(Drop)]
-pub(crate) enum Steps {
-    // There are none.
-    None,
-    // In memory that copies share.
-    Shared(RcSlice<u32>),
-    // In room that was made for them before.
-    Own(Box<Vec<u32>>),
-}
-
 /// The steps of the calls that lead from a root to an intent: at most 63.
 #[derive(Drop)]
 pub struct Hops {
-    pub(crate) steps: Steps,
+    // None where there are no steps, which take no memory so.
+    steps: Option<RcSlice<u32>>,
 }
 
 impl Model for Hops {
@@ -48,7 +38,7 @@ impl Hops {
     pub fn new() -> Hops
         ensures { result ≡ [] }
     {
-        Hops { steps: Steps::None }
+        Hops { steps: None }
     }
 
     /// These steps.
@@ -60,7 +50,7 @@ impl Hops {
             return Ok(Hops::new());
         }
         Ok(Hops {
-            steps: Steps::Shared(RcSlice::from_vec(steps)?),
+            steps: Some(RcSlice::from_vec(steps)?),
         })
     }
 
@@ -85,23 +75,21 @@ impl Hops {
         ensures few { length self.now ≤ 63 }
     {
         match &self.steps {
-            Steps::None => &[],
-            Steps::Shared(steps) => steps.as_slice(),
-            Steps::Own(steps) => steps.as_slice(),
+            None => &[],
+            Some(steps) => steps.as_slice(),
         }
     }
 
-    /// Equal steps. Only those in room of their own are copied.
+    /// Equal steps.
     #[inline(always)]
     pub fn copy(&self, alloc: Global) -> Result<Hops, AllocError>
         ensures { IfOk result (λ h. h ≡ self.now) }
     {
         match &self.steps {
-            Steps::None => Ok(Hops::new()),
-            Steps::Shared(steps) => Ok(Hops {
-                steps: Steps::Shared(steps.clone()?),
+            None => Ok(Hops::new()),
+            Some(steps) => Ok(Hops {
+                steps: Some(steps.clone()?),
             }),
-            Steps::Own(steps) => Hops::from_vec(Vec::from_slice(alloc, steps.as_slice())?),
         }
     }
 

@@ -26,14 +26,13 @@
 //!   `numeral_text_is_exact`).
 //!
 //! Files:
-//! - Code (`src/`): `value` values; `early` an early return whose drops are written; `boxed` a value behind a pointer, seen
-//!   as itself; `text` a text that is kept, `text_buf` one that is written; `list` lists of small numbers; `limits` how deep and how long a value is; `parts`
+//! - Code (`src/`): `value` values; `early` an early return whose drops are written; `boxed` a value behind a pointer, `shared` one in
+//!   memory that copies share, both seen as themselves; `text` a text that is kept, `text_buf` one that is written; `list` lists of small numbers; `limits` how deep and how long a value is; `parts`
 //!   fields and elements; `rel` relations; `read` and `convert` from JSON, `canonical` to JSON; `id` ids of intents, and `hops` what leads to them from a root;
-//!   `read_id`; `place` places and owners; `spare` room for an id, made before an act; `outcome` how an instance ends;
+//!   `read_id`; `id_buf` an id in room that was made before; `place` places and owners; `outcome` how an instance ends;
 //!   `number` reading numbers; `cut` a text at a byte; `write` the other texts; `laws`.
 //! - Further definitions (`specs/`): `ValueFalls` each value in a list or a record is smaller than the list or the record;
-//!   `Injective` values that stand for one datum are one value; `Same` whether two values are equal, as a test; `Spare` room
-//!   for hops, made before an act; `Hops` hops, wherever they lie; `Value` the value that a `Value` stands for.
+//!   `Injective` values that stand for one datum are one value; `Same` whether two values are equal, as a test; `Hops` hops, wherever they lie; `Value` the value that a `Value` stands for.
 //! - Lemmas (`proofs/`): `Ages`, `Ints`, `Numbers`; `JsonText`, `Converting`, `Within`, `ReadAgain` JSON; `IdTexts`,
 //!   `Slashes`, `Marks` ids and cuts; `Fields`, `Results`; `Maps` maps that entries make, also for the crates above;
 //!   `Callees` ids of callees.
@@ -46,6 +45,7 @@ mod cut;
 mod early;
 mod hops;
 mod id;
+mod id_buf;
 mod laws;
 mod limits;
 mod list;
@@ -56,7 +56,7 @@ mod place;
 mod read;
 mod read_id;
 mod rel;
-mod spare;
+mod shared;
 mod text;
 mod text_buf;
 mod value;
@@ -66,6 +66,7 @@ pub use boxed::Boxed;
 pub use cut::cut_at;
 pub use hops::Hops;
 pub use id::{IntentId, older};
+pub use id_buf::IdBuf;
 pub use laws::{
     ages_are_ordered, id_text_is_exact, int_text_is_exact, numeral_text_is_exact,
     text_is_read_again,
@@ -77,7 +78,7 @@ pub use place::{Caller, Owner, Place, TxId};
 pub use read::ValueErr;
 pub use read_id::IdErr;
 pub use rel::Rel;
-pub use spare::Spare;
+pub use shared::Shared;
 pub use std::alloc::AllocError as OutOfMemory;
 pub use text::Str;
 pub use text_buf::TextBuf;

@@ -3,9 +3,9 @@ use Rattle.std.proofs.lemmas.List.{nil_from_length}
 use Rattle.beldi_bytes.specs.KeyBytes.{hops_bytes}
 use Rattle.beldi_bytes.proofs.key_out.put_hops.Goals as goal
 
-pub returns-clause-bytes : goal.returns-clause-bytes
-returns-clause-bytes c = λ s.
-    let xs = c.as_slice-hop-items.result.now in
+pub returns : goal.returns
+returns c = λ s.
+    let xs = c.args.hops.now in
     let i = c.loop-hop.hop-index in
     let none : drop i xs ≡ [] = nil_from_length (drop i xs) (omega (arith, length-drop i xs)) in
-    c.in_ok-put_byte-2.ensures s ∙ ap (λ l. c.loop-hop.out.items ++ hops_bytes l s) (sym none) ∙ c.loop-hop.invariant s ∙ ap (λ l. c.args.out.now.items ++ hops_bytes l s) c.as_slice-hop-items.ensures.items
+    c.in_ok-put_byte-2.ensures s ∙ ap (λ l. c.loop-hop.out.items ++ hops_bytes l s) (sym none) ∙ c.loop-hop.invariant s
