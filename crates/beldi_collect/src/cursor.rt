@@ -74,7 +74,7 @@ pub(crate) fn passing(alloc: Global, key: &RowKey) -> Result<RowKey, AllocError>
         Kind::Intent(_) => key.copy(alloc),
         _ => {
             if key.home() < u16::MAX {
-                let first = Kind::Intent(IntentId::root(alloc, 0));
+                let first = Kind::Intent(IntentId::root(0));
                 Ok(RowKey::new(key.home() + 1, first))
             } else {
                 key.copy(alloc)

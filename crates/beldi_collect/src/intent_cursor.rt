@@ -48,7 +48,7 @@ impl Walk for IntentCursor {
 
     fn resume(&mut self, alloc: Global, heard: QueryReplyRef<'_>) -> Result<IcOutput, AllocError> {
         let QueryReplyRef::Found(Some((key, row))) = heard else {
-            self.go_to(RowKey::least(alloc));
+            self.go_to(RowKey::least());
             return Ok(IcOutput::Round);
         };
         match open_intent(key, row) {
@@ -63,11 +63,11 @@ impl Walk for IntentCursor {
 
 impl IntentCursor {
     /// A walk that stands before all rows.
-    pub fn new(alloc: Global) -> IntentCursor
+    pub fn new() -> IntentCursor
         ensures { result ≡ first_cursor }
     {
         IntentCursor {
-            at: RowKey::least(alloc),
+            at: RowKey::least(),
             kept: None,
         }
     }

@@ -244,8 +244,7 @@ impl HostCore {
         ensures { PlannedBy code.now (events.Request ticket func args) (core_in self.old) (core_in self.new) self.new.book.spare (asks (bind_asks ticket func args)) result }
     {
         let query = or_drop!(self.request_query(ticket, func, &args); args);
-        let run =
-            or_drop!(self.new_run(code, IntentId::root(self.alloc, ticket), func); args, query);
+        let run = or_drop!(self.new_run(code, IntentId::root(ticket), func); args, query);
         or_drop!(self.runs.start(self.alloc, run); args, query);
         Ok(Planned::Asks(query, Pending::Request { ticket, func, args }))
     }
@@ -368,7 +367,7 @@ impl HostCore {
         ensures { (core_in self.new, result) ≡ halt_next (core_in self.old) read }
     {
         self.runs.clear(self.alloc);
-        drop(replace(&mut self.cursor, RowKey::least(self.alloc)));
+        drop(replace(&mut self.cursor, RowKey::least()));
         drop(replace(&mut self.collectors, Collectors::new(self.alloc)));
         match read {
             Ok(newest) => {
@@ -441,7 +440,7 @@ impl HostCore {
     {
         match collect_told(self.alloc, heard)? {
             Found::Round => {
-                self.go_to(RowKey::least(self.alloc));
+                self.go_to(RowKey::least());
                 Ok(EventReply::Round)
             }
             Found::Passed(key) => Ok(self.pass(key)),

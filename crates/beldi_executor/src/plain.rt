@@ -100,7 +100,7 @@ impl<'a> Plain<'a> {
         ensures code { self.new.code ≡ self.old.code }
         ensures did { Did self.old.code (Start ticket func args) self.old.state self.new.state result }
     {
-        let id = IntentId::root(self.alloc, ticket);
+        let id = IntentId::root(ticket);
         if ticket == 0 || self.state.instance(&id).is_some() {
             drop(id);
             drop(args);
@@ -350,7 +350,7 @@ impl<'a> Plain<'a> {
     pub fn reply(&self, ticket: u32) -> Option<&Outcome>
         ensures { option_copied result ≡ reply_of self.now.state ticket }
     {
-        match self.state.instance(&IntentId::root(self.alloc, ticket)) {
+        match self.state.instance(&IntentId::root(ticket)) {
             Some(instance) => instance.outcome(),
             None => None,
         }

@@ -70,7 +70,7 @@ impl<T: Table> Host<T> {
                     runs: Runs::new(alloc),
                     book: Book::new(alloc),
                     now: now.max(left.moment),
-                    cursor: RowKey::least(alloc),
+                    cursor: RowKey::least(),
                     taken: 0,
                     shut: false,
                     collectors: Collectors::new(alloc),
@@ -147,7 +147,7 @@ impl<T: Table> Host<T> {
         ensures code { self.new.code ≡ self.old.code }
         ensures right { KeepsInvariant self.old self.new }
     {
-        let least = RowKey::least(self.core.alloc);
+        let least = RowKey::least();
         drop(replace(&mut self.core.cursor, least));
     }
 
@@ -159,7 +159,7 @@ impl<T: Table> Host<T> {
         ensures code { self.new.code ≡ self.old.code }
         ensures right { KeepsInvariant self.old self.new }
     {
-        if let Some(key) = ahead(self.core.alloc, &self.table, &self.core.cursor) {
+        if let Some(key) = ahead(&self.table, &self.core.cursor) {
             drop(replace(&mut self.core.cursor, key));
         }
     }

@@ -126,7 +126,7 @@ fn find_high_water<T: Table>(alloc: Global, table: &mut T) -> Result<HighWater, 
 {
     let mut ticket = 0u32;
     let mut moment = 0u64;
-    let mut at = RowKey::least(alloc);
+    let mut at = RowKey::least();
     for _ in 0..u64::MAX {
         match next_mark(alloc, table, at) {
             Ok(None) => return Ok(HighWater { ticket, moment }),
@@ -155,14 +155,14 @@ pub fn find_newest<T: Table>(alloc: Global, table: &mut T) -> Result<u32, TableE
 
 /// A key from which the intent collector may go on where it stands at a cursor; none where the table does not tell, or no row
 /// would be passed by it. Between it and the open intent that comes next lie rows of that ticket and the one before alone.
-pub fn ahead<T: Table>(alloc: Global, table: &T, cursor: &RowKey) -> Option<RowKey>
+pub fn ahead<T: Table>(table: &T, cursor: &RowKey) -> Option<RowKey>
     ensures { IfSome result (λ k. PassesToldOpen (T.state table.now).rows cursor.now k) }
 {
     match table.opens(cursor) {
         Opens::Untold => None,
-        Opens::None => Some(root_in(alloc, u16::MAX, u32::MAX)),
+        Opens::None => Some(root_in(u16::MAX, u32::MAX)),
         Opens::First(key) => {
-            let before = root_in(alloc, key.home(), key.ticket().saturating_sub(1));
+            let before = root_in(key.home(), key.ticket().saturating_sub(1));
             if *cursor < before && before < *key {
                 Some(before)
             } else {
@@ -174,8 +174,8 @@ pub fn ahead<T: Table>(alloc: Global, table: &T, cursor: &RowKey) -> Option<RowK
 }
 
 // The key of a ticket's root, in a home.
-fn root_in(alloc: Global, home: u16, ticket: u32) -> RowKey {
-    RowKey::new(home, Kind::Intent(IntentId::root(alloc, ticket)))
+fn root_in(home: u16, ticket: u32) -> RowKey {
+    RowKey::new(home, Kind::Intent(IntentId::root(ticket)))
 }
 
 /// Makes a table ready for a host: sets its room, and finds what earlier sessions left.
@@ -512,14 +512,14 @@ fn last_kind(alloc: Global, kind: &Kind) -> Result<Kind, AllocError>
     match kind {
         Kind::Intent(_) | Kind::ReadLog(_) | Kind::Invoke(_) | Kind::Data { .. } => {
             Ok(Kind::Invoke(Place {
-                intent: IntentId::root(alloc, u32::MAX),
+                intent: IntentId::root(u32::MAX),
                 step: u32::MAX,
             }))
         }
         Kind::Shadow { .. } | Kind::Lockset { .. } => {
             let key = Str::from_text(alloc, "")?;
             Ok(Kind::Lockset {
-                intent: IntentId::root(alloc, u32::MAX),
+                intent: IntentId::root(u32::MAX),
                 begin: u32::MAX,
                 table: u16::MAX,
                 key,
@@ -558,7 +558,7 @@ pub fn list_tables<T: Table>(
     ensures { Reads (λ m s. s ≡ tables_text code.now m) (T.state table.old) (T.state table.new) result }
 {
     let mut text = TextBuf::new(alloc);
-    let mut at = or_drop!(past_others(alloc, RowKey::least(alloc)); text);
+    let mut at = or_drop!(past_others(alloc, RowKey::least()); text);
     for _ in 0..u64::MAX {
         match next_line(alloc, code, table, at, now, &mut text) {
             Ok(None) => return Ok(text),
@@ -585,7 +585,7 @@ pub fn read_reply<T: Table>(
     ensures known { IfOk result (λ x. x ≢ Unknown) }
     ensures calls { AtMostOne (T.state table.old).calls (T.state table.new).calls }
 {
-    let said = table.act(root_key(alloc, ticket), Act::Look, now)?;
+    let said = table.act(root_key(ticket), Act::Look, now)?;
     match says_reply(alloc, said) {
         Ok(reply) => Ok(reply),
         Err(_) => Err(OpenErr::OutOfMemory),

@@ -43,17 +43,17 @@ pub fn intent_key(id: IntentId, func: u16) -> RowKey
 }
 
 /// The key of the row of a ticket's root.
-pub fn root_key(alloc: Global, ticket: u32) -> RowKey
+pub fn root_key(ticket: u32) -> RowKey
     ensures { result ≡ root_key_of ticket }
 {
-    intent_key(IntentId::root(alloc, ticket), 0)
+    intent_key(IntentId::root(ticket), 0)
 }
 
 /// Asks for the row of a ticket's root to be added.
 pub fn issue_query(alloc: Global, ticket: u32) -> Result<Boxed<Query>, AllocError>
     ensures { IfOk result (λ q. q ≡ issue_asks ticket) }
 {
-    Query::act(alloc, root_key(alloc, ticket), Act::Issue)
+    Query::act(alloc, root_key(ticket), Act::Issue)
 }
 
 /// Whether it was added: a row that is there stays as it is.
@@ -72,7 +72,7 @@ pub fn bind_query(
 ) -> Result<Boxed<Query>, AllocError>
     ensures { IfOk result (λ q. q ≡ bind_asks ticket func args) }
 {
-    Query::act(alloc, root_key(alloc, ticket), Act::Bind { func, args })
+    Query::act(alloc, root_key(ticket), Act::Bind { func, args })
 }
 
 /// What the bind came to. Out of memory only for what was lent.
@@ -160,15 +160,10 @@ fn intent_told(alloc: Global, heard: QueryReplyRef<'_>) -> Result<Option<IntentR
 }
 
 /// Adds the row of the root of a ticket, and says whether it did: a row that is there stays as it is.
-pub fn issue<T: Table>(
-    alloc: Global,
-    table: &mut T,
-    ticket: u32,
-    now: u64,
-) -> Result<bool, TableErr>
+pub fn issue<T: Table>(table: &mut T, ticket: u32, now: u64) -> Result<bool, TableErr>
     ensures { Answered (issue_asks ticket) now is_added (T.state table.old) (T.state table.new) result }
 {
-    match table.act(root_key(alloc, ticket), Act::Issue, now) {
+    match table.act(root_key(ticket), Act::Issue, now) {
         Ok(said) => Ok(issue_told(QueryReplyRef::Act(said))),
         Err(why) => Err(why),
     }
@@ -185,7 +180,7 @@ pub fn bind<T: Table>(
 ) -> Result<Binding, TableErr>
     ensures { Answered (bind_asks ticket func args) now binding_of (T.state table.old) (T.state table.new) result }
 {
-    match table.act(root_key(alloc, ticket), Act::Bind { func, args }, now) {
+    match table.act(root_key(ticket), Act::Bind { func, args }, now) {
         Ok(said) => match bind_told(alloc, QueryReplyRef::Act(said)) {
             Ok(binding) => Ok(binding),
             Err(_) => Err(TableErr::OutOfMemory),

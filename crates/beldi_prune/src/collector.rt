@@ -84,7 +84,7 @@ impl LogCollector {
         ensures { result ≡ first_collector }
     {
         LogCollector {
-            cursor: RowKey::least(alloc),
+            cursor: RowKey::least(),
             at: CollectorAt::Before,
         }
     }
@@ -228,7 +228,7 @@ impl LogCollector {
         ensures err { OnErr result ((self.new ≡ self.old) × (lends (query_reply_of heard.entry) ≡ true)) }
     {
         let QueryReplyRef::Found(Some((key, row))) = heard else {
-            self.go_to(RowKey::least(alloc));
+            self.go_to(RowKey::least());
             return Ok(GcOutput::Round);
         };
         let begun = key.copy(alloc)?;

@@ -14,10 +14,10 @@ use std::test::Fail;
 fn write_of(alloc: Global, ticket: u32, step: u32) -> Result<WriteWalk, Fail> {
     let item = item(alloc)?;
     let place = Place {
-        intent: IntentId::root(alloc, ticket),
+        intent: IntentId::root(ticket),
         step,
     };
-    let who = Owner::Intent(IntentId::root(alloc, ticket));
+    let who = Owner::Intent(IntentId::root(ticket));
     let op = CellOp::Write(Value::Int(i64::from(step)));
     Ok(WriteWalk::new(1, item, place, who, op))
 }
@@ -65,7 +65,7 @@ fn makes(alloc: Global, table: &mut MapTable, ticket: u32) -> Result<bool, Fail>
 
 // Whether ticket 1 did its writes and finished, and ticket 2 is there, maybe with one write.
 fn stands(alloc: Global, table: &mut MapTable, ticket: u32) -> Result<bool, Fail> {
-    let issued = issue(alloc, table, 1, 5)? && issue(alloc, table, 2, 5)?;
+    let issued = issue(table, 1, 5)? && issue(table, 2, 5)?;
     Ok(issued && makes(alloc, table, ticket)? && finishes(alloc, table)?)
 }
 

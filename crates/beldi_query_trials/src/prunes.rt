@@ -12,7 +12,7 @@ use std::test::Fail;
 pub fn finishes(alloc: Global, table: &mut MapTable) -> Result<bool, Fail> {
     drop(bind(alloc, table, 1, 1, Value::Null, 5)?);
     let outcome = Outcome::Value(Value::Int(7));
-    let put = end(table, IntentId::root(alloc, 1), 1, outcome, true, 5)?;
+    let put = end(table, IntentId::root(1), 1, outcome, true, 5)?;
     Ok(put == Put::Did)
 }
 
@@ -59,7 +59,7 @@ fn rounds(alloc: Global, table: &mut MapTable) -> Result<bool, Fail> {
 
 // An intent that finished and its read, beside the newest ticket.
 fn keeps_old_rows(alloc: Global, table: &mut MapTable) -> Result<bool, Fail> {
-    let issued = issue(alloc, table, 1, 5)? && issue(alloc, table, 2, 5)?;
+    let issued = issue(table, 1, 5)? && issue(table, 2, 5)?;
     Ok(issued && keeps_a_read(alloc, table)? && finishes(alloc, table)?)
 }
 

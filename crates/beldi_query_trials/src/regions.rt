@@ -5,8 +5,8 @@ use beldi_value::{IntentId, Outcome, Owner, Place, Str, Value, or_drop};
 use std::alloc::Global;
 use std::test::Fail;
 
-fn root(alloc: Global, ticket: u32) -> RowKey {
-    RowKey::new(0, Kind::Intent(IntentId::root(alloc, ticket)))
+fn root(ticket: u32) -> RowKey {
+    RowKey::new(0, Kind::Intent(IntentId::root(ticket)))
 }
 
 // Whether the act adds a row. A table that is full says that it does not.
@@ -24,13 +24,13 @@ fn adds(table: &mut RegionTable, key: RowKey, act: Act) -> bool {
     }
 }
 
-fn issues(alloc: Global, table: &mut RegionTable, ticket: u32) -> bool {
-    adds(table, root(alloc, ticket), Act::Issue)
+fn issues(table: &mut RegionTable, ticket: u32) -> bool {
+    adds(table, root(ticket), Act::Issue)
 }
 
 // The ticket of the row after a ticket's; 0 where there is none.
-fn after(alloc: Global, table: &mut RegionTable, ticket: u32) -> Result<u32, Fail> {
-    let key = root(alloc, ticket);
+fn after(table: &mut RegionTable, ticket: u32) -> Result<u32, Fail> {
+    let key = root(ticket);
     let next = match or_drop!(table.next(&key); key) {
         Some((next, _)) => next.ticket(),
         None => 0,
@@ -43,16 +43,16 @@ fn after(alloc: Global, table: &mut RegionTable, ticket: u32) -> Result<u32, Fai
 fn a_table_takes_rows_up_to_its_room(rt: HostRuntime) -> Result<(), Fail> {
     let alloc = rt.alloc();
     let mut table = RegionTable::new(alloc);
-    assert!(rt; !issues(alloc, &mut table, 5));
+    assert!(rt; !issues(&mut table, 5));
     table.ready(&[3])?;
-    assert!(rt; issues(alloc, &mut table, 5));
-    assert!(rt; issues(alloc, &mut table, 1));
-    assert!(rt; issues(alloc, &mut table, 3));
-    assert!(rt; !issues(alloc, &mut table, 3));
-    assert!(rt; !issues(alloc, &mut table, 4));
-    assert_eq!(rt; after(alloc, &mut table, 1)?, 3);
-    assert_eq!(rt; after(alloc, &mut table, 4)?, 5);
-    assert_eq!(rt; after(alloc, &mut table, 5)?, 0);
+    assert!(rt; issues(&mut table, 5));
+    assert!(rt; issues(&mut table, 1));
+    assert!(rt; issues(&mut table, 3));
+    assert!(rt; !issues(&mut table, 3));
+    assert!(rt; !issues(&mut table, 4));
+    assert_eq!(rt; after(&mut table, 1)?, 3);
+    assert_eq!(rt; after(&mut table, 4)?, 5);
+    assert_eq!(rt; after(&mut table, 5)?, 0);
     Ok(())
 }
 
@@ -61,15 +61,15 @@ fn a_table_is_made_ready_with_its_rows(rt: HostRuntime) -> Result<(), Fail> {
     let alloc = rt.alloc();
     let mut table = RegionTable::new(alloc);
     table.ready(&[2])?;
-    assert!(rt; issues(alloc, &mut table, 2));
-    assert!(rt; issues(alloc, &mut table, 1));
+    assert!(rt; issues(&mut table, 2));
+    assert!(rt; issues(&mut table, 1));
     table.ready(&[1])?;
-    assert!(rt; !issues(alloc, &mut table, 3));
+    assert!(rt; !issues(&mut table, 3));
     assert_eq!(rt; table.len(), 2);
     table.ready(&[3])?;
-    assert!(rt; issues(alloc, &mut table, 3));
-    assert_eq!(rt; after(alloc, &mut table, 1)?, 2);
-    assert_eq!(rt; after(alloc, &mut table, 2)?, 3);
+    assert!(rt; issues(&mut table, 3));
+    assert_eq!(rt; after(&mut table, 1)?, 2);
+    assert_eq!(rt; after(&mut table, 2)?, 3);
     Ok(())
 }
 
@@ -96,9 +96,9 @@ fn makes(alloc: Global, table: &mut RegionTable, number: u32) -> Result<bool, Fa
     Ok(adds(table, key, act))
 }
 
-fn place(alloc: Global, step: u32) -> Place {
+fn place(step: u32) -> Place {
     Place {
-        intent: IntentId::root(alloc, 1),
+        intent: IntentId::root(1),
         step,
     }
 }
@@ -106,8 +106,8 @@ fn place(alloc: Global, step: u32) -> Place {
 fn writes(alloc: Global, table: &mut RegionTable, number: u32, step: u32) -> Result<bool, Fail> {
     let key = row(alloc, number)?;
     let act = Act::WriteCell {
-        place: place(alloc, step),
-        who: Owner::Intent(IntentId::root(alloc, 1)),
+        place: place(step),
+        who: Owner::Intent(IntentId::root(1)),
         value: Value::Int(1),
     };
     let said = table.act(key, act, 5)?;
@@ -138,7 +138,7 @@ fn fills(alloc: Global, table: &mut RegionTable, number: u32, first: u32) -> Res
 // How many rows a walk passes that looks for the place of a step.
 fn passed(alloc: Global, table: &RegionTable, step: u32, most: u64) -> Result<u64, Fail> {
     let key = row(alloc, 0)?;
-    let place = place(alloc, step);
+    let place = place(step);
     let passed = match table.passes(key, Some(&place), most) {
         Some((passed, _)) => passed,
         None => 0,
@@ -163,29 +163,29 @@ fn a_chain_of_rows_is_passed(rt: HostRuntime) -> Result<(), Fail> {
 }
 
 // Whether the root of a ticket is given something to do.
-fn binds(alloc: Global, table: &mut RegionTable, ticket: u32) -> Result<bool, Fail> {
+fn binds(table: &mut RegionTable, ticket: u32) -> Result<bool, Fail> {
     let args = Value::Null;
-    let said = table.act(root(alloc, ticket), Act::Bind { func: 1, args }, 5)?;
+    let said = table.act(root(ticket), Act::Bind { func: 1, args }, 5)?;
     let bound = matches!(said, ActReplyRef::Bound);
     drop(said);
     Ok(bound)
 }
 
 // Whether it ends.
-fn ends(alloc: Global, table: &mut RegionTable, ticket: u32) -> Result<bool, Fail> {
+fn ends(table: &mut RegionTable, ticket: u32) -> Result<bool, Fail> {
     let act = Act::End {
         outcome: Outcome::Value(Value::Null),
         stamp: true,
     };
-    let said = table.act(root(alloc, ticket), act, 5)?;
+    let said = table.act(root(ticket), act, 5)?;
     let ended = matches!(said, ActReplyRef::Did);
     drop(said);
     Ok(ended)
 }
 
 // The ticket of the first open intent past one; 0 where there is none.
-fn open_past(alloc: Global, table: &RegionTable, ticket: u32) -> u32 {
-    let key = root(alloc, ticket);
+fn open_past(table: &RegionTable, ticket: u32) -> u32 {
+    let key = root(ticket);
     let open = match table.opens(&key) {
         Opens::First(first) => first.ticket(),
         Opens::None => 0,
@@ -200,18 +200,18 @@ fn open_intents_are_told(rt: HostRuntime) -> Result<(), Fail> {
     let alloc = rt.alloc();
     let mut table = RegionTable::new(alloc);
     table.ready(&[3])?;
-    assert!(rt; issues(alloc, &mut table, 2));
-    assert!(rt; issues(alloc, &mut table, 1));
-    assert_eq!(rt; open_past(alloc, &table, 0), 0);
-    assert!(rt; binds(alloc, &mut table, 2)?);
-    assert_eq!(rt; open_past(alloc, &table, 0), 2);
-    assert!(rt; binds(alloc, &mut table, 1)?);
-    assert_eq!(rt; open_past(alloc, &table, 0), 1);
-    assert_eq!(rt; open_past(alloc, &table, 1), 2);
-    assert!(rt; ends(alloc, &mut table, 1)?);
-    assert_eq!(rt; open_past(alloc, &table, 0), 2);
-    assert!(rt; ends(alloc, &mut table, 2)?);
-    assert_eq!(rt; open_past(alloc, &table, 0), 0);
+    assert!(rt; issues(&mut table, 2));
+    assert!(rt; issues(&mut table, 1));
+    assert_eq!(rt; open_past(&table, 0), 0);
+    assert!(rt; binds(&mut table, 2)?);
+    assert_eq!(rt; open_past(&table, 0), 2);
+    assert!(rt; binds(&mut table, 1)?);
+    assert_eq!(rt; open_past(&table, 0), 1);
+    assert_eq!(rt; open_past(&table, 1), 2);
+    assert!(rt; ends(&mut table, 1)?);
+    assert_eq!(rt; open_past(&table, 0), 2);
+    assert!(rt; ends(&mut table, 2)?);
+    assert_eq!(rt; open_past(&table, 0), 0);
     Ok(())
 }
 
@@ -221,10 +221,10 @@ fn ticket_at(turn: u32) -> u32 {
 }
 
 // How many rows there are, or as far as they stand in the order of their tickets.
-fn in_order(alloc: Global, table: &mut RegionTable) -> Result<u32, Fail> {
+fn in_order(table: &mut RegionTable) -> Result<u32, Fail> {
     let mut last = 0;
     for rows in 0..1_000u32 {
-        let next = after(alloc, table, last)?;
+        let next = after(table, last)?;
         if next <= last {
             return Ok(rows);
         }
@@ -234,10 +234,10 @@ fn in_order(alloc: Global, table: &mut RegionTable) -> Result<u32, Fail> {
 }
 
 // The same of the open intents.
-fn open_in_order(alloc: Global, table: &RegionTable) -> u32 {
+fn open_in_order(table: &RegionTable) -> u32 {
     let mut last = 0;
     for rows in 0..1_000u32 {
-        let next = open_past(alloc, table, last);
+        let next = open_past(table, last);
         if next <= last {
             return rows;
         }
@@ -252,21 +252,21 @@ fn many_rows_stand_in_order(rt: HostRuntime) -> Result<(), Fail> {
     let mut table = RegionTable::new(alloc);
     table.ready(&[601])?;
     for turn in 0..601u32 {
-        assert!(rt; issues(alloc, &mut table, ticket_at(turn)));
-        assert!(rt; binds(alloc, &mut table, ticket_at(turn))?);
+        assert!(rt; issues(&mut table, ticket_at(turn)));
+        assert!(rt; binds(&mut table, ticket_at(turn))?);
     }
-    assert_eq!(rt; in_order(alloc, &mut table)?, 601);
-    assert_eq!(rt; open_in_order(alloc, &table), 601);
+    assert_eq!(rt; in_order(&mut table)?, 601);
+    assert_eq!(rt; open_in_order(&table), 601);
     for turn in 0..500u32 {
-        assert!(rt; ends(alloc, &mut table, ticket_at(turn))?);
+        assert!(rt; ends(&mut table, ticket_at(turn))?);
     }
-    assert_eq!(rt; open_in_order(alloc, &table), 101);
+    assert_eq!(rt; open_in_order(&table), 101);
     table.ready(&[700])?;
-    assert_eq!(rt; in_order(alloc, &mut table)?, 601);
-    assert_eq!(rt; open_in_order(alloc, &table), 101);
+    assert_eq!(rt; in_order(&mut table)?, 601);
+    assert_eq!(rt; open_in_order(&table), 101);
     for turn in 500..601u32 {
-        assert!(rt; ends(alloc, &mut table, ticket_at(turn))?);
+        assert!(rt; ends(&mut table, ticket_at(turn))?);
     }
-    assert_eq!(rt; open_in_order(alloc, &table), 0);
+    assert_eq!(rt; open_in_order(&table), 0);
     Ok(())
 }

@@ -17,11 +17,11 @@ use std::alloc::Global;
 use std::test::Fail;
 
 // A step of the root of a ticket.
-fn step_of(alloc: Global, ticket: u32, step: u32) -> Place
+fn step_of(ticket: u32, step: u32) -> Place
     ensures { result.intent ≡ root_of ticket }
 {
     Place {
-        intent: IntentId::root(alloc, ticket),
+        intent: IntentId::root(ticket),
         step,
     }
 }
@@ -30,7 +30,7 @@ fn step_of(alloc: Global, ticket: u32, step: u32) -> Place
 fn callee(alloc: Global, ticket: u32) -> Result<IntentId, Fail>
     ensures { IfOk result (λ id. id ≡ child_of (root_of ticket) 1) }
 {
-    let root = IntentId::root(alloc, ticket);
+    let root = IntentId::root(ticket);
     let id = or_drop!(root.child(alloc, 1); root);
     drop(root);
     Ok(id)
@@ -71,7 +71,7 @@ fn answer(
 ) -> Result<TxOutput, Fail>
     requires { is_operation effect ≡ true }
 {
-    let tx = transaction(alloc, place.intent.ticket);
+    let tx = transaction(place.intent.ticket);
     let mut walk = TxWalk::new(func, place, tx, effect);
     let output = or_drop!(last(alloc, table, &mut walk); walk);
     drop(walk);
@@ -133,7 +133,7 @@ fn turns(
     end: u32,
     commit: bool,
 ) -> Result<u32, Fail> {
-    let mut walk = EndWalk::new(alloc, transaction(alloc, ticket), end, commit);
+    let mut walk = EndWalk::new(alloc, transaction(ticket), end, commit);
     let turns = or_drop!(turns_of(alloc, table, &mut walk); walk);
     drop(walk);
     Ok(turns)
@@ -162,8 +162,8 @@ fn holds(
 fn a_transaction_commits(rt: HostRuntime) -> Result<(), Fail> {
     let alloc = rt.alloc();
     let mut table = roomy(alloc)?;
-    assert!(rt; writes(alloc, &mut table, 1, step_of(alloc, 2, 2), "a", 7)?);
-    assert!(rt; read_dies(alloc, &mut table, step_of(alloc, 3, 1), "a")?);
+    assert!(rt; writes(alloc, &mut table, 1, step_of(2, 2), "a", 7)?);
+    assert!(rt; read_dies(alloc, &mut table, step_of(3, 1), "a")?);
     assert!(rt; turns(alloc, &mut table, 2, 9, true)? < 40);
     assert!(rt; holds(alloc, &mut table, 1, "a", 7)?);
     Ok(())
@@ -181,7 +181,7 @@ fn calls(
 {
     drop(or_drop!(open_once(alloc, table, home, &place, func, 5); place));
     let callee = or_drop!(place.intent.child(alloc, place.step); place);
-    let tx = Shared::new(alloc, transaction(alloc, place.intent.ticket));
+    let tx = Shared::new(alloc, transaction(place.intent.ticket));
     let tx = or_drop!(tx; place, callee);
     let from = Caller {
         place,
@@ -217,7 +217,7 @@ fn takes_part(
     key: &str,
 ) -> Result<bool, Fail> {
     Ok(
-        calls(alloc, table, 1, step_of(alloc, ticket, 1), func)?
+        calls(alloc, table, 1, step_of(ticket, 1), func)?
             && writes(alloc, table, func, first_of(callee(alloc, ticket)?), key, 7)?,
     )
 }
@@ -241,7 +241,7 @@ fn a_callee_takes_part(rt: HostRuntime) -> Result<(), Fail> {
     let alloc = rt.alloc();
     let mut table = roomy(alloc)?;
     assert!(rt; takes_part(alloc, &mut table, 2, 2, "a")?);
-    assert!(rt; writes(alloc, &mut table, 1, step_of(alloc, 2, 2), "b", 8)?);
+    assert!(rt; writes(alloc, &mut table, 1, step_of(2, 2), "b", 8)?);
     // decided; its call; the callee's: no call, its lock, copy, item, no lock, finish; no call; the owner's lock, copy, item, no lock
     assert!(rt; turns(alloc, &mut table, 2, 3, true)? == 13);
     assert!(rt; took_part(alloc, &mut table, 2, 2, "a")?);
@@ -251,7 +251,7 @@ fn a_callee_takes_part(rt: HostRuntime) -> Result<(), Fail> {
 
 // Whether a callee of the callee of ticket 2 dies of a write of the item that the callee of ticket 1 has.
 fn dies_below(alloc: Global, table: &mut MapTable) -> Result<bool, Fail> {
-    let called = calls(alloc, table, 1, step_of(alloc, 2, 1), 2)?
+    let called = calls(alloc, table, 1, step_of(2, 1), 2)?
         && calls(alloc, table, 2, first_of(callee(alloc, 2)?), 3)?;
     let place = first_of(below(alloc, 2)?);
     Ok(called && is_so!(write(alloc, table, 3, place, "k", 8)?, TxOutput::Died(_)))

@@ -23,18 +23,18 @@ pub fn roomy(alloc: Global) -> Result<MapTable, Fail> {
     Ok(table)
 }
 
-fn place(alloc: Global) -> Place
+fn place() -> Place
     ensures { result.intent.hops ≡ [] }
 {
     Place {
-        intent: IntentId::root(alloc, 1),
+        intent: IntentId::root(1),
         step: 0,
     }
 }
 
-pub fn transaction(alloc: Global, ticket: u32) -> TxId {
+pub fn transaction(ticket: u32) -> TxId {
     TxId {
-        intent: IntentId::root(alloc, ticket),
+        intent: IntentId::root(ticket),
         begin: 0,
         func: 1,
     }
@@ -88,9 +88,9 @@ pub fn item(alloc: Global) -> Result<Item, Fail> {
 
 fn writes(alloc: Global, table: &mut MapTable) -> Result<bool, Fail> {
     let item = item(alloc)?;
-    let who = Owner::Intent(IntentId::root(alloc, 1));
+    let who = Owner::Intent(IntentId::root(1));
     let op = CellOp::Write(Value::Int(7));
-    let write = WriteWalk::new(1, item, place(alloc), who, op);
+    let write = WriteWalk::new(1, item, place(), who, op);
     Ok(is_so!(
         turn(alloc, table, write, 2)?,
         WriteOutput::Done {
@@ -121,10 +121,10 @@ fn an_item_is_written_and_read(rt: HostRuntime) -> Result<(), Fail> {
 fn write_of(alloc: Global, step: u32) -> Result<WriteWalk, Fail> {
     let item = item(alloc)?;
     let place = Place {
-        intent: IntentId::root(alloc, 1),
+        intent: IntentId::root(1),
         step,
     };
-    let who = Owner::Intent(IntentId::root(alloc, 1));
+    let who = Owner::Intent(IntentId::root(1));
     let op = CellOp::Write(Value::Int(i64::from(step)));
     Ok(WriteWalk::new(1, item, place, who, op))
 }
@@ -193,8 +193,8 @@ fn a_full_row_is_followed(rt: HostRuntime) -> Result<(), Fail> {
 
 fn locks(alloc: Global, table: &mut MapTable) -> Result<bool, Fail> {
     let key = Str::from_text(alloc, "k")?;
-    let who = Owner::Intent(IntentId::root(alloc, 1));
-    let lock = LockWalk::new(1, place(alloc), who, 0, key);
+    let who = Owner::Intent(IntentId::root(1));
+    let lock = LockWalk::new(1, place(), who, 0, key);
     Ok(is_so!(
         turn(alloc, table, lock, 2)?,
         LockOutput::Got { first: true }
@@ -213,10 +213,10 @@ fn a_lock_is_taken(rt: HostRuntime) -> Result<(), Fail> {
 fn lock_of(alloc: Global, ticket: u32) -> Result<LockWalk, Fail> {
     let key = Str::from_text(alloc, "k")?;
     let place = Place {
-        intent: IntentId::root(alloc, ticket),
+        intent: IntentId::root(ticket),
         step: 1,
     };
-    let who = Owner::Tx(transaction(alloc, ticket));
+    let who = Owner::Tx(transaction(ticket));
     Ok(LockWalk::new(1, place, who, 0, key))
 }
 
@@ -257,7 +257,7 @@ fn a_younger_transaction_dies(rt: HostRuntime) -> Result<(), Fail> {
 
 // Whether an item follows this one of those whose locks the transaction of ticket 1 asked for.
 fn lists(alloc: Global, table: &mut MapTable, after: Option<(u16, &Str)>) -> Result<bool, Fail> {
-    let id = IntentId::root(alloc, 1);
+    let id = IntentId::root(1);
     let found = or_drop!(lockset_next(alloc, table, 1, &id, 0, after); id);
     drop(id);
     Ok(is_so!(found, Some((0, _))))
@@ -284,7 +284,7 @@ fn locks_are_listed(rt: HostRuntime) -> Result<(), Fail> {
 fn writes_a_shadow(alloc: Global, table: &mut MapTable) -> Result<bool, Fail> {
     let key = Str::from_text(alloc, "k")?;
     let op = CellOp::Write(Value::Int(7));
-    let write = ShadowWrite::new(alloc, 1, transaction(alloc, 1), place(alloc), 0, key, op)?;
+    let write = ShadowWrite::new(alloc, 1, transaction(1), place(), 0, key, op)?;
     Ok(is_so!(
         turn(alloc, table, write, 2)?,
         ShadowOutput::Noted(Note::Wrote)
@@ -293,7 +293,7 @@ fn writes_a_shadow(alloc: Global, table: &mut MapTable) -> Result<bool, Fail> {
 
 fn reads_a_shadow(alloc: Global, table: &mut MapTable) -> Result<bool, Fail> {
     let key = Str::from_text(alloc, "k")?;
-    let read = ShadowRead::new(1, transaction(alloc, 1), 0, key);
+    let read = ShadowRead::new(1, transaction(1), 0, key);
     Ok(is_so!(
         turn(alloc, table, read, 0)?,
         ShadowOutput::Got(Some(Value::Int(7)))
@@ -310,7 +310,7 @@ fn a_shadow_is_written_and_read(rt: HostRuntime) -> Result<(), Fail> {
 }
 
 pub fn keeps_a_read(alloc: Global, table: &mut MapTable) -> Result<bool, Fail> {
-    let at = place(alloc);
+    let at = place();
     let kept = or_drop!(put_once(alloc, table, 1, &at, Value::Int(7), 5); at);
     drop(at);
     Ok(is_so!(
@@ -323,7 +323,7 @@ pub fn keeps_a_read(alloc: Global, table: &mut MapTable) -> Result<bool, Fail> {
 }
 
 fn gives_it(alloc: Global, table: &mut MapTable) -> Result<bool, Fail> {
-    let at = place(alloc);
+    let at = place();
     let value = or_drop!(get(alloc, table, 1, &at, 5); at);
     drop(at);
     Ok(is_so!(value, Some(Value::Int(7))))
@@ -344,7 +344,7 @@ fn binds(alloc: Global, table: &mut MapTable) -> Result<bool, Fail> {
 
 // What the collector's walk says of the first row.
 fn first_row(alloc: Global, table: &mut MapTable) -> Result<IcOutput, Fail> {
-    let mut cursor = IntentCursor::new(alloc);
+    let mut cursor = IntentCursor::new();
     let output = or_drop!(cursor.turn(alloc, table); cursor);
     drop(cursor);
     Ok(output)
@@ -352,7 +352,7 @@ fn first_row(alloc: Global, table: &mut MapTable) -> Result<IcOutput, Fail> {
 
 // Whether no row follows the first one, which the collector's walk stops at and passes.
 fn passes_it(alloc: Global, table: &mut MapTable) -> Result<bool, Fail> {
-    let mut cursor = IntentCursor::new(alloc);
+    let mut cursor = IntentCursor::new();
     let output = or_drop!(cursor.turn(alloc, table); cursor);
     let stops = is_so!(output, IcOutput::Unended { .. });
     if stops {
@@ -363,16 +363,16 @@ fn passes_it(alloc: Global, table: &mut MapTable) -> Result<bool, Fail> {
     Ok(stops && is_so!(output, IcOutput::Round))
 }
 
-fn ends(alloc: Global, table: &mut MapTable) -> Result<bool, Fail> {
+fn ends(table: &mut MapTable) -> Result<bool, Fail> {
     let outcome = Outcome::Value(Value::Null);
-    let put = end(table, IntentId::root(alloc, 1), 1, outcome, false, 5)?;
+    let put = end(table, IntentId::root(1), 1, outcome, false, 5)?;
     Ok(put == Put::Did)
 }
 
 // Whether the finish, which the end left open, is set now, and no second time.
-fn finishes(alloc: Global, table: &mut MapTable) -> Result<bool, Fail> {
-    let first = stamp(table, IntentId::root(alloc, 1), 1, 6)?;
-    let second = stamp(table, IntentId::root(alloc, 1), 1, 7)?;
+fn finishes(table: &mut MapTable) -> Result<bool, Fail> {
+    let first = stamp(table, IntentId::root(1), 1, 6)?;
+    let second = stamp(table, IntentId::root(1), 1, 7)?;
     Ok(first == Put::Did && second == Put::Already)
 }
 
@@ -380,11 +380,11 @@ fn finishes(alloc: Global, table: &mut MapTable) -> Result<bool, Fail> {
 fn an_intent_is_bound_and_ended(rt: HostRuntime) -> Result<(), Fail> {
     let alloc = rt.alloc();
     let mut table = roomy(alloc)?;
-    assert!(rt; issue(alloc, &mut table, 1, 5)?);
+    assert!(rt; issue(&mut table, 1, 5)?);
     assert!(rt; binds(alloc, &mut table)?);
     assert!(rt; passes_it(alloc, &mut table)?);
-    assert!(rt; ends(alloc, &mut table)?);
-    assert!(rt; finishes(alloc, &mut table)?);
+    assert!(rt; ends(&mut table)?);
+    assert!(rt; finishes(&mut table)?);
     assert!(rt; is_so!(first_row(alloc, &mut table)?, IcOutput::Passed));
     Ok(())
 }
@@ -397,14 +397,14 @@ fn opens(alloc: Global, table: &mut MapTable, call: &mut CallWalk) -> Result<boo
 }
 
 fn opens_again(alloc: Global, table: &mut MapTable) -> Result<bool, Fail> {
-    let at = place(alloc);
+    let at = place();
     let call = or_drop!(open_once(alloc, table, 1, &at, 2, 5); at);
     drop(at);
     Ok(is_so!(call, Invoked { added: true, .. }))
 }
 
 fn calls_back(alloc: Global, table: &mut MapTable) -> Result<bool, Fail> {
-    let at = place(alloc);
+    let at = place();
     let outcome = Outcome::Value(Value::Int(7));
     let back = or_drop!(call_back(alloc, table, 1, &at, outcome, 5); at);
     drop(at);
@@ -412,7 +412,7 @@ fn calls_back(alloc: Global, table: &mut MapTable) -> Result<bool, Fail> {
 }
 
 fn has_result(alloc: Global, table: &mut MapTable) -> Result<bool, Fail> {
-    let at = place(alloc);
+    let at = place();
     let outcome = or_drop!(result(alloc, table, 1, &at, 5); at);
     drop(at);
     Ok(is_so!(outcome, Some(Outcome::Value(Value::Int(7)))))
@@ -440,7 +440,7 @@ fn comes_back(alloc: Global, table: &mut MapTable, call: &mut CallWalk) -> Resul
 fn a_call_is_kept(rt: HostRuntime) -> Result<(), Fail> {
     let alloc = rt.alloc();
     let mut table = roomy(alloc)?;
-    let mut call = CallWalk::new(1, place(alloc), 2);
+    let mut call = CallWalk::new(1, place(), 2);
     assert!(rt; comes_back(alloc, &mut table, &mut call)?);
     Ok(())
 }
@@ -455,7 +455,7 @@ fn body() -> Body {
 }
 
 fn callee(alloc: Global) -> Result<IntentId, Fail> {
-    let root = IntentId::root(alloc, 1);
+    let root = IntentId::root(1);
     let callee = or_drop!(root.child(alloc, 0); root);
     drop(root);
     Ok(callee)
@@ -468,12 +468,12 @@ fn registers(alloc: Global, table: &mut MapTable) -> Result<bool, Fail> {
 
 // Whether the walk of a call that nobody waits for opens it, and goes on with its callee.
 fn starts(alloc: Global, table: &mut MapTable) -> Result<bool, Fail> {
-    let call = AsyncWalk::new(1, place(alloc), body());
+    let call = AsyncWalk::new(1, place(), body());
     Ok(turn(alloc, table, call, 1)? == AsyncOutput::Going)
 }
 
 fn is_marked(alloc: Global, table: &mut MapTable) -> Result<bool, Fail> {
-    let at = place(alloc);
+    let at = place();
     let back = or_drop!(registered(alloc, table, 1, &at, 5); at);
     drop(at);
     Ok(back == Back::Set)

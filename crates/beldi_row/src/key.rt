@@ -293,10 +293,10 @@ impl RowKey {
     }
 
     /// The least of all keys: the intent of ticket 0 in home 0. No row has it.
-    pub fn least(alloc: Global) -> RowKey
+    pub fn least() -> RowKey
         ensures { result ≡ least_key }
     {
-        RowKey::new(0, Kind::Intent(IntentId::root(alloc, 0)))
+        RowKey::new(0, Kind::Intent(IntentId::root(0)))
     }
 
     /// The home that the row stands in.

@@ -69,7 +69,7 @@ pub(crate) fn survey_rows<R: RowStore>(
         count: 0,
         open_keys: BTreeSet::new(alloc),
     };
-    let mut at = RowKey::least(alloc);
+    let mut at = RowKey::least();
     for _ in 0..u64::MAX {
         match survey_next(alloc, store, faults, at, &mut survey) {
             Ok(Some(key)) => at = key,

@@ -24,7 +24,7 @@ pub fn deployment(alloc: Global, text: &[u8]) -> Result<Checked, Fail> {
 }
 
 fn is_older(alloc: Global) -> Result<bool, Fail> {
-    let root = IntentId::root(alloc, 7);
+    let root = IntentId::root(7);
     let child = or_drop!(root.child(alloc, 3); root);
     let is_older = older(&root, &child) && !older(&child, &root);
     drop(root);
@@ -114,28 +114,22 @@ fn add(book: &mut Book, entry: Entry) -> Result<(), Fail> {
 }
 
 // A start of the function f by a ticket, and two steps and a read of it. The read had seen so many changes.
-fn add_request(
-    alloc: Global,
-    book: &mut Book,
-    ticket: u32,
-    args: Value,
-    version: u64,
-) -> Result<(), Fail> {
+fn add_request(book: &mut Book, ticket: u32, args: Value, version: u64) -> Result<(), Fail> {
     let func = 1;
     add(book, Entry::Start { ticket, func, args })?;
     for _ in 0..2 {
-        let id = IntentId::root(alloc, ticket);
+        let id = IntentId::root(ticket);
         add(book, Entry::Step { id })?;
     }
-    let id = IntentId::root(alloc, ticket);
+    let id = IntentId::root(ticket);
     add(book, Entry::Read { id, version })
 }
 
 // Two requests of the function f, each with its read kept last.
 fn two_requests(alloc: Global) -> Result<Book, Fail> {
     let mut book = Book::new(alloc);
-    or_drop!(add_request(alloc, &mut book, 1, Value::Int(5), 1); book);
-    or_drop!(add_request(alloc, &mut book, 2, Value::Int(6), 4); book);
+    or_drop!(add_request(&mut book, 1, Value::Int(5), 1); book);
+    or_drop!(add_request(&mut book, 2, Value::Int(6), 4); book);
     Ok(book)
 }
 

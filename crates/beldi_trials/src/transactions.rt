@@ -43,7 +43,7 @@ fn holds(alloc: Global, plain: &Plain<'_>, lines: &str) -> Result<bool, Fail> {
 }
 
 fn commits(alloc: Global, plain: &mut Plain<'_>) -> Result<bool, Fail> {
-    let (opener, id) = (IntentId::root(alloc, 1), IntentId::root(alloc, 2));
+    let (opener, id) = (IntentId::root(1), IntentId::root(2));
     or_drop!(open(plain, &opener); opener, id);
     or_drop!(plain.commit_tx(&id); opener, id);
     drop(opener);
@@ -67,9 +67,9 @@ fn a_payment_commits(rt: HostRuntime) -> Result<(), Fail> {
 }
 
 fn dies(alloc: Global, plain: &mut Plain<'_>) -> Result<bool, Fail> {
-    let older = IntentId::root(alloc, 1);
+    let older = IntentId::root(1);
     let place = Place {
-        intent: IntentId::root(alloc, 2),
+        intent: IntentId::root(2),
         step: 3,
     };
     or_drop!(open(plain, &older); older, place);
@@ -136,7 +136,7 @@ const DEALT: &str = "put boxes \"b\" 7\nhand purses \"p\" 8\ndeal sums \"s\" 14\
 // Whether a deal is made whole, and the second `put` is over.
 fn is_dealt(alloc: Global, plain: &mut Plain<'_>) -> Result<bool, Fail> {
     plain.start(2, 3, Value::Int(7))?;
-    let id = IntentId::root(alloc, 2);
+    let id = IntentId::root(2);
     or_drop!(plain.commit_tx(&id); id);
     drop(id);
     Ok(is_barred(alloc, plain, b"2/2/3", Bar::Over)? && holds(alloc, plain, DEALT)?)
@@ -161,7 +161,7 @@ fn a_deal_commits_with_its_callees(rt: HostRuntime) -> Result<(), Fail> {
 fn leaves_nothing(alloc: Global, plain: &mut Plain<'_>) -> Result<bool, Fail> {
     plain.start(2, 3, Value::Int(3))?;
     let place = Place {
-        intent: IntentId::root(alloc, 2),
+        intent: IntentId::root(2),
         step: 4,
     };
     or_drop!(plain.abort_tx(&place.intent, &place, None); place);

@@ -23,7 +23,7 @@ impl IntentId {
     ghost use Rattle.beldi_value.specs.Id.{root_of, child_of, has_callees, has_no_hops, home_of};
 
     /// The id of the root of a ticket.
-    pub fn root(alloc: Global, ticket: u32) -> IntentId
+    pub fn root(ticket: u32) -> IntentId
         ensures { result ≡ root_of ticket }
     {
         IntentId {
