@@ -12,7 +12,7 @@ ghost use Rattle.beldi_core.specs.PlannedEvent.{as_reply, core_in, Planned as Is
 use crate::host_core::HostCore;
 use crate::runs::Copies;
 use crate::turns::TurnPlan;
-use beldi_book::{Book, Entry};
+use beldi_book::Entry;
 use beldi_collect::{Found, collect_query, collect_told};
 use beldi_intent::{Binding, bind_query, bind_told, issue_query, issue_told};
 use beldi_lang::Deployment;
@@ -21,7 +21,7 @@ use beldi_query::{Query, QueryReplyRef};
 use beldi_row::{RowKey, TableErr};
 use beldi_step::{Event, EventReply, Run, RunAt};
 use beldi_value::{Boxed, IntentId, Value, or_drop};
-use std::alloc::{AllocError, Global};
+use std::alloc::AllocError;
 use std::mem::replace;
 
 /// How many events a host takes.

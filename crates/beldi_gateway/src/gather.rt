@@ -7,7 +7,6 @@ ghost use Rattle.beldi_gateway.specs.declared.gather.Stop.TheVariants.{Fault};
 use crate::scan::Scan;
 use beldi_outside::{Failed, Link};
 use beldi_value::OutOfMemory;
-use std::alloc::Global;
 
 /// Why an exchange stops before its response is written.
 #[derive(Clone, Copy)]

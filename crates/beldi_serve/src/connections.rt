@@ -10,7 +10,6 @@ use beldi_gateway::{Served, serve_one};
 use beldi_host::LAST_MOMENT;
 use beldi_outside::{Clock, Link, Sink, write_all};
 use beldi_row::Table;
-use beldi_step::Event;
 use beldi_value::TextBuf;
 use std::alloc::{AllocError, Global};
 

@@ -12,7 +12,7 @@ ghost use Rattle.beldi_serve.specs.ServedConnections.{pruning};
 use beldi_gateway::{CallReply, Desk, TicketReply};
 use beldi_host::{Host, OpenErr, ReplyStatus};
 use beldi_row::Table;
-use beldi_session::{Stop, settle, sweep};
+use beldi_session::{settle, sweep};
 use beldi_step::{Event, EventReply};
 use beldi_value::{TextBuf, Value};
 use std::alloc::{AllocError, Global};

@@ -87,7 +87,7 @@ impl CallPath {
         let mut id = tx.intent.copy(alloc)?;
         let mut func = tx.func;
         for call in self.calls.as_slice() {
-            id = callee(alloc, id, call.step)?;
+            id = callee(alloc, &id, call.step)?;
             func = call.func;
         }
         Ok((id, func))
@@ -95,13 +95,12 @@ impl CallPath {
 }
 
 // The callee of an intent at a step. One whose callees have no id stands for them.
-fn callee(alloc: Global, id: IntentId, step: u32) -> Result<IntentId, AllocError>
-    ensures { IfOk result (λ a. a ≡ callee_id id step) }
+fn callee(alloc: Global, id: &IntentId, step: u32) -> Result<IntentId, AllocError>
+    ensures { IfOk result (λ a. a ≡ callee_id id.now step) }
 {
-    if !id.has_callees() {
-        return Ok(id);
+    if id.has_callees() {
+        id.child(alloc, step)
+    } else {
+        id.copy(alloc)
     }
-    let callee = id.child(alloc, step);
-    drop(id);
-    callee
 }

@@ -77,7 +77,7 @@ impl Rec {
 fn items_of(alloc: Global, items: &[Value]) -> Result<Vec<Value>, AllocError>
     ensures { IfOk result (λ v. v.items ≡ items.now) }
 {
-    let mut copies = Vec::new(alloc);
+    let mut copies = Vec::with_capacity(alloc, items.len() + 1)?;
     for item in items {
         copies.push(item.copy(alloc)?)?;
     }
@@ -88,7 +88,7 @@ fn items_of(alloc: Global, items: &[Value]) -> Result<Vec<Value>, AllocError>
 fn fields_of(alloc: Global, fields: &[(Str, Value)]) -> Result<Vec<(Str, Value)>, AllocError>
     ensures { IfOk result (λ v. v.items ≡ fields.now) }
 {
-    let mut copies = Vec::new(alloc);
+    let mut copies = Vec::with_capacity(alloc, fields.len() + 1)?;
     for field in fields {
         copies.push((field.0.copy(alloc)?, field.1.copy(alloc)?))?;
     }

@@ -88,10 +88,9 @@ impl Values {
     pub fn from_vec(alloc: Global, items: Vec<Value>) -> Result<Values, AllocError>
         ensures { IfOk result (λ v. v ≡ items_view items.items) }
     {
-        match Rc::new(alloc, items) {
-            Ok(items) => Ok(Values { items }),
-            Err(_) => Err(AllocError),
-        }
+        Ok(Values {
+            items: Rc::new(alloc, items)?,
+        })
     }
 
     /// How many items there are.
@@ -118,10 +117,9 @@ impl Rec {
         requires { IsRecord (fields_view fields.items) }
         ensures { IfOk result (λ v. v ≡ fields_view fields.items) }
     {
-        match Rc::new(alloc, fields) {
-            Ok(fields) => Ok(Rec { fields }),
-            Err(_) => Err(AllocError),
-        }
+        Ok(Rec {
+            fields: Rc::new(alloc, fields)?,
+        })
     }
 
     /// How many fields there are.
