@@ -73,6 +73,7 @@ impl CellOp {
     }
 
     // Its act, for a place and an owner.
+    #[inline(always)]
     fn act(self, alloc: Global, place: Place, who: Owner) -> Result<Act, AllocError>
         ensures { IfOk result (λ a. a ≡ op_act place who self) }
     {

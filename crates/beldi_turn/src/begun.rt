@@ -183,5 +183,5 @@ pub fn go_to(
 pub fn stand(begun: &mut Begun, stage: Stage)
     ensures { begun.new ≡ at_stage begun.old stage }
 {
-    drop(replace(&mut begun.stage, stage));
+    begun.stage = stage;
 }
