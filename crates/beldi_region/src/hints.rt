@@ -2,6 +2,7 @@
 use crate::blocks::Spot;
 use crate::region::SlotId;
 use beldi_row::{Kind, RowKey};
+use beldi_value::Str;
 use std::alloc::{AllocError, Global};
 
 // How many hints there are.
@@ -10,15 +11,17 @@ const HINTS: usize = 65_536;
 // The last slot, which is the last one to be used.
 const LAST: u16 = u16::MAX;
 
-// How many places there are: for each of 16 homes one for each kind of key, and two spare.
-const SPOTS: usize = 128;
+// How many places there are: for each of 16 homes one for each kind of key that names an intent, and three spare; and as many for
+// keys of items.
+const SPOTS: usize = 256;
 
 // A place that is not behind any slot.
 const START: Spot = Spot { block: 0, at: 0 };
 
 /// Where the row with a key may be, by a number that equal keys have alike. A hint may be wrong: whoever takes one compares the
-/// key of the row that is there. So nothing is proved of hints. Nor is it of the place where a search for a key of a home and a
-/// kind last ended: the next one mostly ends there or a little behind, and the rows beside a place are compared.
+/// key of the row that is there. So nothing is proved of hints. Nor is it of the place where a search for a key like it last ended,
+/// one of the same home and kind, or of an item of the same table whose key begins alike: the next one mostly ends there or a little
+/// behind, and the rows beside a place are compared.
 #[derive(Drop)]
 pub(crate) struct Hints {
     // All of the first generation, as a table keeps it. A slot whose number has more bits has no hint.
@@ -70,7 +73,7 @@ impl Hints {
         }
     }
 
-    /// Where a search for a key of this one's home and kind last ended.
+    /// Where a search for a key like this one last ended.
     pub(crate) fn spot(&self, key: &RowKey) -> Spot {
         match self.spots.get(spot_number(key)) {
             Some(spot) => *spot,
@@ -86,19 +89,28 @@ impl Hints {
     }
 }
 
-// The number of the place for a key's home and kind.
+// The number of the place for keys like this one.
 fn spot_number(key: &RowKey) -> usize {
-    usize::from(key.home() & 15) << 3 | kind_number(key)
+    let home = usize::from(key.home());
+    match key.kind() {
+        Kind::Intent(_) => in_home(home, 0),
+        Kind::ReadLog(_) => in_home(home, 1),
+        Kind::Invoke(_) => in_home(home, 2),
+        Kind::Shadow { .. } => in_home(home, 3),
+        Kind::Lockset { .. } => in_home(home, 4),
+        Kind::Data { table, key, .. } => of_item(home + usize::from(*table), key),
+    }
 }
 
-// The number of a key's kind.
-fn kind_number(key: &RowKey) -> usize {
-    match key.kind() {
-        Kind::Intent(_) => 0,
-        Kind::ReadLog(_) => 1,
-        Kind::Invoke(_) => 2,
-        Kind::Data { .. } => 3,
-        Kind::Shadow { .. } => 4,
-        Kind::Lockset { .. } => 5,
-    }
+fn in_home(home: usize, kind: usize) -> usize {
+    (home & 15) << 3 | kind
+}
+
+// .. of an item whose table has this number, added to that of its home.
+fn of_item(table: usize, key: &Str) -> usize {
+    let first = match key.as_str().as_bytes().first() {
+        Some(byte) => usize::from(*byte),
+        None => 0,
+    };
+    128 | (table << 5 ^ first) & 127
 }

@@ -34,7 +34,7 @@ use std::alloc::{AllocError, Global};
 use std::mem::{forget, replace};
 
 /// A table in memory that never fails. It tells its rows, and counts no calls. The memory for its rows is taken by `ready`, so
-/// no act and no step is out of memory. For each row of its room it takes some 400 bytes, 64 of
+/// no act and no step is out of memory. For each row of its room it takes some 310 bytes, 64 of
 /// them for the orders of slots, and besides what a row holds apart.
 #[derive(Drop)]
 pub struct RegionTable {
