@@ -17,7 +17,7 @@ pub use Rattle.beldi_step.specs.RunStride.{past_first, unless_first, walked, wal
 pub use Rattle.beldi_step.specs.Run.{Turned, Turns, followed, going, run_asks, run_told, output_of}
 pub use Rattle.beldi_step.{proofs.PutRun.put_got, proofs.PutRun.put_twice, proofs.PutRun.remove_put, specs.declared.event.Event.Event, specs.declared.event.Event.TheVariants.Lost, specs.declared.event.Event.TheVariants.Turn, specs.declared.event.EventReply.EventReply, specs.declared.run.Mark.Mark, specs.declared.run.Run.Run, specs.declared.run.TurnOutput.TurnOutput, specs.declared.run.Walking.Walking}
 pub use Rattle.beldi_core.specs.Counts.{AllCounted, CountMap, LoweredAt, LoweredTo, RaisedAt, count_at, counted, is_of, kept_as, less, more, more_if, number_of}
-pub use Rattle.beldi_core.specs.PlannedEvent.{Asked, Copied, IsWalk, NoMemory, PlannedOf, TellsTurn, WalkTold, as_reply, base, core_in, entered, event_of, mark_told, reply_in, turn_in}
+pub use Rattle.beldi_core.specs.PlannedEvent.{Asked, Copied, IsWalk, NoMemory, PlannedOf, TellsTurn, WalkTold, base, core_in, declined_reply, entered, event_of, mark_told, reply_in, turn_in}
 pub use Rattle.beldi_core.specs.Live.{IsFirst, IsLeast, begins_with, map_of, with_first, with_run}
 pub use Rattle.beldi_core.specs.LiveRuns.{AllGiven, AllKept, IsLeastPast, Numbered, RunMap, RunTold, ends_run, settled, settled_counts, uncounted, walked_in, withdrawn}
 pub use Rattle.beldi_core.specs.declared.{events.Pending.Pending, events.Planned.Planned, runs.Copies.Copies}

@@ -11,7 +11,7 @@ use Rattle.beldi_intent.specs.{declared.intent.Binding.Binding, Intent.binding_o
 use Rattle.beldi_step.specs.HostStep.{Core, Plan, immediate, asks, reads_all, plan, plan_of, counted, new_run, unbound, refused, ended_run, marked, after_turn, acted, LocalSteps, Followed}
 use Rattle.beldi_step.specs.RunStride.{walking}
 use Rattle.beldi_step.specs.declared.{event.Event.Event, event.Event.TheVariants.Ticket, event.Event.TheVariants.Request, event.Event.TheVariants.Turn, event.Event.TheVariants.Lost, event.Event.TheVariants.Ic, event.EventReply.EventReply, run.Mark.Mark, run.Run.Run, run.TurnOutput.TurnOutput, run.Walking.Walking}
-use Rattle.beldi_core.specs.{declared.host_core.HostCore.HostCore, declared.events.Planned.Planned as Plans, declared.turns.TurnPlan.TurnPlan as TurnPlans, declared.turns.TurnReply.TurnReply as Turns, declared.events.Immediate.Immediate, declared.events.Pending.Pending, declared.runs.Copies.Copies, LiveRuns.Numbered, LiveRuns.withdrawn, LiveRuns.started, LiveRuns.callee_for, LiveRuns.copied, LiveRuns.walked_in}
+use Rattle.beldi_core.specs.{declared.host_core.HostCore.HostCore, declared.events.Planned.Planned as Plans, declared.turns.TurnPlan.TurnPlan as TurnPlans, declared.turns.TurnReply.TurnReply as Turns, declared.events.Declined.Declined, declared.events.Immediate.Immediate, declared.events.Pending.Pending, declared.runs.Copies.Copies, LiveRuns.Numbered, LiveRuns.withdrawn, LiveRuns.started, LiveRuns.callee_for, LiveRuns.copied, LiveRuns.walked_in}
 
 -- the host without its table, as events speak of it
 abbrev pub core_in : HostCore → Core
@@ -63,20 +63,24 @@ HasPlace (Pending.Request t f a) c = 1 ≤ c.last_run
 HasPlace p c = Unit
 
 -- ---- planning
--- an answer at once, as all events are answered
+-- why a turn is not made, as all events are answered
+abbrev pub declined_reply : Declined → EventReply
+declined_reply Declined.Spent = EventReply.Spent
+declined_reply Declined.Expired = EventReply.Expired
+declined_reply Declined.NoRun = EventReply.NoRun
+declined_reply Declined.RunOver = EventReply.RunOver
+declined_reply Declined.Shut = EventReply.Shut
+
+-- an answer at once, so too
 abbrev pub as_reply : Immediate → EventReply
 as_reply Immediate.NoTicket = EventReply.NoTicket
 as_reply (Immediate.Unknown t) = EventReply.Unknown t
 as_reply Immediate.Crowded = EventReply.Crowded
-as_reply Immediate.Spent = EventReply.Spent
-as_reply Immediate.Expired = EventReply.Expired
-as_reply Immediate.NoRun = EventReply.NoRun
-as_reply Immediate.RunOver = EventReply.RunOver
+as_reply (Immediate.Declined y) = declined_reply y
 as_reply Immediate.Crashed = EventReply.Crashed
 as_reply (Immediate.Started i) = EventReply.Started i
 as_reply (Immediate.Now n) = EventReply.Now n
 as_reply Immediate.ClockEnd = EventReply.ClockEnd
-as_reply Immediate.Shut = EventReply.Shut
 
 -- out of memory before anything was asked; of the events that ask nothing only one that starts a run may be so
 abbrev pub NoMemory : Event → Core → Plan → Core → Result EventReply AllocError → Type 0
@@ -108,14 +112,14 @@ abbrev pub turn_in : Event → Option ℕ
 turn_in (Turn i) = Some i
 turn_in e = None
 
--- a turn is answered, or its run asks this
+-- a turn is not made, or its run asks this
 pub record AskingRun (i : ℕ) (c z : Core) (spare : ℕ) (q : Query) (n : Copies) (k : Plan) : Type 0 where
   pub is : k ≡ asks q
   pub core : z ≡ c
   pub ready : RunReady z i n spare
 
 abbrev pub TurnPlanned : ℕ → Core → Core → ℕ → Plan → Result TurnPlans AllocError → Type 0
-TurnPlanned i c z spare k (Ok (TurnPlans.Now y)) = k ≡ immediate z (as_reply y)
+TurnPlanned i c z spare k (Ok (TurnPlans.Declined y)) = k ≡ immediate z (declined_reply y)
 TurnPlanned i c z spare k (Ok (TurnPlans.Asks q n)) = AskingRun i c z spare q n k
 TurnPlanned i c z spare k (Err w) = NoMemory (Turn i) c k z (Err w)
 
@@ -123,7 +127,7 @@ TurnPlanned i c z spare k (Err w) = NoMemory (Turn i) c k z (Err w)
 -- the answer to a turn, as all events are answered, with what was told apart
 abbrev pub reply_of : EventReply → Turns → EventReply
 reply_of told (Turns.Made over) = EventReply.Acted None None over None
-reply_of told (Turns.Now y) = as_reply y
+reply_of told (Turns.Declined y) = declined_reply y
 reply_of told Turns.Told = told
 
 abbrev pub reply_in : EventReply → Result Turns AllocError → Result EventReply AllocError

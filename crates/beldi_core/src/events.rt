@@ -7,7 +7,7 @@ ghost use Rattle.beldi_step.specs.declared.event.Event.TheVariants as events;
 ghost use Rattle.beldi_tree.specs.declared.deployment.Deployment.{Deployment};
 ghost use Rattle.beldi_step.specs.HostStep.{collected as collected_of, launched, passed, Core, Followed, immediate, asks, crash_plan, tick_plan, new_run as new_run_of, no_run as no_run_of, refused, refused_by, ticket_next, unbound, is_halt, halt_next};
 ghost use Rattle.beldi_core.specs.declared.events.Planned.TheVariants as planned;
-ghost use Rattle.beldi_core.specs.PlannedEvent.{as_reply, core_in, Planned as IsPlanned, PlannedBy, PlannedOf, Ready, HasPlace, event_of, base, BoundBy, turn_in};
+ghost use Rattle.beldi_core.specs.PlannedEvent.{as_reply, core_in, declined_reply, Planned as IsPlanned, PlannedBy, PlannedOf, Ready, HasPlace, event_of, base, BoundBy, turn_in};
 
 use crate::host_core::HostCore;
 use crate::runs::Copies;
@@ -41,21 +41,42 @@ pub enum Pending {
     Ic,
 }
 
+/// Why a turn is not made.
+#[derive(Clone, Copy)]
+pub enum Declined {
+    Spent,
+    Expired,
+    NoRun,
+    RunOver,
+    Shut,
+}
+
+impl Declined {
+    /// The same answer, as all events are answered.
+    pub fn into_reply(self) -> EventReply
+        ensures { result ≡ declined_reply self }
+    {
+        match self {
+            Declined::Spent => EventReply::Spent,
+            Declined::Expired => EventReply::Expired,
+            Declined::NoRun => EventReply::NoRun,
+            Declined::RunOver => EventReply::RunOver,
+            Declined::Shut => EventReply::Shut,
+        }
+    }
+}
+
 /// The answer to an event that asks nothing: one of those of `EventReply` that have no long parts.
 #[derive(Drop)]
 pub enum Immediate {
     NoTicket,
     Unknown(u32),
     Crowded,
-    Spent,
-    Expired,
-    NoRun,
-    RunOver,
+    Declined(Declined),
     Crashed,
     Started(u64),
     Now(u64),
     ClockEnd,
-    Shut,
 }
 
 impl Immediate {
@@ -67,15 +88,11 @@ impl Immediate {
             Immediate::NoTicket => EventReply::NoTicket,
             Immediate::Unknown(ticket) => EventReply::Unknown(ticket),
             Immediate::Crowded => EventReply::Crowded,
-            Immediate::Spent => EventReply::Spent,
-            Immediate::Expired => EventReply::Expired,
-            Immediate::NoRun => EventReply::NoRun,
-            Immediate::RunOver => EventReply::RunOver,
+            Immediate::Declined(why) => why.into_reply(),
             Immediate::Crashed => EventReply::Crashed,
             Immediate::Started(run) => EventReply::Started(run),
             Immediate::Now(moment) => EventReply::Now(moment),
             Immediate::ClockEnd => EventReply::ClockEnd,
-            Immediate::Shut => EventReply::Shut,
         }
     }
 }
@@ -119,13 +136,13 @@ pub(crate) fn refuse(why: TableErr) -> Result<EventReply, AllocError>
 }
 
 // What is said of a number that no live run has, where so many were given.
-pub(crate) fn no_run(run: u64, given: u64) -> Immediate
-    ensures { (c : Core) → c.last_run ≡ given → as_reply result ≡ no_run_of c run }
+pub(crate) fn no_run(run: u64, given: u64) -> Declined
+    ensures { (c : Core) → c.last_run ≡ given → declined_reply result ≡ no_run_of c run }
 {
     if run == 0 || run > given {
-        Immediate::NoRun
+        Declined::NoRun
     } else {
-        Immediate::RunOver
+        Declined::RunOver
     }
 }
 
@@ -148,12 +165,12 @@ impl HostCore {
         ensures { IsPlanned code.now event (core_in self.old) (core_in self.new) self.new.book.spare result }
     {
         if self.taken >= MOST_EVENTS {
-            return Ok(Planned::Now(Immediate::Spent));
+            return Ok(Planned::Now(Immediate::Declined(Declined::Spent)));
         }
         self.taken += 1;
         if self.shut && !is_halt(&event) {
             drop(event);
-            return Ok(Planned::Now(Immediate::Shut));
+            return Ok(Planned::Now(Immediate::Declined(Declined::Shut)));
         }
         self.plan_counted(code, event)
     }
@@ -195,7 +212,7 @@ impl HostCore {
         ensures { (d : Deployment) → PlannedOf d (events.Lost run) (core_in self.old) (core_in self.new) self.new.book.spare result }
     {
         match self.ask_run(run) {
-            Ok(TurnPlan::Now(answer)) => Ok(Planned::Now(answer)),
+            Ok(TurnPlan::Declined(why)) => Ok(Planned::Now(Immediate::Declined(why))),
             Ok(TurnPlan::Asks(query, copies)) => {
                 Ok(Planned::Asks(query, Pending::Lost(run, copies)))
             }
@@ -282,12 +299,12 @@ impl HostCore {
         ensures { immediate (core_in self.new) (as_reply result) ≡ crash_plan (core_in self.old) run (map.get self.old.runs.runs run) }
     {
         let Some(found) = self.runs.get(run) else {
-            return no_run(run, self.runs.given());
+            return Immediate::Declined(no_run(run, self.runs.given()));
         };
         let late = self.now > found.deadline;
         self.runs.remove(run);
         if late {
-            Immediate::Expired
+            Immediate::Declined(Declined::Expired)
         } else {
             Immediate::Crashed
         }

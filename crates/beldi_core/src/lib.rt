@@ -25,7 +25,7 @@ mod live;
 mod runs;
 mod turns;
 
-pub use events::{Immediate, LAST_MOMENT, MOST_EVENTS, Pending, Planned, turn_in};
+pub use events::{Declined, Immediate, LAST_MOMENT, MOST_EVENTS, Pending, Planned, turn_in};
 pub use host_core::HostCore;
 pub use runs::{Callee, Copies, Runs};
-pub use turns::{TurnPlan, TurnReply};
+pub use turns::{TurnPlan, TurnReply, told_in};

@@ -11,7 +11,7 @@ ghost use Rattle.beldi_step.specs.HostStep.{Followed, acted as acted_by, after_t
 ghost use Rattle.beldi_core.specs.LiveRuns.{callee_for, may_follow};
 ghost use Rattle.beldi_core.specs.PlannedEvent.{Copied, TellsTurn, TurnPlanned, WalkTold, acted_unless, core_in, KeepsApart, mark_told, reply_in, reply_of, strode};
 
-use crate::events::{Immediate, MOST_EVENTS, MOST_RUNS, no_run, refuse};
+use crate::events::{Declined, MOST_EVENTS, MOST_RUNS, no_run, refuse};
 use crate::host_core::HostCore;
 use crate::runs::{Callee, Copies, Runs, asked};
 use beldi_book::{Book, Entry};
@@ -27,8 +27,8 @@ use std::mem::{forget, replace};
 /// What comes of a turn before the table is asked.
 #[derive(Drop)]
 pub enum TurnPlan {
-    /// It is answered.
-    Now(Immediate),
+    /// It is not made.
+    Declined(Declined),
     /// It asks this.
     Asks(Boxed<Query>, Copies),
 }
@@ -38,8 +38,8 @@ pub enum TurnPlan {
 pub enum TurnReply {
     /// The turn was made, and says no more than whether its run is over.
     Made(bool),
-    /// It was answered before the table was asked.
-    Now(Immediate),
+    /// It was not made.
+    Declined(Declined),
     /// It is what lies apart.
     Told,
 }
@@ -60,12 +60,29 @@ impl TurnReply {
                     reply: None,
                 }
             }
-            TurnReply::Now(answer) => {
+            TurnReply::Declined(why) => {
                 drop(told);
-                answer.into_reply()
+                why.into_reply()
             }
             TurnReply::Told => told,
         }
+    }
+}
+
+/// The answer to a turn that was asked, written where what there is to tell lies apart.
+pub fn told_in(
+    told: &mut EventReply,
+    answer: Result<EventReply, AllocError>,
+) -> Result<TurnReply, AllocError>
+    ensures answer { reply_in told.new result ≡ answer }
+    ensures apart { KeepsApart told.old told.new result }
+{
+    match answer {
+        Ok(answer) => {
+            drop(replace(told, answer));
+            Ok(TurnReply::Told)
+        }
+        Err(why) => Err(why),
     }
 }
 
@@ -200,11 +217,11 @@ impl HostCore {
         ensures { (d : Deployment) → TurnPlanned run (counted (core_in self.old)) (core_in self.new) self.new.book.spare (plan d (events.Turn run) (core_in self.old)) result }
     {
         if self.taken >= MOST_EVENTS {
-            return Ok(TurnPlan::Now(Immediate::Spent));
+            return Ok(TurnPlan::Declined(Declined::Spent));
         }
         self.taken += 1;
         if self.shut {
-            return Ok(TurnPlan::Now(Immediate::Shut));
+            return Ok(TurnPlan::Declined(Declined::Shut));
         }
         self.ask_run(run)
     }
@@ -216,11 +233,11 @@ impl HostCore {
         ensures { TurnPlanned run (core_in self.old) (core_in self.new) self.new.book.spare (run_plan (core_in self.old) run (map.get self.old.runs.runs run)) result }
     {
         let Some(found) = self.runs.get(run) else {
-            return Ok(TurnPlan::Now(no_run(run, self.runs.given())));
+            return Ok(TurnPlan::Declined(no_run(run, self.runs.given())));
         };
         if self.now > found.deadline {
             self.runs.remove(run);
-            return Ok(TurnPlan::Now(Immediate::Expired));
+            return Ok(TurnPlan::Declined(Declined::Expired));
         }
         match asked(found, &mut self.book, self.alloc) {
             Ok((query, copies)) => Ok(TurnPlan::Asks(query, copies)),
@@ -311,29 +328,8 @@ impl HostCore {
             forget(output);
             return Ok(TurnReply::Made(over));
         }
-        self.tell_in(run, copies, output, told)
-    }
-
-    // .. of which there is more to tell.
-    fn tell_in(
-        &mut self,
-        run: u64,
-        copies: Copies,
-        output: TurnOutput,
-        told: &mut EventReply,
-    ) -> Result<TurnReply, AllocError>
-        requires spare { 1 ≤ self.old.book.spare }
-        requires given { self.old.runs.given < self.old.taken }
-        ensures tells { TellsTurn (core_in self.old) run copies output (core_in self.new) (reply_in told.new result) }
-        ensures apart { KeepsApart told.old told.new result }
-    {
-        match self.tell_all(run, copies, output) {
-            Ok(answer) => {
-                drop(replace(told, answer));
-                Ok(TurnReply::Told)
-            }
-            Err(why) => Err(why),
-        }
+        let answer = self.tell_all(run, copies, output);
+        told_in(told, answer)
     }
 
     // A turn was made: its entry is in the book, also where there is no memory to tell of it. Then the run is over.

@@ -22,6 +22,6 @@ pub use Rattle.beldi_histories.specs.{Matches.has_ended, RowMatching.BodyMatches
 pub use Rattle.beldi_invariant.{proofs.Events.after_event, proofs.Moves.seen_by, proofs.Moves.with_runs, proofs.OneAnswer.answers_stay, proofs.OneAnswer.one_answer, proofs.Outside.outcome_recorded, proofs.Standing.invariant_stands, proofs.Standing.same_run, specs.InvariantLaws.is_gone, specs.OneAnswer.AnswersStay, specs.OneAnswer.OneAnswerPerStep, specs.Invariant.Invariant}
 pub use Rattle.beldi_upkeep.{proofs.Together.begins_upkept, proofs.Together.keeps_upkeep, specs.Upkeep.Upkeep}
 pub use Rattle.beldi_kept.{proofs.Begins.begins_early, proofs.Begins.begins_kept, proofs.Collecting.prunings_keep_safe, proofs.Collecting.prunings_keep_whole, proofs.Collecting.safe_at_cursor, proofs.Collecting.safe_at_first, proofs.LeftRows.kept_answers, proofs.LeftRows.kept_listing, proofs.LeftRows.kept_stand, proofs.Telling.kept_are_legal, specs.KeptRows.HasKept, specs.Safe.EventsKeepSafe, specs.Safe.IsSafe, specs.StandsLess.OneAnswerLess, specs.StandsLess.StandsLess}
-pub use Rattle.beldi_core.{proofs.Plans.is_turn, proofs.Plans.no_memory, proofs.Plans.query_asked, proofs.Plans.reads, proofs.Plans.turn_asked, proofs.Plans.turn_now, proofs.Truths.first, proofs.Truths.less, proofs.Truths.second, proofs.Truths.test_true, specs.PlannedEvent.AskingRun, specs.PlannedEvent.as_reply, specs.PlannedEvent.core_in, specs.PlannedEvent.event_of, specs.PlannedEvent.reply_in}
+pub use Rattle.beldi_core.{proofs.Plans.is_turn, proofs.Plans.no_memory, proofs.Plans.query_asked, proofs.Plans.reads, proofs.Plans.turn_asked, proofs.Plans.turn_now, proofs.Truths.first, proofs.Truths.less, proofs.Truths.second, proofs.Truths.test_true, specs.PlannedEvent.AskingRun, specs.PlannedEvent.core_in, specs.PlannedEvent.declined_reply, specs.PlannedEvent.event_of, specs.PlannedEvent.reply_in}
 pub use Rattle.beldi_host.specs.Survey.{IsHighWater, IsNewest, NewestAt, Past, Reads, cell_listed, is_unknown, last_rank, latest, latest_of, line_after, next_mark_of, opened_core, rest, row_moment, next_line_of, next_listed_of, outcome_status, reply_status, row_status, listed_at, listed_of, told_row}
 pub use Rattle.beldi_host.specs.{HostCore.core_of, HostInvariant.EndsLate, HostInvariant.HasNoRows, HostInvariant.RowsStandFor, HostInvariant.RowsStandLess, ReplyStatus.IsStatusSo, declared.survey.OpenErr.OpenErr, declared.survey.OpenErr.TheVariants.Failed, declared.survey.OpenErr.TheVariants.OutOfMemory, declared.survey.Owned.Owned, declared.survey.ReplyStatus.ReplyStatus, declared.survey.ReplyStatus.TheVariants.Gone, declared.survey.ReplyStatus.TheVariants.Unknown}

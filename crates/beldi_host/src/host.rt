@@ -1,13 +1,13 @@
 // The host: the one place where an event touches the table.
 ghost use Rattle.std.specs.Prelude.{◌≡◌, ◌+◌, ◌++◌, ◌≤◌, ◌^◌, ◌↔◌, IsTrue, true, false, Ok, IfOk, IfErr, IfSome, OnOk, OnErr, length};
 ghost use Rattle.beldi_step.specs.Prunes.{pruned_by};
-ghost use Rattle.beldi_core.specs.PlannedEvent.{KeepsApart, reply_in};
+ghost use Rattle.beldi_core.specs.PlannedEvent.{reply_in};
 
 use crate::survey::{OpenErr, ReplyStatus, ahead, find_newest, list_tables, prepare, read_reply};
 use beldi_book::Book;
 use beldi_check::Checked;
 use beldi_core::{
-    Copies, HostCore, MOST_EVENTS, Pending, Planned, Runs, TurnPlan, TurnReply, turn_in,
+    Copies, HostCore, MOST_EVENTS, Pending, Planned, Runs, TurnPlan, TurnReply, told_in, turn_in,
 };
 use beldi_kept::an_event_keeps_the_collectors_safe;
 use beldi_prune::{Collectors, GcOutput};
@@ -373,7 +373,7 @@ impl<T: Table> Host<T> {
         ensures apart { KeepsApart told.old told.new result }
     {
         match self.core.plan_turn(run) {
-            Ok(TurnPlan::Now(answer)) => Ok(TurnReply::Now(answer)),
+            Ok(TurnPlan::Declined(why)) => Ok(TurnReply::Declined(why)),
             Ok(TurnPlan::Asks(query, copies)) => self.ask_turn(query, run, copies, told),
             Err(why) => Err(why),
         }
@@ -529,23 +529,6 @@ fn whole(told: EventReply, said: Result<TurnReply, AllocError>) -> Result<EventR
             drop(told);
             Err(why)
         }
-    }
-}
-
-// .. written where it is told.
-fn told_in(
-    told: &mut EventReply,
-    answer: Result<EventReply, AllocError>,
-) -> Result<TurnReply, AllocError>
-    ensures answer { reply_in told.new result ≡ answer }
-    ensures apart { KeepsApart told.old told.new result }
-{
-    match answer {
-        Ok(answer) => {
-            drop(replace(told, answer));
-            Ok(TurnReply::Told)
-        }
-        Err(why) => Err(why),
     }
 }
 

@@ -57,7 +57,7 @@ mod last_row;
 mod laws;
 mod survey;
 
-pub use beldi_core::{Immediate, LAST_MOMENT, TurnReply};
+pub use beldi_core::{Declined, LAST_MOMENT, TurnReply};
 pub use host::Host;
 pub use laws::{
     the_invariant_implies_legal, the_invariant_implies_one_answer_less,

@@ -3,12 +3,12 @@ ghost use Rattle.std.specs.Prelude.{◌≡◌, ◌++◌, None, OnOk, codes};
 ghost use Rattle.std.specs.Fmt.{decimal};
 ghost use Rattle.beldi_session.specs.Answer.{answer_text, numbered, bound_line, held_line, waits_line, launched_line, outcome_line, entry_part, run_part, reply_part, reply_told};
 ghost use Rattle.beldi_session.specs.HostResponse.{reply_line};
-ghost use Rattle.beldi_core.specs.PlannedEvent.{as_reply};
+ghost use Rattle.beldi_core.specs.PlannedEvent.{declined_reply};
 ghost use Rattle.beldi_tree.specs.declared.deployment.Deployment.{Deployment};
 
 use beldi_book::Entry;
 use beldi_check::Checked;
-use beldi_host::{Immediate, ReplyStatus};
+use beldi_host::{Declined, ReplyStatus};
 use beldi_step::EventReply;
 use beldi_value::{Boxed, IntentId, Outcome, Owner, TextBuf, Value};
 use std::alloc::{AllocError, Global};
@@ -63,23 +63,16 @@ pub fn write_answer(
     }
 }
 
-/// Appends the line of an answer that was given before the table was asked.
-pub fn write_immediate(seen: Immediate, out: &mut TextBuf) -> Result<(), AllocError>
-    ensures { (d : Deployment) → OnOk result (out.new ≡ out.old ++ answer_text d (as_reply seen)) }
+/// Appends the line of a turn that is not made.
+pub fn write_declined(seen: Declined, out: &mut TextBuf) -> Result<(), AllocError>
+    ensures { (d : Deployment) → OnOk result (out.new ≡ out.old ++ answer_text d (declined_reply seen)) }
 {
     match seen {
-        Immediate::NoTicket => out.push_text("no-ticket\n"),
-        Immediate::Unknown(ticket) => write_numbered("unknown ", u64::from(ticket), out),
-        Immediate::Crowded => out.push_text("crowded 1024\n"),
-        Immediate::Expired => out.push_text("expired\n"),
-        Immediate::NoRun => out.push_text("no-run\n"),
-        Immediate::RunOver => out.push_text("run-over\n"),
-        Immediate::Crashed => out.push_text("crashed\n"),
-        Immediate::Started(run) => write_numbered("run ", run, out),
-        Immediate::Now(moment) => write_numbered("now ", moment, out),
-        Immediate::ClockEnd => out.push_text("clock-end\n"),
-        Immediate::Shut => out.push_text("shut\n"),
-        Immediate::Spent => out.push_text("spent\n"),
+        Declined::Spent => out.push_text("spent\n"),
+        Declined::Expired => out.push_text("expired\n"),
+        Declined::NoRun => out.push_text("no-run\n"),
+        Declined::RunOver => out.push_text("run-over\n"),
+        Declined::Shut => out.push_text("shut\n"),
     }
 }
 

@@ -10,7 +10,7 @@ ghost use Rattle.beldi_session.specs.Session.{Does, by_done, by_text, sight};
 ghost use Rattle.beldi_session.specs.Source.{numbered, said_at};
 
 use crate::answer::{
-    write_answer, write_immediate, write_numbered, write_plain, write_reply_status,
+    write_answer, write_declined, write_numbered, write_plain, write_reply_status,
 };
 use crate::output::{flush, flush_if_long};
 use crate::refusal::{SourceErr, write_refusal};
@@ -103,9 +103,9 @@ fn answer_turn<T: Table>(
             forget(told);
             appended(write_plain(over, out))
         }
-        Ok(TurnReply::Now(answer)) => {
+        Ok(TurnReply::Declined(why)) => {
             forget(told);
-            appended(write_immediate(answer, out))
+            appended(write_declined(why, out))
         }
         Ok(TurnReply::Told) => {
             let wrote = appended(write_answer(alloc, host.code(), &told, out));

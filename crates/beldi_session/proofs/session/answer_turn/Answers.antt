@@ -1,5 +1,5 @@
 use Rattle.beldi_session.proofs.Names.{Carry, Does, Event, EventReply, None, Ok, OnOk, Stepped, Whole, [], answer_text, by_text, core_of, refl, sight, subst, sym, ◌++◌, ◌∙◌, ◌∷◌, ◌≡◌}
-use Rattle.beldi_core.specs.PlannedEvent.{as_reply}
+use Rattle.beldi_core.specs.PlannedEvent.{declined_reply}
 use Rattle.beldi_session.proofs.Responses.{event_answered, event_broke, no_fault, text_by}
 use Rattle.beldi_session.proofs.session.answer_turn.Goals as goal
 
@@ -18,21 +18,21 @@ returns-in-Ok-Told g c = λ held faults.
     (event_answered a b refl refl e.code turn (Carry turn) [] Whole seen [] (by_text wrote) (refl, refl) step
     (text_by wrote _ (subst (λ d. OnOk wrote (out ≡ c.args.out.now ++ answer_text d seen)) (c.code.ensures ∙ e.code) c.write_answer.ensures)) (no_fault wrote))
 
--- .. that was answered before the table was asked
-pub returns-in-Ok-Now : goal.returns-in-Ok-Now
-returns-in-Ok-Now g c = λ held faults.
+-- .. that was not made
+pub returns-in-Ok-Declined : goal.returns-in-Ok-Declined
+returns-in-Ok-Declined g c = λ held faults.
     let old = c.args.host.now in
-    let out = c.write_immediate.new.out in
-    let wrote = c.write_immediate.result in
-    let seen = as_reply c.in-Ok-Now.answer in
-    let e = c.in-Ok-Now.ensures in
-    let step : Stepped old.code (Event.Turn c.args.run) (core_of old) (core_of c.turn.new.self) (g.T.Table.state old.table) (g.T.Table.state c.turn.new.self.table) (Ok seen) = rw c.in-Ok-Now.field-0-is at e.step in
+    let out = c.write_declined.new.out in
+    let wrote = c.write_declined.result in
+    let seen = declined_reply c.in-Ok-Declined.why in
+    let e = c.in-Ok-Declined.ensures in
+    let step : Stepped old.code (Event.Turn c.args.run) (core_of old) (core_of c.turn.new.self) (g.T.Table.state old.table) (g.T.Table.state c.turn.new.self.table) (Ok seen) = rw c.in-Ok-Declined.field-0-is at e.step in
     let a = sight old c.args.out.now held faults in
     let b = sight c.turn.new.self out held faults in
     let turn = Event.Turn c.args.run in
-    subst (λ r. Does (Carry turn ∷ []) a b r) (sym c.appended-in-Ok-Now.ensures)
+    subst (λ r. Does (Carry turn ∷ []) a b r) (sym c.appended-in-Ok-Declined.ensures)
     (event_answered a b refl refl e.code turn (Carry turn) [] Whole seen [] (by_text wrote) (refl, refl) step
-    (text_by wrote _ (c.write_immediate.ensures old.code)) (no_fault wrote))
+    (text_by wrote _ (c.write_declined.ensures old.code)) (no_fault wrote))
 
 -- .. that tells no more than whether its run is over
 pub returns-in-Ok-Made : goal.returns-in-Ok-Made

@@ -1,4 +1,4 @@
-use Rattle.beldi_host.proofs.Names.{AskingRun, Err, Turn, as_reply, core_in, core_of, counted, immediate, no_memory, plan, refl, reply_in, turn_asked, turn_now, ◌≡◌}
+use Rattle.beldi_host.proofs.Names.{AskingRun, Err, Turn, core_in, core_of, counted, declined_reply, immediate, no_memory, plan, refl, reply_in, turn_asked, turn_now, ◌≡◌}
 use Rattle.beldi_host.proofs.host.Host.take_turn.Goals as goal
 
 pub ask_turn-requires : goal.ask_turn-requires
@@ -9,13 +9,13 @@ ask_turn-requires g c =
     let asking : AskingRun c.args.run (counted (core_of h)) (core_in k) k.book.spare f.query f.copies (plan h.code (Turn c.args.run) (core_of h)) = rw f.field-0-is at (f.ensures h.code) in
     asking.ready
 
-pub returns-in-Ok-Now-clause-step : goal.returns-in-Ok-Now-clause-step
-returns-in-Ok-Now-clause-step g c =
+pub returns-in-Ok-Declined-clause-step : goal.returns-in-Ok-Declined-clause-step
+returns-in-Ok-Declined-clause-step g c =
     let h = c.args.self.now in
     let k = c.plan_turn.new.self in
-    let f = c.in-Ok-Now in
-    let planned : plan h.code (Turn c.args.run) (core_of h) ≡ immediate (core_in k) (as_reply f.answer) = rw f.field-0-is at (f.ensures h.code) in
-    turn_now h.code (Turn c.args.run) (core_of h) (core_in k) (as_reply f.answer) (as_reply f.answer) (g.T.Table.state h.table) planned refl
+    let f = c.in-Ok-Declined in
+    let planned : plan h.code (Turn c.args.run) (core_of h) ≡ immediate (core_in k) (declined_reply f.why) = rw f.field-0-is at (f.ensures h.code) in
+    turn_now h.code (Turn c.args.run) (core_of h) (core_in k) (declined_reply f.why) (declined_reply f.why) (g.T.Table.state h.table) planned refl
 
 pub returns-in-Ok-Asks-clause-step : goal.returns-in-Ok-Asks-clause-step
 returns-in-Ok-Asks-clause-step g c =
